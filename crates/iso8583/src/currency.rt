@@ -1,0 +1,25 @@
+ghost use Rattle.std.specs.Prelude.{◌≡◌, length};
+ghost use Rattle.std.specs.Option.{SomeIff};
+ghost use Rattle.iso8583.specs.Class.{IsDigits};
+
+use crate::digits::Digits;
+
+/// Currency code, element 49: three digits (ISO 8583:1993).
+#[derive(Clone, Copy, Debug, PartialEq, Eq, PartialOrd, Ord, Hash)]
+pub struct Currency(pub Digits<3>);
+
+impl Currency {
+    /// The value, if the text is three digits.
+    pub fn new(text: &[u8]) -> Option<Currency>
+        ensures { SomeIff result ((length text.now ≡ 3) × IsDigits text.now) (record { 0 = text.now }) }
+    {
+        Some(Currency(Digits::new(text)?))
+    }
+
+    /// The text.
+    pub fn as_slice(&self) -> &[u8]
+        ensures { result.now ≡ self.now.0 }
+    {
+        self.0.as_slice()
+    }
+}

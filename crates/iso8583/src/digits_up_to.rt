@@ -1,0 +1,112 @@
+ghost use Rattle.std.specs.Prelude.{◌≡◌, ℕ, ◌≤◌, ◌==◌, length};
+ghost use Rattle.std.proofs.Common.{rules};
+ghost use Rattle.std.specs.Cmp.{partial_order_from_own_ties};
+ghost use Rattle.std.specs.Cmp.Lexicographic.{pointwise, slice_cmp};
+ghost use Rattle.std.specs.Cmp.Rules.{comparing, hashing};
+ghost use Rattle.std.specs.Hash as fed;
+ghost use Rattle.std.specs.Option.{SomeIff};
+ghost use Rattle.std.specs.Ordering.{nat_cmp, as_partial_cmp};
+ghost use Rattle.iso8583.specs.Class.{IsDigits};
+ghost use Rattle.iso8583.specs.Padded.{HasDigits};
+
+use crate::class::is_digits;
+use std::cmp::Ordering;
+use std::hash::{Hash, Hasher};
+use std::marker::Model;
+
+/// A text of `MIN` to `MAX` digits.
+#[derive(Clone, Copy, Debug)]
+pub struct DigitsUpTo<const MIN: usize, const MAX: usize> {
+    bytes: [u8; MAX],
+    len: usize,
+}
+
+impl<const MIN: usize, const MAX: usize> Model for DigitsUpTo<MIN, MAX> {
+    ghost use Rattle.std.specs.Prelude.{ℕ, ◌-◌, List, ◌++◌, length, take, replicate};
+    ghost use Rattle.iso8583.specs.Padded.{IsPadded, bytes_back, length_back};
+
+    ghost Value = { List ℕ };
+
+    ghost view = { λ d. take d.len d.bytes };
+
+    ghost invariant = { λ d. IsPadded MIN MAX d.bytes d.len };
+
+    ghost inverse = { λ text. record { bytes = text ++ replicate (MAX - length text) 0; len = length text } };
+
+    ghost inverse_ok = { λ d h i. record {
+      bytes = bytes_back MIN MAX d.bytes d.len h i;
+      len = length_back MIN MAX d.bytes d.len h i;
+    } };
+}
+
+impl<const MIN: usize, const MAX: usize> DigitsUpTo<MIN, MAX> {
+    /// The text, if it is `MIN` to `MAX` digits.
+    pub fn new(text: &[u8]) -> Option<Self>
+        ensures { SomeIff result (HasDigits MIN MAX text.now) text.now }
+    {
+        let len = text.len();
+        if len < MIN || len > MAX || !is_digits(text) {
+            return None;
+        }
+        let mut bytes = [0; MAX];
+        bytes[..len].copy_from_slice(text);
+        Some(DigitsUpTo { bytes, len })
+    }
+
+    /// The digits as text.
+    pub fn as_slice(&self) -> &[u8]
+        ensures text { result.now ≡ self.now }
+        ensures digits { HasDigits MIN MAX result.now }
+    {
+        &self.bytes[..self.len]
+    }
+}
+
+impl<const MIN: usize, const MAX: usize> PartialEq for DigitsUpTo<MIN, MAX> {
+    ghost eq = { pointwise ◌==◌ };
+
+    ghost laws = { Prim.search (comparing, rules) };
+
+    fn eq(&self, other: &Self) -> bool {
+        self.as_slice() == other.as_slice()
+    }
+}
+
+impl<const MIN: usize, const MAX: usize> Eq for DigitsUpTo<MIN, MAX> {
+    ghost laws = { Prim.search (comparing, rules) };
+}
+
+/// By the bytes of the digits: a text stands behind each that it begins with.
+impl<const MIN: usize, const MAX: usize> Ord for DigitsUpTo<MIN, MAX> {
+    ghost cmp = { slice_cmp nat_cmp };
+
+    ghost total = { Prim.search (comparing, rules) };
+
+    ghost matches_partial_cmp = { Prim.search (comparing, rules) };
+
+    ghost matches_eq = { Prim.search (comparing, rules) };
+
+    fn cmp(&self, other: &Self) -> Ordering {
+        self.as_slice().cmp(other.as_slice())
+    }
+}
+
+impl<const MIN: usize, const MAX: usize> PartialOrd for DigitsUpTo<MIN, MAX> {
+    ghost partial_cmp = { as_partial_cmp (slice_cmp nat_cmp) };
+
+    ghost laws = { partial_order_from_own_ties (Prim.search (comparing, rules)) (Prim.search (comparing, rules)) };
+
+    fn partial_cmp(&self, other: &Self) -> Option<Ordering> {
+        Some(self.cmp(other))
+    }
+}
+
+impl<const MIN: usize, const MAX: usize> Hash for DigitsUpTo<MIN, MAX> {
+    ghost hash_input = { fed.slice fed.u8 };
+
+    ghost respects_eq = { Prim.search (hashing, rules) };
+
+    fn hash<H: Hasher>(&self, state: &mut H) {
+        self.as_slice().hash(state);
+    }
+}

@@ -1,0 +1,26 @@
+ghost use Rattle.std.specs.Prelude.{◌≡◌};
+ghost use Rattle.std.specs.Option.{SomeIff};
+ghost use Rattle.iso8583.specs.Padded.{HasDigits};
+
+use crate::digits_up_to::DigitsUpTo;
+
+/// Primary account number, element 2: 12 to 19 digits (ISO/IEC 7812-1, ISO 8583:1993).
+#[derive(Clone, Copy, Debug, PartialEq, Eq, PartialOrd, Ord, Hash)]
+pub struct Pan(pub DigitsUpTo<12, 19>);
+
+impl Pan {
+    /// The number, if the text is 12 to 19 digits.
+    pub fn new(text: &[u8]) -> Option<Pan>
+        ensures { SomeIff result (HasDigits 12 19 text.now) (record { 0 = text.now }) }
+    {
+        Some(Pan(DigitsUpTo::new(text)?))
+    }
+
+    /// The digits as text.
+    pub fn as_slice(&self) -> &[u8]
+        ensures text { result.now ≡ self.now.0 }
+        ensures digits { HasDigits 12 19 result.now }
+    {
+        self.0.as_slice()
+    }
+}

@@ -1,0 +1,25 @@
+ghost use Rattle.std.specs.Prelude.{◌≡◌, length};
+ghost use Rattle.std.specs.Option.{SomeIff};
+ghost use Rattle.iso8583.specs.Class.{IsDigits};
+
+use crate::digits::Digits;
+
+/// Systems trace audit number, element 11: six digits (ISO 8583:1993).
+#[derive(Clone, Copy, Debug, PartialEq, Eq, PartialOrd, Ord, Hash)]
+pub struct Stan(pub Digits<6>);
+
+impl Stan {
+    /// The value, if the text is six digits.
+    pub fn new(text: &[u8]) -> Option<Stan>
+        ensures { SomeIff result ((length text.now ≡ 6) × IsDigits text.now) (record { 0 = text.now }) }
+    {
+        Some(Stan(Digits::new(text)?))
+    }
+
+    /// The text.
+    pub fn as_slice(&self) -> &[u8]
+        ensures { result.now ≡ self.now.0 }
+    {
+        self.0.as_slice()
+    }
+}

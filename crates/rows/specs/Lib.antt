@@ -1,0 +1,10 @@
+pub mod Agreement
+pub mod Book
+pub mod Decision
+pub mod Expiry
+pub mod Fold
+pub mod FrameFault
+pub mod Plan
+pub mod RowKey
+pub mod RowVal
+pub mod Table

@@ -1,0 +1,53 @@
+ghost use Rattle.std.specs.Prelude.{◌≡◌, ℕ, ◌-◌, ◌≤◌, ◌^◌};
+ghost use Rattle.std.specs.Option.{SomeIff};
+
+use iso8583::Amount;
+use std::marker::Model;
+
+/// Money kept in a row, in minor units: 0 to 10^15.
+#[derive(Clone, Copy, Debug, PartialEq, Eq, PartialOrd, Ord)]
+pub struct Balance {
+    minor: u64,
+}
+
+impl Model for Balance {
+    ghost use Rattle.std.specs.Prelude.{ℕ, ◌≤◌, ◌^◌};
+
+    ghost Value = { ℕ };
+
+    ghost view = { λ b. b.minor };
+
+    ghost invariant = { λ b. b.minor ≤ 10 ^ 15 };
+
+    ghost inverse = { λ n. record { minor = n } };
+}
+
+impl Balance {
+    /// The balance, if it is at most 10^15.
+    pub fn new(minor: u64) -> Option<Balance>
+        ensures { SomeIff result (minor ≤ 10 ^ 15) minor }
+    {
+        if minor <= 1_000_000_000_000_000 {
+            Some(Balance { minor })
+        } else {
+            None
+        }
+    }
+
+    /// Minor units.
+    pub fn minor(&self) -> u64
+        ensures value { result ≡ self.now }
+        ensures bound { result ≤ 10 ^ 15 }
+    {
+        self.minor
+    }
+
+    /// The balance without the amount, if there is as much.
+    pub fn checked_sub(&self, amount: Amount) -> Option<Balance>
+        ensures { SomeIff result (amount ≤ self.now) (self.now - amount) }
+    {
+        Some(Balance {
+            minor: self.minor.checked_sub(amount.minor())?,
+        })
+    }
+}

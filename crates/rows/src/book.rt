@@ -1,0 +1,108 @@
+ghost use Rattle.std.specs.Prelude.{◌≡◌, ◌↔◌, OnOk, OnErr, IfOk, IsTrue, None};
+ghost use Rattle.std.specs.FinMap as map;
+ghost use Rattle.rows.specs.RowVal.{IsOfKind};
+ghost use Rattle.rows.specs.RowKey.{key_cmp};
+
+use crate::row_key::RowKey;
+use crate::row_val::RowVal;
+use std::alloc::{AllocError, Global};
+use std::collections::BTreeMap;
+use std::collections::btree_map::Iter;
+use std::marker::Model;
+
+/// The issuer's rows: a finite map from row keys to row values, each of its key's kind.
+#[derive(Drop)]
+pub struct Book {
+    rows: BTreeMap<RowKey, RowVal>,
+}
+
+impl Model for Book {
+    ghost use Rattle.std.specs.FinMap as map;
+    ghost use Rattle.rows.specs.declared.row_val.RowVal.{RowVal};
+    ghost use Rattle.rows.specs.RowKey.{key_cmp};
+    ghost use Rattle.rows.specs.contracts.row_key.RowKey.{the_row as key_row};
+    ghost use Rattle.rows.specs.contracts.row_val.RowVal.{the_row as val_row};
+    ghost use Rattle.rows.specs.Book.{AllOfKind};
+
+    ghost Value = { map.FinMap key_cmp RowVal };
+
+    ghost coded = { map.code key_row.coded val_row.coded };
+
+    ghost view = { λ b. map.from_entries b.rows.entries };
+
+    ghost invariant = { λ b. AllOfKind b.rows.entries };
+}
+
+impl Book {
+    /// A book without rows.
+    pub fn new(alloc: Global) -> Book
+        ensures { result ≡ map.empty }
+    {
+        Book {
+            rows: BTreeMap::new(alloc),
+        }
+    }
+
+    /// The row's value, if there is such a row.
+    pub fn get(&self, key: &RowKey) -> Option<RowVal>
+        ensures value { result ≡ map.get self.now key.now }
+    {
+        self.rows.get(key).copied()
+    }
+
+    /// Puts the value at the key, over what was there. Only a row that wasn't there takes memory.
+    pub fn put(&mut self, key: RowKey, val: RowVal) -> Result<(), AllocError>
+        requires { IsOfKind key val }
+        ensures ok { OnOk result (self.new ≡ map.insert self.old key val) }
+        ensures err { OnErr result (self.new ≡ self.old) }
+        ensures full { OnErr result (map.get self.old key ≡ None) }
+    {
+        self.rows.insert(key, val)?;
+        Ok(())
+    }
+
+    /// Takes the row out.
+    pub fn remove(&mut self, key: &RowKey) -> Option<RowVal>
+        ensures value { result ≡ map.get self.old key.now }
+        ensures after { self.new ≡ map.remove self.old key.now }
+    {
+        self.rows.remove(key)
+    }
+
+    /// How many rows there are.
+    pub fn len(&self) -> usize
+        ensures { result ≡ map.len self.now }
+    {
+        self.rows.len()
+    }
+
+    /// Whether there is no row.
+    pub fn is_empty(&self) -> bool
+        ensures { IsTrue result ↔ (map.len self.now ≡ 0) }
+    {
+        self.len() == 0
+    }
+
+    /// The rows in the order of their keys.
+    pub fn rows(&self) -> Iter<'_, RowKey, RowVal>
+        ensures { result ≡ map.entries self.now }
+    {
+        self.rows.iter()
+    }
+
+    /// An equal book of its own.
+    pub fn copy(&self) -> Result<Book, AllocError>
+        ensures { IfOk result (λ book. book ≡ self.now) }
+    {
+        Ok(Book {
+            rows: self.rows.clone()?,
+        })
+    }
+
+    /// Whether the other book has the same rows.
+    pub fn is_same(&self, other: &Book) -> bool
+        ensures { IsTrue result ↔ (self.now ≡ other.now) }
+    {
+        self.rows.len() == other.rows.len() && self.rows == other.rows
+    }
+}

@@ -1,0 +1,12 @@
+/// Whether a card may be used.
+#[derive(Clone, Copy, Debug, PartialEq, Eq)]
+pub enum CardStatus {
+    /// In use.
+    Active,
+    /// Blocked by the issuer.
+    Blocked,
+    /// Reported lost.
+    Lost,
+    /// Reported stolen.
+    Stolen,
+}
