@@ -1,0 +1,14 @@
+pub mod Amounts
+pub mod Bits
+pub mod Elements
+pub mod Headers
+pub mod Joining
+pub mod Least
+pub mod Messages
+pub mod NoMemory
+pub mod Parts
+pub mod Present
+pub mod ReplyLaws
+pub mod Requests
+pub mod Whole
+pub mod WholeBitmaps

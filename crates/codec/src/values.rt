@@ -1,0 +1,135 @@
+//! Values of elements, from texts that were tested.
+
+ghost use Rattle.std.specs.Prelude.{◌≡◌, ℕ, ◌<◌, ◌^◌, IfSome, option_map};
+ghost use Rattle.iso8583.specs.Number.{fixed_digits};
+ghost use Rattle.codec.specs.Elements.{IsText};
+
+use crate::element::Element;
+use iso8583::{
+    Acquirer, Amount, Currency, Digits, FunctionCode, LocalStamp, Pan, Processing, Retrieval, Stan,
+    Terminal, Transmission,
+};
+
+/// Element 2.
+pub(crate) fn pan(text: &[u8]) -> Pan
+    requires { IsText Element.Pan text.now }
+    ensures { result.0 ≡ text.now }
+{
+    let Some(pan) = Pan::new(text) else {
+        unreachable!()
+    };
+    pan
+}
+
+/// Element 3.
+pub(crate) fn processing(text: &[u8]) -> Processing
+    requires { IsText Element.Processing text.now }
+    ensures { result.0 ≡ text.now }
+{
+    let Some(processing) = Processing::new(text) else {
+        unreachable!()
+    };
+    processing
+}
+
+/// Element 4.
+#[tactic(auto, using(crate::proofs::Amounts::digits_again, crate::proofs::Amounts::amount_bound))]
+pub(crate) fn amount(text: &[u8]) -> Amount
+    requires { IsText Element.Amount text.now }
+    ensures text { fixed_digits 12 result ≡ text.now }
+    ensures bound { result < 10 ^ 12 }
+{
+    let Some(digits) = Digits::new(text) else {
+        unreachable!()
+    };
+    Amount::from_digits(&digits)
+}
+
+/// Element 7.
+pub(crate) fn transmission(text: &[u8]) -> Transmission
+    requires { IsText Element.Transmission text.now }
+    ensures { result.0 ≡ text.now }
+{
+    let Some(transmission) = Transmission::new(text) else {
+        unreachable!()
+    };
+    transmission
+}
+
+/// Element 11.
+pub(crate) fn stan(text: &[u8]) -> Stan
+    requires { IsText Element.Stan text.now }
+    ensures { result.0 ≡ text.now }
+{
+    let Some(stan) = Stan::new(text) else {
+        unreachable!()
+    };
+    stan
+}
+
+/// Element 12.
+pub(crate) fn stamp(text: &[u8]) -> LocalStamp
+    requires { IsText Element.Stamp text.now }
+    ensures { result ≡ text.now }
+{
+    let Some(stamp) = LocalStamp::new(text) else {
+        unreachable!()
+    };
+    stamp
+}
+
+/// Element 24.
+pub(crate) fn function(text: &[u8]) -> FunctionCode
+    requires { IsText Element.Function text.now }
+    ensures { result.0 ≡ text.now }
+{
+    let Some(function) = FunctionCode::new(text) else {
+        unreachable!()
+    };
+    function
+}
+
+/// Element 32.
+pub(crate) fn acquirer(text: &[u8]) -> Acquirer
+    requires { IsText Element.Acquirer text.now }
+    ensures { result.0 ≡ text.now }
+{
+    let Some(acquirer) = Acquirer::new(text) else {
+        unreachable!()
+    };
+    acquirer
+}
+
+/// Element 37, if it is there.
+pub(crate) fn retrieval(text: Option<&[u8]>) -> Option<Retrieval>
+    requires { IfSome text (λ t. IsText Element.Retrieval t.now) }
+    ensures value { option_map (λ r. r.0) result ≡ option_map (λ t. t.now) text.entry }
+    ensures text { IfSome result (λ r. IsText Element.Retrieval r.0) }
+{
+    let Some(retrieval) = Retrieval::new(text?) else {
+        unreachable!()
+    };
+    Some(retrieval)
+}
+
+/// Element 41.
+pub(crate) fn terminal(text: &[u8]) -> Terminal
+    requires { IsText Element.Terminal text.now }
+    ensures { result.0 ≡ text.now }
+{
+    let Some(terminal) = Terminal::new(text) else {
+        unreachable!()
+    };
+    terminal
+}
+
+/// Element 49.
+pub(crate) fn currency(text: &[u8]) -> Currency
+    requires { IsText Element.Currency text.now }
+    ensures { result.0 ≡ text.now }
+{
+    let Some(currency) = Currency::new(text) else {
+        unreachable!()
+    };
+    currency
+}

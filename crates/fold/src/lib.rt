@@ -1,0 +1,15 @@
+//! Bodies decided one after another, in the order of their arrival.
+#![tactic(auto)]
+
+mod outcome;
+mod plain_rows;
+mod prefix;
+mod serial;
+
+pub use outcome::Outcome;
+pub use plain_rows::PlainRows;
+pub use prefix::Prefix;
+pub use serial::{decide_all, decide_all_by};
+
+#[cfg(test)]
+mod tests;

@@ -1,0 +1,10 @@
+-- Rows that a decision needs, and those that it has read so far.
+use Rattle.std.specs.Prelude.{◌≡◌, take, length}
+use Rattle.rows.specs.Agreement.{Reads, Agrees, keys_read}
+use Rattle.rows.specs.Decision.{decision}
+use Rattle.rows.specs.Plan.{Lookup}
+use Rattle.rows.specs.declared.frame.Frame.{Frame}
+
+-- on all rows that agree with the reads, those that were read are the first of the rows that are needed, in their order
+abbrev pub ReadsNeeds : Frame → Reads → Type 0
+ReadsNeeds frame reads = (look : Lookup) → Agrees reads look → keys_read reads ≡ take (length reads) (decision look frame).needs

@@ -1,0 +1,46 @@
+ghost use Rattle.std.specs.Prelude.{◌≡◌, ◌⊎◌, IfOk, IfErr, IfSome};
+ghost use Rattle.rows.specs.Agreement.{IsLocal};
+ghost use Rattle.rules.specs.Needs.{ReadsNeeds};
+ghost use Rattle.view.specs.Recording.{IsNew, IsStopOf};
+
+use crate::request::decide_request;
+use iso8583::Message;
+use rows::{Frame, ReplyBody};
+use view::{Decide, Recorder, RowSource, Stop};
+
+/// Decides one body by the decision table, over any source of rows. It reads the rows that the table needs, each where
+/// the table comes to it, and no other.
+#[tactic(auto, unfolding(rows::specs::Decision::decision))]
+pub fn decide<S: RowSource>(frame: &Frame, rows: &mut Recorder<S>) -> Result<ReplyBody, Stop>
+    requires { IsNew rows.old }
+    ensures local { IfOk result (λ reply. IsLocal frame.now rows.new.reads rows.new.writes reply) }
+
+    // It stops where the source does or memory runs out; the rows that were read are the first of those that are needed.
+    ensures stop { IfErr result (λ stop. (stop ≡ Stop.OutOfMemory) ⊎ IsStopOf S.answers stop) }
+    ensures needs { ReadsNeeds frame.now rows.new.reads }
+
+    // A known book stays, and want of memory is all that stops it.
+    ensures stops { IfSome (S.book rows.old.source) (λ _. IfErr result (λ stop. stop ≡ Stop.OutOfMemory)) }
+    ensures book { S.book rows.new.source ≡ S.book rows.old.source }
+{
+    match frame {
+        Frame::Good(message) => match message {
+            Message::Request(request) => decide_request(request, rows),
+        },
+        Frame::Bad(fault) => Ok(ReplyBody::Fault(*fault)),
+    }
+}
+
+/// The decision table of this issuer.
+#[derive(Clone, Copy, Debug)]
+pub struct Shipped;
+
+impl Decide for Shipped {
+    fn decide<S: RowSource>(
+        &self,
+        frame: &Frame,
+        rows: &mut Recorder<S>,
+    ) -> Result<ReplyBody, Stop> {
+        decide(frame, rows)
+    }
+}

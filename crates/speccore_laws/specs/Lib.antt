@@ -1,0 +1,12 @@
+pub mod Committed
+pub mod Follows
+pub mod Kept
+pub mod Keys
+pub mod Members
+pub mod Overlay
+pub mod PutsOnce
+pub mod Reached
+pub mod Resolves
+pub mod Run
+pub mod State
+pub mod Step

@@ -1,0 +1,46 @@
+-- The table puts no row with two values.
+use Rattle.std.proofs.Common.{◌≡◌, ℕ, ◌<◌, Bool, true, false, cond, if◌then◌else◌, nat_le, nat_lt, List, [], ◌∷◌, length, Option, Some, None, refl, Contains, sym, ap, ◌∙◌, inl, inr, arith}
+use Rattle.iso8583.specs.declared.message.Message.TheVariants.{Request}
+use Rattle.iso8583.specs.declared.request.Request.{Request as RequestBody}
+use Rattle.rows.specs.Decision.{decision}
+use Rattle.rows.specs.Plan.{Writes, Plan, Answer, Lookup, carried_out}
+use Rattle.rows.specs.Table.{card_in, on_card, declined, approved}
+use Rattle.rows.specs.declared.card_row.CardRow.{CardRow}
+use Rattle.rows.specs.declared.frame.Frame.{Frame}
+use Rattle.rows.specs.declared.frame.Frame.TheVariants.{Good, Bad}
+use Rattle.rows.specs.declared.row_key.RowKey.{RowKey}
+use Rattle.rows.specs.declared.row_val.RowVal.{RowVal}
+use Rattle.speccore_laws.specs.Members.{Contains-cons, Contains-nil}
+
+-- no row is put with two values
+abbrev pub PutsOnce : Writes → Type 0
+PutsOnce writes = (put other : RowKey × RowVal) → Contains writes put → Contains writes other → put.0 ≡ other.0 → put.1 ≡ other.1
+
+none_puts_once : PutsOnce []
+none_puts_once put other h k e = absurd (Contains-nil put h)
+
+the_one : (w put : RowKey × RowVal) → Contains (w ∷ []) put → w ≡ put
+the_one w put h = elim (Contains-cons w [] put h) [ inl e ↦ e | inr t ↦ absurd (Contains-nil put t) ]
+
+one_puts_once : (w : RowKey × RowVal) → PutsOnce (w ∷ [])
+one_puts_once w put other h k e = ap (λ (p : RowKey × RowVal). p.1) (sym (the_one w put h) ∙ the_one w other k)
+
+abbrev Once : Plan → Type 0
+Once plan = (look : Lookup) → PutsOnce (carried_out plan look).writes
+
+either_once : (b : Bool) (p q : Plan) → Once p → Once q → Once (if b then p else q)
+either_once true p q h k = h
+either_once false p q h k = k
+
+on_card_once : (r : RequestBody) (card : Option CardRow) → Once (on_card r card)
+on_card_once r None = λ look. none_puts_once
+on_card_once r (Some card) =
+    either_once (nat_le 999999 card.approvals) (declined r 909) _ (λ look. none_puts_once)
+    (either_once (nat_lt card.available r.amount) (declined r 116) (approved r card) (λ look. none_puts_once)
+      (λ look. one_puts_once _))
+
+-- what the table puts
+pub puts_once : (look : Lookup) (frame : Frame) → PutsOnce (decision look frame).writes
+unfolding decision
+puts_once look (Good (Request r)) = on_card_once r (card_in (look _)) look
+puts_once look (Bad fault) = none_puts_once

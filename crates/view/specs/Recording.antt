@@ -1,0 +1,42 @@
+-- What a recorder holds while a message is decided.
+use Rattle.std.specs.Prelude.{◌≡◌, ◌⊎◌, [], Option, Some, None, Result, Err, IfSome}
+use Rattle.std.specs.FinMap as map
+use Rattle.rows.specs.Agreement.{Reads, Agrees}
+use Rattle.rows.specs.Fold.{Rows}
+use Rattle.rows.specs.Plan.{Writes}
+use Rattle.rows.specs.declared.row_key.RowKey.{RowKey}
+use Rattle.rows.specs.declared.row_val.RowVal.{RowVal}
+use Rattle.view.specs.RowSets.{value_in}
+use Rattle.view.specs.declared.stop.Stop.{Stop}
+use Rattle.view.specs.declared.stop.Stop.TheVariants.{OutOfMemory}
+
+-- the source of rows, the rows that were read from it, and the rows that are put
+pub record Recording (S : Type 0) : Type 0 where
+  pub source : S
+  pub reads : Reads
+  pub writes : Writes
+
+-- no row was read or put yet
+abbrev pub IsNew : {S : Type 0} → Recording S → Type 0
+IsNew r = (r.reads ≡ []) × (r.writes ≡ [])
+
+-- the row that is put, else the row that was read
+abbrev pub first_kept : Option RowVal → Option (Option RowVal) → Option (Option RowVal)
+first_kept (Some row) read = Some (Some row)
+first_kept None read = read
+
+-- what a row is for the rest of the decision, if it was put or read
+abbrev pub kept : {S : Type 0} → Recording S → RowKey → Option (Option RowVal)
+kept r key = first_kept (value_in r.writes key) (value_in r.reads key)
+
+-- on a book that is known, the rows are as they were read
+abbrev pub AgreesWithBook : Option Rows → Reads → Type 0
+AgreesWithBook book reads = IfSome book (λ rows. Agrees reads (map.get rows))
+
+-- The source was asked once for the row, and this is its answer; or there was no room to keep one, and it was not asked.
+abbrev pub AsksOnce : {S : Type 0} → (S → RowKey → Result (Option RowVal) Stop → S → Type 0) → S → RowKey → Result (Option RowVal) Stop → S → Type 0
+AsksOnce answers old key result new = answers old key result new ⊎ ((result ≡ Err OutOfMemory) × (new ≡ old))
+
+-- a source stopped a question so
+abbrev pub IsStopOf : {S : Type 0} → (S → RowKey → Result (Option RowVal) Stop → S → Type 0) → Stop → Type 0
+IsStopOf {S} answers stop = (old : S) × (key : RowKey) × (new : S) × answers old key (Err stop) new

@@ -1,0 +1,35 @@
+-- Rows that were read and rows that are put, each list in the order of first touch.
+use Rattle.std.specs.Prelude.{List, [], ◌∷◌, ◌++◌, map, Option, IfSome}
+use Rattle.std.specs.List.{AllByRecursion, IsDistinct}
+use Rattle.std.specs.Map.{lookup}
+use Rattle.indexmap.specs.IndexMap.{insert_entry}
+use Rattle.rows.specs.Agreement.{Reads}
+use Rattle.rows.specs.Plan.{Writes}
+use Rattle.rows.specs.RowKey.{key_eq}
+use Rattle.rows.specs.RowVal.{IsOfKind}
+use Rattle.rows.specs.declared.row_key.RowKey.{RowKey}
+use Rattle.rows.specs.declared.row_val.RowVal.{RowVal}
+
+-- what a row is, if it is in the list
+abbrev pub value_in : {V : Type 0} → List (RowKey × V) → RowKey → Option V
+value_in rows key = lookup (key_eq key) rows
+
+-- no row is in the list twice
+abbrev pub IsOnceEach : {V : Type 0} → List (RowKey × V) → Type 0
+IsOnceEach rows = IsDistinct key_eq (map (λ row. row.0) rows)
+
+-- one more row was read
+abbrev pub logged : Reads → RowKey → Option RowVal → Reads
+logged reads key row = reads ++ (key, row) ∷ []
+
+-- one more row is put: a row that is put again keeps its place
+abbrev pub put : Writes → RowKey → RowVal → Writes
+put writes key row = insert_entry key_eq writes key row
+
+-- what was read is of its key's kind
+abbrev pub AreReadsOfKind : Reads → Type 0
+AreReadsOfKind reads = AllByRecursion (λ read. IfSome read.1 (IsOfKind read.0)) reads
+
+-- what is put is of its key's kind
+abbrev pub AreWritesOfKind : Writes → Type 0
+AreWritesOfKind writes = AllByRecursion (λ write. IsOfKind write.0 write.1) writes

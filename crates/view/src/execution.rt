@@ -1,0 +1,108 @@
+ghost use Rattle.std.specs.Prelude.{◌≡◌, IfOk, IfErr, IfSome};
+ghost use Rattle.rows.specs.Agreement.{IsTrueExecution};
+ghost use Rattle.rows.specs.Fold.{reply_of, writes_of};
+ghost use Rattle.view.specs.Recording.{AgreesWithBook};
+
+use crate::decide::Decide;
+use crate::read_set::ReadSet;
+use crate::recorder::Recorder;
+use crate::row_source::RowSource;
+use crate::stop::Stop;
+use crate::write_set::WriteSet;
+use rows::{Frame, ReplyBody};
+use std::alloc::Global;
+use std::marker::Model;
+
+/// A decision that was made, with the rows that it read. On every book that agrees with them the decision table gives
+/// its frame this reply, puts these rows, and needs no other row.
+#[derive(Drop)]
+pub struct Execution {
+    frame: Frame,
+    reads: ReadSet,
+    writes: WriteSet,
+    reply: ReplyBody,
+}
+
+impl Model for Execution {
+    ghost use Rattle.rows.specs.Agreement.{Executed, IsLocal};
+
+    ghost Value = { Executed };
+
+    ghost view = { λ e. record { frame = e.frame; reads = e.reads; writes = e.writes; reply = e.reply } };
+
+    ghost invariant = { λ e. IsLocal e.frame e.reads e.writes e.reply };
+}
+
+impl Execution {
+    /// The body that was decided.
+    pub fn frame(&self) -> Frame
+        ensures frame { result ≡ self.now.frame }
+        ensures local { IsTrueExecution self.now }
+    {
+        self.frame
+    }
+
+    /// The rows that were read.
+    pub fn reads(&self) -> &ReadSet
+        ensures { result.now ≡ self.now.reads }
+    {
+        &self.reads
+    }
+
+    /// The rows that are put.
+    pub fn writes(&self) -> &WriteSet
+        ensures { result.now ≡ self.now.writes }
+    {
+        &self.writes
+    }
+
+    /// The reply.
+    pub fn reply(&self) -> ReplyBody
+        ensures { result ≡ self.now.reply }
+    {
+        self.reply
+    }
+
+    /// The body, the rows that were read, the rows that are put, and the reply.
+    pub fn into_parts(self) -> (Frame, ReadSet, WriteSet, ReplyBody)
+        ensures frame { result.0 ≡ self.frame }
+        ensures reads { result.1 ≡ self.reads }
+        ensures writes { result.2 ≡ self.writes }
+        ensures reply { result.3 ≡ self.reply }
+        ensures local { IsTrueExecution self }
+    {
+        let Execution {
+            frame,
+            reads,
+            writes,
+            reply,
+        } = self;
+        (frame, reads, writes, reply)
+    }
+}
+
+/// Decides a body on the rows of a source.
+pub fn execute<S: RowSource, F: Decide>(
+    alloc: Global,
+    frame: &Frame,
+    source: S,
+    decision: &F,
+) -> Result<Execution, Stop>
+    ensures frame { IfOk result (λ e. e.frame ≡ frame.now) }
+
+    // On a known book, reply and rows are those of the decision table there, and want of memory is all that stops it.
+    ensures agrees { IfOk result (λ e. AgreesWithBook (S.book source) e.reads) }
+    ensures reply { IfOk result (λ e. IfSome (S.book source) (λ rows. e.reply ≡ reply_of rows frame.now)) }
+    ensures writes { IfOk result (λ e. IfSome (S.book source) (λ rows. e.writes ≡ writes_of rows frame.now)) }
+    ensures stops { IfSome (S.book source) (λ _. IfErr result (λ stop. stop ≡ Stop.OutOfMemory)) }
+{
+    let mut recorder = Recorder::new(alloc, source);
+    let reply = decision.decide(frame, &mut recorder)?;
+    let (_, reads, writes) = recorder.into_parts();
+    Ok(Execution {
+        frame: *frame,
+        reads,
+        writes,
+        reply,
+    })
+}

@@ -1,0 +1,96 @@
+ghost use Rattle.std.specs.Prelude.{◌≡◌, ◌⊎◌, [], Some, None, IfOk, IfErr, IfSome, OnOk, OnErr};
+ghost use Rattle.std.specs.FinMap as map;
+ghost use Rattle.rows.specs.RowVal.{IsOfKind};
+ghost use Rattle.view.specs.Recording.{kept, AgreesWithBook, AsksOnce};
+ghost use Rattle.view.specs.RowSets.{value_in, logged, put};
+
+use crate::read_set::ReadSet;
+use crate::row_source::RowSource;
+use crate::stop::Stop;
+use crate::write_set::WriteSet;
+use rows::{RowKey, RowVal};
+use std::alloc::Global;
+use std::marker::Model;
+
+/// Records what one decision reads from a source and what it puts.
+#[derive(Drop)]
+pub struct Recorder<S: RowSource> {
+    source: S,
+    reads: ReadSet,
+    writes: WriteSet,
+}
+
+impl<S: RowSource> Model for Recorder<S> {
+    ghost use Rattle.view.specs.Recording.{Recording, AgreesWithBook};
+
+    ghost Value = { Recording S };
+
+    ghost view = { λ r. record { source = r.source; reads = r.reads; writes = r.writes } };
+
+    ghost invariant = { λ r. AgreesWithBook (S.book r.source) r.reads };
+}
+
+impl<S: RowSource> Recorder<S> {
+    /// A recorder that has read and put nothing.
+    pub fn new(alloc: Global, source: S) -> Recorder<S>
+        ensures { result ≡ record { source = source; reads = []; writes = [] } }
+    {
+        Recorder {
+            source,
+            reads: ReadSet::new(alloc),
+            writes: WriteSet::new(alloc),
+        }
+    }
+
+    /// What the row is: as it is put, else as it was read, else as the source answers, which is then logged.
+    pub fn read(&mut self, key: &RowKey) -> Result<Option<RowVal>, Stop>
+        // A row that is put or was read is answered as it is kept, and nothing changes.
+        ensures kept { IfSome (kept self.old key.now) (λ row. (result ≡ Ok row) × (self.new ≡ self.old)) }
+
+        // For any other row the source is asked once, and its answer is logged.
+        ensures asked { kept self.old key.now ≡ None → AsksOnce S.answers self.old.source key.now result self.new.source }
+        ensures logged { kept self.old key.now ≡ None → IfOk result (λ row. self.new.reads ≡ logged self.old.reads key.now row) }
+        ensures err { OnErr result (self.new.reads ≡ self.old.reads) }
+        ensures writes { self.new.writes ≡ self.old.writes }
+        ensures kind { IfOk result (λ row. IfSome row (IsOfKind key.now)) }
+
+        // A known book stays, and want of memory is all that stops it.
+        ensures stops { IfSome (S.book self.old.source) (λ _. IfErr result (λ stop. stop ≡ Stop.OutOfMemory)) }
+        ensures book { S.book self.new.source ≡ S.book self.old.source }
+    {
+        if let Some(row) = self.writes.get(key) {
+            return Ok(Some(row));
+        }
+        if let Some(row) = self.reads.get(key) {
+            return Ok(row);
+        }
+        self.reads.ask(key, &mut self.source)
+    }
+
+    /// Puts a row, over the value that it has; a row that is put already takes no memory.
+    pub fn write(&mut self, key: RowKey, row: RowVal) -> Result<(), Stop>
+        requires { IsOfKind key row }
+        ensures ok { OnOk result (self.new ≡ record self.old { writes = put self.old.writes key row }) }
+        ensures err { OnErr result (self.new ≡ self.old) }
+        ensures stop { IfErr result (λ stop. stop ≡ Stop.OutOfMemory) }
+        ensures absent { OnErr result (value_in self.old.writes key ≡ None) }
+    {
+        self.writes.put(key, row)?;
+        Ok(())
+    }
+
+    /// The source, the rows that were read and the rows that are put.
+    pub fn into_parts(self) -> (S, ReadSet, WriteSet)
+        ensures source { result.0 ≡ self.source }
+        ensures reads { result.1 ≡ self.reads }
+        ensures writes { result.2 ≡ self.writes }
+        ensures agrees { AgreesWithBook (S.book self.source) self.reads }
+    {
+        let Recorder {
+            source,
+            reads,
+            writes,
+        } = self;
+        (source, reads, writes)
+    }
+}
