@@ -5,6 +5,7 @@ pub mod Expiry
 pub mod Fold
 pub mod FrameFault
 pub mod Plan
+pub mod PutsOnce
 pub mod RowKey
 pub mod RowVal
 pub mod Table

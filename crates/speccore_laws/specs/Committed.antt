@@ -64,14 +64,14 @@ rows_so_far s = rows_after s.opening (take s.committed s.frames)
 seen_is_fold : (s : State) → Holds s → (read : LoggedRead) → IsSoundRead s.opening s.entries (message s) read → (seen : Option Entry) → Resolves s.entries read.row s.committed seen → origin_of seen ≡ read.origin → map_of.get (rows_so_far s) read.row ≡ read.value
 seen_is_fold s h read sound None resolves origin =
     unput-Follows s.opening (settled_messages s) (take s.committed s.frames) read.row h.follows
-      (λ j puts. let e = put_stands s h j read.row puts in let below : s.committed ≤ e.0.version.index = All-contains (λ (o : Entry). o.row ≡ read.row → s.committed ≤ o.version.index) s.entries e.0 resolves e.1 e.2 in let at_j = e.3 in let l = e.4 in omega arith)
+    (λ j puts. let e = put_stands s h j read.row puts in let below : s.committed ≤ e.0.version.index = All-contains (λ (o : Entry). o.row ≡ read.row → s.committed ≤ o.version.index) s.entries e.0 resolves e.1 e.2 in let at_j = e.3 in let l = e.4 in omega arith)
     ∙ sym (sound.base (sym origin))
 seen_is_fold s h read sound (Some seen) resolves origin =
     let owned = h.kept.owned seen resolves.0 in
     let below : seen.version.index < s.committed = resolves.2 in
     let there : Contains (writes_in (get_or (settled_messages s) seen.version.index fresh)) (seen.row, seen.value) = subst (λ (m : MessageState). Contains (writes_in m) (seen.row, seen.value)) (sym (committed_at s seen.version.index below)) owned.2 in
     let none_between : (j : ℕ) → seen.version.index < j → Puts (writes_in (get_or (settled_messages s) j fresh)) seen.row → ⊥ =
-        λ j l puts. let e = put_stands s h j seen.row puts in let at_j : e.0.version.index ≡ j = e.3 in let under : j < s.committed = e.4 in let past : s.committed ≤ e.0.version.index = All-contains (λ (o : Entry). o.row ≡ read.row → seen.version.index < o.version.index → s.committed ≤ o.version.index) s.entries e.0 resolves.3 e.1 (e.2 ∙ resolves.1) (omega arith) in omega arith in
+    λ j l puts. let e = put_stands s h j seen.row puts in let at_j : e.0.version.index ≡ j = e.3 in let under : j < s.committed = e.4 in let past : s.committed ≤ e.0.version.index = All-contains (λ (o : Entry). o.row ≡ read.row → seen.version.index < o.version.index → s.committed ≤ o.version.index) s.entries e.0 resolves.3 e.1 (e.2 ∙ resolves.1) (omega arith) in omega arith in
     ap (map_of.get (rows_so_far s)) (sym resolves.1)
     ∙ put-Follows s.opening (settled_messages s) (take s.committed s.frames) seen.version.index (seen.row, seen.value) h.follows there none_between
     ∙ sym (sound.stands seen.version seen (sym origin) resolves.0 refl resolves.1)
@@ -93,7 +93,7 @@ logged_in-Some (read ∷ reads) row value e =
 pub Agrees-logged : (log : List LoggedRead) (reads : Reads) (look : RowKey → Option RowVal) → AreLogged log reads → ((read : LoggedRead) → Contains log read → look read.row ≡ read.value) → Agrees reads look
 Agrees-logged log reads look logged each =
     recursion_from_All (λ read. look read.0 ≡ read.1) reads
-      (λ k d l. let r = logged_in-Some log _ _ (logged k d l) in ap look (sym r.2) ∙ each r.0 r.1 ∙ r.3)
+    (λ k d l. let r = logged_in-Some log _ _ (logged k d l) in ap look (sym r.2) ∙ each r.0 r.1 ∙ r.3)
 
 -- no message stands past the end
 pub in_batch : (s : State) (i : ℕ) → (message s i).status ≢ status.Ready → i < length s.messages
@@ -110,16 +110,16 @@ Holds-commit s h executed current l =
     let has = h.kept.executed s.committed executed in
     let x : Executed = has.0 in
     let agrees : Agrees x.reads (map_of.get (rows_so_far s)) =
-        Agrees-logged (message s s.committed).log x.reads (map_of.get (rows_so_far s)) has.1.logged
-          (λ read c. let stays = All-contains (λ (r : LoggedRead). ResolvesAs s.entries r.row s.committed r.origin) (message s s.committed).log read current c in seen_is_fold s h read (h.kept.sound s.committed read c) stays.0 stays.1 stays.2) in
+    Agrees-logged (message s s.committed).log x.reads (map_of.get (rows_so_far s)) has.1.logged
+    (λ read c. let stays = All-contains (λ (r : LoggedRead). ResolvesAs s.entries r.row s.committed r.origin) (message s s.committed).log read current c in seen_is_fold s h read (h.kept.sound s.committed read c) stays.0 stays.1 stays.2) in
     let decided = has.1.true_one (map_of.get (rows_so_far s)) agrees in
     let frame_there : get_or s.frames s.committed x.frame ≡ x.frame = sym has.1.of_frame.1 in
     let one_more : Follows s.opening (take s.committed s.messages ++ message s s.committed ∷ []) (take s.committed s.frames ++ x.frame ∷ []) =
-        Follows-push s.opening (take s.committed s.messages) (take s.committed s.frames) (message s s.committed) x.frame x h.follows has.1.is
-          (sym (ap (λ (d : Decided). d.reply) decided)) (sym (ap (λ (d : Decided). d.writes) decided)) in
+    Follows-push s.opening (take s.committed s.messages) (take s.committed s.frames) (message s s.committed) x.frame x h.follows has.1.is
+    (sym (ap (λ (d : Decided). d.reply) decided)) (sym (ap (λ (d : Decided). d.writes) decided)) in
     let messages_more : take (s.committed + 1) s.messages ≡ take s.committed s.messages ++ message s s.committed ∷ [] = take_more s.messages s.committed fresh l in
     let frames_more : take (s.committed + 1) s.frames ≡ take s.committed s.frames ++ x.frame ∷ [] =
-        take_more s.frames s.committed x.frame has.1.of_frame.0 ∙ ap (λ (f : Frame). take s.committed s.frames ++ f ∷ []) frame_there in
+    take_more s.frames s.committed x.frame has.1.of_frame.0 ∙ ap (λ (f : Frame). take s.committed s.frames ++ f ∷ []) frame_there in
     record {
       paired = h.paired;
       within = omega arith;

@@ -10,7 +10,7 @@ use Rattle.rows.specs.declared.reply_body.ReplyBody.{ReplyBody}
 use Rattle.rows.specs.declared.row_key.RowKey.{RowKey}
 use Rattle.rows.specs.declared.row_val.RowVal.{RowVal}
 use Rattle.speccore_laws.specs.Overlay.{Puts, overlay_other, overlay_put}
-use Rattle.speccore_laws.specs.PutsOnce.{PutsOnce, puts_once}
+use Rattle.rows.specs.PutsOnce.{PutsOnce, puts_once}
 use Rattle.speccore_laws.specs.Run.{writes_in, rows_under}
 use Rattle.speccore_laws.specs.State.{MessageState, fresh}
 
@@ -63,7 +63,7 @@ unput-Follows rows (m ∷ ms) [] row h none = absurd h
 unput-Follows rows (m ∷ ms) (frame ∷ frames) row h none =
     unput-Follows (rows_after_one rows frame) ms frames row h.4 (λ j. none (suc j))
     ∙ overlay_other rows (writes_of rows frame) row
-        (λ p. none 0 (subst (λ ws. Puts ws row) (sym (writes_are m h.0 h.1 ∙ h.3)) p))
+    (λ p. none 0 (subst (λ ws. Puts ws row) (sym (writes_are m h.0 h.1 ∙ h.3)) p))
 
 -- a row is as the last of them that puts it puts it
 pub put-Follows : (rows : Rows) (ms : List MessageState) (frames : List Frame) (i : ℕ) (put : RowKey × RowVal) → Follows rows ms frames → Contains (writes_in (get_or ms i fresh)) put → ((j : ℕ) → i < j → ¬ Puts (writes_in (get_or ms j fresh)) put.0) → map.get (rows_after rows frames) put.0 ≡ Some put.1
@@ -73,6 +73,6 @@ put-Follows rows (m ∷ ms) [] i put h c none = absurd h
 put-Follows rows (m ∷ ms) (frame ∷ frames) zero put h c none =
     unput-Follows (rows_after_one rows frame) ms frames put.0 h.4 (λ j. none (suc j) (omega arith))
     ∙ overlay_put rows (writes_of rows frame) put (puts_once (map.get rows) frame)
-        (subst (λ ws. Contains ws put) (writes_are m h.0 h.1 ∙ h.3) c)
+    (subst (λ ws. Contains ws put) (writes_are m h.0 h.1 ∙ h.3) c)
 put-Follows rows (m ∷ ms) (frame ∷ frames) (suc i) put h c none =
     put-Follows (rows_after_one rows frame) ms frames i put h.4 c (λ j l. none (suc j) (omega arith))

@@ -9,7 +9,7 @@ use Rattle.rows.specs.declared.frame.Frame.{Frame}
 use Rattle.rows.specs.declared.row_key.RowKey.{RowKey}
 use Rattle.rows.specs.declared.row_val.RowVal.{RowVal}
 use Rattle.speccore_laws.specs.Members.{Contains-map, Contains-in_map, Contains-filter, Contains-in_filter, Contains-nil}
-use Rattle.speccore_laws.specs.PutsOnce.{PutsOnce}
+use Rattle.rows.specs.PutsOnce.{PutsOnce}
 use Rattle.speccore_laws.specs.Run.{writes_in}
 use Rattle.speccore_laws.specs.State.{MessageState, IsAt}
 use Rattle.speccore_laws.specs.Step.{AreLogged, entry_of, entries_without}

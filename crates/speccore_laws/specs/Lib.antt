@@ -4,7 +4,6 @@ pub mod Kept
 pub mod Keys
 pub mod Members
 pub mod Overlay
-pub mod PutsOnce
 pub mod Reached
 pub mod Resolves
 pub mod Run

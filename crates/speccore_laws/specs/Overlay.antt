@@ -9,7 +9,7 @@ use Rattle.rows.specs.declared.row_key.RowKey.{RowKey}
 use Rattle.rows.specs.declared.row_val.RowVal.{RowVal}
 use Rattle.speccore_laws.specs.Keys.{key_cmp_total, key_cases}
 use Rattle.speccore_laws.specs.Members.{Contains-cons, Contains-head, Contains-tail, Contains-nil}
-use Rattle.speccore_laws.specs.PutsOnce.{PutsOnce}
+use Rattle.rows.specs.PutsOnce.{PutsOnce}
 
 -- the row is among what is put
 abbrev pub Puts : Writes → RowKey → Type 0
@@ -27,9 +27,9 @@ overlay_other rows [] row none = refl
 overlay_other rows (w ∷ ws) row none =
     overlay_other (map.insert rows w.0 w.1) ws row (λ h. none (h.0, Contains-tail w ws h.0 h.1, h.2))
     ∙ elim (key_cases row w.0) [
-        | inl same ↦ absurd (none (w, Contains-head w ws, sym same.1))
-        | inr apart ↦ get_other rows w row apart.0
-      ]
+      | inl same ↦ absurd (none (w, Contains-head w ws, sym same.1))
+      | inr apart ↦ get_other rows w row apart.0
+    ]
 
 -- each value that is put for the row is this one, and one is put or stands there already
 put_last : (rows : Rows) (writes : Writes) (row : RowKey) (value : RowVal) → ((put : RowKey × RowVal) → Contains writes put → put.0 ≡ row → put.1 ≡ value) → (map.get rows row ≡ Some value) ⊎ Puts writes row → map.get (overlay rows writes) row ≡ Some value

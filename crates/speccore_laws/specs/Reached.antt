@@ -17,7 +17,7 @@ use Rattle.speccore_laws.specs.Committed.{Holds, Holds-commit, in_batch}
 use Rattle.speccore_laws.specs.Follows.{Follows, replies-Follows, rows-Follows}
 use Rattle.speccore_laws.specs.Kept.{AreKept, HasTrueExecution, IsSoundRead, version_at, one_value, kept_unfinished, kept_finished, kept_given_up}
 use Rattle.speccore_laws.specs.Members.{Contains-nil}
-use Rattle.speccore_laws.specs.PutsOnce.{PutsOnce, puts_once}
+use Rattle.rows.specs.PutsOnce.{PutsOnce, puts_once}
 use Rattle.speccore_laws.specs.Resolves.{Resolves, read_of}
 use Rattle.speccore_laws.specs.Run.{Call, Claim, Read, Finish, Commit, Step, Run, IsReached, writes_in, committed_replies, committed_rows}
 use Rattle.speccore_laws.specs.State.{State, MessageState, message, with_message, fresh, start, IsExecuted, IsRunning, IsAt}
@@ -75,10 +75,10 @@ Holds-claimed s h i l ready =
     let now : message (with_message s i m) i ≡ m = message_same s i m l in
     let before : (message s i).status ≢ status.Executed = of_other (message s i) status.Ready status.Executed ready ready_not_executed in
     Holds-changed s h i m s.entries (past_committed s h i before)
-      (kept_unfinished s.opening s.frames s.entries (message s) (message (with_message s i m)) i h.kept (message_other s i m) before
-        (of_other (message (with_message s i m) i) status.Running status.Executed (ap (λ (n : MessageState). n.status) now) running_not_executed)
-        (ap (λ (n : MessageState). n.incarnation) now)
-        (λ read c. h.kept.sound i read (subst (λ (n : MessageState). Contains n.log read) now c)))
+    (kept_unfinished s.opening s.frames s.entries (message s) (message (with_message s i m)) i h.kept (message_other s i m) before
+    (of_other (message (with_message s i m) i) status.Running status.Executed (ap (λ (n : MessageState). n.status) now) running_not_executed)
+    (ap (λ (n : MessageState). n.incarnation) now)
+    (λ read c. h.kept.sound i read (subst (λ (n : MessageState). Contains n.log read) now c)))
 
 -- what is seen is logged soundly
 seen_is_sound : (s : State) → Holds s → (row : RowKey) (j : ℕ) (seen : Option Entry) → Resolves s.entries row j seen → IsSoundRead s.opening s.entries (message s) (read_of s.opening row seen)
@@ -99,13 +99,13 @@ Holds-read s h v row seen running resolves =
     let before : (message s v.index).status ≢ status.Executed = of_other (message s v.index) status.Running status.Executed running.0 running_not_executed in
     let now : message (with_message s v.index m) v.index ≡ m = message_same s v.index m (in_batch s v.index (of_other (message s v.index) status.Running status.Ready running.0 running_not_ready)) in
     Holds-changed s h v.index m s.entries (past_committed s h v.index before)
-      (kept_unfinished s.opening s.frames s.entries (message s) (message (with_message s v.index m)) v.index h.kept (message_other s v.index m) before
-        (of_other (message (with_message s v.index m) v.index) status.Running status.Executed (ap (λ (n : MessageState). n.status) now ∙ running.0) running_not_executed)
-        (ap (λ (n : MessageState). n.incarnation) now)
-        (λ other c. elim (Contains-push_cases (message s v.index).log read other (subst (λ (n : MessageState). Contains n.log other) now c)) [
-          | inl old ↦ h.kept.sound v.index other old
-          | inr new ↦ subst (IsSoundRead s.opening s.entries (message s)) new (seen_is_sound s h row v.index seen resolves)
-        ]))
+    (kept_unfinished s.opening s.frames s.entries (message s) (message (with_message s v.index m)) v.index h.kept (message_other s v.index m) before
+    (of_other (message (with_message s v.index m) v.index) status.Running status.Executed (ap (λ (n : MessageState). n.status) now ∙ running.0) running_not_executed)
+    (ap (λ (n : MessageState). n.incarnation) now)
+    (λ other c. elim (Contains-push_cases (message s v.index).log read other (subst (λ (n : MessageState). Contains n.log other) now c)) [
+      | inl old ↦ h.kept.sound v.index other old
+      | inr new ↦ subst (IsSoundRead s.opening s.entries (message s)) new (seen_is_sound s h row v.index seen resolves)
+    ]))
 
 -- a true execution of logged reads puts no row with two values
 once_of_true : (log : List LoggedRead) (x : Executed) → IsTrueExecution x → AreLogged log x.reads → PutsOnce x.writes
@@ -122,12 +122,12 @@ Holds-finished s h v x true_one running of_version =
     let has : HasTrueExecution s.frames v.index m x = record { is = refl; true_one = true_one; of_frame = of_version.0; logged = of_version.1; once = once_of_true (message s v.index).log x true_one of_version.1 } in
     let version : version_at v.index (message s v.index).incarnation ≡ v = ap (version_at v.index) running.1 in
     let kept : AreKept s.opening s.frames (s.entries ++ map (entry_of (version_at v.index (message s v.index).incarnation)) (writes_in (message (with_message s v.index m) v.index))) (message (with_message s v.index m)) =
-        kept_finished s.opening s.frames s.entries (message s) (message (with_message s v.index m)) v.index x h.kept (message_other s v.index m) before
-          (ap (λ (n : MessageState). n.status) now) (ap (λ (n : MessageState). n.incarnation) now) (ap (λ (n : MessageState). n.log) now)
-          (subst (λ (n : MessageState). HasTrueExecution s.frames v.index n x) (sym now) has) in
+    kept_finished s.opening s.frames s.entries (message s) (message (with_message s v.index m)) v.index x h.kept (message_other s v.index m) before
+    (ap (λ (n : MessageState). n.status) now) (ap (λ (n : MessageState). n.incarnation) now) (ap (λ (n : MessageState). n.log) now)
+    (subst (λ (n : MessageState). HasTrueExecution s.frames v.index n x) (sym now) has) in
     Holds-changed s h v.index m (s.entries ++ map (entry_of v) x.writes) (past_committed s h v.index before)
-      (subst (λ (w : Version). AreKept s.opening s.frames (s.entries ++ map (entry_of w) x.writes) (message (with_message s v.index m))) version
-        (subst (λ (n : MessageState). AreKept s.opening s.frames (s.entries ++ map (entry_of (version_at v.index (message s v.index).incarnation)) (writes_in n)) (message (with_message s v.index m))) now kept))
+    (subst (λ (w : Version). AreKept s.opening s.frames (s.entries ++ map (entry_of w) x.writes) (message (with_message s v.index m))) version
+    (subst (λ (n : MessageState). AreKept s.opening s.frames (s.entries ++ map (entry_of (version_at v.index (message s v.index).incarnation)) (writes_in n)) (message (with_message s v.index m))) now kept))
 
 Holds-given_up : (s : State) → Holds s → IsExecuted s s.committed → Holds (given_up s s.committed)
 Holds-given_up s h executed =
@@ -135,9 +135,9 @@ Holds-given_up s h executed =
     let m : MessageState = record { status = status.Ready; incarnation = (message s i).incarnation + 1; execution = None; log = [] } in
     let now : message (with_message s i m) i ≡ m = message_same s i m (in_batch s i (of_other (message s i) status.Executed status.Ready executed executed_not_ready)) in
     Holds-changed s h i m (entries_without i s.entries) (omega arith)
-      (kept_given_up s.opening s.frames s.entries (message s) (message (with_message s i m)) i h.kept (message_other s i m)
-        (of_other (message (with_message s i m) i) status.Ready status.Executed (ap (λ (n : MessageState). n.status) now) ready_not_executed)
-        (ap (λ (n : MessageState). n.incarnation) now) (ap (λ (n : MessageState). n.log) now))
+    (kept_given_up s.opening s.frames s.entries (message s) (message (with_message s i m)) i h.kept (message_other s i m)
+    (of_other (message (with_message s i m) i) status.Ready status.Executed (ap (λ (n : MessageState). n.status) now) ready_not_executed)
+    (ap (λ (n : MessageState). n.incarnation) now) (ap (λ (n : MessageState). n.log) now))
 
 Holds-ClaimStep : (old : State) (task : Task) (new : State) → ClaimStep old task new → Holds old → Holds new
 Holds-ClaimStep old Done new step h = subst Holds (sym step.1) h
@@ -165,7 +165,7 @@ Holds-FinishStep old v x (Err Worn) new true_one step h = absurd step
 Holds-CommitStep : (old : State) (answer : Result Bool CoreFault) (new : State) → CommitStep old answer new → Holds old → Holds new
 Holds-CommitStep old (Ok true) new step h =
     subst Holds (sym step.2)
-      (Holds-commit old h step.0 step.1 (in_batch old old.committed (of_other (message old old.committed) status.Executed status.Ready step.0 executed_not_ready)))
+    (Holds-commit old h step.0 step.1 (in_batch old old.committed (of_other (message old old.committed) status.Executed status.Ready step.0 executed_not_ready)))
 Holds-CommitStep old (Ok false) new step h =
     elim step [
       | inl waits ↦ subst Holds (sym waits.1) h
@@ -290,4 +290,4 @@ CommitsTheFold-Run opening frames calls s run =
     let same = same-Run (start opening frames) calls s run in
     let reached = reached_by opening frames calls s run in
     subst (λ (rows : Rows). CommitsTheFold rows frames s) same.0
-      (subst (λ (fs : List Frame). CommitsTheFold s.opening fs s) same.1 (replies-reached s reached, rows-reached s reached))
+    (subst (λ (fs : List Frame). CommitsTheFold s.opening fs s) same.1 (replies-reached s reached, rows-reached s reached))

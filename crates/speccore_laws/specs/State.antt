@@ -59,7 +59,7 @@ IsExecuted s i = (message s i).status ≡ status.Executed
 abbrev pub state_code : Coded Rows → Coded Frame → Coded Entry → Coded MessageState → Coded State
 state_code rows frame entry message =
     code_by (Rows × (List Frame × (List Entry × (List MessageState × ℕ))))
-      (coded× rows (coded× (coded_list frame) (coded× (coded_list entry) (coded× (coded_list message) coded_ℕ))))
-      (λ s. (s.opening, (s.frames, (s.entries, (s.messages, s.committed)))))
-      (λ p. record { opening = p.0; frames = p.1.0; entries = p.1.1.0; messages = p.1.1.1.0; committed = p.1.1.1.1 })
-      (λ _. refl)
+    (coded× rows (coded× (coded_list frame) (coded× (coded_list entry) (coded× (coded_list message) coded_ℕ))))
+    (λ s. (s.opening, (s.frames, (s.entries, (s.messages, s.committed)))))
+    (λ p. record { opening = p.0; frames = p.1.0; entries = p.1.1.0; messages = p.1.1.1.0; committed = p.1.1.1.1 })
+    (λ _. refl)

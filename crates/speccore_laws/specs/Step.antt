@@ -56,8 +56,8 @@ abbrev pub ReadStep : State → Version → RowKey → Result (Option RowVal) Co
 ReadStep old v row (Ok got) new =
     IsRunning old v
     × (((logged_by old v row ≡ Some got) × (new ≡ old))
-      ⊎ ((seen : Option Entry) × (logged_by old v row ≡ None) × Resolves old.entries row v.index seen
-        × (got ≡ value_of old.opening row seen) × (new ≡ with_read old v (read_of old.opening row seen))))
+    ⊎ ((seen : Option Entry) × (logged_by old v row ≡ None) × Resolves old.entries row v.index seen
+    × (got ≡ value_of old.opening row seen) × (new ≡ with_read old v (read_of old.opening row seen))))
 ReadStep old v row (Err NotRunning) new = ¬ IsRunning old v × (new ≡ old)
 -- a read that is to be logged found no room
 ReadStep old v row (Err OutOfMemory) new = IsRunning old v × (logged_by old v row ≡ None) × (new ≡ old)
@@ -82,7 +82,7 @@ entry_of v put = record { row = put.0; version = v; value = put.1 }
 abbrev pub finished : State → Version → Executed → State
 finished s v execution =
     record (with_message s v.index (record (message s v.index) { status = status.Executed; execution = Some execution })) {
-      entries = s.entries ++ map (entry_of v) execution.writes
+      entries = s.entries ++ map (entry_of v) execution.writes;
     }
 
 -- A version hands in its execution.
@@ -107,9 +107,9 @@ entries_without i entries = filter (λ e. not (nat_eq e.version.index i)) entrie
 abbrev pub given_up : State → ℕ → State
 given_up s i =
     record
-      (with_message s i
-        (record { status = status.Ready; incarnation = (message s i).incarnation + 1; execution = None; log = [] })) {
-      entries = entries_without i s.entries
+    (with_message s i
+    (record { status = status.Ready; incarnation = (message s i).incarnation + 1; execution = None; log = [] })) {
+      entries = entries_without i s.entries;
     }
 
 -- the last incarnation that a message can have
@@ -125,7 +125,7 @@ CommitStep old (Ok true) new =
 CommitStep old (Ok false) new =
     (¬ IsExecuted old old.committed × (new ≡ old))
     ⊎ (IsExecuted old old.committed × ¬ IsCurrent old old.committed
-      × ((message old old.committed).incarnation ≢ last_incarnation) × (new ≡ given_up old old.committed))
+    × ((message old old.committed).incarnation ≢ last_incarnation) × (new ≡ given_up old old.committed))
 -- the same, and it can't be executed again
 CommitStep old (Err Worn) new =
     IsExecuted old old.committed × ¬ IsCurrent old old.committed

@@ -22,7 +22,10 @@ impl fmt::Display for CoreFault {
     fn fmt<W: fmt::Write>(&self, f: &mut fmt::Formatter<W>) -> fmt::Result {
         match self {
             CoreFault::NotRunning => write!(f, "the version is not running"),
-            CoreFault::OtherReads => write!(f, "the execution did not read what the version was answered"),
+            CoreFault::OtherReads => write!(
+                f,
+                "the execution did not read what the version was answered"
+            ),
             CoreFault::OutOfMemory => write!(f, "out of memory"),
             CoreFault::Worn => write!(f, "no incarnation is left"),
         }

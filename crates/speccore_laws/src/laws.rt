@@ -9,5 +9,4 @@ ghost use Rattle.speccore_laws.specs.Run.{Call, Run, committed_replies, committe
 pub fn committed_is_the_fold()
     ensures replies { (opening : Rows) (frames : List Frame) (calls : List Call) (state : State) → Run (start opening frames) calls state → committed_replies state ≡ replies_to opening (take state.committed frames) }
     ensures rows { (opening : Rows) (frames : List Frame) (calls : List Call) (state : State) → Run (start opening frames) calls state → committed_rows state ≡ rows_after opening (take state.committed frames) }
-{
-}
+{}

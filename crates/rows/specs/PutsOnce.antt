@@ -1,5 +1,5 @@
--- The table puts no row with two values.
-use Rattle.std.proofs.Common.{◌≡◌, ℕ, ◌<◌, Bool, true, false, cond, if◌then◌else◌, nat_le, nat_lt, List, [], ◌∷◌, length, Option, Some, None, refl, Contains, sym, ap, ◌∙◌, inl, inr, arith}
+-- The decision table puts no row with two values.
+use Rattle.std.proofs.Common.{◌≡◌, ℕ, zero, suc, ◌<◌, slice_index_or, Bool, true, false, cond, if◌then◌else◌, nat_le, nat_lt, List, [], ◌∷◌, length, Option, Some, None, refl, Contains, sym, ap, ◌∙◌, arith}
 use Rattle.iso8583.specs.declared.message.Message.TheVariants.{Request}
 use Rattle.iso8583.specs.declared.request.Request.{Request as RequestBody}
 use Rattle.rows.specs.Decision.{decision}
@@ -10,17 +10,20 @@ use Rattle.rows.specs.declared.frame.Frame.{Frame}
 use Rattle.rows.specs.declared.frame.Frame.TheVariants.{Good, Bad}
 use Rattle.rows.specs.declared.row_key.RowKey.{RowKey}
 use Rattle.rows.specs.declared.row_val.RowVal.{RowVal}
-use Rattle.speccore_laws.specs.Members.{Contains-cons, Contains-nil}
 
 -- no row is put with two values
 abbrev pub PutsOnce : Writes → Type 0
 PutsOnce writes = (put other : RowKey × RowVal) → Contains writes put → Contains writes other → put.0 ≡ other.0 → put.1 ≡ other.1
 
 none_puts_once : PutsOnce []
-none_puts_once put other h k e = absurd (Contains-nil put h)
+none_puts_once put other h k e = absurd (omega (arith, h.1))
+
+the_place : (w put : RowKey × RowVal) (k : ℕ) → k < length (w ∷ []) → slice_index_or (w ∷ []) k put ≡ put → w ≡ put
+the_place w put zero l e = e
+the_place w put (suc k) l e = absurd (omega arith)
 
 the_one : (w put : RowKey × RowVal) → Contains (w ∷ []) put → w ≡ put
-the_one w put h = elim (Contains-cons w [] put h) [ inl e ↦ e | inr t ↦ absurd (Contains-nil put t) ]
+the_one w put h = the_place w put h.0 h.1 h.2
 
 one_puts_once : (w : RowKey × RowVal) → PutsOnce (w ∷ [])
 one_puts_once w put other h k e = ap (λ (p : RowKey × RowVal). p.1) (sym (the_one w put h) ∙ the_one w other k)
@@ -37,7 +40,7 @@ on_card_once r None = λ look. none_puts_once
 on_card_once r (Some card) =
     either_once (nat_le 999999 card.approvals) (declined r 909) _ (λ look. none_puts_once)
     (either_once (nat_lt card.available r.amount) (declined r 116) (approved r card) (λ look. none_puts_once)
-      (λ look. one_puts_once _))
+    (λ look. one_puts_once _))
 
 -- what the table puts
 pub puts_once : (look : Lookup) (frame : Frame) → PutsOnce (decision look frame).writes

@@ -1,0 +1,11 @@
+use Rattle.std.proofs.Common.{arith}
+use Rattle.speccore.proofs.Resolving.{add_step}
+use Rattle.speccore.proofs.entries.add_entries.Goals as goal
+
+pub loop-index-preserved : goal.loop-index-preserved
+loop-index-preserved c =
+    record {
+      items = add_step _ _ _ c.args.version c.args.writes.now c.loop-index.index _ c.at-row.ensures.entry c.loop-index.invariant.items c.push_reserved.ensures.items;
+      room = omega arith;
+      len = omega arith;
+    }

@@ -1,0 +1,10 @@
+use Rattle.std.proofs.Common.{◌+◌, drop, ap, ◌∙◌}
+use Rattle.rows.specs.Fold.{Rows, overlay}
+use Rattle.fold.proofs.FoldLaws.{overlay-drop}
+use Rattle.speccore.proofs.prefix_of.put_all.Goals as goal
+
+pub loop-index-preserved : goal.loop-index-preserved
+loop-index-preserved c =
+    ap (λ (rows : Rows). overlay rows (drop (c.loop-index.index + 1) c.args.writes.now)) c.in_ok-put.ensures.ok
+    ∙ overlay-drop c.loop-index.book c.args.writes.now c.loop-index.index c.at-row.result c.at-row.ensures.entry
+    ∙ c.loop-index.invariant

@@ -1,0 +1,2 @@
+pub mod Nearer
+pub mod Ready

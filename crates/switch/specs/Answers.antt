@@ -1,0 +1,26 @@
+-- What one body is answered, from bytes to bytes.
+use Rattle.std.specs.Prelude.{◌≡◌, ℕ, List, Ok, Err}
+use Rattle.codec.specs.Messages.{mti_of, fields_of}
+use Rattle.codec.specs.Reading.{reading}
+use Rattle.codec.specs.Replies.{reply_spelling}
+use Rattle.codec.specs.Types.{taken_in}
+use Rattle.rows.specs.Fold.{Rows, reply_of}
+use Rattle.rows.specs.FrameFault.{fault_body}
+use Rattle.rows.specs.declared.frame.Frame.{Frame}
+use Rattle.rows.specs.declared.frame.Frame.TheVariants.{Good, Bad}
+use Rattle.rows.specs.declared.reply_body.ReplyBody.{ReplyBody}
+use Rattle.rows.specs.declared.reply_body.ReplyBody.TheVariants.{Reply, Fault}
+
+-- the body is this message, or has this fault before all others
+abbrev pub IsFrameOf : List ℕ → Frame → Type 0
+IsFrameOf body (Good message) = reading taken_in body ≡ Ok (mti_of message, fields_of message)
+IsFrameOf body (Bad fault) = reading taken_in body ≡ Err fault
+
+-- a reply's spelling, or how a fault is answered
+abbrev pub answer_text : ReplyBody → List ℕ
+answer_text (Reply reply) = reply_spelling reply
+answer_text (Fault fault) = fault_body fault
+
+-- the text answers the body as the decision table does on these rows
+abbrev pub IsAnswerTo : Rows → List ℕ → List ℕ → Type 0
+IsAnswerTo rows body text = (frame : Frame) × IsFrameOf body frame × (text ≡ answer_text (reply_of rows frame))

@@ -1,0 +1,78 @@
+ghost use Rattle.std.specs.Prelude.{◌≡◌, ◌≤◌, Ok, IfOk, length};
+ghost use Rattle.hex.specs.Hex.{decode_of};
+
+use crate::fault::Fault;
+use clap::error::ErrorKind;
+use clap::{Arg, Error};
+use hex::FromHexError;
+use std::alloc::{AllocError, Global};
+
+/// What the words ask for.
+#[derive(Debug, Drop)]
+pub enum Command {
+    /// This help.
+    Help(String),
+    /// Decide this one body on the sample book.
+    One(Vec<u8>),
+}
+
+/// Reads the program's words, of which the first is its name. Words that are no command are a usage fault.
+pub fn read_words(alloc: Global, words: &[String]) -> Result<Command, Fault> {
+    let matches = match command_line(alloc)?.try_get_matches_from(words) {
+        Ok(matches) => matches,
+        Err(error) => return help_of(alloc, &error),
+    };
+    let Some(("one", one)) = matches.subcommand() else {
+        return Err(usage(alloc, "expected a subcommand; see --help"));
+    };
+    let Some(frame) = one.get_str("FRAME") else {
+        return Err(usage(alloc, "expected FRAME; see --help"));
+    };
+    Ok(Command::One(frame_bytes(alloc, frame)?))
+}
+
+fn command_line<'a>(alloc: Global) -> Result<clap::Command<'a>, AllocError> {
+    let frame = Arg::new(alloc, "FRAME").required(true).help(
+        "The body of a message: 1 to 512 pairs of hexadecimal digits",
+    );
+    let one = clap::Command::new(alloc, "one")
+        .about("Decides one message on the sample book, and prints its reply in hexadecimal")
+        .arg(frame)?;
+    clap::Command::new(alloc, "switch")
+        .about("Decides ISO 8583:1993 card messages for an issuer")
+        .after_help("Exit status: 0 done, 1 fault, 2 words that are no command.")
+        .subcommand_required(true)
+        .arg_required_else_help(true)
+        .subcommand(one)
+}
+
+// Help that was asked for is a command; all else that the words' reader says is a fault.
+fn help_of(alloc: Global, error: &Error) -> Result<Command, Fault> {
+    match error.kind() {
+        ErrorKind::DisplayHelp => Ok(Command::Help(error.to_string(alloc)?)),
+        ErrorKind::OutOfMemory => Err(Fault::OutOfMemory),
+        _ => Err(Fault::Usage(error.to_string(alloc)?)),
+    }
+}
+
+/// The bytes that 1 to 512 pairs of hexadecimal digits stand for.
+fn frame_bytes(alloc: Global, frame: &str) -> Result<Vec<u8>, Fault>
+    ensures bytes { IfOk result (λ bytes. decode_of frame.now ≡ Ok bytes.items) }
+    ensures size { IfOk result (λ bytes. (1 ≤ length bytes.items) × (length bytes.items ≤ 512)) }
+{
+    match hex::decode(alloc, frame) {
+        Ok(bytes) if matches!(bytes.len(), 1..=512) => Ok(bytes),
+        Err(FromHexError::OutOfMemory) => Err(Fault::OutOfMemory),
+        _ => Err(usage(
+            alloc,
+            "FRAME: expected 1 to 512 pairs of hexadecimal digits; see --help",
+        )),
+    }
+}
+
+fn usage(alloc: Global, text: &str) -> Fault {
+    match String::from_str(alloc, text) {
+        Ok(text) => Fault::Usage(text),
+        Err(_) => Fault::OutOfMemory,
+    }
+}

@@ -1,0 +1,46 @@
+ghost use Rattle.std.specs.Prelude.{◌≡◌};
+ghost use Rattle.switch.specs.declared.fault.Fault.TheVariants.{OutOfMemory};
+
+use std::alloc::{AllocError, AllocFailed};
+use thiserror::Error;
+
+/// Why the program doesn't do what its words say. The text is what it prints on standard error.
+#[derive(Debug, Drop, Error)]
+pub enum Fault {
+    /// The words are no command: what is wrong with them.
+    #[error("{0}")]
+    Usage(String),
+    /// Memory ran out.
+    #[error("memory 1")]
+    OutOfMemory,
+}
+
+impl Fault {
+    ghost use Rattle.switch.specs.Fault.{status_of};
+
+    /// The exit status: 2 for words that are no command, else 1.
+    pub fn status(&self) -> u8
+        ensures { result ≡ status_of self.now }
+    {
+        match self {
+            Fault::Usage(_) => 2,
+            Fault::OutOfMemory => 1,
+        }
+    }
+}
+
+impl From<AllocError> for Fault {
+    ghost from_gives = { λ _ fault. fault ≡ OutOfMemory };
+
+    fn from(_error: AllocError) -> Fault {
+        Fault::OutOfMemory
+    }
+}
+
+impl<T: Drop> From<AllocFailed<T>> for Fault {
+    ghost from_gives = { λ _ fault. fault ≡ OutOfMemory };
+
+    fn from(_error: AllocFailed<T>) -> Fault {
+        Fault::OutOfMemory
+    }
+}

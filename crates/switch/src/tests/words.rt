@@ -1,0 +1,116 @@
+use crate::act;
+use std::alloc::Global;
+use std::process::Abort;
+use std::test::Fail;
+
+// A request of 1.00 on the first card of the sample book, and its reply.
+const REQUEST: &str =
+    "3131303072300101008080003136343131313131303030303030303030353030303030303030303030303030303130303031313031323030303030303030303132363031313031323030303031303030363132333435365445524d30303031393738";
+
+const REPLY: &str =
+    "3131313072300001068080003136343131313131303030303030303030353030303030303030303030303030303130303031313031323030303030303030303132363031313031323030303030363132333435363030303030313030305445524d30303031393738";
+
+#[derive(Drop)]
+struct Said {
+    status: u8,
+    out: Vec<u8>,
+    err: Vec<u8>,
+}
+
+fn acted(alloc: Global, words: &[&str]) -> Result<Said, Fail> {
+    let mut all = Vec::new(alloc);
+    all.push(String::from_str(alloc, "switch")?)?;
+    for word in words {
+        all.push(String::from_str(alloc, word)?)?;
+    }
+    let mut out = Vec::new(alloc);
+    let mut err = Vec::new(alloc);
+    let status = act(alloc, &all, &mut out, &mut err);
+    Ok(Said { status, out, err })
+}
+
+// What one body is answered, where the words are a command.
+fn assert_answer(rt: &impl Abort, alloc: Global, frame: &str, answer: &str) -> Result<(), Fail> {
+    let acted = acted(alloc, &["one", frame])?;
+    let line = format!(in alloc; "{answer}\n")?;
+    assert_eq!(rt; acted.status, 0);
+    assert_eq!(rt; acted.out.as_slice(), line.as_bytes());
+    assert!(rt; acted.err.is_empty());
+    Ok(())
+}
+
+// Words that are no command: status 2, and a text on standard error alone.
+fn assert_usage(rt: &impl Abort, alloc: Global, words: &[&str]) -> Result<(), Fail> {
+    let acted = acted(alloc, words)?;
+    assert_eq!(rt; acted.status, 2);
+    assert!(rt; acted.out.is_empty());
+    assert!(rt; !acted.err.is_empty());
+    Ok(())
+}
+
+// The request with these digits written over its own, from the digit at `start` on.
+fn changed(alloc: Global, start: usize, digits: &str) -> Result<String, Fail> {
+    let end = start.checked_add(digits.len()).ok_or("within the request")?;
+    let mut text = String::new(alloc);
+    text.push_str(REQUEST.get(..start).ok_or("within the request")?)?;
+    text.push_str(digits)?;
+    text.push_str(REQUEST.get(end..).ok_or("within the request")?)?;
+    Ok(text)
+}
+
+#[test]
+fn one_request_is_answered(rt: HostRuntime) -> Result<(), Fail> {
+    let alloc = rt.alloc();
+    assert_answer(&rt, alloc, REQUEST, REPLY)?;
+    let without_last = REQUEST.get(..194).ok_or("98 bytes")?;
+    assert_answer(&rt, alloc, without_last, "463031303439")?;
+    let one_more = format!(in alloc; "{REQUEST}00")?;
+    assert_answer(&rt, alloc, one_more.as_str(), "463038303030")?;
+    assert_answer(&rt, alloc, "31", "463031303030")
+}
+
+// From which digit of the request on what is written, and the answer: `F`, the fault and the element.
+#[test]
+fn a_body_that_is_no_message_is_answered_its_fault(rt: HostRuntime) -> Result<(), Fail> {
+    let alloc = rt.alloc();
+    for (start, digits, answer) in [
+        (2, "32", "463032303030"),
+        (8, "F2", "463033303030"),
+        (8, "7A", "463034303035"),
+        (20, "00", "463035303439"),
+        (26, "31", "463036303032"),
+        (72, "41", "463037303034"),
+        (132, "3133", "463039303132"),
+    ] {
+        let frame = changed(alloc, start, digits)?;
+        assert_answer(&rt, alloc, frame.as_str(), answer)?;
+    }
+    Ok(())
+}
+
+#[test]
+fn words_that_are_no_command_are_a_usage_fault(rt: HostRuntime) -> Result<(), Fail> {
+    let alloc = rt.alloc();
+    assert_usage(&rt, alloc, &[])?;
+    assert_usage(&rt, alloc, &["one"])?;
+    assert_usage(&rt, alloc, &["one", ""])?;
+    assert_usage(&rt, alloc, &["one", "3"])?;
+    assert_usage(&rt, alloc, &["one", "3g"])?;
+    assert_usage(&rt, alloc, &["one", "31", "31"])?;
+    assert_usage(&rt, alloc, &["run"])?;
+    let too_many = "00".repeat(alloc, 513)?;
+    assert_usage(&rt, alloc, &["one", too_many.as_str()])?;
+    let most = "00".repeat(alloc, 512)?;
+    assert_answer(&rt, alloc, most.as_str(), "463032303030")
+}
+
+#[test]
+fn help_says_what_there_is(rt: HostRuntime) -> Result<(), Fail> {
+    let help = acted(rt.alloc(), &["--help"])?;
+    assert_eq!(rt; help.status, 0);
+    let text = str::from_utf8(&help.out).ok().ok_or("text")?;
+    for part in ["Usage: switch", "one", "Exit status"] {
+        assert!(rt; text.contains(part), "{part}");
+    }
+    Ok(())
+}
