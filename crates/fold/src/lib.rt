@@ -8,7 +8,7 @@ mod serial;
 
 pub use outcome::Outcome;
 pub use plain_rows::PlainRows;
-pub use prefix::Prefix;
+pub use prefix::{Prefix, put_all};
 pub use serial::{decide_all, decide_all_by};
 
 #[cfg(test)]

@@ -55,8 +55,8 @@ impl Prefix {
     }
 }
 
-// Puts the rows, one after another. After an error some of them may be put.
-fn put_all(book: &mut Book, writes: &WriteSet) -> Result<(), AllocError>
+/// Puts the rows, one after another. After an error some of them may be put.
+pub fn put_all(book: &mut Book, writes: &WriteSet) -> Result<(), AllocError>
     ensures { OnOk result (book.new ≡ overlay book.old writes.now) }
 {
     for index in 0..writes.len() {

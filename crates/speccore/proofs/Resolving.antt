@@ -1,8 +1,8 @@
 -- The tests of entries, and what a message sees.
-use Rattle.std.proofs.Common.{◌≡◌, ℕ, ◌<◌, ◌≤◌, ◌+◌, ◌↔◌, IsTrue, Bool, true, false, List, [], ◌∷◌, ◌++◌, length, take, drop, get_or, if◌then◌else◌, All, Any, Contains, Option, Some, None, refl, sym, ap, ◌∙◌, subst, ◌⊎◌, inl, inr, map, slice_get, append_assoc, arith}
+use Rattle.std.proofs.Common.{◌≡◌, ℕ, ◌<◌, ◌≤◌, ◌+◌, ◌↔◌, IsTrue, Bool, true, false, List, [], ◌∷◌, ◌++◌, length, take, drop, get_or, if◌then◌else◌, All, Any, Option, Some, None, refl, sym, ap, ◌∙◌, subst, ◌⊎◌, inl, inr, map, slice_get, append_assoc, arith}
 use Rattle.std.proofs.lemmas.Bool.{cases_lt, false≢true}
 use Rattle.std.proofs.lemmas.List.{at_drop_more, take_more, map_more}
-use Rattle.std.proofs.lemmas.List.Elements.{All-contains, Contains-push_cases, Contains-append_left, Contains-push, All-push, All-more}
+use Rattle.std.proofs.lemmas.List.Elements.{Contains-append_left, Contains-push, All-push, All-more}
 use Rattle.std.proofs.lemmas.Option.{same_Some, none-some, get_or_from_slice_get, slice_get_within}
 use Rattle.rows.specs.declared.row_key.RowKey.{RowKey}
 use Rattle.speccore_laws.specs.Resolves.{Resolves, ResolvesAs, origin_of}
@@ -22,9 +22,10 @@ HasNone entries row from below = All (λ e. e.row ≡ row → from ≤ e.version
 
 pub base_is : (entries : List Entry) (row : RowKey) (below : ℕ) (b : Bool) → (IsTrue b ↔ HasNone entries row 0 below) → IsTrue b ↔ ResolvesAs entries row below None
 unfolding ResolvesAs
-base_is entries row below b h =
-    (λ t. (None, (λ k d l e. h.0 t k d l e (omega arith)), refl),
-     λ r. h.1 (only_base entries row below r.0 r.1 r.2))
+base_is entries row below b h = (
+  λ t. (None, (λ k d l e. h.0 t k d l e (omega arith)), refl),
+  λ r. h.1 (only_base entries row below r.0 r.1 r.2),
+)
   where
     only_base : (entries : List Entry) (row : RowKey) (below : ℕ) (seen : Option Entry) → Resolves entries row below seen → origin_of seen ≡ None → HasNone entries row 0 below
     only_base entries row below None r e = λ k d l same _. r k d l same
@@ -62,20 +63,29 @@ not_put entries row version below none = (λ t. absurd (false≢true t), λ r. a
 
 -- one more entry is looked at, and it is nearer
 pub resolves_nearer : (entries : List Entry) (row : RowKey) (below : ℕ) (seen : Option Entry) (entry : Entry) → Resolves entries row below seen → IsNearer entry row below seen → Resolves (entries ++ entry ∷ []) row below (Some entry)
-resolves_nearer entries row below None entry r near =
-    (Contains-push entries entry, near.0, near.1,
-      All-push (λ (e : Entry). e.row ≡ row → entry.version.index < e.version.index → below ≤ e.version.index) entries entry (λ k d l same past. r k d l same) (λ same past. absurd (omega arith)))
-resolves_nearer entries row below (Some seen) entry r near =
-    (Contains-push entries entry, near.0, near.1,
-      All-push (λ (e : Entry). e.row ≡ row → entry.version.index < e.version.index → below ≤ e.version.index) entries entry (λ k d l same past. let before : seen.version.index < entry.version.index = near.2 in r.3 k d l same (omega arith)) (λ same past. absurd (omega arith)))
+resolves_nearer entries row below None entry r near = (
+  Contains-push entries entry,
+  near.0,
+  near.1,
+  All-push (λ (e : Entry). e.row ≡ row → entry.version.index < e.version.index → below ≤ e.version.index) entries entry (λ k d l same past. r k d l same) (λ same past. absurd (omega arith)),
+)
+resolves_nearer entries row below (Some seen) entry r near = (
+  Contains-push entries entry,
+  near.0,
+  near.1,
+  All-push (λ (e : Entry). e.row ≡ row → entry.version.index < e.version.index → below ≤ e.version.index) entries entry (λ k d l same past. let before : seen.version.index < entry.version.index = near.2 in r.3 k d l same (omega arith)) (λ same past. absurd (omega arith)),
+)
 
 -- one more entry is looked at, and it is not nearer
 pub resolves_farther : (entries : List Entry) (row : RowKey) (below : ℕ) (seen : Option Entry) (entry : Entry) → Resolves entries row below seen → (IsNearer entry row below seen → ⊥) → Resolves (entries ++ entry ∷ []) row below seen
 resolves_farther entries row below None entry r far =
     All-push (λ (e : Entry). e.row ≡ row → below ≤ e.version.index) entries entry r (λ same. elim (cases_lt entry.version.index below) [ inl l ↦ absurd (far (same, l, tt)) | inr past ↦ past ])
-resolves_farther entries row below (Some seen) entry r far =
-    (Contains-append_left entries (entry ∷ []) seen r.0, r.1, r.2,
-      All-push (λ (e : Entry). e.row ≡ row → seen.version.index < e.version.index → below ≤ e.version.index) entries entry r.3 (λ same past. elim (cases_lt entry.version.index below) [ inl l ↦ absurd (far (same, l, past)) | inr under ↦ under ]))
+resolves_farther entries row below (Some seen) entry r far = (
+  Contains-append_left entries (entry ∷ []) seen r.0,
+  r.1,
+  r.2,
+  All-push (λ (e : Entry). e.row ≡ row → seen.version.index < e.version.index → below ≤ e.version.index) entries entry r.3 (λ same past. elim (cases_lt entry.version.index below) [ inl l ↦ absurd (far (same, l, past)) | inr under ↦ under ]),
+)
 
 -- a row that is looked for in a log, from the front on
 pub logged_here : (log : List LoggedRead) (i : ℕ) (d : LoggedRead) (row : RowKey) → i < length log → key_eq (get_or log i d).row row ≡ true → logged_in (drop i log) row ≡ Some (get_or log i d).value
@@ -93,21 +103,21 @@ pub resolve_step : (entries : List Entry) (i : ℕ) (entry : Entry) (row : RowKe
 resolve_step entries i entry row below seen after b l is r near branch =
     let more : take (i + 1) entries ≡ take i entries ++ entry ∷ [] = take_more entries i entry l ∙ ap (λ (e : Entry). take i entries ++ e ∷ []) (sym is) in
     subst (λ (es : List Entry). Resolves es row below after) (sym more)
-      (elim branch [
-        | inl yes_ ↦ subst (Resolves (take i entries ++ entry ∷ []) row below) (sym yes_.1) (resolves_nearer (take i entries) row below seen entry r (near.0 yes_.0))
-        | inr no_ ↦ subst (Resolves (take i entries ++ entry ∷ []) row below) (sym no_.1) (resolves_farther (take i entries) row below seen entry r (λ n. false≢true (sym no_.0 ∙ near.1 n)))
-      ])
+    (elim branch [
+      | inl yes_ ↦ subst (Resolves (take i entries ++ entry ∷ []) row below) (sym yes_.1) (resolves_nearer (take i entries) row below seen entry r (near.0 yes_.0))
+      | inr no_ ↦ subst (Resolves (take i entries ++ entry ∷ []) row below) (sym no_.1) (resolves_farther (take i entries) row below seen entry r (λ n. false≢true (sym no_.0 ∙ near.1 n)))
+    ])
 
 -- one more entry is added
 pub add_step : (old before after : List Entry) (v : Version) (writes : Writes) (i : ℕ) (put : RowKey × RowVal) → slice_get writes i ≡ Some put → before ≡ old ++ map (entry_of v) (take i writes) → after ≡ before ++ entry_of v put ∷ [] → after ≡ old ++ map (entry_of v) (take (i + 1) writes)
 add_step old before after v writes i put is so_far more =
     more ∙ ap (λ (es : List Entry). es ++ entry_of v put ∷ []) so_far ∙ append_assoc old (map (entry_of v) (take i writes)) (entry_of v put ∷ [])
     ∙ ap (λ (es : List Entry). old ++ es)
-        (ap (λ (w : RowKey × RowVal). map (entry_of v) (take i writes) ++ entry_of v w ∷ []) (sym (get_or_from_slice_get writes i put put is))
-          ∙ sym (map_more (entry_of v) writes i put (slice_get_within writes i put is)))
+    (ap (λ (w : RowKey × RowVal). map (entry_of v) (take i writes) ++ entry_of v w ∷ []) (sym (get_or_from_slice_get writes i put put is))
+    ∙ sym (map_more (entry_of v) writes i put (slice_get_within writes i put is)))
 
 -- one more read was logged
 pub AreLogged-more : (log : List LoggedRead) (reads : Reads) (i : ℕ) (read : RowKey × Option RowVal) → slice_get reads i ≡ Some read → AreLogged log (take i reads) → logged_in log read.0 ≡ Some read.1 → AreLogged log (take (i + 1) reads)
 AreLogged-more log reads i read is so_far here =
     All-more (λ (r : RowKey × Option RowVal). logged_in log r.0 ≡ Some r.1) reads i read (slice_get_within reads i read is) so_far
-      (subst (λ (r : RowKey × Option RowVal). logged_in log r.0 ≡ Some r.1) (sym (get_or_from_slice_get reads i read read is)) here)
+    (subst (λ (r : RowKey × Option RowVal). logged_in log r.0 ≡ Some r.1) (sym (get_or_from_slice_get reads i read read is)) here)

@@ -1,5 +1,5 @@
 -- Each call of the core is a step, and leads from a state of a run to one.
-use Rattle.std.proofs.Common.{◌≡◌, ◌≢◌, ℕ, ◌<◌, ◌≤◌, ◌+◌, List, [], ◌∷◌, ◌++◌, ◌⊎◌, inl, inr, length, map, set, get_or, slice_index_or, refl, sym, ap, ap₂, ◌∙◌, subst, Option, Some, None, Ok, Err, true, false, take, filter_map, option_to_list, arith}
+use Rattle.std.proofs.Common.{◌≡◌, ◌≢◌, ℕ, ◌<◌, ◌≤◌, ◌+◌, List, [], ◌∷◌, ◌++◌, inr, length, map, set, get_or, refl, sym, ap, ap₂, ◌∙◌, subst, Option, Some, None, Ok, true, false, filter_map, option_to_list}
 use Rattle.std.proofs.lemmas.List.{get_or_read}
 use Rattle.std.proofs.lemmas.List.Elements.{filter_map-append}
 use Rattle.std.specs.List.{cons_option}
@@ -9,13 +9,11 @@ use Rattle.rows.specs.declared.frame.Frame.{Frame}
 use Rattle.rows.specs.declared.reply_body.ReplyBody.{ReplyBody}
 use Rattle.speccore_laws.specs.Follows.{reply_in}
 use Rattle.rows.specs.declared.row_key.RowKey.{RowKey}
-use Rattle.speccore_laws.specs.Committed.{Holds}
-use Rattle.speccore_laws.specs.Reached.{IsReached-Step, IsReached-start, Holds-reached, replies-reached, rows-reached}
+use Rattle.speccore_laws.specs.Reached.{IsReached-Step, IsReached-start, Holds-reached}
 use Rattle.speccore_laws.specs.Resolves.{Resolves, ResolvesAs, read_of}
 use Rattle.speccore_laws.specs.Run.{IsReached, writes_in, rows_under, Claim, Read, Finish, Commit}
 use Rattle.speccore_laws.specs.State.{State, MessageState, message, with_message, fresh, start, IsAt, IsRunning, IsExecuted}
-use Rattle.speccore_laws.specs.Step.{ClaimStep, ReadStep, FinishStep, CommitStep, IsOfVersion, IsCurrent, AreLogged, logged_in, entry_of, entries_without, given_up, last_incarnation}
-use Rattle.speccore_laws.specs.declared.core_fault.CoreFault.TheVariants.{Worn}
+use Rattle.speccore_laws.specs.Step.{ClaimStep, ReadStep, FinishStep, CommitStep, IsCurrent, AreLogged, logged_in, entry_of, entries_without, last_incarnation}
 use Rattle.speccore_laws.specs.declared.entry.Entry.{Entry}
 use Rattle.speccore_laws.specs.declared.logged_read.LoggedRead.{LoggedRead}
 use Rattle.speccore_laws.specs.declared.status.Status.TheVariants as status
@@ -44,21 +42,25 @@ claim_kept s i slot after reached left first is change =
 
 pub read_step : (s : State) (v : Version) (row : RowKey) (seen : Option Entry) (read : LoggedRead) (slot after : MessageState) → IsRunning s v → v.index < length s.messages → logged_in (message s v.index).log row ≡ None → slot ≡ get_or s.messages v.index slot → Resolves s.entries row v.index seen → read ≡ read_of s.opening row seen → after ≡ record slot { log = slot.log ++ read ∷ [] } → ReadStep s v row (Ok read.value) (record s { messages = set s.messages v.index after })
 read_step s v row seen read slot after running l none is resolves read_is change =
-    let here : slot ≡ message s v.index = at_message s v.index slot l is in
-    (running,
-      inr (seen,
+    let here : slot ≡ message s v.index = at_message s v.index slot l is in (
+      running,
+      inr (
+        seen,
         none,
         resolves,
         ap (λ (r : LoggedRead). r.value) read_is,
-        ap (with_message s v.index) (change ∙ ap₂ (λ (m : MessageState) (r : LoggedRead). record m { log = m.log ++ r ∷ [] }) here read_is)))
+        ap (with_message s v.index) (change ∙ ap₂ (λ (m : MessageState) (r : LoggedRead). record m { log = m.log ++ r ∷ [] }) here read_is),
+      ),
+    )
 
 pub finish_step : (s : State) (v : Version) (x : Executed) (slot after : MessageState) (entries : List Entry) → IsRunning s v → v.index < length s.messages → IsAt s.frames v.index x.frame → AreLogged (message s v.index).log x.reads → slot ≡ get_or s.messages v.index slot → after ≡ record slot { status = status.Executed; execution = Some x } → entries ≡ s.entries ++ map (entry_of v) x.writes → FinishStep s v x (Ok tt) (record s { messages = set s.messages v.index after; entries = entries })
 finish_step s v x slot after entries running l frame logged is change more =
-    let here : slot ≡ message s v.index = at_message s v.index slot l is in
-    (running,
+    let here : slot ≡ message s v.index = at_message s v.index slot l is in (
+      running,
       (frame, logged),
       ap₂ (λ (m : MessageState) (es : List Entry). record (with_message s v.index m) { entries = es })
-        (change ∙ ap (λ (m : MessageState). record m { status = status.Executed; execution = Some x }) here) more)
+          (change ∙ ap (λ (m : MessageState). record m { status = status.Executed; execution = Some x }) here) more,
+    )
 
 pub commit_step : (s : State) (slot : MessageState) → IsExecuted s s.committed → s.committed < length s.messages → slot ≡ get_or s.messages s.committed slot → ((k : ℕ) (d : LoggedRead) → k < length slot.log → ResolvesAs s.entries (get_or slot.log k d).row s.committed (get_or slot.log k d).origin) → CommitStep s (Ok true) (record s { committed = s.committed + 1 })
 commit_step s slot executed l is current =
@@ -74,9 +76,13 @@ not_current s slot l is stale current =
 pub give_up_step : (s : State) (slot after : MessageState) (entries : List Entry) → IsExecuted s s.committed → s.committed < length s.messages → slot ≡ get_or s.messages s.committed slot → (IsCurrent s s.committed → ⊥) → (message s s.committed).incarnation ≢ last_incarnation → after ≡ record { status = status.Ready; incarnation = slot.incarnation + 1; execution = None; log = [] } → entries ≡ entries_without s.committed s.entries → CommitStep s (Ok false) (record s { messages = set s.messages s.committed after; entries = entries })
 give_up_step s slot after entries executed l is stale not_last change fewer =
     let here : slot ≡ message s s.committed = at_message s s.committed slot l is in
-    inr (executed, stale, not_last,
+    inr (
+      executed,
+      stale,
+      not_last,
       ap₂ (λ (m : MessageState) (es : List Entry). record (with_message s s.committed m) { entries = es })
-        (change ∙ ap (λ (m : MessageState). record { status = status.Ready; incarnation = m.incarnation + 1; execution = None; log = [] }) here) fewer)
+          (change ∙ ap (λ (m : MessageState). record { status = status.Ready; incarnation = m.incarnation + 1; execution = None; log = [] }) here) fewer,
+    )
 
 -- a list that is reached through a slice
 pub is_running_at : (s : State) (v : Version) (messages : List MessageState) → messages ≡ s.messages → ((get_or messages v.index fresh).status ≡ status.Running) × ((get_or messages v.index fresh).incarnation ≡ v.incarnation) → IsRunning s v

@@ -1,5 +1,5 @@
 -- The entry nearest below a message.
-use Rattle.std.specs.Prelude.{◌≡◌, ℕ, ◌<◌, Option, Some, None, IfSome}
+use Rattle.std.specs.Prelude.{◌≡◌, ℕ, ◌<◌, Option, IfSome}
 use Rattle.rows.specs.declared.row_key.RowKey.{RowKey}
 use Rattle.speccore_laws.specs.declared.entry.Entry.{Entry}
 

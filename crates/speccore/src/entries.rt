@@ -83,7 +83,9 @@ fn is_nearest(entries: &[Entry], row: &RowKey, version: Version, below: u32) -> 
 fn has_none(entries: &[Entry], row: &RowKey, from: u32, below: u32) -> bool
     ensures { IsTrue result ↔ All (λ e. e.row ≡ row.now → from ≤ e.version.index → below ≤ e.version.index) entries.now }
 {
-    entries.iter().all(|entry| is_apart(entry, row, from, below))
+    entries
+        .iter()
+        .all(|entry| is_apart(entry, row, from, below))
 }
 
 // Whether the execution put the row.

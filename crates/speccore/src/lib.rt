@@ -9,3 +9,6 @@ mod slots;
 mod speculative;
 
 pub use speculative::Core;
+
+#[cfg(test)]
+mod tests;

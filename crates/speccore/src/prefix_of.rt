@@ -4,10 +4,9 @@ ghost use Rattle.speccore_laws.specs.Follows.{reply_in};
 ghost use Rattle.speccore_laws.specs.Run.{rows_under, writes_in};
 
 use crate::slot::Slot;
-use fold::Prefix;
+use fold::{Prefix, put_all};
 use rows::{Book, ReplyBody};
 use std::alloc::{AllocError, Global};
-use view::WriteSet;
 
 /// The book under what these messages put, and their replies.
 pub(crate) fn prefix_of(
@@ -32,28 +31,13 @@ pub(crate) fn prefix_of(
 }
 
 // Puts what the message put, and adds its reply. After want of memory some of its rows may be put.
-fn add_message(
-    book: &mut Book,
-    replies: &mut Vec<ReplyBody>,
-    slot: Slot,
-) -> Result<(), AllocError>
+fn add_message(book: &mut Book, replies: &mut Vec<ReplyBody>, slot: Slot) -> Result<(), AllocError>
     ensures book { OnOk result (book.new ≡ overlay book.old (writes_in slot)) }
     ensures replies { OnOk result (replies.new.items ≡ replies.old.items ++ option_to_list (reply_in slot)) }
 {
     if let Some(execution) = slot.execution() {
         put_all(book, execution.writes())?;
         replies.push(execution.reply())?;
-    }
-    Ok(())
-}
-
-// Puts the rows, one after another. After want of memory some of them may be put.
-fn put_all(book: &mut Book, writes: &WriteSet) -> Result<(), AllocError>
-    ensures { OnOk result (book.new ≡ overlay book.old writes.now) }
-{
-    for index in 0..writes.len() {
-        let (row, value) = writes.at(index);
-        book.put(row, value)?;
     }
     Ok(())
 }

@@ -1,32 +1,29 @@
 -- What holds of every state of a run, and why a message whose reads still resolve as they were logged may be committed.
-use Rattle.std.proofs.Common.{◌≡◌, ◌≢◌, ℕ, zero, suc, ◌<◌, ◌≤◌, ◌+◌, List, [], ◌∷◌, ◌++◌, ◌⊎◌, inl, inr, length, take, get_or, All, Contains, refl, sym, ap, ◌∙◌, subst, Option, Some, None, Bool, true, false, cond, arith}
+use Rattle.std.proofs.Common.{◌≡◌, ◌≢◌, ℕ, ◌<◌, ◌≤◌, ◌+◌, List, [], ◌∷◌, ◌++◌, ◌⊎◌, inl, inr, length, take, get_or, Contains, refl, sym, ap, ◌∙◌, subst, Option, Some, None, Bool, true, false, cond, arith}
 use Rattle.std.proofs.lemmas.Bool.{cases_lt}
 use Rattle.std.proofs.lemmas.List.{get_or-take, get_or_past, take_more, length-take}
 use Rattle.std.proofs.lemmas.List.Elements.{All-contains, recursion_from_All}
 use Rattle.std.proofs.lemmas.Option.{same_Some, none-some}
 use Rattle.std.specs.FinMap as map_of
-use Rattle.rows.specs.Agreement.{Executed, IsTrueExecution, Agrees, Reads}
-use Rattle.rows.specs.Decision.{decision}
-use Rattle.rows.specs.Fold.{Rows, rows_after, reply_of, writes_of}
+use Rattle.rows.specs.Agreement.{Executed, Agrees, Reads}
+use Rattle.rows.specs.Fold.{Rows, rows_after}
 use Rattle.rows.specs.Plan.{Decided}
 use Rattle.rows.specs.RowKey.{key_eq}
 use Rattle.rows.specs.declared.frame.Frame.{Frame}
 use Rattle.rows.specs.declared.row_key.RowKey.{RowKey}
 use Rattle.rows.specs.declared.row_val.RowVal.{RowVal}
 use Rattle.speccore_laws.specs.Follows.{Follows, Follows-push, put-Follows, unput-Follows}
-use Rattle.speccore_laws.specs.Kept.{AreKept, HasTrueExecution, IsSoundRead, version_at}
+use Rattle.speccore_laws.specs.Kept.{AreKept, IsSoundRead, version_at}
 use Rattle.speccore_laws.specs.Keys.{key_eq-true}
 use Rattle.speccore_laws.specs.Members.{Contains-head, Contains-tail, Contains-nil}
 use Rattle.speccore_laws.specs.Overlay.{Puts}
 use Rattle.speccore_laws.specs.Resolves.{Resolves, ResolvesAs, origin_of}
 use Rattle.speccore_laws.specs.Run.{writes_in}
-use Rattle.speccore_laws.specs.State.{State, MessageState, message, fresh, IsExecuted, IsAt}
+use Rattle.speccore_laws.specs.State.{State, MessageState, message, fresh, IsExecuted}
 use Rattle.speccore_laws.specs.Step.{AreLogged, IsCurrent, logged_in, entry_of}
 use Rattle.speccore_laws.specs.declared.entry.Entry.{Entry}
 use Rattle.speccore_laws.specs.declared.logged_read.LoggedRead.{LoggedRead}
-use Rattle.speccore_laws.specs.declared.status.Status.{Status}
 use Rattle.speccore_laws.specs.declared.status.Status.TheVariants as status
-use Rattle.speccore_laws.specs.declared.version.Version.{Version}
 
 -- Of every state of a run: entries, executions and logs are kept, and the committed messages are the fold of as many frames.
 pub record Holds (s : State) : Type 0 where

@@ -10,7 +10,7 @@ use Rattle.rows.specs.declared.reply_body.ReplyBody.{ReplyBody}
 use Rattle.rows.specs.declared.row_key.RowKey.{RowKey}
 use Rattle.rows.specs.declared.row_val.RowVal.{RowVal}
 use Rattle.speccore_laws.specs.Overlay.{Puts, overlay_other, overlay_put}
-use Rattle.rows.specs.PutsOnce.{PutsOnce, puts_once}
+use Rattle.rows.specs.PutsOnce.{puts_once}
 use Rattle.speccore_laws.specs.Run.{writes_in, rows_under}
 use Rattle.speccore_laws.specs.State.{MessageState, fresh}
 

@@ -1,5 +1,5 @@
 -- A row of a book under what was put.
-use Rattle.std.proofs.Common.{◌≡◌, ℕ, Bool, true, false, cond, List, [], ◌∷◌, ◌⊎◌, inl, inr, refl, sym, ap, ◌∙◌, Option, Some, None, Contains}
+use Rattle.std.proofs.Common.{◌≡◌, true, false, cond, [], ◌∷◌, ◌⊎◌, inl, inr, refl, sym, ap, ◌∙◌, Some, Contains}
 use Rattle.std.specs.FinMap as map
 use Rattle.std.specs.Ordering.{eq_by_cmp}
 use Rattle.rows.specs.Fold.{Rows, overlay}

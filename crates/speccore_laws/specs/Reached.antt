@@ -1,15 +1,13 @@
 -- Every step keeps what holds, so it holds after every list of calls.
-use Rattle.std.proofs.Common.{◌≡◌, ◌≢◌, ℕ, zero, suc, ◌<◌, ◌≤◌, ◌+◌, List, [], ◌∷◌, ◌++◌, ◌⊎◌, inl, inr, length, take, get_or, set, map, All, Contains, refl, sym, ap, ◌∙◌, subst, Option, Some, None, Result, Ok, Err, Bool, true, false, arith, length-set, get_or-set_same, get_or-set_other}
+use Rattle.std.proofs.Common.{◌≡◌, ◌≢◌, ℕ, zero, suc, ◌<◌, ◌≤◌, ◌+◌, List, [], ◌∷◌, ◌++◌, inl, inr, length, take, get_or, map, Contains, refl, sym, ap, ◌∙◌, subst, Option, Some, None, Result, Ok, Err, Bool, true, false, arith, length-set, get_or-set_same, get_or-set_other}
 use Rattle.std.proofs.lemmas.Bool.{cases_lt}
-use Rattle.std.proofs.lemmas.List.{take-set-le, length-map, get_or_past, get_or-map}
+use Rattle.std.proofs.lemmas.List.{take-set-le, length-map}
 use Rattle.std.proofs.lemmas.List.Elements.{Contains-push_cases, recursion_from_All}
 use Rattle.std.proofs.lemmas.Option.{same_Some, none-some}
-use Rattle.std.specs.FinMap as map_of
 use Rattle.std.specs.Option.{option_flatten}
 use Rattle.rows.specs.Agreement.{Executed, IsTrueExecution, Agrees}
-use Rattle.rows.specs.Decision.{decision}
 use Rattle.rows.specs.Fold.{Rows, rows_after, replies_to}
-use Rattle.rows.specs.Plan.{Decided, Writes}
+use Rattle.rows.specs.Plan.{Decided}
 use Rattle.rows.specs.declared.frame.Frame.{Frame}
 use Rattle.rows.specs.declared.row_key.RowKey.{RowKey}
 use Rattle.rows.specs.declared.row_val.RowVal.{RowVal}
@@ -20,7 +18,7 @@ use Rattle.speccore_laws.specs.Members.{Contains-nil}
 use Rattle.rows.specs.PutsOnce.{PutsOnce, puts_once}
 use Rattle.speccore_laws.specs.Resolves.{Resolves, read_of}
 use Rattle.speccore_laws.specs.Run.{Call, Claim, Read, Finish, Commit, Step, Run, IsReached, writes_in, committed_replies, committed_rows}
-use Rattle.speccore_laws.specs.State.{State, MessageState, message, with_message, fresh, start, IsExecuted, IsRunning, IsAt}
+use Rattle.speccore_laws.specs.State.{State, MessageState, message, with_message, fresh, start, IsExecuted, IsRunning}
 use Rattle.speccore_laws.specs.Step.{ClaimStep, ReadStep, FinishStep, CommitStep, AreLogged, IsOfVersion, logged_in, entry_of, entries_without, claimed, with_read, finished, given_up}
 use Rattle.speccore_laws.specs.declared.core_fault.CoreFault.{CoreFault}
 use Rattle.speccore_laws.specs.declared.core_fault.CoreFault.TheVariants.{NotRunning, OtherReads, OutOfMemory, Worn}

@@ -1,5 +1,5 @@
 -- Whole lists of calls, in any order, and what is committed after them.
-use Rattle.std.specs.Prelude.{◌≡◌, List, [], ◌∷◌, ℕ, take, Option, Some, None, option_map, filter_map, Bool, Result}
+use Rattle.std.specs.Prelude.{◌≡◌, List, [], ◌∷◌, take, Option, Some, None, option_map, filter_map, Bool, Result}
 use Rattle.rows.specs.Agreement.{Executed, IsTrueExecution}
 use Rattle.rows.specs.Fold.{Rows, overlay}
 use Rattle.rows.specs.Plan.{Writes}

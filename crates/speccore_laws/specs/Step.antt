@@ -1,11 +1,11 @@
 -- Which answer a core may give to a call, and the state after it. A refusal leaves the state as it was.
 use Rattle.std.specs.Prelude.{◌≡◌, ◌≢◌, ℕ, ◌+◌, ◌<◌, Bool, true, false, not, nat_eq, if◌then◌else◌, List, [], ◌∷◌, ◌++◌, length, map, filter, Option, Some, None, Result, Ok, Err, All, ◌⊎◌}
-use Rattle.rows.specs.Agreement.{Executed, IsTrueExecution, Reads}
+use Rattle.rows.specs.Agreement.{Executed, Reads}
 use Rattle.rows.specs.RowKey.{key_eq}
 use Rattle.rows.specs.declared.row_key.RowKey.{RowKey}
 use Rattle.rows.specs.declared.row_val.RowVal.{RowVal}
 use Rattle.speccore_laws.specs.Resolves.{Resolves, ResolvesAs, read_of, value_of}
-use Rattle.speccore_laws.specs.State.{State, MessageState, message, with_message, IsAt, IsRunning, IsExecuted}
+use Rattle.speccore_laws.specs.State.{State, message, with_message, IsAt, IsRunning, IsExecuted}
 use Rattle.speccore_laws.specs.declared.core_fault.CoreFault.{CoreFault}
 use Rattle.speccore_laws.specs.declared.core_fault.CoreFault.TheVariants.{NotRunning, OtherReads, OutOfMemory, Worn}
 use Rattle.speccore_laws.specs.declared.entry.Entry.{Entry}

@@ -1,4 +1,4 @@
-use Rattle.std.proofs.Common.{◌≡◌, ◌≤◌, ◌+◌, length, map, take, vec_len, vec_capacity}
+use Rattle.std.proofs.Common.{◌≡◌, ◌≤◌, length, map, take, vec_len, vec_capacity}
 use Rattle.speccore_laws.specs.State.{fresh}
 use Rattle.speccore.proofs.slots.fresh_slots.Given as goal
 

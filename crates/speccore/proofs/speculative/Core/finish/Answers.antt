@@ -1,9 +1,8 @@
-use Rattle.std.proofs.Common.{◌≡◌, ◌<◌, ◌++◌, map, length, set, List, Ok, subst, ◌∙◌, ap}
+use Rattle.std.proofs.Common.{◌≡◌, ◌<◌, ◌++◌, map, length, set, Ok, subst}
 use Rattle.rows.specs.Agreement.{IsTrueExecution}
 use Rattle.speccore.proofs.Steps.{finish_step, finish_kept, at_message, is_running_at, length_at, frame_at}
 use Rattle.speccore_laws.specs.State.{State, MessageState, message, IsRunning, IsAt}
 use Rattle.speccore_laws.specs.Step.{FinishStep, AreLogged, entry_of}
-use Rattle.speccore_laws.specs.declared.entry.Entry.{Entry}
 use Rattle.speccore.specs.contracts.speculative.Core.{the_view}
 use Rattle.speccore.proofs.speculative.Core.finish.Goals as goal
 
@@ -18,6 +17,6 @@ invariant_of-self-2 c =
     let logged : AreLogged c.index.result.now.log c.args.execution.reads = rw c.reads.ensures at (c.has_logged.ensures.0 c.if-not-has_logged.false) in
     let entries : c.add_entries.new.entries.items ≡ s.entries ++ map (entry_of c.args.version) c.args.execution.writes = rw c.writes.ensures at c.in_ok-add_entries.ensures.ok in
     let step : FinishStep s c.args.version c.args.execution (Ok tt) (record s { messages = set c.self.inside.slots.items c.args.version.index c.finish.new.self; entries = c.add_entries.new.entries.items }) =
-        finish_step s c.args.version c.args.execution c.index_mut-slot.result.now c.finish.new.self c.add_entries.new.entries.items running l frame
-          (subst (λ (m : MessageState). AreLogged m.log c.args.execution.reads) here logged) c.index_mut-slot.ensures.value c.finish.ensures entries in
+    finish_step s c.args.version c.args.execution c.index_mut-slot.result.now c.finish.new.self c.add_entries.new.entries.items running l frame
+    (subst (λ (m : MessageState). AreLogged m.log c.args.execution.reads) here logged) c.index_mut-slot.ensures.value c.finish.ensures entries in
     (c.self.invariant.0, finish_kept s c.args.version c.args.execution _ c.self.invariant.1 true_one step)

@@ -1,4 +1,4 @@
-use Rattle.std.proofs.Common.{◌≡◌, ◌<◌, length, subst, arith, rules, ◌∙◌, sym, ap}
+use Rattle.std.proofs.Common.{◌<◌, length, subst, arith, ◌∙◌, sym, ap}
 use Rattle.speccore.proofs.Steps.{paired, at_message}
 use Rattle.speccore_laws.specs.State.{State, MessageState, message}
 use Rattle.speccore.specs.contracts.speculative.Core.{the_view}

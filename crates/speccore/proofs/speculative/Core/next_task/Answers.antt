@@ -1,4 +1,4 @@
-use Rattle.std.proofs.Common.{◌≡◌, ◌≢◌, ◌≤◌, ◌<◌, length, subst, arith, rules, ◌∙◌, sym}
+use Rattle.std.proofs.Common.{◌≤◌, length, arith, rules}
 use Rattle.speccore.proofs.Steps.{claim_kept, paired}
 use Rattle.speccore.specs.Ready.{IsFirstReady}
 use Rattle.speccore.specs.contracts.speculative.Core.{the_view}
@@ -14,7 +14,8 @@ overflow_cast-result c =
 
 pub invariant_of-self : goal.invariant_of-self
 invariant_of-self c =
-    let first : IsFirstReady c.self.inside.slots.items c.in-Some.index = rw c.deref.ensures.value at c.in-Some.ensures in
-    (c.self.invariant.0,
+    let first : IsFirstReady c.self.inside.slots.items c.in-Some.index = rw c.deref.ensures.value at c.in-Some.ensures in (
+      c.self.invariant.0,
       claim_kept (the_view c.self.inside) c.in-Some.index c.index_mut-slot.result.now c.claim-incarnation.new.self c.self.invariant.1
-        (λ e. Prim.search rules) first c.index_mut-slot.ensures.value c.claim-incarnation.ensures.after)
+          (λ e. Prim.search rules) first c.index_mut-slot.ensures.value c.claim-incarnation.ensures.after,
+    )

@@ -1,5 +1,4 @@
-use Rattle.std.proofs.Common.{◌≡◌, ◌<◌, length, set, Option, Some, None, Ok, subst, ◌∙◌, sym}
-use Rattle.rows.specs.declared.row_val.RowVal.{RowVal}
+use Rattle.std.proofs.Common.{◌≡◌, ◌<◌, length, set, None, Ok, subst, ◌∙◌, sym}
 use Rattle.speccore.proofs.Steps.{read_step, read_kept, at_message, is_running_at, length_at}
 use Rattle.speccore_laws.specs.Resolves.{Resolves}
 use Rattle.speccore_laws.specs.State.{State, MessageState, message, IsRunning}
@@ -19,7 +18,7 @@ step_there c =
     let none : logged_in (message s c.args.version.index).log c.args.row.now ≡ None = subst (λ (m : MessageState). logged_in m.log c.args.row.now ≡ None) here (sym c.logged.ensures ∙ c.in_default.is) in
     let resolves : Resolves s.entries c.args.row.now c.args.version.index c.resolve-seen.result = rw c.deref-2.ensures.value at c.resolve-seen.ensures in
     read_step s c.args.version c.args.row.now c.resolve-seen.result c.read_of-read.result c.index_mut-slot.result.now c.log_read.new.self
-      running l none c.index_mut-slot.ensures.value resolves c.read_of-read.ensures c.in_ok-log_read.ensures.ok
+    running l none c.index_mut-slot.ensures.value resolves c.read_of-read.ensures c.in_ok-log_read.ensures.ok
 
 pub invariant_of-self-2 : goal.invariant_of-self-2
 invariant_of-self-2 c =
