@@ -1,26 +1,102 @@
--- What is written part by part is the whole spelling.
-use Rattle.std.proofs.Common.{◌≡◌, ℕ, List, [], ◌∷◌, ◌++◌, sym, ap, ◌∙◌, append_assoc}
+-- What is written piece by piece is the whole spelling.
+use Rattle.std.proofs.Common.{◌≡◌, ℕ, ◌+◌, ◌-◌, ◌^◌, Bool, List, [], ◌++◌, length, Option, Some, None, refl, sym, ap, ◌∙◌, append_assoc, arith}
+use Rattle.std.specs.Prelude.{is_some, option_map}
 use Rattle.std.specs.Int.{w64, to_be_bytes}
 use Rattle.std.specs.List.{flat_map}
 use Rattle.std.proofs.lemmas.List.{append-nil}
 use Rattle.std.proofs.lemmas.Grind.{flat_map-append}
-use Rattle.codec.specs.declared.mti.Mti.{Mti}
-use Rattle.codec.specs.Types.{mti_text}
-use Rattle.codec.specs.Spelling.{Field, field, bitmap_of, spelling}
+use Rattle.iso8583.specs.Number.{fixed_digits}
+use Rattle.iso8583.specs.declared.original_ref.OriginalRef.{OriginalRef}
+use Rattle.iso8583.specs.declared.transaction.Transaction.{Transaction}
+use Rattle.codec_laws.specs.declared.element.Element.{Element}
+use Rattle.codec_laws.specs.declared.element.Element.TheVariants as element
+use Rattle.codec_laws.specs.declared.mti.Mti.{Mti}
+use Rattle.codec_laws.specs.Elements.{element_number, original_text}
+use Rattle.codec_laws.specs.Types.{mti_text}
+use Rattle.codec_laws.specs.Spelling.{Field, field, with_field, bitmap_of, spelling}
+use Rattle.codec_laws.specs.Contents.{Content, content_fields}
+use Rattle.codec.specs.declared.extras.Extras.{Extras}
+use Rattle.codec.specs.Writing.{whole_content, bit_if, front_list, scope_list, reference_list, answer_list, end_list, original_list}
 
-regrouped : (a m b f r v t c : List ℕ) → ((((((a ++ m) ++ b) ++ f) ++ r) ++ v) ++ t) ++ c ≡ a ++ (m ++ b ++ (f ++ (r ++ (v ++ (t ++ c)))))
-regrouped a m b f r v t c = simp append_assoc
+-- ---- the bitmap
 
--- five pieces behind a type and a bitmap
-pub spelling_joined : (o0 o1 o2 o3 o4 o5 o6 o7 : List ℕ) (mti : Mti) (fs rs vs : List Field) (t c : Field)
-    → o1 ≡ o0 ++ mti_text mti → o2 ≡ o1 ++ to_be_bytes w64 (bitmap_of (fs ++ rs ++ vs ++ (t ∷ c ∷ [])))
-    → o3 ≡ o2 ++ flat_map field fs → o4 ≡ o3 ++ flat_map field rs → o5 ≡ o4 ++ flat_map field vs → o6 ≡ o5 ++ field t → o7 ≡ o6 ++ field c
-    → o7 ≡ o0 ++ spelling mti (fs ++ rs ++ vs ++ (t ∷ c ∷ []))
-spelling_joined o0 o1 o2 o3 o4 o5 o6 o7 mti fs rs vs t c h1 h2 h3 h4 h5 h6 h7 =
-    let bits = to_be_bytes w64 (bitmap_of (fs ++ rs ++ vs ++ (t ∷ c ∷ []))) in
-    let pieces : flat_map field (fs ++ rs ++ vs ++ (t ∷ c ∷ [])) ≡ flat_map field fs ++ (flat_map field rs ++ (flat_map field vs ++ (field t ++ field c))) =
-    simp (flat_map-append, append_assoc, append-nil) in
-    let left : o7 ≡ ((((((o0 ++ mti_text mti) ++ bits) ++ flat_map field fs) ++ flat_map field rs) ++ flat_map field vs) ++ field t) ++ field c = cc in
-    let whole : o0 ++ spelling mti (fs ++ rs ++ vs ++ (t ∷ c ∷ [])) ≡ o0 ++ (mti_text mti ++ bits ++ (flat_map field fs ++ (flat_map field rs ++ (flat_map field vs ++ (field t ++ field c))))) =
-    ap (λ (x : List ℕ). o0 ++ (mti_text mti ++ bits ++ x)) pieces in
-    left ∙ (regrouped o0 (mti_text mti) bits (flat_map field fs) (flat_map field rs) (flat_map field vs) (field t) (field c) ∙ sym whole)
+bitmap_of-with : (e : Element) (text : Option (List ℕ)) (fs : List Field) → bitmap_of (with_field e text fs) ≡ bit_if (is_some text) (2 ^ (64 - element_number e)) + bitmap_of fs
+bitmap_of-with e None fs = omega arith
+bitmap_of-with e (Some text) fs = refl
+
+is_some-map : {A B : Type 0} (f : A → B) (o : Option A) → is_some (option_map f o) ≡ is_some o
+is_some-map f None = refl
+is_some-map f (Some x) = refl
+
+pub bitmap_sum : (t : Transaction) (x : Extras) → bitmap_of (content_fields (whole_content t x)) ≡ 0x7230000100808000 + bit_if (is_some x.function) 0x10000000000 + bit_if (is_some x.original_amount) 0x400000000
+    + bit_if (is_some t.retrieval) 0x8000000 + bit_if (is_some x.approval) 0x4000000 + bit_if (is_some x.action) 0x2000000 + bit_if (is_some x.original) 0x100
+bitmap_sum t x = simp (bitmap_of-with, is_some-map) (omega arith)
+
+-- ---- the pieces
+
+with_field-joined : (e : Element) (text : Option (List ℕ)) (xs ys : List Field) → with_field e text xs ++ ys ≡ with_field e text (xs ++ ys)
+with_field-joined e None xs ys = refl
+with_field-joined e (Some text) xs ys = refl
+
+one_by_one : (e d : Element) (x y : Option (List ℕ)) → flat_map field (with_field e x (with_field d y [])) ≡ flat_map field (with_field e x []) ++ flat_map field (with_field d y [])
+one_by_one e d None y = refl
+one_by_one e d (Some text) y = ap (λ (z : List ℕ). z ++ flat_map field (with_field d y [])) (sym (append-nil (field (e, text))))
+
+content_pieces : (x : Content) → content_fields x ≡ front_list x ++ (scope_list x ++ (reference_list x ++ (answer_list x ++ (end_list x ++ original_list x))))
+content_pieces x = simp with_field-joined
+
+content_texts : (x : Content) → flat_map field (content_fields x)
+    ≡ flat_map field (front_list x) ++ (flat_map field (scope_list x) ++ (flat_map field (reference_list x) ++ (flat_map field (answer_list x) ++ (flat_map field (end_list x) ++ flat_map field (original_list x)))))
+content_texts x = ap (flat_map field) (content_pieces x)
+    ∙ (flat_map-append field (front_list x) (scope_list x ++ (reference_list x ++ (answer_list x ++ (end_list x ++ original_list x)))) ∙ ap (λ (z : List ℕ). flat_map field (front_list x) ++ z)
+    (flat_map-append field (scope_list x) (reference_list x ++ (answer_list x ++ (end_list x ++ original_list x))) ∙ ap (λ (z : List ℕ). flat_map field (scope_list x) ++ z)
+    (flat_map-append field (reference_list x) (answer_list x ++ (end_list x ++ original_list x)) ∙ ap (λ (z : List ℕ). flat_map field (reference_list x) ++ z)
+    (flat_map-append field (answer_list x) (end_list x ++ original_list x) ∙ ap (λ (z : List ℕ). flat_map field (answer_list x) ++ z) (flat_map-append field (end_list x) (original_list x))))))
+
+seven : (a b r p c e o : List ℕ) (start : List ℕ) → ((((((start ++ a) ++ b) ++ r) ++ p) ++ c) ++ e) ++ o ≡ start ++ ((a ++ b) ++ (r ++ ((p ++ c) ++ (e ++ o))))
+seven a b r p c e o start = simp append_assoc
+
+pub tail_written : (o0 o1 o2 o3 o4 o5 o6 o7 : List ℕ) (x : Content)
+    → o1 ≡ o0 ++ flat_map field (with_field element.Function x.function []) → o2 ≡ o1 ++ flat_map field (with_field element.OriginalAmount x.original_amount [])
+    → o3 ≡ o2 ++ flat_map field (reference_list x) → o4 ≡ o3 ++ flat_map field (with_field element.Approval x.approval [])
+    → o5 ≡ o4 ++ flat_map field (with_field element.Action x.action []) → o6 ≡ o5 ++ flat_map field (end_list x) → o7 ≡ o6 ++ flat_map field (original_list x)
+    → o7 ≡ o0 ++ (flat_map field (scope_list x) ++ (flat_map field (reference_list x) ++ (flat_map field (answer_list x) ++ (flat_map field (end_list x) ++ flat_map field (original_list x)))))
+tail_written o0 o1 o2 o3 o4 o5 o6 o7 x h1 h2 h3 h4 h5 h6 h7 =
+    let a = flat_map field (with_field element.Function x.function []) in
+    let b = flat_map field (with_field element.OriginalAmount x.original_amount []) in
+    let r = flat_map field (reference_list x) in
+    let p = flat_map field (with_field element.Approval x.approval []) in
+    let c = flat_map field (with_field element.Action x.action []) in
+    let e = flat_map field (end_list x) in
+    let o = flat_map field (original_list x) in
+    let left : o7 ≡ ((((((o0 ++ a) ++ b) ++ r) ++ p) ++ c) ++ e) ++ o = cc in
+    let scope = one_by_one element.Function element.OriginalAmount x.function x.original_amount in
+    let answer = one_by_one element.Approval element.Action x.approval x.action in
+    left ∙ (seven a b r p c e o o0 ∙ ap (λ (z : List ℕ). o0 ++ (z ++ (r ++ ((p ++ c) ++ (e ++ o))))) (sym scope) ∙ ap (λ (z : List ℕ). o0 ++ (flat_map field (scope_list x) ++ (r ++ (z ++ (e ++ o))))) (sym answer))
+
+three : (start m b f t : List ℕ) → (((start ++ m) ++ b) ++ f) ++ t ≡ start ++ ((m ++ b) ++ (f ++ t))
+three start m b f t = simp append_assoc
+
+pub spelling_written : (o0 o1 o2 o3 o4 : List ℕ) (mti : Mti) (x : Content) → o1 ≡ o0 ++ mti_text mti → o2 ≡ o1 ++ to_be_bytes w64 (bitmap_of (content_fields x)) → o3 ≡ o2 ++ flat_map field (front_list x)
+    → o4 ≡ o3 ++ (flat_map field (scope_list x) ++ (flat_map field (reference_list x) ++ (flat_map field (answer_list x) ++ (flat_map field (end_list x) ++ flat_map field (original_list x)))))
+    → o4 ≡ o0 ++ spelling mti (content_fields x)
+spelling_written o0 o1 o2 o3 o4 mti x h1 h2 h3 h4 =
+    let b = to_be_bytes w64 (bitmap_of (content_fields x)) in
+    let f = flat_map field (front_list x) in
+    let t = flat_map field (scope_list x) ++ (flat_map field (reference_list x) ++ (flat_map field (answer_list x) ++ (flat_map field (end_list x) ++ flat_map field (original_list x)))) in
+    let left : o4 ≡ (((o0 ++ mti_text mti) ++ b) ++ f) ++ t = cc in
+    left ∙ (three o0 (mti_text mti) b f t ∙ ap (λ (z : List ℕ). o0 ++ ((mti_text mti ++ b) ++ z)) (sym (content_texts x)))
+
+pub original_written : (o0 o1 o2 : List ℕ) (o : OriginalRef) (n : ℕ) (x : Option OriginalRef) → x ≡ Some o → o1 ≡ o0 ++ fixed_digits 2 n → o2 ≡ o1 ++ original_text o → length (original_text o) ≡ n
+    → o2 ≡ o0 ++ flat_map field (with_field element.Original (option_map (λ r. original_text r) x) [])
+original_written o0 o1 o2 o n x h k l size =
+    let text : o2 ≡ (o0 ++ fixed_digits 2 n) ++ original_text o = cc in
+    text ∙ rw (h, size, append-nil (fixed_digits 2 n ++ original_text o)) (append_assoc o0 (fixed_digits 2 n) (original_text o))
+
+-- the sum of what was found of each element
+pub bitmap_parts : (t : Transaction) (x : Extras) (n24 n30 n37 n38 n39 n56 : ℕ) (b24 b30 b37 b38 b39 b56 : Bool)
+    → b24 ≡ is_some x.function → b30 ≡ is_some x.original_amount → b37 ≡ is_some t.retrieval → b38 ≡ is_some x.approval → b39 ≡ is_some x.action → b56 ≡ is_some x.original
+    → n24 ≡ bit_if b24 0x10000000000 → n30 ≡ bit_if b30 0x400000000 → n37 ≡ bit_if b37 0x8000000 → n38 ≡ bit_if b38 0x4000000 → n39 ≡ bit_if b39 0x2000000 → n56 ≡ bit_if b56 0x100
+    → 0x7230000100808000 + n24 + n30 + n37 + n38 + n39 + n56 ≡ bitmap_of (content_fields (whole_content t x))
+bitmap_parts t x n24 n30 n37 n38 n39 n56 b24 b30 b37 b38 b39 b56 h24 h30 h37 h38 h39 h56 k24 k30 k37 k38 k39 k56 =
+    rw (k24, k30, k37, k38, k39, k56, h24, h30, h37, h38, h39, h56) (sym (bitmap_sum t x))

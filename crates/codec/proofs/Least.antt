@@ -1,6 +1,6 @@
 -- The least number that passes a test, as a loop finds it.
 use Rattle.std.proofs.Common.{◌≡◌, ℕ, suc, ◌+◌, ◌-◌, ◌≤◌, ◌<◌, Bool, true, false, Option, Some, None, refl, ◌∙◌, arith}
-use Rattle.codec.specs.Reading.{least}
+use Rattle.codec_laws.specs.Reading.{least}
 
 pub least_found : (test : ℕ → Bool) (total : Option ℕ) (end n : ℕ) → n < end → test n ≡ true → total ≡ least test n (end - n) → total ≡ Some n
 unfolding least

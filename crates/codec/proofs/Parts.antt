@@ -3,11 +3,11 @@ use Rattle.std.proofs.Common.{◌≡◌, ℕ, true, false, eqb, List, [], ◌∷
 use Rattle.std.specs.Prelude.{◌||◌}
 use Rattle.iso8583.specs.declared.codec_fault.CodecFault.{CodecFault}
 use Rattle.iso8583.specs.declared.codec_fault.CodecFault.TheVariants.{Trailing}
-use Rattle.codec.specs.declared.element.Element.{Element}
-use Rattle.codec.specs.Elements.{element_number}
-use Rattle.codec.specs.Types.{Part}
-use Rattle.codec.specs.Spelling.{Field, with_field, is_set}
-use Rattle.codec.specs.Reading.{◌>>=◌, optional_at, with_first, fields_at, whole_at}
+use Rattle.codec_laws.specs.declared.element.Element.{Element}
+use Rattle.codec_laws.specs.Elements.{element_number}
+use Rattle.codec_laws.specs.Types.{Part}
+use Rattle.codec_laws.specs.Spelling.{Field, with_field, is_set}
+use Rattle.codec_laws.specs.Reading.{◌>>=◌, optional_at, rule_at, with_first, fields_at, whole_at}
 
 abbrev pub Read : Type 0
 Read = Result (List Field × List ℕ) CodecFault
@@ -37,10 +37,16 @@ first_and_then bitmap qs e text (Err f) = refl
 abbrev OptionalRead : Type 0
 OptionalRead = Result (Option (List ℕ) × List ℕ) CodecFault
 
-step : (bitmap : ℕ) (ps qs : List Part) (e : Element) (read : OptionalRead) → ((bytes : List ℕ) → fields_at bitmap (ps ++ qs) bytes ≡ and_then bitmap qs (fields_at bitmap ps bytes))
-    → (read >>= λ x. with_first e x.0 (fields_at bitmap (ps ++ qs) x.1)) ≡ and_then bitmap qs (read >>= λ x. with_first e x.0 (fields_at bitmap ps x.1))
-step bitmap ps qs e (Ok x) others = ap (λ (r : Read). with_first e x.0 r) (others x.1) ∙ first_and_then bitmap qs e x.0 (fields_at bitmap ps x.1)
-step bitmap ps qs e (Err f) others = refl
+ruled_step : (bitmap : ℕ) (qs : List Part) (rule : Result (Unit {0}) CodecFault) (whole first : Read) → whole ≡ and_then bitmap qs first → (rule >>= λ _. whole) ≡ and_then bitmap qs (rule >>= λ _. first)
+ruled_step bitmap qs (Ok u) whole first h = h
+ruled_step bitmap qs (Err f) whole first h = refl
+
+step : (bitmap : ℕ) (ps qs : List Part) (p : Part) (read : OptionalRead) → ((bytes : List ℕ) → fields_at bitmap (ps ++ qs) bytes ≡ and_then bitmap qs (fields_at bitmap ps bytes))
+    → (read >>= λ x. rule_at p.2 bitmap x.0 >>= λ _. with_first p.1 x.0 (fields_at bitmap (ps ++ qs) x.1)) ≡ and_then bitmap qs (read >>= λ x. rule_at p.2 bitmap x.0 >>= λ _. with_first p.1 x.0 (fields_at bitmap ps x.1))
+step bitmap ps qs p (Ok x) others =
+    ruled_step bitmap qs (rule_at p.2 bitmap x.0) (with_first p.1 x.0 (fields_at bitmap (ps ++ qs) x.1)) (with_first p.1 x.0 (fields_at bitmap ps x.1))
+    (ap (λ (r : Read). with_first p.1 x.0 r) (others x.1) ∙ first_and_then bitmap qs p.1 x.0 (fields_at bitmap ps x.1))
+step bitmap ps qs p (Err f) others = refl
 
 nothing_first : (read : Read) → read ≡ with_front [] read
 nothing_first (Ok x) = refl
@@ -50,7 +56,7 @@ pub fields_at-append : (bitmap : ℕ) (ps qs : List Part) (bytes : List ℕ) →
 unfolding fields_at
 fields_at-append bitmap [] qs bytes = nothing_first (fields_at bitmap qs bytes)
 fields_at-append bitmap (p ∷ ps) qs bytes =
-    step bitmap ps qs p.1 (optional_at (p.0 || is_set bitmap (element_number p.1)) p.1 bytes) (λ rest. fields_at-append bitmap ps qs rest)
+    step bitmap ps qs p (optional_at (p.0 || is_set bitmap (element_number p.1)) p.1 bytes) (λ rest. fields_at-append bitmap ps qs rest)
 
 module _ (bitmap : ℕ) (ps qs : List Part) (bytes : List ℕ) where
   pub front_fails : (f : CodecFault) → fields_at bitmap ps bytes ≡ Err f → whole_at bitmap (ps ++ qs) bytes ≡ Err f

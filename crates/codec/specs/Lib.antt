@@ -1,7 +1,4 @@
-pub mod Elements
-pub mod Types
-pub mod Spelling
-pub mod Messages
-pub mod Replies
-pub mod Reading
+pub mod Bitmaps
+pub mod Sides
 pub mod Texts
+pub mod Writing

@@ -1,10 +1,17 @@
 -- Texts of elements as they were cut out of the bytes, before they are values.
-use Rattle.std.specs.Prelude.{List, [], ◌∷◌, IfSome, option_map}
+use Rattle.std.specs.Prelude.{◌≡◌, ℕ, false, List, [], ◌∷◌, None, IfSome, IsSome, is_some, option_map, Ok}
 use Rattle.codec.specs.declared.front.Front.{Front}
-use Rattle.codec.specs.declared.request.Body.{Body}
-use Rattle.codec.specs.declared.element.Element.TheVariants as element
-use Rattle.codec.specs.Elements.{IsText}
-use Rattle.codec.specs.Spelling.{Field, with_field}
+use Rattle.codec.specs.declared.body.Body.{Body}
+use Rattle.codec_laws.specs.declared.element.Element.TheVariants as element
+use Rattle.codec_laws.specs.declared.mti.Mti.{Mti}
+use Rattle.codec_laws.specs.declared.mti.Mti.TheVariants as mti
+use Rattle.codec_laws.specs.declared.rule.Rule.{Rule}
+use Rattle.codec_laws.specs.declared.rule.Rule.TheVariants.{Free, Scope, Verdict}
+use Rattle.codec_laws.specs.Elements.{IsText}
+use Rattle.codec_laws.specs.Types.{Part, required, optional}
+use Rattle.codec_laws.specs.Spelling.{Field, with_field, is_set}
+use Rattle.codec_laws.specs.Contents.{Content}
+use Rattle.codec_laws.specs.Reading.{rule_at, scope_at, verdict_at}
 
 abbrev pub front_fields : Front → List Field
 front_fields x =
@@ -21,13 +28,111 @@ pub record HasFrontTexts (x : Front) : Type 0 where
 
 abbrev pub body_fields : Body → List Field
 body_fields x =
-    (element.Function, x.function.now) ∷ (element.Acquirer, x.acquirer.now)
-    ∷ with_field element.Retrieval (option_map (λ t. t.now) x.retrieval)
-    ((element.Terminal, x.terminal.now) ∷ (element.Currency, x.currency.now) ∷ [])
+    with_field element.Function (option_map (λ t. t.now) x.function) (with_field element.OriginalAmount (option_map (λ t. t.now) x.original_amount)
+    ((element.Acquirer, x.acquirer.now) ∷ with_field element.Retrieval (option_map (λ t. t.now) x.retrieval)
+    (with_field element.Approval (option_map (λ t. t.now) x.approval) (with_field element.Action (option_map (λ t. t.now) x.action)
+    ((element.Terminal, x.terminal.now) ∷ (element.Currency, x.currency.now) ∷ with_field element.Original (option_map (λ t. t.now) x.original) [])))))
 
 pub record HasBodyTexts (x : Body) : Type 0 where
-  pub function : IsText element.Function x.function.now
+  pub function : IfSome x.function (λ t. IsText element.Function t.now)
+  pub original_amount : IfSome x.original_amount (λ t. IsText element.OriginalAmount t.now)
   pub acquirer : IsText element.Acquirer x.acquirer.now
   pub retrieval : IfSome x.retrieval (λ t. IsText element.Retrieval t.now)
+  pub approval : IfSome x.approval (λ t. IsText element.Approval t.now)
+  pub action : IfSome x.action (λ t. IsText element.Action t.now)
   pub terminal : IsText element.Terminal x.terminal.now
   pub currency : IsText element.Currency x.currency.now
+  pub original : IfSome x.original (λ t. IsText element.Original t.now)
+
+abbrev pub texts_of : Front → Body → Content
+texts_of x y = record {
+  pan = x.pan.now;
+  processing = x.processing.now;
+  amount = x.amount.now;
+  transmission = x.transmission.now;
+  stan = x.stan.now;
+  stamp = x.stamp.now;
+  function = option_map (λ t. t.now) y.function;
+  original_amount = option_map (λ t. t.now) y.original_amount;
+  acquirer = y.acquirer.now;
+  retrieval = option_map (λ t. t.now) y.retrieval;
+  approval = option_map (λ t. t.now) y.approval;
+  action = option_map (λ t. t.now) y.action;
+  terminal = y.terminal.now;
+  currency = y.currency.now;
+  original = option_map (λ t. t.now) y.original;
+}
+
+-- ---- one reader for the bodies of all types: what a bitmap without fault says is there, is there
+
+abbrev pub function_rule : Mti → Rule
+function_rule mti.Reversal = Scope
+function_rule mti.ReversalRepeat = Scope
+function_rule _ = Free
+
+abbrev pub action_rule : Mti → Rule
+action_rule mti.RequestReply = Verdict
+action_rule _ = Free
+
+abbrev pub body_parts : Mti → List Part
+body_parts t =
+    (false, element.Function, function_rule t) ∷ optional element.OriginalAmount
+    ∷ required element.Acquirer ∷ optional element.Retrieval ∷ optional element.Approval ∷ (false, element.Action, action_rule t)
+    ∷ required element.Terminal ∷ required element.Currency ∷ optional element.Original ∷ []
+
+pub record IsThere (t : Mti) (bitmap : ℕ) (x : Body) : Type 0 where
+  pub function : is_some x.function ≡ is_set bitmap 24
+  pub original_amount : is_some x.original_amount ≡ is_set bitmap 30
+  pub approval : is_some x.approval ≡ is_set bitmap 38
+  pub action : is_some x.action ≡ is_set bitmap 39
+  pub original : is_some x.original ≡ is_set bitmap 56
+  pub scope : rule_at (function_rule t) bitmap (option_map (λ t. t.now) x.function) ≡ Ok tt
+  pub verdict : rule_at (action_rule t) bitmap (option_map (λ t. t.now) x.action) ≡ Ok tt
+
+-- ---- the elements of each type that no other type need have
+
+pub record IsRequestBody (x : Body) : Type 0 where
+  pub function : IsSome x.function
+  pub original_amount : x.original_amount ≡ None
+  pub approval : x.approval ≡ None
+  pub action : x.action ≡ None
+  pub original : x.original ≡ None
+
+pub record IsAdviceBody (x : Body) : Type 0 where
+  pub function : IsSome x.function
+  pub original_amount : x.original_amount ≡ None
+  pub approval : x.approval ≡ None
+  pub action : IsSome x.action
+  pub original : x.original ≡ None
+
+pub record IsReversalBody (x : Body) : Type 0 where
+  pub function : IsSome x.function
+  pub scope : IfSome x.function (λ t. scope_at (is_some x.original_amount) t.now ≡ Ok tt)
+  pub approval : x.approval ≡ None
+  pub action : x.action ≡ None
+  pub original : IsSome x.original
+
+pub record IsVerdictBody (x : Body) : Type 0 where
+  pub function : x.function ≡ None
+  pub original_amount : x.original_amount ≡ None
+  pub action : IsSome x.action
+  pub verdict : IfSome x.action (λ t. verdict_at (is_some x.approval) t.now ≡ Ok tt)
+  pub original : x.original ≡ None
+
+pub record IsActionBody (x : Body) : Type 0 where
+  pub function : x.function ≡ None
+  pub original_amount : x.original_amount ≡ None
+  pub approval : x.approval ≡ None
+  pub action : IsSome x.action
+  pub original : x.original ≡ None
+
+abbrev pub IsBodyOf : Mti → Body → Type 0
+IsBodyOf mti.Request x = IsRequestBody x
+IsBodyOf mti.RequestRepeat x = IsRequestBody x
+IsBodyOf mti.RequestReply x = IsVerdictBody x
+IsBodyOf mti.Advice x = IsAdviceBody x
+IsBodyOf mti.AdviceRepeat x = IsAdviceBody x
+IsBodyOf mti.AdviceReply x = IsActionBody x
+IsBodyOf mti.Reversal x = IsReversalBody x
+IsBodyOf mti.ReversalRepeat x = IsReversalBody x
+IsBodyOf mti.ReversalReply x = IsActionBody x

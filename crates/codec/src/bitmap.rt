@@ -1,11 +1,13 @@
 //! Which elements a bitmap announces.
 
-ghost use Rattle.std.specs.Prelude.{◌≡◌, ℕ, ◌≤◌, ◌++◌, Ok, IsTrue};
-ghost use Rattle.codec.specs.Spelling.{is_set};
-ghost use Rattle.codec.specs.Types.{parts_of, front_parts, request_parts};
-ghost use Rattle.codec.specs.Reading.{Gives, least, is_unexpected, is_missing, presence_at};
+ghost use Rattle.std.specs.Prelude.{◌≡◌, ℕ, ◌≤◌, ◌<◌, ◌^◌};
+ghost use Rattle.codec.specs.Bitmaps.{is_form, is_whole};
+ghost use Rattle.codec_laws.specs.Spelling.{is_set};
+ghost use Rattle.codec_laws.specs.Types.{parts_of};
+ghost use Rattle.codec_laws.specs.Reading.{Gives, least, is_unexpected, is_missing, presence_at};
 
-use crate::mti::Mti;
+use crate::types::{demands, lists};
+use codec_laws::Mti;
 use iso8583::CodecFault;
 
 /// Whether element `n` is there. Bit 1 is the highest.
@@ -23,7 +25,7 @@ fn is_unexpected(mti: Mti, bitmap: u64, n: u8) -> bool
     requires high { n ≤ 64 }
     ensures { result ≡ is_unexpected (parts_of mti) bitmap n }
 {
-    is_set(bitmap, n) && !mti.lists(n)
+    is_set(bitmap, n) && !lists(mti, n)
 }
 
 /// Whether the type requires element `n` and it is not there.
@@ -32,7 +34,7 @@ fn is_missing(mti: Mti, bitmap: u64, n: u8) -> bool
     requires high { n ≤ 64 }
     ensures { result ≡ is_missing (parts_of mti) bitmap n }
 {
-    mti.demands(n) && !is_set(bitmap, n)
+    demands(mti, n) && !is_set(bitmap, n)
 }
 
 fn least_unexpected(mti: Mti, bitmap: u64) -> Option<u8>
@@ -57,30 +59,36 @@ fn least_missing(mti: Mti, bitmap: u64) -> Option<u8>
     None
 }
 
-/// The bitmap of a request without element 37.
-const REQUEST: u64 = 0x7230_0101_0080_8000;
-/// The bitmap of a request with element 37.
-const REQUEST_WITH_RETRIEVAL: u64 = 0x7230_0101_0880_8000;
+/// Element 37 in a bitmap.
+const RETRIEVAL: u64 = 0x0800_0000;
 
-/// Whether the bitmap is one that requests have.
-fn is_whole_request(bitmap: u64) -> bool
-    ensures { IsTrue result → presence_at (front_parts ++ request_parts) bitmap ≡ Ok tt }
+/// Whether the bitmap is this one, without element 37 or with it.
+fn is_form(form: u64, bitmap: u64) -> bool
+    requires { form < 2 ^ 63 }
+    ensures { result ≡ is_form form bitmap }
 {
-    bitmap == REQUEST || bitmap == REQUEST_WITH_RETRIEVAL
+    bitmap == form || bitmap == form + RETRIEVAL
 }
 
 /// Whether the bitmap is one that messages of the type have. Most texts need no more than this look.
 fn is_whole(mti: Mti, bitmap: u64) -> bool
-    ensures { IsTrue result → presence_at (parts_of mti) bitmap ≡ Ok tt }
+    ensures { result ≡ is_whole mti bitmap }
 {
     match mti {
-        Mti::Request | Mti::RequestRepeat => is_whole_request(bitmap),
-        Mti::RequestReply => false,
+        Mti::Request | Mti::RequestRepeat => is_form(0x7230_0101_0080_8000, bitmap),
+        Mti::RequestReply => {
+            is_form(0x7230_0001_0680_8000, bitmap) || is_form(0x7230_0001_0280_8000, bitmap)
+        }
+        Mti::Advice | Mti::AdviceRepeat => is_form(0x7230_0101_0280_8000, bitmap),
+        Mti::Reversal | Mti::ReversalRepeat => {
+            is_form(0x7230_0101_0080_8100, bitmap) || is_form(0x7230_0105_0080_8100, bitmap)
+        }
+        Mti::AdviceReply | Mti::ReversalReply => is_form(0x7230_0001_0280_8000, bitmap),
     }
 }
 
 /// Whether a bitmap can be that of a message of the type, else the first fault.
-#[tactic(auto, unfolding(crate::specs::Reading::presence_at))]
+#[tactic(auto, unfolding(codec_laws::specs::Reading::presence_at), using(crate::proofs::WholeBitmaps::whole_sound))]
 pub(crate) fn presence_at(mti: Mti, bitmap: u64) -> Result<(), CodecFault>
     ensures { Gives (λ _. tt) result (presence_at (parts_of mti) bitmap) }
 {

@@ -1,28 +1,27 @@
 ghost use Rattle.std.specs.Prelude.{◌≡◌, ◌≢◌, IfOk, IfErr};
 ghost use Rattle.iso8583.specs.declared.message.Message.{Message};
-ghost use Rattle.codec.specs.Types.{taken_in};
-ghost use Rattle.codec.specs.Messages.{mti_of, fields_of, IsMessage, Spells};
-ghost use Rattle.codec.specs.Reading.{Gives, reading};
+ghost use Rattle.iso8583.specs.declared.reply.Reply.{Reply};
+ghost use Rattle.codec_laws.specs.Types.{taken_in, given_out};
+ghost use Rattle.codec_laws.specs.Messages.{mti_of, fields_of, IsMessage, Spells};
+ghost use Rattle.codec_laws.specs.Replies.{reply_mti, reply_fields, IsReply, SpellsReply};
+ghost use Rattle.codec_laws.specs.Reading.{Gives, reading};
 
-use crate::header::header_at;
-use crate::mti::Mti;
-use crate::request::request_at;
-use iso8583::{CodecFault, Message};
+use crate::message::message_of;
+use crate::reply::reply_of;
+use crate::side::Side;
+use crate::texts::texts_at;
+use iso8583::{CodecFault, Message, Reply};
 
-#[tactic(auto, unfolding(crate::specs::Reading::reading))]
 fn message_at(bytes: &[u8]) -> Result<Message, CodecFault>
     ensures gives { Gives (λ m. (mti_of m, fields_of m)) result (reading taken_in bytes.now) }
     ensures values { IfOk result IsMessage }
 {
-    let (mti, bitmap, rest) = header_at(bytes)?;
-    match mti {
-        Mti::Request => Ok(Message::Request(request_at(bitmap, rest)?)),
-        Mti::RequestRepeat | Mti::RequestReply => unreachable!(),
-    }
+    let (mti, texts) = texts_at(Side::TakenIn, bytes)?;
+    Ok(message_of(mti, &texts))
 }
 
-/// The message that the bytes spell, all of the bytes (ISO 8583:1993, authorization requests 1100), else the
-/// first fault: of the type, of the bitmap, then of the elements from the left. It takes no memory.
+/// The message that the bytes spell, all of the bytes (ISO 8583:1993: 1100, 1101, 1120, 1121, 1420 and 1421),
+/// else the first fault: of the type, of the bitmap, then of the elements from the left. It takes no memory.
 pub fn decode(bytes: &[u8]) -> Result<Message, CodecFault>
     // What is read is spelled so.
     ensures found { IfOk result (Spells bytes.now) }
@@ -33,4 +32,26 @@ pub fn decode(bytes: &[u8]) -> Result<Message, CodecFault>
     ensures no_memory { IfErr result (λ e. e ≢ CodecFault.OutOfMemory) }
 {
     message_at(bytes)
+}
+
+fn reply_at(bytes: &[u8]) -> Result<Reply, CodecFault>
+    ensures gives { Gives (λ r. (reply_mti r, reply_fields r)) result (reading given_out bytes.now) }
+    ensures values { IfOk result IsReply }
+{
+    let (mti, texts) = texts_at(Side::GivenOut, bytes)?;
+    Ok(reply_of(mti, &texts))
+}
+
+/// The reply that the bytes spell, all of the bytes (ISO 8583:1993: 1110, 1130 and 1430), else the first
+/// fault: of the type, of the bitmap, then of the elements from the left. It takes no memory.
+pub fn decode_reply(bytes: &[u8]) -> Result<Reply, CodecFault>
+    // What is read is spelled so.
+    ensures found { IfOk result (SpellsReply bytes.now) }
+    // What is spelled so is read.
+    ensures only { (r : Reply) → SpellsReply bytes.now r → result ≡ Ok r }
+    // Which fault it is: the elements as they are read from the left, or the first fault.
+    ensures exact { Gives (λ r. (reply_mti r, reply_fields r)) result (reading given_out bytes.now) }
+    ensures no_memory { IfErr result (λ e. e ≢ CodecFault.OutOfMemory) }
+{
+    reply_at(bytes)
 }

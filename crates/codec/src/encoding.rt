@@ -1,103 +1,279 @@
-ghost use Rattle.std.specs.Prelude.{◌≡◌, ℕ, ◌+◌, ◌≤◌, ◌++◌, length, vec_len, vec_capacity, OnOk, OnErr, IfErr, IsOk};
+ghost use Rattle.std.specs.Prelude.{◌≡◌, ℕ, ◌+◌, ◌≤◌, [], ◌++◌, length, vec_len, vec_capacity, OnOk, OnErr, IfErr, IsOk, option_map};
 ghost use Rattle.std.specs.List.{flat_map};
-ghost use Rattle.codec.specs.Spelling.{field, bitmap_of};
-ghost use Rattle.codec.specs.Replies.{reply_front, reply_references, verdict_fields, reply_fields, reply_spelling};
+ghost use Rattle.iso8583.specs.Number.{fixed_digits};
+ghost use Rattle.codec.specs.declared.extras.Extras.{Extras};
+ghost use Rattle.codec.specs.Writing.{bit_if, whole_content, front_list, scope_list, reference_list, answer_list, end_list, original_list};
+ghost use Rattle.codec_laws.specs.Elements.{original_text, original_type, twelve_zeros};
+ghost use Rattle.codec_laws.specs.Types.{mti_text};
+ghost use Rattle.codec_laws.specs.Spelling.{Field, field, with_field, bitmap_of, spelling};
+ghost use Rattle.codec_laws.specs.Contents.{content_fields};
+ghost use Rattle.codec_laws.specs.Messages.{message_spelling};
+ghost use Rattle.codec_laws.specs.Replies.{reply_spelling};
 
-use crate::element::Element;
+use crate::extras::{Extras, extras_of, mti_of, reply_extras, reply_mti, transaction_of};
 use crate::writer::{put, put_field};
-use iso8583::{CodecFault, Reply, Verdict};
+use codec_laws::{Element, Mti};
+use iso8583::{
+    Amount, Approval, CodecFault, Digits, Message, OriginalKind, OriginalRef, Reply, Transaction,
+};
 
-/// Bytes of room in which every reply can be written without memory. The longest reply has 124.
-pub const REPLY_ROOM: usize = 160;
+/// Bytes of room in which every message and every reply can be written without memory. The longest has 179.
+pub const ROOM: usize = 240;
 
-/// The bitmap of a reply: element 37 where it came, element 38 in an approval.
-fn bitmap_of(reply: &Reply) -> u64
-    ensures { result ≡ bitmap_of (reply_fields reply.now) }
+/// The text of a type.
+fn mti_text(mti: Mti) -> &'static [u8]
+    ensures text { result.now ≡ mti_text mti }
+    ensures len { length result.now ≡ 4 }
 {
-    match &reply.retrieval {
-        None => match &reply.verdict {
-            Verdict::Approved(_) => 0x7230_0001_0680_8000,
-            Verdict::Declined(_) => 0x7230_0001_0280_8000,
-        },
-        Some(_) => match &reply.verdict {
-            Verdict::Approved(_) => 0x7230_0001_0E80_8000,
-            Verdict::Declined(_) => 0x7230_0001_0A80_8000,
-        },
+    match mti {
+        Mti::Request => b"1100".as_slice(),
+        Mti::RequestRepeat => b"1101".as_slice(),
+        Mti::RequestReply => b"1110".as_slice(),
+        Mti::Advice => b"1120".as_slice(),
+        Mti::AdviceRepeat => b"1121".as_slice(),
+        Mti::AdviceReply => b"1130".as_slice(),
+        Mti::Reversal => b"1420".as_slice(),
+        Mti::ReversalRepeat => b"1421".as_slice(),
+        Mti::ReversalReply => b"1430".as_slice(),
     }
 }
 
-/// Appends the elements that every reply begins with.
-fn put_front(out: &mut Vec<u8>, reply: &Reply)
+/// The bit of an element, if it is there.
+fn bit(there: bool, bit: u64) -> u64
+    ensures value { result ≡ bit_if there bit }
+    ensures bound { result ≤ bit }
+{
+    if there { bit } else { 0 }
+}
+
+/// The bitmap: the elements of every message and reply, and those that are there.
+fn bitmap_of(transaction: &Transaction, extras: &Extras) -> u64
+    ensures { result ≡ bitmap_of (content_fields (whole_content transaction.now extras.now)) }
+{
+    0x7230_0001_0080_8000
+        + bit(extras.function.is_some(), 0x0100_0000_0000)
+        + bit(extras.original_amount.is_some(), 0x0004_0000_0000)
+        + bit(transaction.retrieval.is_some(), 0x0800_0000)
+        + bit(extras.approval.is_some(), 0x0400_0000)
+        + bit(extras.action.is_some(), 0x0200_0000)
+        + bit(extras.original.is_some(), 0x0100)
+}
+
+/// Appends the elements that all begin with.
+fn put_front(out: &mut Vec<u8>, transaction: &Transaction)
     requires { vec_len out.old + 77 ≤ vec_capacity out.old }
-    ensures items { out.new.items ≡ out.old.items ++ flat_map field (reply_front reply.now) }
+    ensures items { (extras : Extras) → out.new.items ≡ out.old.items ++ flat_map field (front_list (whole_content transaction.now extras)) }
     ensures len { vec_len out.new ≤ vec_len out.old + 77 }
     ensures capacity { vec_capacity out.old ≤ vec_capacity out.new }
 {
-    put_field(out, Element::Pan, reply.pan.0.as_slice());
-    put_field(out, Element::Processing, reply.processing.0.as_slice());
-    put_field(out, Element::Amount, reply.amount.digits().as_slice());
-    put_field(out, Element::Transmission, reply.transmission.0.as_slice());
-    put_field(out, Element::Stan, reply.stan.0.as_slice());
-    put_field(out, Element::Stamp, reply.stamp.as_slice());
+    put_field(out, Element::Pan, transaction.pan.0.as_slice());
+    put_field(
+        out,
+        Element::Processing,
+        transaction.processing.0.as_slice(),
+    );
+    put_field(out, Element::Amount, transaction.amount.digits().as_slice());
+    put_field(
+        out,
+        Element::Transmission,
+        transaction.transmission.0.as_slice(),
+    );
+    put_field(out, Element::Stan, transaction.stan.0.as_slice());
+    put_field(out, Element::Stamp, transaction.stamp.as_slice());
 }
 
-/// Appends elements 32 and 37, if it came.
-fn put_references(out: &mut Vec<u8>, reply: &Reply)
+/// Appends an element of three digits, if it is there.
+fn put_code(out: &mut Vec<u8>, element: Element, code: &Option<Digits<3>>)
+    requires { vec_len out.old + 5 ≤ vec_capacity out.old }
+    ensures items { out.new.items ≡ out.old.items ++ flat_map field (with_field element code.now []) }
+    ensures len { vec_len out.new ≤ vec_len out.old + 5 }
+    ensures capacity { vec_capacity out.old ≤ vec_capacity out.new }
+{
+    if let Some(code) = code {
+        put_field(out, element, code.as_slice());
+    }
+}
+
+/// Appends element 30, if it is there.
+fn put_original_amount(out: &mut Vec<u8>, amount: &Option<Amount>)
+    requires { vec_len out.old + 26 ≤ vec_capacity out.old }
+    ensures items { out.new.items ≡ out.old.items
+        ++ flat_map field (with_field Element.OriginalAmount (option_map (λ n. fixed_digits 12 n ++ twelve_zeros) amount.now) []) }
+    ensures len { vec_len out.new ≤ vec_len out.old + 26 }
+    ensures capacity { vec_capacity out.old ≤ vec_capacity out.new }
+{
+    if let Some(amount) = amount {
+        put(out, amount.digits().as_slice());
+        put(out, b"000000000000");
+    }
+}
+
+/// Appends elements 32 and 37, if it is there.
+fn put_references(out: &mut Vec<u8>, transaction: &Transaction)
     requires { vec_len out.old + 27 ≤ vec_capacity out.old }
-    ensures items { out.new.items ≡ out.old.items ++ flat_map field (reply_references reply.now) }
+    ensures items { (extras : Extras) → out.new.items ≡ out.old.items ++ flat_map field (reference_list (whole_content transaction.now extras)) }
     ensures len { vec_len out.new ≤ vec_len out.old + 27 }
     ensures capacity { vec_capacity out.old ≤ vec_capacity out.new }
 {
-    put_field(out, Element::Acquirer, reply.acquirer.0.as_slice());
-    if let Some(retrieval) = &reply.retrieval {
+    put_field(out, Element::Acquirer, transaction.acquirer.0.as_slice());
+    if let Some(retrieval) = &transaction.retrieval {
         put_field(out, Element::Retrieval, retrieval.0.as_slice());
     }
 }
 
-/// Appends elements 38, in an approval alone, and 39.
-fn put_verdict(out: &mut Vec<u8>, verdict: &Verdict)
-    requires { vec_len out.old + 13 ≤ vec_capacity out.old }
-    ensures items { out.new.items ≡ out.old.items ++ flat_map field (verdict_fields verdict.now) }
-    ensures len { vec_len out.new ≤ vec_len out.old + 13 }
+/// Appends element 38, if it is there.
+fn put_approval(out: &mut Vec<u8>, approval: &Option<Approval>)
+    requires { vec_len out.old + 8 ≤ vec_capacity out.old }
+    ensures items { out.new.items ≡ out.old.items ++ flat_map field (with_field Element.Approval (option_map (λ c. c.0) approval.now) []) }
+    ensures len { vec_len out.new ≤ vec_len out.old + 8 }
     ensures capacity { vec_capacity out.old ≤ vec_capacity out.new }
 {
-    match verdict {
-        Verdict::Approved(code) => {
-            put_field(out, Element::Approval, code.0.as_slice());
-            put_field(out, Element::Action, b"000");
+    if let Some(approval) = approval {
+        put_field(out, Element::Approval, approval.0.as_slice());
+    }
+}
+
+/// Appends elements 41 and 49.
+fn put_ends(out: &mut Vec<u8>, transaction: &Transaction)
+    requires { vec_len out.old + 15 ≤ vec_capacity out.old }
+    ensures items { (extras : Extras) → out.new.items ≡ out.old.items ++ flat_map field (end_list (whole_content transaction.now extras)) }
+    ensures len { vec_len out.new ≤ vec_len out.old + 15 }
+    ensures capacity { vec_capacity out.old ≤ vec_capacity out.new }
+{
+    put_field(out, Element::Terminal, transaction.terminal.0.as_slice());
+    put_field(out, Element::Currency, transaction.currency.0.as_slice());
+}
+
+/// The type of an original.
+fn original_type(kind: &OriginalKind, repeat: bool) -> &'static [u8]
+    ensures text { result.now ≡ original_type kind.now repeat }
+    ensures len { length result.now ≡ 4 }
+{
+    match kind {
+        OriginalKind::Request => {
+            if repeat {
+                b"1101".as_slice()
+            } else {
+                b"1100".as_slice()
+            }
         }
-        Verdict::Declined(code) => {
-            put_field(out, Element::Action, code.action().digits().as_slice());
+        OriginalKind::Advice => {
+            if repeat {
+                b"1121".as_slice()
+            } else {
+                b"1120".as_slice()
+            }
         }
     }
 }
 
-/// Appends the spelling.
-fn put_reply(out: &mut Vec<u8>, reply: &Reply)
-    requires { vec_len out.old + REPLY_ROOM ≤ vec_capacity out.old }
-    ensures { out.new.items ≡ out.old.items ++ reply_spelling reply.now }
+/// Appends the text of a reference, without its length.
+#[tactic(auto, unfolding(codec_laws::specs::Elements::original_text))]
+fn put_reference(out: &mut Vec<u8>, original: &OriginalRef)
+    requires { vec_len out.old + 35 ≤ vec_capacity out.old }
+    ensures items { out.new.items ≡ out.old.items ++ original_text original.now }
+    ensures size { length (original_text original.now) ≡ 24 + length original.now.identity.acquirer.0 }
+    ensures len { vec_len out.new ≤ vec_len out.old + 35 }
+    ensures capacity { vec_capacity out.old ≤ vec_capacity out.new }
 {
-    put(out, b"1110");
-    put(out, &bitmap_of(reply).to_be_bytes());
-    put_front(out, reply);
-    put_references(out, reply);
-    put_verdict(out, &reply.verdict);
-    put_field(out, Element::Terminal, reply.terminal.0.as_slice());
-    put_field(out, Element::Currency, reply.currency.0.as_slice());
+    let acquirer = original.identity.acquirer.0.as_slice();
+    put(out, original_type(&original.kind, original.repeat));
+    put(out, original.identity.stan.0.as_slice());
+    put(out, original.identity.stamp.as_slice());
+    put(
+        out,
+        Digits::<2>::of_number(acquirer.len() as u64).as_slice(),
+    );
+    put(out, acquirer);
 }
 
-/// Appends the one spelling of the reply (ISO 8583:1993, authorization request response 1110). Where memory
-/// runs out, the answer is `OutOfMemory` and nothing is appended.
+/// Appends element 56, if it is there.
+fn put_original(out: &mut Vec<u8>, original: &Option<OriginalRef>)
+    requires { vec_len out.old + 37 ≤ vec_capacity out.old }
+    ensures items { out.new.items ≡ out.old.items ++ flat_map field (with_field Element.Original (option_map (λ o. original_text o) original.now) []) }
+    ensures len { vec_len out.new ≤ vec_len out.old + 37 }
+    ensures capacity { vec_capacity out.old ≤ vec_capacity out.new }
+{
+    if let Some(original) = original {
+        let size = original.identity.acquirer.0.as_slice().len() as u64 + 24;
+        put(out, Digits::<2>::of_number(size).as_slice());
+        put_reference(out, original);
+    }
+}
+
+/// Appends the elements from 24 on.
+fn put_tail(out: &mut Vec<u8>, transaction: &Transaction, extras: &Extras)
+    requires { vec_len out.old + 123 ≤ vec_capacity out.old }
+    ensures { let x = whole_content transaction.now extras.now in out.new.items ≡ out.old.items
+        ++ (flat_map field (scope_list x) ++ (flat_map field (reference_list x) ++ (flat_map field (answer_list x) ++ (flat_map field (end_list x) ++ flat_map field (original_list x))))) }
+{
+    put_code(out, Element::Function, &extras.function);
+    put_original_amount(out, &extras.original_amount);
+    put_references(out, transaction);
+    put_approval(out, &extras.approval);
+    put_code(out, Element::Action, &extras.action);
+    put_ends(out, transaction);
+    put_original(out, &extras.original);
+}
+
+/// Appends the spelling.
+fn put_spelling(out: &mut Vec<u8>, mti: Mti, transaction: &Transaction, extras: &Extras)
+    requires { vec_len out.old + ROOM ≤ vec_capacity out.old }
+    ensures { out.new.items ≡ out.old.items ++ spelling mti (content_fields (whole_content transaction.now extras.now)) }
+{
+    put(out, mti_text(mti));
+    put(out, &bitmap_of(transaction, extras).to_be_bytes());
+    put_front(out, transaction);
+    put_tail(out, transaction, extras);
+}
+
+/// Makes room for the longest spelling.
+fn make_room(out: &mut Vec<u8>) -> Result<(), CodecFault>
+    ensures ok { OnOk result (vec_len out.new + ROOM ≤ vec_capacity out.new) }
+    ensures items { out.new.items ≡ out.old.items }
+    ensures memory { IfErr result (λ e. e ≡ CodecFault.OutOfMemory) }
+    ensures room { vec_len out.old + ROOM ≤ vec_capacity out.old → IsOk result }
+{
+    if out.reserve(ROOM).is_err() {
+        return Err(CodecFault::OutOfMemory);
+    }
+    Ok(())
+}
+
+/// Appends the one spelling of the message (ISO 8583:1993: 1100, 1101, 1120, 1121, 1420 or 1421). Where
+/// memory runs out, the answer is `OutOfMemory` and nothing is appended.
+pub fn encode(message: &Message, out: &mut Vec<u8>) -> Result<(), CodecFault>
+    ensures ok { OnOk result (out.new.items ≡ out.old.items ++ message_spelling message.now) }
+    ensures memory { IfErr result (λ e. e ≡ CodecFault.OutOfMemory) }
+    ensures err { OnErr result (out.new.items ≡ out.old.items) }
+    // Room for the longest message is enough.
+    ensures room { vec_len out.old + ROOM ≤ vec_capacity out.old → IsOk result }
+{
+    make_room(out)?;
+    put_spelling(
+        out,
+        mti_of(message),
+        transaction_of(message),
+        &extras_of(message),
+    );
+    Ok(())
+}
+
+/// Appends the one spelling of the reply (ISO 8583:1993: 1110, 1130 or 1430). Where memory runs out, the
+/// answer is `OutOfMemory` and nothing is appended.
 pub fn encode_reply(reply: &Reply, out: &mut Vec<u8>) -> Result<(), CodecFault>
     ensures ok { OnOk result (out.new.items ≡ out.old.items ++ reply_spelling reply.now) }
     ensures memory { IfErr result (λ e. e ≡ CodecFault.OutOfMemory) }
     ensures err { OnErr result (out.new.items ≡ out.old.items) }
     // Room for the longest reply is enough.
-    ensures room { vec_len out.old + REPLY_ROOM ≤ vec_capacity out.old → IsOk result }
+    ensures room { vec_len out.old + ROOM ≤ vec_capacity out.old → IsOk result }
 {
-    if out.reserve(REPLY_ROOM).is_err() {
-        return Err(CodecFault::OutOfMemory);
-    }
-    put_reply(out, reply);
+    make_room(out)?;
+    put_spelling(
+        out,
+        reply_mti(reply),
+        &reply.transaction,
+        &reply_extras(reply),
+    );
     Ok(())
 }

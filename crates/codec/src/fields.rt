@@ -1,12 +1,14 @@
-//! Reading the text of one element.
+//! Reading the text of one element, and its rule.
 
-ghost use Rattle.std.specs.Prelude.{◌≡◌, ℕ, ◌≤◌, length, Some, None, IfSome, IfOk, IsTrue, option_map, if◌then◌else◌};
+ghost use Rattle.std.specs.Prelude.{◌≡◌, ℕ, ◌≤◌, length, Some, None, IfSome, IfOk, IsTrue, option_map, is_some, if◌then◌else◌};
 ghost use Rattle.iso8583.specs.Number.{number_of};
-ghost use Rattle.codec.specs.Elements.{element_number, shape_of, HasShape, IsText};
-ghost use Rattle.codec.specs.Reading.{Gives, bytes_at, is_length, shaped_at, element_at, optional_at};
+ghost use Rattle.codec_laws.specs.Elements.{element_number, shape_of, HasShape, IsText};
+ghost use Rattle.codec_laws.specs.Spelling.{is_set};
+ghost use Rattle.codec_laws.specs.Reading.{Gives, bytes_at, is_length, shaped_at, element_at, optional_at, scope_at, verdict_at, rule_at};
 
-use crate::element::Element;
-use crate::shape::Shape;
+use crate::bitmap::is_set;
+use crate::value_test::{has_value, is_of_class};
+use codec_laws::{Element, Rule, Shape};
 use iso8583::{CodecFault, is_digits, number_of};
 
 /// The next bytes, for the element of this number, and those after them.
@@ -37,7 +39,7 @@ fn length_in(min: usize, max: usize, digits: &[u8]) -> Option<usize>
 }
 
 /// As many bytes as the shape has, and those after them.
-#[tactic(auto, unfolding(crate::specs::Reading::shaped_at))]
+#[tactic(auto, unfolding(codec_laws::specs::Reading::shaped_at))]
 fn shaped_at(number: u8, shape: Shape, bytes: &[u8]) -> Result<(&[u8], &[u8]), CodecFault>
     ensures gives { Gives (λ x. (x.0.now, x.1.now)) result (shaped_at number shape bytes.now) }
     ensures shape { IfOk result (λ x. HasShape shape x.0.now) }
@@ -55,23 +57,23 @@ fn shaped_at(number: u8, shape: Shape, bytes: &[u8]) -> Result<(&[u8], &[u8]), C
 }
 
 /// The text of the element, and the bytes after it.
-#[tactic(auto, unfolding(crate::specs::Reading::element_at))]
+#[tactic(auto, unfolding(codec_laws::specs::Reading::element_at))]
 pub(crate) fn element_at(element: Element, bytes: &[u8]) -> Result<(&[u8], &[u8]), CodecFault>
     ensures gives { Gives (λ x. (x.0.now, x.1.now)) result (element_at element bytes.now) }
     ensures text { IfOk result (λ x. IsText element x.0.now) }
 {
     let (text, rest) = shaped_at(element.number(), element.shape(), bytes)?;
-    if !element.class().holds(text) {
+    if !is_of_class(element.class(), text) {
         return Err(CodecFault::BadCharacter(element.number()));
     }
-    if !element.takes(text) {
+    if !has_value(element, text) {
         return Err(CodecFault::BadValue(element.number()));
     }
     Ok((text, rest))
 }
 
 /// The same for an element that may be absent.
-#[tactic(auto, unfolding(crate::specs::Reading::optional_at))]
+#[tactic(auto, unfolding(codec_laws::specs::Reading::optional_at))]
 pub(crate) fn optional_at(
     present: bool,
     element: Element,
@@ -79,10 +81,64 @@ pub(crate) fn optional_at(
 ) -> Result<(Option<&[u8]>, &[u8]), CodecFault>
     ensures gives { Gives (λ x. (option_map (λ t. t.now) x.0, x.1.now)) result (optional_at present element bytes.now) }
     ensures text { IfOk result (λ x. IfSome x.0 (λ t. IsText element t.now)) }
+    ensures there { IfOk result (λ x. is_some x.0 ≡ present) }
 {
     if !present {
         return Ok((None, bytes));
     }
     let (text, rest) = element_at(element, bytes)?;
     Ok((Some(text), rest))
+}
+
+/// The function code of a reversal, beside element 30 or without it.
+#[tactic(auto, unfolding(codec_laws::specs::Reading::scope_at))]
+fn scope_at(amount: bool, text: &[u8]) -> Result<(), CodecFault>
+    ensures { Gives (λ _. tt) result (scope_at amount text.now) }
+{
+    if text == b"400".as_slice() {
+        if amount {
+            return Err(CodecFault::Unexpected(30));
+        }
+        return Ok(());
+    }
+    if text != b"401".as_slice() {
+        return Err(CodecFault::BadValue(24));
+    }
+    if amount {
+        Ok(())
+    } else {
+        Err(CodecFault::Missing(30))
+    }
+}
+
+/// The action code of a reply to a request, beside element 38 or without it.
+#[tactic(auto, unfolding(codec_laws::specs::Reading::verdict_at))]
+fn verdict_at(approval: bool, text: &[u8]) -> Result<(), CodecFault>
+    ensures { Gives (λ _. tt) result (verdict_at approval text.now) }
+{
+    if text == b"000".as_slice() {
+        if approval {
+            return Ok(());
+        }
+        return Err(CodecFault::Missing(38));
+    }
+    if approval {
+        Err(CodecFault::Unexpected(38))
+    } else {
+        Ok(())
+    }
+}
+
+/// What the rule finds in the text of an element, if it is there.
+pub(crate) fn rule_at(rule: Rule, bitmap: u64, text: Option<&[u8]>) -> Result<(), CodecFault>
+    ensures { Gives (λ _. tt) result (rule_at rule bitmap (option_map (λ t. t.now) text.entry)) }
+{
+    let Some(text) = text else {
+        return Ok(());
+    };
+    match rule {
+        Rule::Free => Ok(()),
+        Rule::Scope => scope_at(is_set(bitmap, 30), text),
+        Rule::Verdict => verdict_at(is_set(bitmap, 38), text),
+    }
 }

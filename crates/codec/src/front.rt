@@ -2,11 +2,11 @@
 
 ghost use Rattle.std.specs.Prelude.{◌≡◌, ℕ, IfOk};
 ghost use Rattle.codec.specs.Texts.{front_fields, HasFrontTexts};
-ghost use Rattle.codec.specs.Types.{front_parts};
-ghost use Rattle.codec.specs.Reading.{Gives, fields_at};
+ghost use Rattle.codec_laws.specs.Types.{front_parts};
+ghost use Rattle.codec_laws.specs.Reading.{Gives, fields_at};
 
-use crate::element::Element;
 use crate::fields::element_at;
+use codec_laws::Element;
 use iso8583::CodecFault;
 
 /// The texts of elements 2, 3, 4, 7, 11 and 12, and the bytes after them.
@@ -22,7 +22,7 @@ pub(crate) struct Front<'a> {
 }
 
 /// Reads these elements, whatever the bitmap.
-#[tactic(auto, unfolding(crate::specs::Reading::optional_at, crate::specs::Reading::fields_at))]
+#[tactic(auto, unfolding(codec_laws::specs::Reading::optional_at, codec_laws::specs::Reading::fields_at))]
 pub(crate) fn front_at(bytes: &[u8]) -> Result<Front<'_>, CodecFault>
     ensures gives { (bitmap : ℕ) → Gives (λ x. (front_fields x, x.rest.now)) result (fields_at bitmap front_parts bytes.now) }
     ensures texts { IfOk result HasFrontTexts }

@@ -1,13 +1,16 @@
 //! The message type and the bitmap.
 
-ghost use Rattle.std.specs.Prelude.{◌≡◌, ℕ, length, IfOk, IsTrue};
+ghost use Rattle.std.specs.Prelude.{◌≡◌, ℕ, length, Ok, IfOk, IsTrue};
 ghost use Rattle.std.specs.Int.{w64, from_be_bytes};
-ghost use Rattle.codec.specs.Types.{taken_in, is_taken_in};
-ghost use Rattle.codec.specs.Reading.{Gives, header_at, bytes_at};
+ghost use Rattle.codec.specs.Sides.{types_of};
+ghost use Rattle.codec_laws.specs.Types.{is_among, parts_of};
+ghost use Rattle.codec_laws.specs.Reading.{Gives, presence_at, header_at, bytes_at};
 
 use crate::bitmap::presence_at;
 use crate::fields::bytes_at;
-use crate::mti::Mti;
+use crate::side::Side;
+use crate::types::mti_at;
+use codec_laws::Mti;
 use iso8583::CodecFault;
 
 /// The number of eight bytes, the highest first.
@@ -21,13 +24,14 @@ fn bitmap_of(bytes: &[u8]) -> u64
 }
 
 /// The type and the bitmap of a message, and the bytes after them.
-#[tactic(auto, unfolding(crate::specs::Reading::header_at))]
-pub(crate) fn header_at(bytes: &[u8]) -> Result<(Mti, u64, &[u8]), CodecFault>
-    ensures gives { Gives (λ x. (x.0, x.1, x.2.now)) result (header_at taken_in bytes.now) }
-    ensures taken { IfOk result (λ x. IsTrue (is_taken_in x.0)) }
+#[tactic(auto, unfolding(codec_laws::specs::Reading::header_at))]
+pub(crate) fn header_at(side: Side, bytes: &[u8]) -> Result<(Mti, u64, &[u8]), CodecFault>
+    ensures gives { Gives (λ x. (x.0, x.1, x.2.now)) result (header_at (types_of side) bytes.now) }
+    ensures among { IfOk result (λ x. IsTrue (is_among (types_of side) x.0)) }
+    ensures sound { IfOk result (λ x. presence_at (parts_of x.0) x.1 ≡ Ok tt) }
 {
     let (text, rest) = bytes_at(0, 4, bytes)?;
-    let mti = Mti::taken_in(text)?;
+    let mti = mti_at(side, text)?;
     let (bits, rest) = bytes_at(0, 8, rest)?;
     let bitmap = bitmap_of(bits);
     presence_at(mti, bitmap)?;

@@ -1,23 +1,25 @@
+//! Messages and replies of ISO 8583:1993 from bytes and into bytes.
 #![tactic(auto)]
 
 mod bitmap;
-mod class;
+mod body;
 mod decoding;
-mod element;
 mod encoding;
+mod extras;
 mod fields;
 mod front;
 mod header;
-mod laws;
-mod mti;
-mod request;
-mod shape;
+mod message;
+mod reply;
+mod side;
+mod texts;
+mod types;
+mod value_test;
 mod values;
 mod writer;
 
-pub use decoding::decode;
-pub use encoding::{REPLY_ROOM, encode_reply};
-pub use laws::{no_message_begins_another, no_reply_begins_another};
+pub use decoding::{decode, decode_reply};
+pub use encoding::{ROOM, encode, encode_reply};
 
 #[cfg(test)]
 mod tests;

@@ -1,13 +1,14 @@
 //! Values of elements, from texts that were tested.
 
-ghost use Rattle.std.specs.Prelude.{◌≡◌, ℕ, ◌<◌, ◌^◌, IfSome, option_map};
+ghost use Rattle.std.specs.Prelude.{◌≡◌, ℕ, ◌<◌, ◌^◌, ◌++◌, IfSome, IsTrue, option_map};
 ghost use Rattle.iso8583.specs.Number.{fixed_digits};
-ghost use Rattle.codec.specs.Elements.{IsText};
+ghost use Rattle.codec_laws.specs.Elements.{IsText, original_type, is_original_type, original_text, twelve_zeros};
+ghost use Rattle.codec_laws.specs.Messages.{IsOriginal};
 
-use crate::element::Element;
+use codec_laws::Element;
 use iso8583::{
-    Acquirer, Amount, Currency, Digits, FunctionCode, LocalStamp, Pan, Processing, Retrieval, Stan,
-    Terminal, Transmission,
+    Acquirer, Action, Amount, Approval, Currency, Digits, FunctionCode, Identity, LocalStamp,
+    OriginalKind, OriginalRef, Pan, Processing, Retrieval, Stan, Terminal, Transmission,
 };
 
 /// Element 2.
@@ -132,4 +133,74 @@ pub(crate) fn currency(text: &[u8]) -> Currency
         unreachable!()
     };
     currency
+}
+
+/// Element 30: its first twelve digits, behind which zeros stand.
+#[tactic(auto, using(crate::proofs::Amounts::original_again, crate::proofs::Amounts::original_amount))]
+pub(crate) fn original_amount(text: &[u8]) -> Amount
+    requires { IsText Element.OriginalAmount text.now }
+    ensures text { fixed_digits 12 result ++ twelve_zeros ≡ text.now }
+    ensures bound { result < 10 ^ 12 }
+{
+    let (digits, _) = text.split_at(12);
+    amount(digits)
+}
+
+/// Element 38.
+pub(crate) fn approval(text: &[u8]) -> Approval
+    requires { IsText Element.Approval text.now }
+    ensures { result.0 ≡ text.now }
+{
+    let Some(approval) = Approval::new(text) else {
+        unreachable!()
+    };
+    approval
+}
+
+/// Element 39.
+#[tactic(auto, using(crate::proofs::Amounts::action_again, crate::proofs::Amounts::action_bound))]
+pub(crate) fn action(text: &[u8]) -> Action
+    requires { IsText Element.Action text.now }
+    ensures text { fixed_digits 3 result ≡ text.now }
+    ensures bound { result < 10 ^ 3 }
+{
+    let Some(digits) = Digits::new(text) else {
+        unreachable!()
+    };
+    Action::from_digits(&digits)
+}
+
+/// The type of an original: its kind, and whether it was a repeat.
+#[tactic(auto, unfolding(codec_laws::specs::Elements::is_original_type))]
+fn original_type(text: &[u8]) -> (OriginalKind, bool)
+    requires { IsTrue (is_original_type text.now) }
+    ensures { original_type result.0 result.1 ≡ text.now }
+{
+    if text == b"1100".as_slice() {
+        (OriginalKind::Request, false)
+    } else if text == b"1101".as_slice() {
+        (OriginalKind::Request, true)
+    } else if text == b"1120".as_slice() {
+        (OriginalKind::Advice, false)
+    } else {
+        (OriginalKind::Advice, true)
+    }
+}
+
+/// Element 56.
+pub(crate) fn original(text: &[u8]) -> OriginalRef
+    requires { IsText Element.Original text.now }
+    ensures text { original_text result ≡ text.now }
+    ensures values { IsOriginal result }
+{
+    let (kind, repeat) = original_type(&text[..4]);
+    OriginalRef {
+        kind,
+        repeat,
+        identity: Identity {
+            acquirer: acquirer(&text[24..]),
+            stan: stan(&text[4..10]),
+            stamp: stamp(&text[10..22]),
+        },
+    }
 }

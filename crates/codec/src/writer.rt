@@ -1,10 +1,9 @@
 //! Writing into room that was made before.
 
 ghost use Rattle.std.specs.Prelude.{◌≡◌, ℕ, ◌+◌, ◌≤◌, ◌++◌, length, vec_len, vec_capacity};
-ghost use Rattle.codec.specs.Spelling.{field};
+ghost use Rattle.codec_laws.specs.Spelling.{field};
 
-use crate::element::Element;
-use crate::shape::Shape;
+use codec_laws::{Element, Shape};
 use iso8583::Digits;
 
 /// Appends the text.

@@ -1,7 +1,7 @@
 use crate::{PlainRows, Prefix, decide_all, decide_all_by};
 use iso8583::{
-    Acquirer, Action, Amount, Approval, CodecFault, Currency, DeclineCode, FunctionCode,
-    LocalStamp, Message, Pan, Processing, Request, Stan, Terminal, Transmission, Verdict,
+    Acquirer, Action, Amount, Answer, Approval, CodecFault, Currency, DeclineCode, FunctionCode,
+    LocalStamp, Pan, Processing, Request, Stan, Terminal, Transaction, Transmission, Verdict,
 };
 use rows::{
     Balance, Book, CardRow, CardStatus, Count, Expiry, Frame, FrameFault, ReplyBody, RowKey, RowVal,
@@ -39,20 +39,22 @@ fn book(alloc: Global, available: u64, approvals: u32) -> Result<Book, Fail> {
 }
 
 fn request(card: &[u8], trace: &[u8], amount: u64) -> Option<Frame> {
-    Some(Frame::Good(Message::Request(Request {
+    Some(Frame::Good(Request {
         repeat: false,
-        pan: Pan::new(card)?,
-        processing: Processing::new(b"000000")?,
-        amount: Amount::new(amount)?,
-        transmission: Transmission::new(b"0110120000")?,
-        stan: Stan::new(trace)?,
-        stamp: LocalStamp::new(b"260110120000")?,
         function: FunctionCode::new(b"100")?,
-        acquirer: Acquirer::new(b"12345")?,
-        retrieval: None,
-        terminal: Terminal::new(b"TERM0001")?,
-        currency: Currency::new(b"978")?,
-    })))
+        transaction: Transaction {
+            pan: Pan::new(card)?,
+            processing: Processing::new(b"000000")?,
+            amount: Amount::new(amount)?,
+            transmission: Transmission::new(b"0110120000")?,
+            stan: Stan::new(trace)?,
+            stamp: LocalStamp::new(b"260110120000")?,
+            acquirer: Acquirer::new(b"12345")?,
+            retrieval: None,
+            terminal: Terminal::new(b"TERM0001")?,
+            currency: Currency::new(b"978")?,
+        },
+    }))
 }
 
 // Requests with a trace number each.
@@ -67,7 +69,10 @@ fn requests(alloc: Global, amounts: &[(&[u8], u64)]) -> Result<Vec<Frame>, Fail>
 
 fn verdict(reply: &ReplyBody) -> Option<Verdict> {
     match reply {
-        ReplyBody::Reply(reply) => Some(reply.verdict),
+        ReplyBody::Reply(reply) => match reply.answer {
+            Answer::Request(verdict) => Some(verdict),
+            _ => None,
+        },
         ReplyBody::Fault(_) => None,
     }
 }

@@ -1,12 +1,18 @@
 ghost use Rattle.std.specs.Prelude.{◌≡◌, ◌↔◌, IsTrue};
 
+use crate::advice::Advice;
 use crate::request::Request;
+use crate::reversal::Reversal;
 
 /// A message that is taken in (ISO 8583:1993).
 #[derive(Clone, Copy, Debug, PartialEq, Eq)]
 pub enum Message {
-    /// Authorization request.
+    /// Authorization request, 1100 or 1101.
     Request(Request),
+    /// Authorization advice, 1120 or 1121.
+    Advice(Advice),
+    /// Reversal advice, 1420 or 1421.
+    Reversal(Reversal),
 }
 
 impl Message {
@@ -16,6 +22,9 @@ impl Message {
     {
         match (self, other) {
             (Message::Request(mine), Message::Request(theirs)) => mine.is_same(theirs),
+            (Message::Advice(mine), Message::Advice(theirs)) => mine.is_same(theirs),
+            (Message::Reversal(mine), Message::Reversal(theirs)) => mine.is_same(theirs),
+            _ => false,
         }
     }
 }

@@ -1,44 +1,17 @@
 ghost use Rattle.std.specs.Prelude.{◌≡◌, ◌↔◌, IsTrue};
 
-use crate::acquirer::Acquirer;
-use crate::amount::Amount;
-use crate::currency::Currency;
 use crate::function_code::FunctionCode;
-use crate::local_stamp::LocalStamp;
-use crate::pan::Pan;
-use crate::processing::Processing;
-use crate::retrieval::Retrieval;
-use crate::stan::Stan;
-use crate::terminal::Terminal;
-use crate::transmission::Transmission;
+use crate::transaction::Transaction;
 
 /// Authorization request, 1100, or its repeat, 1101 (ISO 8583:1993).
 #[derive(Clone, Copy, Debug, PartialEq, Eq)]
 pub struct Request {
     /// Whether it is a repeat.
     pub repeat: bool,
-    /// Element 2.
-    pub pan: Pan,
-    /// Element 3.
-    pub processing: Processing,
-    /// Element 4.
-    pub amount: Amount,
-    /// Element 7.
-    pub transmission: Transmission,
-    /// Element 11.
-    pub stan: Stan,
-    /// Element 12.
-    pub stamp: LocalStamp,
     /// Element 24.
     pub function: FunctionCode,
-    /// Element 32.
-    pub acquirer: Acquirer,
-    /// Element 37, if it is present.
-    pub retrieval: Option<Retrieval>,
-    /// Element 41.
-    pub terminal: Terminal,
-    /// Element 49.
-    pub currency: Currency,
+    /// All other elements.
+    pub transaction: Transaction,
 }
 
 impl Request {
@@ -46,45 +19,8 @@ impl Request {
     pub fn is_same(&self, other: &Request) -> bool
         ensures { IsTrue result ↔ (self.now ≡ other.now) }
     {
-        self.has_same_card(other) && self.has_same_trace(other) && self.has_same_origin(other)
-    }
-
-    fn has_same_card(&self, other: &Request) -> bool
-        ensures { IsTrue result
-            ↔ ((self.now.repeat ≡ other.now.repeat)
-            × (self.now.pan ≡ other.now.pan)
-            × (self.now.processing ≡ other.now.processing)
-            × (self.now.amount ≡ other.now.amount)) }
-    {
         self.repeat == other.repeat
-            && self.pan == other.pan
-            && self.processing == other.processing
-            && self.amount == other.amount
-    }
-
-    fn has_same_trace(&self, other: &Request) -> bool
-        ensures { IsTrue result
-            ↔ ((self.now.transmission ≡ other.now.transmission)
-            × (self.now.stan ≡ other.now.stan)
-            × (self.now.stamp ≡ other.now.stamp)
-            × (self.now.function ≡ other.now.function)) }
-    {
-        self.transmission == other.transmission
-            && self.stan == other.stan
-            && self.stamp == other.stamp
             && self.function == other.function
-    }
-
-    fn has_same_origin(&self, other: &Request) -> bool
-        ensures { IsTrue result
-            ↔ ((self.now.acquirer ≡ other.now.acquirer)
-            × (self.now.retrieval ≡ other.now.retrieval)
-            × (self.now.terminal ≡ other.now.terminal)
-            × (self.now.currency ≡ other.now.currency)) }
-    {
-        self.acquirer == other.acquirer
-            && self.retrieval == other.retrieval
-            && self.terminal == other.terminal
-            && self.currency == other.currency
+            && self.transaction.is_same(&other.transaction)
     }
 }

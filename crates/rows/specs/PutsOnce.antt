@@ -1,7 +1,6 @@
 -- The decision table puts no row with two values.
 use Rattle.std.proofs.Common.{◌≡◌, ℕ, zero, suc, ◌<◌, slice_index_or, Bool, true, false, cond, if◌then◌else◌, nat_le, nat_lt, List, [], ◌∷◌, length, Option, Some, None, refl, Contains, sym, ap, ◌∙◌, arith}
-use Rattle.iso8583.specs.declared.message.Message.TheVariants.{Request}
-use Rattle.iso8583.specs.declared.request.Request.{Request as RequestBody}
+use Rattle.iso8583.specs.declared.request.Request.{Request}
 use Rattle.rows.specs.Decision.{decision}
 use Rattle.rows.specs.Plan.{Writes, Plan, Answer, Lookup, carried_out}
 use Rattle.rows.specs.Table.{card_in, on_card, declined, approved}
@@ -35,15 +34,15 @@ either_once : (b : Bool) (p q : Plan) → Once p → Once q → Once (if b then 
 either_once true p q h k = h
 either_once false p q h k = k
 
-on_card_once : (r : RequestBody) (card : Option CardRow) → Once (on_card r card)
+on_card_once : (r : Request) (card : Option CardRow) → Once (on_card r card)
 on_card_once r None = λ look. none_puts_once
 on_card_once r (Some card) =
     either_once (nat_le 999999 card.approvals) (declined r 909) _ (λ look. none_puts_once)
-    (either_once (nat_lt card.available r.amount) (declined r 116) (approved r card) (λ look. none_puts_once)
+    (either_once (nat_lt card.available r.transaction.amount) (declined r 116) (approved r card) (λ look. none_puts_once)
     (λ look. one_puts_once _))
 
 -- what the table puts
 pub puts_once : (look : Lookup) (frame : Frame) → PutsOnce (decision look frame).writes
 unfolding decision
-puts_once look (Good (Request r)) = on_card_once r (card_in (look _)) look
+puts_once look (Good r) = on_card_once r (card_in (look _)) look
 puts_once look (Bad fault) = none_puts_once

@@ -1,6 +1,7 @@
 -- The decision table of an authorization request.
 use Rattle.std.specs.Prelude.{ℕ, ◌+◌, ◌-◌, nat_le, nat_lt, if◌then◌else◌, [], ◌∷◌, Option, Some, None}
 use Rattle.iso8583.specs.Number.{fixed_digits}
+use Rattle.iso8583.specs.declared.answer.Answer.TheVariants as answer
 use Rattle.iso8583.specs.declared.reply.Reply.{Reply}
 use Rattle.iso8583.specs.declared.request.Request.{Request}
 use Rattle.iso8583.specs.declared.verdict.Verdict.{Verdict}
@@ -19,20 +20,7 @@ card_in (Some (val.Card card)) = Some card
 
 -- the reply to a request: it repeats the request's elements beside its verdict
 abbrev pub reply_to : Request → Verdict → Reply
-reply_to r verdict =
-    record {
-      pan = r.pan;
-      processing = r.processing;
-      amount = r.amount;
-      transmission = r.transmission;
-      stan = r.stan;
-      stamp = r.stamp;
-      acquirer = r.acquirer;
-      retrieval = r.retrieval;
-      verdict = verdict;
-      terminal = r.terminal;
-      currency = r.currency;
-    }
+reply_to r verdict = record { transaction = r.transaction; answer = answer.Request verdict }
 
 -- another action than 000; nothing is put
 abbrev pub declined : Request → ℕ → Plan
@@ -47,7 +35,7 @@ abbrev pub approved : Request → CardRow → Plan
 approved r card =
     Answer
     (body.Reply (reply_to r (Approved (record { 0 = fixed_digits 6 (card.approvals + 1) }))))
-    ((key.Card r.pan, val.Card (charged card r.amount)) ∷ [])
+    ((key.Card r.transaction.pan, val.Card (charged card r.transaction.amount)) ∷ [])
 
 -- What is done with a request, once its card is known; the first rule that applies decides.
 abbrev pub on_card : Request → Option CardRow → Plan
@@ -56,8 +44,8 @@ on_card r None = declined r 118
 -- the approvals are at their greatest: system malfunction; less is available than the amount: not sufficient funds
 on_card r (Some card) =
     if nat_le 999999 card.approvals then declined r 909
-    else (if nat_lt card.available r.amount then declined r 116 else approved r card)
+    else (if nat_lt card.available r.transaction.amount then declined r 116 else approved r card)
 
 -- a request: its card is looked at
 abbrev pub request_plan : Request → Plan
-request_plan r = Look (key.Card r.pan) (λ row. on_card r (card_in row))
+request_plan r = Look (key.Card r.transaction.pan) (λ row. on_card r (card_in row))

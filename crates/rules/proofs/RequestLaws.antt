@@ -1,8 +1,7 @@
 -- A request that is decided from its card's row alone.
-use Rattle.std.proofs.Common.{◌≡◌, ℕ, ◌+◌, ◌-◌, ◌<◌, ◌≤◌, Bool, true, false, nat_le, nat_lt, if◌then◌else◌, [], ◌∷◌, Option, Some, None, refl, sym, ap, subst, ◌∙◌, arith, rules}
+use Rattle.std.proofs.Common.{◌≡◌, ℕ, ◌+◌, ◌-◌, ◌<◌, ◌≤◌, Bool, true, false, nat_le, nat_lt, if◌then◌else◌, List, [], ◌∷◌, Option, Some, None, refl, sym, ap, subst, ◌∙◌, arith, rules}
 use Rattle.std.proofs.lemmas.Bool.Decides.{nat_tests}
 use Rattle.iso8583.specs.Number.{fixed_digits}
-use Rattle.iso8583.specs.declared.message.Message.TheVariants as message
 use Rattle.iso8583.specs.declared.request.Request.{Request}
 use Rattle.iso8583.specs.declared.verdict.Verdict.TheVariants.{Approved, Declined}
 use Rattle.rows.specs.Agreement.{Reads, IsLocal}
@@ -56,13 +55,13 @@ isnt_short n amount h = grind (arith, nat_tests)
 
 module _ (r : Request) (row : Option RowVal) where
   -- what is done with the card's row is what is done on all rows that agree
-  by_row : (reply : ReplyBody) (writes : Writes) → on_card r (card_in row) ≡ Answer reply writes → IsLocal (Good (message.Request r)) ((key.Card r.pan, row) ∷ []) writes reply
+  by_row : (reply : ReplyBody) (writes : Writes) → on_card r (card_in row) ≡ Answer reply writes → IsLocal (Good r) ((key.Card r.transaction.pan, row) ∷ []) writes reply
   unfolding decision
   by_row reply writes is look agrees =
-      ap (λ (v : Option RowVal). after_look (key.Card r.pan) (carried_out (on_card r (card_in v)) look)) agrees.0
-      ∙ ap (λ (plan : Plan). after_look (key.Card r.pan) (carried_out plan look)) is
+      ap (λ (v : Option RowVal). after_look (key.Card r.transaction.pan) (carried_out (on_card r (card_in v)) look)) agrees.0
+      ∙ ap (λ (plan : Plan). after_look (key.Card r.transaction.pan) (carried_out plan look)) is
 
-  needs_row : ReadsNeeds (Good (message.Request r)) ((key.Card r.pan, row) ∷ [])
+  needs_row : ReadsNeeds (Good r) ((key.Card r.transaction.pan, row) ∷ [])
   unfolding decision
   needs_row look agrees = refl
 
@@ -73,43 +72,43 @@ module _ (r : Request) (row : Option RowVal) where
     worn : ¬ (card.approvals < 999999) → on_card r (card_in row) ≡ declined r 909
     worn h = ap (on_card r) is ∙ passes _ _ _ (is_worn card.approvals h)
 
-    short : card.approvals < 999999 → ¬ (r.amount ≤ card.available) → on_card r (card_in row) ≡ declined r 116
-    short below h = ap (on_card r) is ∙ fails _ _ _ (isnt_worn card.approvals below) ∙ passes _ _ _ (is_short card.available r.amount h)
+    short : card.approvals < 999999 → ¬ (r.transaction.amount ≤ card.available) → on_card r (card_in row) ≡ declined r 116
+    short below h = ap (on_card r) is ∙ fails _ _ _ (isnt_worn card.approvals below) ∙ passes _ _ _ (is_short card.available r.transaction.amount h)
 
-    covered : card.approvals < 999999 → r.amount ≤ card.available → on_card r (card_in row) ≡ approved r card
-    covered below h = ap (on_card r) is ∙ fails _ _ _ (isnt_worn card.approvals below) ∙ fails _ _ _ (isnt_short card.available r.amount h)
+    covered : card.approvals < 999999 → r.transaction.amount ≤ card.available → on_card r (card_in row) ≡ approved r card
+    covered below h = ap (on_card r) is ∙ fails _ _ _ (isnt_worn card.approvals below) ∙ fails _ _ _ (isnt_short card.available r.transaction.amount h)
 
 -- the rows that were read are the card's row alone, and so far nothing is put
-module _ (r : Request) (row : Option RowVal) (reads : Reads) (writes : Writes) (log : reads ≡ (key.Card r.pan, row) ∷ []) (none : writes ≡ []) where
-  along : (reply : ReplyBody) (now : Writes) → IsLocal (Good (message.Request r)) ((key.Card r.pan, row) ∷ []) now reply → IsLocal (Good (message.Request r)) reads now reply
-  along reply now = subst (λ rs. IsLocal (Good (message.Request r)) rs now reply) (sym log)
+module _ (r : Request) (row : Option RowVal) (reads : Reads) (writes : Writes) (log : reads ≡ (key.Card r.transaction.pan, row) ∷ []) (none : writes ≡ []) where
+  along : (reply : ReplyBody) (now : Writes) → IsLocal (Good r) ((key.Card r.transaction.pan, row) ∷ []) now reply → IsLocal (Good r) reads now reply
+  along reply now = subst (λ rs. IsLocal (Good r) rs now reply) (sym log)
 
   -- a stop after the card's row was read
-  pub needs_card : ReadsNeeds (Good (message.Request r)) reads
-  needs_card = subst (ReadsNeeds (Good (message.Request r))) (sym log) (needs_row r row)
+  pub needs_card : ReadsNeeds (Good r) reads
+  needs_card = subst (ReadsNeeds (Good r)) (sym log) (needs_row r row)
 
-  refused : (action : ℕ) (reply : ReplyBody) → on_card r (card_in row) ≡ declined r action → reply ≡ body.Reply (reply_to r (Declined action)) → IsLocal (Good (message.Request r)) reads writes reply
+  refused : (action : ℕ) (reply : ReplyBody) → on_card r (card_in row) ≡ declined r action → reply ≡ body.Reply (reply_to r (Declined action)) → IsLocal (Good r) reads writes reply
   refused action reply is e = along reply writes (by_row r row reply writes (is ∙ ap (λ rep. Answer rep []) (sym e) ∙ ap (Answer reply) (sym none)))
 
-  pub unknown_card : (reply : ReplyBody) → card_in row ≡ None → reply ≡ body.Reply (reply_to r (Declined 118)) → IsLocal (Good (message.Request r)) reads writes reply
+  pub unknown_card : (reply : ReplyBody) → card_in row ≡ None → reply ≡ body.Reply (reply_to r (Declined 118)) → IsLocal (Good r) reads writes reply
   unknown_card reply is = refused 118 reply (no_card r row is)
 
   module _ (card : CardRow) (is : card_in row ≡ Some card) where
-    pub worn_card : (reply : ReplyBody) → ¬ (card.approvals < 999999) → reply ≡ body.Reply (reply_to r (Declined 909)) → IsLocal (Good (message.Request r)) reads writes reply
+    pub worn_card : (reply : ReplyBody) → ¬ (card.approvals < 999999) → reply ≡ body.Reply (reply_to r (Declined 909)) → IsLocal (Good r) reads writes reply
     worn_card reply h = refused 909 reply (worn r row card is h)
 
-    pub short_of_funds : (reply : ReplyBody) → card.approvals < 999999 → ¬ (r.amount ≤ card.available) → reply ≡ body.Reply (reply_to r (Declined 116)) → IsLocal (Good (message.Request r)) reads writes reply
+    pub short_of_funds : (reply : ReplyBody) → card.approvals < 999999 → ¬ (r.transaction.amount ≤ card.available) → reply ≡ body.Reply (reply_to r (Declined 116)) → IsLocal (Good r) reads writes reply
     short_of_funds reply below h = refused 116 reply (short r row card is below h)
 
     pub approved_card : (reply : ReplyBody) (count left : ℕ) (now : Writes)
-        → (card.approvals < 999999) × (count ≡ card.approvals + 1) → (r.amount ≤ card.available) × (left ≡ card.available - r.amount)
-        → now ≡ put writes (key.Card r.pan) (val.Card (record card { available = left; approvals = count }))
+        → (card.approvals < 999999) × (count ≡ card.approvals + 1) → (r.transaction.amount ≤ card.available) × (left ≡ card.available - r.transaction.amount)
+        → now ≡ put writes (key.Card r.transaction.pan) (val.Card (record card { available = left; approvals = count }))
         → reply ≡ body.Reply (reply_to r (Approved (record { 0 = fixed_digits 6 count })))
-        → IsLocal (Good (message.Request r)) reads now reply
+        → IsLocal (Good r) reads now reply
     approved_card reply count left now counted taken are e =
-        let puts : now ≡ (key.Card r.pan, val.Card (charged card r.amount)) ∷ [] =
-        are ∙ ap (λ ws. put ws (key.Card r.pan) (val.Card (record card { available = left; approvals = count }))) none
-        ∙ (λ i. (key.Card r.pan, val.Card (record card { available = taken.1 i; approvals = counted.1 i })) ∷ []) in
+        let puts : now ≡ (key.Card r.transaction.pan, val.Card (charged card r.transaction.amount)) ∷ [] =
+        are ∙ ap (λ ws. put ws (key.Card r.transaction.pan) (val.Card (record card { available = left; approvals = count }))) none
+        ∙ (λ i. (key.Card r.transaction.pan, val.Card (record card { available = taken.1 i; approvals = counted.1 i })) ∷ []) in
         let says : reply ≡ body.Reply (reply_to r (Approved (record { 0 = fixed_digits 6 (card.approvals + 1) }))) =
         e ∙ ap (λ n. body.Reply (reply_to r (Approved (record { 0 = fixed_digits 6 n })))) counted.1 in
         along reply now (by_row r row reply now (covered r row card is counted.0 taken.0 ∙ (λ i. Answer (sym says i) (sym puts i))))

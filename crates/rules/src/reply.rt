@@ -3,7 +3,7 @@ ghost use Rattle.iso8583.specs.Number.{fixed_digits};
 ghost use Rattle.rows.specs.Table.{reply_to as reply_of_request};
 
 use crate::action::decline_code;
-use iso8583::{Approval, Reply, Request, Verdict};
+use iso8583::{Answer, Approval, Reply, Request, Verdict};
 use rows::{Count, ReplyBody};
 
 // The reply to a request: it repeats the request's elements beside its verdict.
@@ -11,17 +11,8 @@ fn reply_to(request: &Request, verdict: Verdict) -> ReplyBody
     ensures { result ≡ ReplyBody.Reply (reply_of_request request.now verdict) }
 {
     ReplyBody::Reply(Reply {
-        pan: request.pan,
-        processing: request.processing,
-        amount: request.amount,
-        transmission: request.transmission,
-        stan: request.stan,
-        stamp: request.stamp,
-        acquirer: request.acquirer,
-        retrieval: request.retrieval,
-        verdict,
-        terminal: request.terminal,
-        currency: request.currency,
+        transaction: request.transaction,
+        answer: Answer::Request(verdict),
     })
 }
 

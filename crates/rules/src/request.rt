@@ -1,5 +1,4 @@
 ghost use Rattle.std.specs.Prelude.{◌≡◌, ◌⊎◌, IfOk, IfErr, IfSome};
-ghost use Rattle.iso8583.specs.declared.message.Message.TheVariants.{Request as RequestOf};
 ghost use Rattle.rows.specs.Agreement.{IsLocal};
 ghost use Rattle.rows.specs.declared.frame.Frame.TheVariants.{Good};
 ghost use Rattle.rules.specs.Needs.{ReadsNeeds};
@@ -18,20 +17,20 @@ pub(crate) fn decide_request<S: RowSource>(
     rows: &mut Recorder<S>,
 ) -> Result<ReplyBody, Stop>
     requires { IsNew rows.old }
-    ensures local { IfOk result (λ reply. IsLocal (Good (RequestOf request.now)) rows.new.reads rows.new.writes reply) }
+    ensures local { IfOk result (λ reply. IsLocal (Good request.now) rows.new.reads rows.new.writes reply) }
     ensures stop { IfErr result (λ stop. (stop ≡ Stop.OutOfMemory) ⊎ IsStopOf S.answers stop) }
-    ensures needs { ReadsNeeds (Good (RequestOf request.now)) rows.new.reads }
+    ensures needs { ReadsNeeds (Good request.now) rows.new.reads }
     ensures stops { IfSome (S.book rows.old.source) (λ _. IfErr result (λ stop. stop ≡ Stop.OutOfMemory)) }
     ensures book { S.book rows.new.source ≡ S.book rows.old.source }
 {
-    let key = RowKey::Card(request.pan);
+    let key = RowKey::Card(request.transaction.pan);
     let Some(card) = card_in(rows.read(&key)?) else {
         return Ok(declined(request, NO_CARD_RECORD));
     };
     let Some(approvals) = card.approvals.checked_next() else {
         return Ok(declined(request, SYSTEM_MALFUNCTION));
     };
-    let Some(available) = card.available.checked_sub(request.amount) else {
+    let Some(available) = card.available.checked_sub(request.transaction.amount) else {
         return Ok(declined(request, NOT_SUFFICIENT_FUNDS));
     };
     let charged = CardRow {

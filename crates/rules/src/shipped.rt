@@ -4,7 +4,6 @@ ghost use Rattle.rules.specs.Needs.{ReadsNeeds};
 ghost use Rattle.view.specs.Recording.{IsNew, IsStopOf};
 
 use crate::request::decide_request;
-use iso8583::Message;
 use rows::{Frame, ReplyBody};
 use view::{Decide, Recorder, RowSource, Stop};
 
@@ -24,9 +23,7 @@ pub fn decide<S: RowSource>(frame: &Frame, rows: &mut Recorder<S>) -> Result<Rep
     ensures book { S.book rows.new.source ≡ S.book rows.old.source }
 {
     match frame {
-        Frame::Good(message) => match message {
-            Message::Request(request) => decide_request(request, rows),
-        },
+        Frame::Good(request) => decide_request(request, rows),
         Frame::Bad(fault) => Ok(ReplyBody::Fault(*fault)),
     }
 }

@@ -2,8 +2,8 @@ ghost use Rattle.std.specs.Prelude.{None};
 
 use crate::Shipped;
 use iso8583::{
-    Acquirer, Action, Amount, Approval, CodecFault, Currency, DeclineCode, FunctionCode,
-    LocalStamp, Message, Pan, Processing, Request, Retrieval, Stan, Terminal, Transmission,
+    Acquirer, Action, Amount, Answer, Approval, CodecFault, Currency, DeclineCode, FunctionCode,
+    LocalStamp, Pan, Processing, Request, Retrieval, Stan, Terminal, Transaction, Transmission,
     Verdict,
 };
 use rows::{
@@ -52,23 +52,28 @@ fn card_row(available: u64, approvals: u32) -> Option<RowVal> {
 fn request(amount: u64) -> Option<Request> {
     Some(Request {
         repeat: false,
-        pan: Pan::new(CARD)?,
-        processing: Processing::new(b"000000")?,
-        amount: Amount::new(amount)?,
-        transmission: Transmission::new(b"0110120000")?,
-        stan: Stan::new(b"000001")?,
-        stamp: LocalStamp::new(b"260110120000")?,
         function: FunctionCode::new(b"100")?,
-        acquirer: Acquirer::new(b"12345")?,
-        retrieval: Some(Retrieval::new(b"R00000000001")?),
-        terminal: Terminal::new(b"TERM0001")?,
-        currency: Currency::new(b"978")?,
+        transaction: Transaction {
+            pan: Pan::new(CARD)?,
+            processing: Processing::new(b"000000")?,
+            amount: Amount::new(amount)?,
+            transmission: Transmission::new(b"0110120000")?,
+            stan: Stan::new(b"000001")?,
+            stamp: LocalStamp::new(b"260110120000")?,
+            acquirer: Acquirer::new(b"12345")?,
+            retrieval: Some(Retrieval::new(b"R00000000001")?),
+            terminal: Terminal::new(b"TERM0001")?,
+            currency: Currency::new(b"978")?,
+        },
     })
 }
 
 fn verdict_of(reply: &ReplyBody) -> Option<Verdict> {
     match reply {
-        ReplyBody::Reply(reply) => Some(reply.verdict),
+        ReplyBody::Reply(reply) => match reply.answer {
+            Answer::Request(verdict) => Some(verdict),
+            _ => None,
+        },
         ReplyBody::Fault(_) => None,
     }
 }
@@ -103,7 +108,7 @@ fn decides_by_the_table(rt: HostRuntime) -> Result<(), Fail> {
     ];
     let card = RowKey::Card(Pan::new(CARD).ok_or("card")?);
     for (row, amount, verdict, put) in table {
-        let frame = Frame::Good(Message::Request(request(amount).ok_or("request")?));
+        let frame = Frame::Good(request(amount).ok_or("request")?);
         let execution = execute(rt.alloc(), &frame, EachRow { row }, &Shipped)?;
         assert_eq!(rt; verdict_of(&execution.reply()), verdict, "{amount}");
         assert_eq!(rt; execution.reads().len(), 1);

@@ -3,8 +3,8 @@ ghost use Rattle.std.specs.Prelude.{None, length};
 use crate::Core;
 use fold::PlainRows;
 use iso8583::{
-    Acquirer, Amount, Approval, Currency, FunctionCode, LocalStamp, Message, Pan, Processing,
-    Request, Stan, Terminal, Transmission, Verdict,
+    Acquirer, Amount, Answer, Approval, Currency, FunctionCode, LocalStamp, Pan, Processing,
+    Request, Stan, Terminal, Transaction, Transmission, Verdict,
 };
 use rows::{Balance, Book, CardRow, CardStatus, Count, Expiry, Frame, ReplyBody, RowKey, RowVal};
 use rules::Shipped;
@@ -63,20 +63,22 @@ fn book(alloc: Global, available: u64, approvals: u32) -> Result<Book, Fail> {
 
 // A request of 100 on the card.
 fn request(trace: &[u8]) -> Option<Frame> {
-    Some(Frame::Good(Message::Request(Request {
+    Some(Frame::Good(Request {
         repeat: false,
-        pan: Pan::new(b"4111110000000005")?,
-        processing: Processing::new(b"000000")?,
-        amount: Amount::new(100)?,
-        transmission: Transmission::new(b"0110120000")?,
-        stan: Stan::new(trace)?,
-        stamp: LocalStamp::new(b"260110120000")?,
         function: FunctionCode::new(b"100")?,
-        acquirer: Acquirer::new(b"12345")?,
-        retrieval: None,
-        terminal: Terminal::new(b"TERM0001")?,
-        currency: Currency::new(b"978")?,
-    })))
+        transaction: Transaction {
+            pan: Pan::new(b"4111110000000005")?,
+            processing: Processing::new(b"000000")?,
+            amount: Amount::new(100)?,
+            transmission: Transmission::new(b"0110120000")?,
+            stan: Stan::new(trace)?,
+            stamp: LocalStamp::new(b"260110120000")?,
+            acquirer: Acquirer::new(b"12345")?,
+            retrieval: None,
+            terminal: Terminal::new(b"TERM0001")?,
+            currency: Currency::new(b"978")?,
+        },
+    }))
 }
 
 fn two_requests() -> Option<[Frame; 2]> {
@@ -111,7 +113,8 @@ fn stands(core: &Core, book: &Book, frames: &[Frame; 2]) -> Option<[(Status, u32
 fn is_approved(reply: &ReplyBody, code: &[u8]) -> bool {
     match reply {
         ReplyBody::Reply(reply) => {
-            Approval::new(code).map(Verdict::Approved) == Some(reply.verdict)
+            Approval::new(code).map(|code| Answer::Request(Verdict::Approved(code)))
+                == Some(reply.answer)
         }
         ReplyBody::Fault(_) => false,
     }

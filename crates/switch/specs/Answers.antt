@@ -1,9 +1,11 @@
 -- What one body is answered, from bytes to bytes.
-use Rattle.std.specs.Prelude.{◌≡◌, ℕ, List, Ok, Err}
-use Rattle.codec.specs.Messages.{mti_of, fields_of}
-use Rattle.codec.specs.Reading.{reading}
-use Rattle.codec.specs.Replies.{reply_spelling}
-use Rattle.codec.specs.Types.{taken_in}
+use Rattle.std.specs.Prelude.{◌≡◌, ℕ, false, List, Result, Err}
+use Rattle.codec_laws.specs.Messages.{Spells}
+use Rattle.codec_laws.specs.Reading.{reading}
+use Rattle.codec_laws.specs.Replies.{reply_spelling}
+use Rattle.codec_laws.specs.Types.{taken_in}
+use Rattle.iso8583.specs.declared.message.Message.{Message}
+use Rattle.iso8583.specs.declared.message.Message.TheVariants as message
 use Rattle.rows.specs.Fold.{Rows, reply_of}
 use Rattle.rows.specs.FrameFault.{fault_body}
 use Rattle.rows.specs.declared.frame.Frame.{Frame}
@@ -11,10 +13,20 @@ use Rattle.rows.specs.declared.frame.Frame.TheVariants.{Good, Bad}
 use Rattle.rows.specs.declared.reply_body.ReplyBody.{ReplyBody}
 use Rattle.rows.specs.declared.reply_body.ReplyBody.TheVariants.{Reply, Fault}
 
--- the body is this message, or has this fault before all others
+-- the body spells this request, in its first form, or it spells no message and has this fault before all others
 abbrev pub IsFrameOf : List ℕ → Frame → Type 0
-IsFrameOf body (Good message) = reading taken_in body ≡ Ok (mti_of message, fields_of message)
+IsFrameOf body (Good request) = Spells body (message.Request request) × (request.repeat ≡ false)
 IsFrameOf body (Bad fault) = reading taken_in body ≡ Err fault
+
+-- an authorization request in its first form
+abbrev pub IsFirstRequest : Message → Type 0
+IsFirstRequest (message.Request request) = request.repeat ≡ false
+IsFirstRequest (message.Advice advice) = ⊥
+IsFirstRequest (message.Reversal reversal) = ⊥
+
+-- the body spells a message of another kind
+abbrev pub IsUndecided : List ℕ → Type 0
+IsUndecided body = (m : Message) × Spells body m × ¬ IsFirstRequest m
 
 -- a reply's spelling, or how a fault is answered
 abbrev pub answer_text : ReplyBody → List ℕ

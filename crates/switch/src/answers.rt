@@ -1,40 +1,50 @@
-ghost use Rattle.std.specs.Prelude.{◌≡◌, IfOk};
-ghost use Rattle.rows.specs.Fold.{reply_of};
-ghost use Rattle.switch.specs.Answers.{IsFrameOf, IsAnswerTo, answer_text};
+ghost use Rattle.std.specs.Prelude.{◌≡◌, IfOk, IfSome, IfNone};
+ghost use Rattle.switch.specs.Answers.{IsFrameOf, IsUndecided, IsAnswerTo, answer_text};
 
 use codec::{decode, encode_reply};
 use engine::{OpenGate, Workers, run};
+use iso8583::Message;
 use rows::{Book, Frame, FrameFault, ReplyBody};
 use rules::Shipped;
 use std::alloc::{AllocError, Global};
 
-/// The answer to one body on the book: the reply's bytes, or `F` with the fault of a body that is no message.
+/// The answer to one body on the book: the reply's bytes, or `F` with the fault of a body that is no message. It is `None`
+/// for a message that isn't decided yet, which is any but the first form of an authorization request.
 pub fn answer_on(
     alloc: Global,
     book: &Book,
     body: &[u8],
     workers: Workers,
-) -> Result<Vec<u8>, AllocError>
-    ensures { IfOk result (λ text. IsAnswerTo book.now body.now text.items) }
+) -> Result<Option<Vec<u8>>, AllocError>
+    ensures answer { IfOk result (λ answer. IfSome answer (λ text. IsAnswerTo book.now body.now text.items)) }
+    ensures undecided { IfOk result (λ answer. IfNone answer (IsUndecided body.now)) }
 {
-    let frames = [frame_of(body)];
+    let Some(frame) = frame_of(body) else {
+        return Ok(None);
+    };
+    let frames = [frame];
     let outcome = run(alloc, book, &frames, workers, &Shipped, &OpenGate)?;
     match outcome.replies.first() {
-        Some(reply) => text_of(alloc, reply),
+        Some(reply) => Ok(Some(text_of(alloc, reply)?)),
         None => unreachable!(),
     }
 }
 
-// The message that the body spells, or the fault of a body that spells none.
-fn frame_of(body: &[u8]) -> Frame
-    ensures { IsFrameOf body.now result }
+// The request that the body spells, or the fault of a body that spells no message.
+fn frame_of(body: &[u8]) -> Option<Frame>
+    ensures frame { IfSome result (IsFrameOf body.now) }
+    ensures undecided { IfNone result (IsUndecided body.now) }
 {
-    match decode(body) {
-        Ok(message) => Frame::Good(message),
+    let message = match decode(body) {
+        Ok(message) => message,
         Err(fault) => match FrameFault::new(fault) {
-            Some(fault) => Frame::Bad(fault),
+            Some(fault) => return Some(Frame::Bad(fault)),
             None => unreachable!(),
         },
+    };
+    match &message {
+        Message::Request(request) if !request.repeat => Some(Frame::Good(*request)),
+        _ => None,
     }
 }
 

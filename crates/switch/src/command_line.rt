@@ -1,7 +1,7 @@
 ghost use Rattle.std.specs.Prelude.{◌≡◌, ◌≤◌, Ok, IfOk, length};
 ghost use Rattle.hex.specs.Hex.{decode_of};
 
-use crate::fault::Fault;
+use crate::fault::{Fault, usage};
 use clap::error::ErrorKind;
 use clap::{Arg, Error};
 use hex::FromHexError;
@@ -67,12 +67,5 @@ fn frame_bytes(alloc: Global, frame: &str) -> Result<Vec<u8>, Fault>
             alloc,
             "FRAME: expected 1 to 512 pairs of hexadecimal digits; see --help",
         )),
-    }
-}
-
-fn usage(alloc: Global, text: &str) -> Fault {
-    match String::from_str(alloc, text) {
-        Ok(text) => Fault::Usage(text),
-        Err(_) => Fault::OutOfMemory,
     }
 }

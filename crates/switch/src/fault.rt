@@ -1,7 +1,7 @@
 ghost use Rattle.std.specs.Prelude.{◌≡◌};
 ghost use Rattle.switch.specs.declared.fault.Fault.TheVariants.{OutOfMemory};
 
-use std::alloc::{AllocError, AllocFailed};
+use std::alloc::{AllocError, AllocFailed, Global};
 use thiserror::Error;
 
 /// Why the program doesn't do what its words say. The text is what it prints on standard error.
@@ -42,5 +42,13 @@ impl<T: Drop> From<AllocFailed<T>> for Fault {
 
     fn from(_error: AllocFailed<T>) -> Fault {
         Fault::OutOfMemory
+    }
+}
+
+/// A usage fault with this text.
+pub(crate) fn usage(alloc: Global, text: &str) -> Fault {
+    match String::from_str(alloc, text) {
+        Ok(text) => Fault::Usage(text),
+        Err(_) => Fault::OutOfMemory,
     }
 }

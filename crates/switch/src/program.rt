@@ -2,7 +2,7 @@ ghost use Rattle.std.specs.Prelude.{◌≡◌, ◌≤◌};
 
 use crate::answers::answer_on;
 use crate::command_line::{Command, read_words};
-use crate::fault::Fault;
+use crate::fault::{Fault, usage};
 use crate::sample::sample_book;
 use engine::Workers;
 use std::alloc::Global;
@@ -32,7 +32,13 @@ fn answer(alloc: Global, words: &[String]) -> Result<String, Fault> {
         Command::Help(text) => Ok(text),
         Command::One(body) => {
             let book = sample_book(alloc)?;
-            Ok(hex::encode(alloc, answer_on(alloc, &book, &body, two_workers())?)?)
+            match answer_on(alloc, &book, &body, two_workers())? {
+                Some(text) => Ok(hex::encode(alloc, text)?),
+                None => Err(usage(
+                    alloc,
+                    "FRAME: only authorization requests in their first form, 1100, are decided yet",
+                )),
+            }
         }
     }
 }

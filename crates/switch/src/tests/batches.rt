@@ -4,8 +4,8 @@ use crate::sample_book;
 use engine::{Gate, OpenGate, Workers, run};
 use fold::{Prefix, decide_all};
 use iso8583::{
-    Acquirer, Amount, Currency, FunctionCode, LocalStamp, Message, Pan, Processing, Request, Stan,
-    Terminal, Transmission, Verdict,
+    Acquirer, Amount, Answer, Currency, FunctionCode, LocalStamp, Pan, Processing, Request, Stan,
+    Terminal, Transaction, Transmission, Verdict,
 };
 use rows::{Book, Frame, ReplyBody, RowKey, RowVal};
 use rules::Shipped;
@@ -19,34 +19,37 @@ const FIRST: &[u8; 16] = b"4111110000000005";
 const SECOND: &[u8; 16] = b"4111110000000013";
 
 fn request(card: &[u8], amount: u64, trace: &[u8]) -> Option<Frame> {
-    Some(Frame::Good(Message::Request(Request {
+    Some(Frame::Good(Request {
         repeat: false,
-        pan: Pan::new(card)?,
-        processing: Processing::new(b"000000")?,
-        amount: Amount::new(amount)?,
-        transmission: Transmission::new(b"0110120000")?,
-        stan: Stan::new(trace)?,
-        stamp: LocalStamp::new(b"260110120000")?,
         function: FunctionCode::new(b"100")?,
-        acquirer: Acquirer::new(b"123456")?,
-        retrieval: None,
-        terminal: Terminal::new(b"TERM0001")?,
-        currency: Currency::new(b"978")?,
-    })))
+        transaction: Transaction {
+            pan: Pan::new(card)?,
+            processing: Processing::new(b"000000")?,
+            amount: Amount::new(amount)?,
+            transmission: Transmission::new(b"0110120000")?,
+            stan: Stan::new(trace)?,
+            stamp: LocalStamp::new(b"260110120000")?,
+            acquirer: Acquirer::new(b"123456")?,
+            retrieval: None,
+            terminal: Terminal::new(b"TERM0001")?,
+            currency: Currency::new(b"978")?,
+        },
+    }))
 }
 
 // Action and approval code, as `000/000001` or `116`.
 fn answer(alloc: Global, reply: &ReplyBody) -> Result<String, Fail> {
     match reply {
-        ReplyBody::Reply(reply) => match reply.verdict {
-            Verdict::Approved(approval) => {
+        ReplyBody::Reply(reply) => match reply.answer {
+            Answer::Request(Verdict::Approved(approval)) => {
                 let code = str::from_utf8(approval.as_slice()).ok().ok_or("text")?;
                 Ok(format!(in alloc; "000/{code}")?)
             }
-            Verdict::Declined(code) => {
+            Answer::Request(Verdict::Declined(code)) => {
                 let action = code.action().code();
                 Ok(format!(in alloc; "{action}")?)
             }
+            _ => Ok(String::from_str(alloc, "no request")?),
         },
         ReplyBody::Fault(_) => Ok(String::from_str(alloc, "fault")?),
     }

@@ -1,6 +1,6 @@
 use Rattle.std.proofs.Common.{◌∙◌, arith, sym}
-use Rattle.codec.specs.Types.{parts_of}
-use Rattle.codec.specs.Reading.{is_missing}
+use Rattle.codec_laws.specs.Types.{parts_of}
+use Rattle.codec_laws.specs.Reading.{is_missing}
 use Rattle.codec.proofs.Least.{least_found, least_next, least_none}
 use Rattle.codec.proofs.bitmap.least_missing.Goals as goal
 

@@ -1,6 +1,6 @@
 use Rattle.std.proofs.Common.{◌≡◌, ◌-◌}
-use Rattle.codec.specs.Types.{parts_of}
-use Rattle.codec.specs.Reading.{least, is_unexpected}
+use Rattle.codec_laws.specs.Types.{parts_of}
+use Rattle.codec_laws.specs.Reading.{least, is_unexpected}
 use Rattle.codec.proofs.bitmap.least_unexpected.Given as goal
 
 abbrev pub invariant-loop-n : goal.invariant-loop-n

@@ -1,0 +1,8 @@
+use Rattle.codec.proofs.Joining.{bitmap_parts}
+use Rattle.codec.proofs.encoding.bitmap_of.Goals as goal
+
+pub returns : goal.returns
+returns c =
+    bitmap_parts c.args.transaction.now c.args.extras.now c.bit.result c.bit-2.result c.bit-3.result c.bit-4.result c.bit-5.result c.bit-6.result
+    _ _ _ _ _ _ c.is_some.ensures c.is_some-2.ensures c.is_some-3.ensures c.is_some-4.ensures c.is_some-5.ensures c.is_some-6.ensures
+    c.bit.ensures.value c.bit-2.ensures.value c.bit-3.ensures.value c.bit-4.ensures.value c.bit-5.ensures.value c.bit-6.ensures.value

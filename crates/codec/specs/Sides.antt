@@ -1,0 +1,10 @@
+-- The types that are read as messages, or as replies.
+use Rattle.std.specs.Prelude.{List}
+use Rattle.codec.specs.declared.side.Side.{Side}
+use Rattle.codec.specs.declared.side.Side.TheVariants.{TakenIn, GivenOut}
+use Rattle.codec_laws.specs.declared.mti.Mti.{Mti}
+use Rattle.codec_laws.specs.Types.{taken_in, given_out}
+
+abbrev pub types_of : Side → List Mti
+types_of TakenIn = taken_in
+types_of GivenOut = given_out

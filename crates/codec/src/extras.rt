@@ -1,0 +1,140 @@
+//! What messages and replies have beside their transaction.
+
+ghost use Rattle.std.specs.Prelude.{◌≡◌, List, ℕ, if◌then◌else◌};
+ghost use Rattle.codec.specs.Writing.{whole_content};
+ghost use Rattle.codec_laws.specs.Messages.{mti_of, transaction_of, content_of};
+ghost use Rattle.codec_laws.specs.Replies.{answer_mti, reply_mti, reply_content};
+
+use codec_laws::Mti;
+use iso8583::{
+    Amount, Answer, Approval, Digits, Message, OriginalRef, Reply, ReversalScope, Transaction,
+    Verdict,
+};
+
+/// Elements 24, 30, 38, 39 and 56, where they are there.
+#[derive(Clone, Copy)]
+pub(crate) struct Extras {
+    pub(crate) function: Option<Digits<3>>,
+    pub(crate) original_amount: Option<Amount>,
+    pub(crate) approval: Option<Approval>,
+    pub(crate) action: Option<Digits<3>>,
+    pub(crate) original: Option<OriginalRef>,
+}
+
+/// The message's type.
+pub(crate) fn mti_of(message: &Message) -> Mti
+    ensures { result ≡ mti_of message.now }
+{
+    match message {
+        Message::Request(request) => {
+            if request.repeat {
+                Mti::RequestRepeat
+            } else {
+                Mti::Request
+            }
+        }
+        Message::Advice(advice) => {
+            if advice.repeat {
+                Mti::AdviceRepeat
+            } else {
+                Mti::Advice
+            }
+        }
+        Message::Reversal(reversal) => {
+            if reversal.repeat {
+                Mti::ReversalRepeat
+            } else {
+                Mti::Reversal
+            }
+        }
+    }
+}
+
+/// The reply's type.
+pub(crate) fn reply_mti(reply: &Reply) -> Mti
+    ensures { result ≡ reply_mti reply.now }
+{
+    match &reply.answer {
+        Answer::Request(_) => Mti::RequestReply,
+        Answer::Advice(_) => Mti::AdviceReply,
+        Answer::Reversal(_) => Mti::ReversalReply,
+    }
+}
+
+/// What a message has beside its transaction.
+#[tactic(auto, using(crate::proofs::Scopes::full_text, crate::proofs::Scopes::partial_text))]
+pub(crate) fn extras_of(message: &Message) -> Extras
+    ensures { whole_content (transaction_of message.now) result ≡ content_of message.now }
+{
+    let none = Extras {
+        function: None,
+        original_amount: None,
+        approval: None,
+        action: None,
+        original: None,
+    };
+    match message {
+        Message::Request(request) => Extras {
+            function: Some(request.function.0),
+            ..none
+        },
+        Message::Advice(advice) => Extras {
+            function: Some(advice.function.0),
+            action: Some(advice.action.digits()),
+            ..none
+        },
+        Message::Reversal(reversal) => match &reversal.scope {
+            ReversalScope::Full => Extras {
+                function: Some(Digits::of_number(400)),
+                original: Some(reversal.original),
+                ..none
+            },
+            ReversalScope::Partial(amount) => Extras {
+                function: Some(Digits::of_number(401)),
+                original_amount: Some(*amount),
+                original: Some(reversal.original),
+                ..none
+            },
+        },
+    }
+}
+
+/// What a reply has beside its transaction.
+#[tactic(auto, using(crate::proofs::Scopes::zero_text))]
+pub(crate) fn reply_extras(reply: &Reply) -> Extras
+    ensures { whole_content reply.now.transaction result ≡ reply_content reply.now }
+{
+    let none = Extras {
+        function: None,
+        original_amount: None,
+        approval: None,
+        action: None,
+        original: None,
+    };
+    match &reply.answer {
+        Answer::Request(Verdict::Approved(code)) => Extras {
+            approval: Some(*code),
+            action: Some(Digits::of_number(0)),
+            ..none
+        },
+        Answer::Request(Verdict::Declined(code)) => Extras {
+            action: Some(code.action().digits()),
+            ..none
+        },
+        Answer::Advice(action) | Answer::Reversal(action) => Extras {
+            action: Some(action.digits()),
+            ..none
+        },
+    }
+}
+
+/// The elements that its reply repeats.
+pub(crate) fn transaction_of(message: &Message) -> &Transaction
+    ensures { result.now ≡ transaction_of message.now }
+{
+    match message {
+        Message::Request(request) => &request.transaction,
+        Message::Advice(advice) => &advice.transaction,
+        Message::Reversal(reversal) => &reversal.transaction,
+    }
+}

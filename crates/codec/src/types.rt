@@ -1,0 +1,105 @@
+//! Message types (ISO 8583:1993) and the elements of each.
+
+ghost use Rattle.std.specs.Prelude.{◌≡◌, IfOk, IsTrue};
+ghost use Rattle.codec.specs.Sides.{types_of};
+ghost use Rattle.codec_laws.specs.Types.{taken_in, given_out, is_among, parts_of};
+ghost use Rattle.codec_laws.specs.Reading.{Gives, mti_at, is_listed, is_required};
+
+use crate::side::Side;
+use codec_laws::Mti;
+use iso8583::CodecFault;
+
+/// The type that the text names among those that are taken in.
+#[tactic(auto, unfolding(codec_laws::specs::Reading::mti_at))]
+fn taken_in(text: &[u8]) -> Result<Mti, CodecFault>
+    ensures gives { Gives (λ t. t) result (mti_at taken_in text.now) }
+    ensures among { IfOk result (λ t. IsTrue (is_among taken_in t)) }
+{
+    if text == b"1100".as_slice() {
+        Ok(Mti::Request)
+    } else if text == b"1101".as_slice() {
+        Ok(Mti::RequestRepeat)
+    } else if text == b"1120".as_slice() {
+        Ok(Mti::Advice)
+    } else if text == b"1121".as_slice() {
+        Ok(Mti::AdviceRepeat)
+    } else if text == b"1420".as_slice() {
+        Ok(Mti::Reversal)
+    } else if text == b"1421".as_slice() {
+        Ok(Mti::ReversalRepeat)
+    } else {
+        Err(CodecFault::BadMti)
+    }
+}
+
+/// The type that the text names among those that are given out.
+#[tactic(auto, unfolding(codec_laws::specs::Reading::mti_at))]
+fn given_out(text: &[u8]) -> Result<Mti, CodecFault>
+    ensures gives { Gives (λ t. t) result (mti_at given_out text.now) }
+    ensures among { IfOk result (λ t. IsTrue (is_among given_out t)) }
+{
+    if text == b"1110".as_slice() {
+        Ok(Mti::RequestReply)
+    } else if text == b"1130".as_slice() {
+        Ok(Mti::AdviceReply)
+    } else if text == b"1430".as_slice() {
+        Ok(Mti::ReversalReply)
+    } else {
+        Err(CodecFault::BadMti)
+    }
+}
+
+/// The type that the text names, if messages of it are read.
+pub(crate) fn mti_at(side: Side, text: &[u8]) -> Result<Mti, CodecFault>
+    ensures gives { Gives (λ t. t) result (mti_at (types_of side) text.now) }
+    ensures among { IfOk result (λ t. IsTrue (is_among (types_of side) t)) }
+{
+    match side {
+        Side::TakenIn => taken_in(text),
+        Side::GivenOut => given_out(text),
+    }
+}
+
+/// Whether messages of the type may have element `n`.
+pub(crate) fn lists(mti: Mti, n: u8) -> bool
+    ensures { result ≡ is_listed (parts_of mti) n }
+{
+    match mti {
+        Mti::Request | Mti::RequestRepeat => {
+            matches!(n, 2 | 3 | 4 | 7 | 11 | 12 | 24 | 32 | 37 | 41 | 49)
+        }
+        Mti::RequestReply => matches!(n, 2 | 3 | 4 | 7 | 11 | 12 | 32 | 37 | 38 | 39 | 41 | 49),
+        Mti::Advice | Mti::AdviceRepeat => {
+            matches!(n, 2 | 3 | 4 | 7 | 11 | 12 | 24 | 32 | 37 | 39 | 41 | 49)
+        }
+        Mti::Reversal | Mti::ReversalRepeat => {
+            matches!(
+                n,
+                2 | 3 | 4 | 7 | 11 | 12 | 24 | 30 | 32 | 37 | 41 | 49 | 56
+            )
+        }
+        Mti::AdviceReply | Mti::ReversalReply => {
+            matches!(n, 2 | 3 | 4 | 7 | 11 | 12 | 32 | 37 | 39 | 41 | 49)
+        }
+    }
+}
+
+/// Whether each message of the type has element `n`.
+pub(crate) fn demands(mti: Mti, n: u8) -> bool
+    ensures { result ≡ is_required (parts_of mti) n }
+{
+    match mti {
+        Mti::Request | Mti::RequestRepeat => {
+            matches!(n, 2 | 3 | 4 | 7 | 11 | 12 | 24 | 32 | 41 | 49)
+        }
+        Mti::Advice | Mti::AdviceRepeat => {
+            matches!(n, 2 | 3 | 4 | 7 | 11 | 12 | 24 | 32 | 39 | 41 | 49)
+        }
+        Mti::Reversal | Mti::ReversalRepeat => {
+            matches!(n, 2 | 3 | 4 | 7 | 11 | 12 | 24 | 32 | 41 | 49 | 56)
+        }
+        Mti::RequestReply | Mti::AdviceReply | Mti::ReversalReply => {
+            matches!(n, 2 | 3 | 4 | 7 | 11 | 12 | 32 | 39 | 41 | 49)
+        }
+    }
+}

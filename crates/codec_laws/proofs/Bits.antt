@@ -1,0 +1,250 @@
+-- A bitmap without a fault is that of the elements which it says are there.
+use Rattle.std.proofs.Common.{◌≡◌, ℕ, zero, suc, ◌+◌, ◌-◌, ◌*◌, ◌^◌, ◌<◌, ◌≤◌, Bool, true, false, cond, eqb, leb, ltb, List, [], ◌∷◌, Option, Some, None, Result, Ok, Err, refl, sym, ap, ◌∙◌, arith, inl, inr}
+use Rattle.std.specs.Prelude.{not, ◌||◌, ◌&&◌}
+use Rattle.std.specs.List.{list_any}
+use Rattle.std.specs.Int.{bit_at}
+use Rattle.std.proofs.lemmas.Bool.{eqb-true, cases_lt}
+use Rattle.std.proofs.lemmas.Nat.Bits.{bit_at-lt, same_from_bits_below, bit_at_cat_low, bit_at_cat_high, bit_at_above, bit_at-zero}
+use Rattle.std.proofs.Math.Nat.{pow-suc, pow-le-pow_right}
+use Rattle.iso8583.specs.declared.codec_fault.CodecFault.{CodecFault}
+use Rattle.codec_laws.specs.declared.element.Element.{Element}
+use Rattle.codec_laws.specs.Elements.{element_number}
+use Rattle.codec_laws.specs.Types.{Part}
+use Rattle.codec_laws.specs.Spelling.{Field, bitmap_of, is_set}
+use Rattle.codec_laws.specs.Reading.{least, is_listed, is_required, is_unexpected, is_missing, first_wrong, presence_at}
+use Rattle.codec_laws.proofs.Present.{present, elements_of}
+
+-- the bits of elements
+abbrev pub bits_of : List Element → ℕ
+bits_of [] = 0
+bits_of (e ∷ es) = 2 ^ (64 - element_number e) + bits_of es
+
+pub bitmap_of-elements : (fields : List Field) → bitmap_of fields ≡ bits_of (elements_of fields)
+bitmap_of-elements [] = refl
+bitmap_of-elements (f ∷ fs) = ap (λ n. 2 ^ (64 - element_number f.0) + n) (bitmap_of-elements fs)
+
+-- numbers that rise from above one to 64
+abbrev pub Rises : ℕ → List Element → Type 0
+Rises low [] = Unit {0}
+Rises low (e ∷ es) = (low < element_number e) × (element_number e ≤ 64) × Rises (element_number e) es
+
+abbrev pub is_rising : ℕ → List Part → Bool
+is_rising low [] = true
+is_rising low (p ∷ ps) = ltb low (element_number p.1) && leb (element_number p.1) 64 && is_rising (element_number p.1) ps
+
+rises_from : (low high : ℕ) (es : List Element) → low ≤ high → Rises high es → Rises low es
+rises_from low high [] h r = tt
+rises_from low high (e ∷ es) h r = (omega (arith, r.0), r.1, r.2)
+
+and_parts : (a b c : Bool) → (a && b && c) ≡ true → (a ≡ true) × (b ≡ true) × (c ≡ true)
+and_parts true true true h = (refl, refl, refl)
+and_parts true true false h = absurd cc
+and_parts true false c h = absurd cc
+and_parts false b c h = absurd cc
+
+ltb-lt : (m n : ℕ) → ltb m n ≡ true → m < n
+ltb-lt m n h = grind arith
+
+leb-le : (m n : ℕ) → leb m n ≡ true → m ≤ n
+leb-le m n h = grind arith
+
+rises_here : (there : Bool) (low : ℕ) (e : Element) (es : List Element) → low < element_number e → element_number e ≤ 64 → Rises (element_number e) es → Rises low (cond there (e ∷ es) es)
+rises_here true low e es h k r = (h, k, r)
+rises_here false low e es h k r = rises_from low (element_number e) es (omega arith) r
+
+pub present_rises : (bitmap low : ℕ) (ps : List Part) → is_rising low ps ≡ true → Rises low (present bitmap ps)
+present_rises bitmap low [] h = tt
+present_rises bitmap low (p ∷ ps) h =
+    let parts = and_parts (ltb low (element_number p.1)) (leb (element_number p.1) 64) (is_rising (element_number p.1) ps) h in
+    rises_here (p.0 || is_set bitmap (element_number p.1)) low p.1 (present bitmap ps) (ltb-lt _ _ parts.0) (leb-le _ _ parts.1) (present_rises bitmap (element_number p.1) ps parts.2)
+
+powers : (i j : ℕ) → i ≤ j → 2 ^ i ≤ 2 ^ j
+powers i j h = let positive : 0 < 2 = omega arith in pow-le-pow_right positive h
+
+-- bits of rising elements stay below the next higher one
+pub bits_below : (low : ℕ) (es : List Element) → low ≤ 64 → Rises low es → bits_of es < 2 ^ (64 - low)
+bits_below low [] h r =
+    let one : 2 ^ 0 ≤ 2 ^ (64 - low) = powers 0 (64 - low) (omega arith) in
+    omega arith
+bits_below low (e ∷ es) h r =
+    let rest : bits_of es < 2 ^ (64 - element_number e) = bits_below (element_number e) es r.1 r.2 in
+    let twice : 2 ^ suc (64 - element_number e) ≡ 2 ^ (64 - element_number e) * 2 = pow-suc 2 (64 - element_number e) in
+    let more : 2 ^ suc (64 - element_number e) ≤ 2 ^ (64 - low) = powers (suc (64 - element_number e)) (64 - low) (omega (arith, r.0, r.1)) in
+    omega arith
+
+abbrev pub has_number : ℕ → List Element → Bool
+has_number n es = list_any (λ e. eqb (element_number e) n) es
+
+set_at : (bitmap n b : ℕ) → bit_at bitmap (64 - n) ≡ b → is_set bitmap n ≡ eqb b 1
+set_at bitmap n b h = ap (λ x. eqb x 1) h
+
+eqb-above : (m n : ℕ) → m < n → (eqb m n ≡ false) × (eqb n m ≡ false)
+eqb-above m n h = (grind arith, grind arith)
+
+-- the highest bit, or one of the others
+top_bit : (k r : ℕ) → r < 2 ^ k → bit_at (2 ^ k + r) k ≡ 1
+top_bit k r h =
+    let sum : 2 ^ k + r ≡ 1 * 2 ^ k + r = omega arith in
+    let none : k - k ≡ 0 = omega arith in
+    rw (sum, bit_at_cat_high 1 k r k h (omega arith), none) refl
+
+low_bit : (k r i : ℕ) → i < k → bit_at (2 ^ k + r) i ≡ bit_at r i
+low_bit k r i h =
+    let sum : 2 ^ k + r ≡ 1 * 2 ^ k + r = omega arith in
+    rw sum (bit_at_cat_low 1 k r i h)
+
+high_bit : (k r i : ℕ) → r < 2 ^ k → k < i → (bit_at (2 ^ k + r) i ≡ 0) × (bit_at r i ≡ 0)
+high_bit k r i h above =
+    let sum : 2 ^ k + r ≡ 1 * 2 ^ k + r = omega arith in
+    let one : 1 < 2 ^ 1 = omega arith in
+    (rw (sum, bit_at_cat_high 1 k r i h (omega arith)) (bit_at_above 1 1 (i - k) one (omega arith)), bit_at_above r k i h (omega arith))
+
+-- bit n of them is that of the element with number n
+module _ (e : Element) (es : List Element) (n : ℕ) (one : 1 ≤ n) (most : n ≤ 64) (size : element_number e ≤ 64)
+    (rest : bits_of es < 2 ^ (64 - element_number e)) (others : is_set (bits_of es) n ≡ has_number n es) where
+  same_number : element_number e ≡ n → is_set (bits_of (e ∷ es)) n ≡ has_number n (e ∷ es)
+  same_number h =
+      let bit : bit_at (bits_of (e ∷ es)) (64 - n) ≡ 1 = rw (← h) (top_bit (64 - element_number e) (bits_of es) rest) in
+      let test : eqb (element_number e) n ≡ true = rw h (grind arith) in
+      set_at (bits_of (e ∷ es)) n 1 bit ∙ rw test refl
+
+  lower_number : element_number e < n → is_set (bits_of (e ∷ es)) n ≡ has_number n (e ∷ es)
+  lower_number h =
+      let bit : bit_at (bits_of (e ∷ es)) (64 - n) ≡ bit_at (bits_of es) (64 - n) = low_bit (64 - element_number e) (bits_of es) (64 - n) (omega arith) in
+      let test = eqb-above (element_number e) n h in
+      set_at (bits_of (e ∷ es)) n (bit_at (bits_of es) (64 - n)) bit ∙ rw test.0 others
+
+  higher_number : n < element_number e → is_set (bits_of (e ∷ es)) n ≡ has_number n (e ∷ es)
+  higher_number h =
+      let bits = high_bit (64 - element_number e) (bits_of es) (64 - n) rest (omega arith) in
+      let test = eqb-above n (element_number e) h in
+      let none : has_number n es ≡ false = sym others ∙ set_at (bits_of es) n 0 bits.1 in
+      set_at (bits_of (e ∷ es)) n 0 bits.0 ∙ rw (test.1, none) refl
+
+pub is_set-bits_of : (low n : ℕ) (es : List Element) → low ≤ 64 → Rises low es → 1 ≤ n → n ≤ 64 → is_set (bits_of es) n ≡ has_number n es
+is_set-bits_of low n [] h r one most = rw (bit_at-zero (64 - n)) refl
+is_set-bits_of low n (e ∷ es) h r one most =
+    let rest : bits_of es < 2 ^ (64 - element_number e) = bits_below (element_number e) es r.1 r.2 in
+    let others = is_set-bits_of (element_number e) n es r.1 r.2 one most in
+    elim (cases_lt (element_number e) n) [
+      | inl lt ↦ lower_number e es n one most r.1 rest others lt
+      | inr le ↦ elim (cases_lt n (element_number e)) [
+        | inl gt ↦ higher_number e es n one most r.1 rest others gt
+        | inr ge ↦ same_number e es n one most r.1 rest others (omega arith)
+      ]
+    ]
+
+and_false : (b : Bool) → (b && false) ≡ false
+and_false true = refl
+and_false false = refl
+
+and_true : (b : Bool) → (b && true) ≡ b
+and_true true = refl
+and_true false = refl
+
+or_true : (b : Bool) → (b || true) ≡ true
+or_true true = refl
+or_true false = refl
+
+or_false : (b : Bool) → (b || false) ≡ b
+or_false true = refl
+or_false false = refl
+
+-- which numbers are there: an element with number n is where it is required or bit n is set
+there_step : (bitmap n : ℕ) (p : Part) (there known : Bool) (ps : List Part) (same : Bool) → eqb (element_number p.1) n ≡ same → (same ≡ true → there ≡ (p.0 || known))
+    → has_number n (cond there (p.1 ∷ present bitmap ps) (present bitmap ps)) ≡ ((p.0 || known) && same) || has_number n (present bitmap ps)
+there_step bitmap n p there known ps true h k =
+    rw (k refl, and_true (p.0 || known)) (elim (p.0 || known) as (λ b. has_number n (cond b (p.1 ∷ present bitmap ps) (present bitmap ps)) ≡ b || has_number n (present bitmap ps)) [ true ↦ rw h refl | false ↦ refl ])
+there_step bitmap n p there known ps false h k =
+    rw (and_false (p.0 || known)) (elim there as (λ b. has_number n (cond b (p.1 ∷ present bitmap ps) (present bitmap ps)) ≡ has_number n (present bitmap ps)) [ true ↦ rw h refl | false ↦ refl ])
+
+known_here : (bitmap n : ℕ) (known : Bool) (p : Part) → is_set bitmap n ≡ known → eqb (element_number p.1) n ≡ true → (p.0 || is_set bitmap (element_number p.1)) ≡ (p.0 || known)
+known_here bitmap n known p h same = ap (λ (b : Bool). p.0 || b) (ap (λ (k : ℕ). is_set bitmap k) (eqb-true (element_number p.1) n same) ∙ h)
+
+pub has_number-listed : (bitmap n : ℕ) (ps : List Part) → is_set bitmap n ≡ true → has_number n (present bitmap ps) ≡ is_listed ps n
+has_number-listed bitmap n [] h = refl
+has_number-listed bitmap n (p ∷ ps) h =
+    let one = there_step bitmap n p (p.0 || is_set bitmap (element_number p.1)) true ps (eqb (element_number p.1) n) refl (known_here bitmap n true p h) in
+    let always : ((p.0 || true) && eqb (element_number p.1) n) ≡ eqb (element_number p.1) n = rw (or_true p.0) refl in
+    one ∙ rw (always, has_number-listed bitmap n ps h) refl
+
+pub has_number-required : (bitmap n : ℕ) (ps : List Part) → is_set bitmap n ≡ false → has_number n (present bitmap ps) ≡ is_required ps n
+has_number-required bitmap n [] h = refl
+has_number-required bitmap n (p ∷ ps) h =
+    let one = there_step bitmap n p (p.0 || is_set bitmap (element_number p.1)) false ps (eqb (element_number p.1) n) refl (known_here bitmap n false p h) in
+    let only : ((p.0 || false) && eqb (element_number p.1) n) ≡ (p.0 && eqb (element_number p.1) n) = rw (or_false p.0) refl in
+    one ∙ rw (only, has_number-required bitmap n ps h) refl
+
+-- no number that passes
+pub all_fail : (test : ℕ → Bool) (from count n : ℕ) → least test from count ≡ None → from ≤ n → n < from + count → test n ≡ false
+unfolding least
+all_fail test from zero n h low high = absurd (omega arith)
+all_fail test from (suc count) n h low high =
+    elim (test from) as (λ b. test from ≡ b → cond b (Some from) (least test (from + 1) count) ≡ None → test n ≡ false) [
+      | true ↦ λ _ k. absurd cc
+      | false ↦ λ e k. elim (cases_lt from n) [
+        | inl lt ↦ all_fail test (from + 1) count n k (omega arith) (omega arith)
+        | inr le ↦ (let same : n ≡ from = omega arith in rw same e)
+      ]
+    ] refl h
+
+neither_wrong : (a b : Option ℕ) → first_wrong a b ≡ Ok tt → (a ≡ None) × (b ≡ None)
+neither_wrong None None h = (refl, refl)
+neither_wrong None (Some n) h = absurd cc
+neither_wrong (Some n) b h = absurd cc
+
+not_secondary : (b : Bool) (d : CodecFault) (r : Result (Unit {0}) CodecFault) → cond b (Err d) r ≡ Ok tt → (b ≡ false) × (r ≡ Ok tt)
+not_secondary true d r h = absurd cc
+not_secondary false d r h = (refl, h)
+
+-- a bitmap without a fault
+pub record IsSound (parts : List Part) (bitmap : ℕ) : Type 0 where
+  pub first : is_set bitmap 1 ≡ false
+  pub unexpected : (n : ℕ) → 2 ≤ n → n ≤ 64 → is_unexpected parts bitmap n ≡ false
+  pub missing : (n : ℕ) → 2 ≤ n → n ≤ 64 → is_missing parts bitmap n ≡ false
+
+pub is_sound : (parts : List Part) (bitmap : ℕ) → presence_at parts bitmap ≡ Ok tt → IsSound parts bitmap
+unfolding presence_at
+is_sound parts bitmap h =
+    let s = not_secondary (is_set bitmap 1) _ (first_wrong (least (is_unexpected parts bitmap) 2 63) (least (is_missing parts bitmap) 2 63)) h in
+    let w = neither_wrong (least (is_unexpected parts bitmap) 2 63) (least (is_missing parts bitmap) 2 63) s.1 in
+    record {
+      first = s.0;
+      unexpected = λ n low high. all_fail (is_unexpected parts bitmap) 2 63 n w.0 low (omega arith);
+      missing = λ n low high. all_fail (is_missing parts bitmap) 2 63 n w.1 low (omega arith);
+    }
+
+not_lower : (low n : ℕ) (es : List Element) → Rises low es → n ≤ low → has_number n es ≡ false
+not_lower low n [] r h = refl
+not_lower low n (e ∷ es) r h =
+    let test = eqb-above n (element_number e) (omega (arith, r.0)) in
+    rw (test.1, not_lower (element_number e) n es r.2 (omega (arith, r.0))) refl
+
+listed_there : (set listed required number : Bool) → (set ≡ true → number ≡ listed) → (set ≡ false → number ≡ required) → (set && not listed) ≡ false → (required && not set) ≡ false → set ≡ number
+listed_there true true required number h k u m = sym (h refl)
+listed_there true false required number h k u m = absurd cc
+listed_there false listed true number h k u m = absurd cc
+listed_there false listed false number h k u m = sym (k refl)
+
+same_bit : (a b : ℕ) → a < 2 → b < 2 → eqb a 1 ≡ eqb b 1 → a ≡ b
+same_bit a b h k e = grind arith
+
+-- each bit is that of an element which is there
+bit_is : (parts : List Part) (bitmap : ℕ) (n : ℕ) → Rises 1 (present bitmap parts) → IsSound parts bitmap → 1 ≤ n → n ≤ 64 → is_set bitmap n ≡ has_number n (present bitmap parts)
+bit_is parts bitmap n rises sound low high =
+    elim (cases_lt 1 n) [
+      | inl lt ↦ listed_there (is_set bitmap n) (is_listed parts n) (is_required parts n) (has_number n (present bitmap parts)) (has_number-listed bitmap n parts) (has_number-required bitmap n parts) (sound.unexpected n (omega arith) high) (sound.missing n (omega arith) high)
+      | inr le ↦ (let one : n ≡ 1 = omega arith in rw one (sound.first ∙ sym (not_lower 1 1 (present bitmap parts) rises (omega arith))))
+    ]
+
+pub bitmap_is : (parts : List Part) (bitmap : ℕ) → is_rising 1 parts ≡ true → bitmap < 2 ^ 64 → presence_at parts bitmap ≡ Ok tt → bitmap ≡ bits_of (present bitmap parts)
+bitmap_is parts bitmap rising fits h =
+    let sound = is_sound parts bitmap h in
+    let es = present bitmap parts in
+    let rises : Rises 1 (present bitmap parts) = present_rises bitmap 1 parts rising in
+    let below : bits_of (present bitmap parts) < 2 ^ (64 - 1) = bits_below 1 (present bitmap parts) (omega arith) rises in
+    same_from_bits_below 64 bitmap (bits_of (present bitmap parts)) fits (omega arith) (λ i within.
+    let place : 64 - (64 - i) ≡ i = omega arith in
+    let bit : is_set bitmap (64 - i) ≡ is_set (bits_of (present bitmap parts)) (64 - i) =
+    bit_is parts bitmap (64 - i) rises sound (omega arith) (omega arith) ∙ sym (is_set-bits_of 1 (64 - i) (present bitmap parts) (omega arith) rises (omega arith) (omega arith)) in
+    same_bit (bit_at bitmap i) (bit_at (bits_of (present bitmap parts)) i) (bit_at-lt bitmap i) (bit_at-lt (bits_of (present bitmap parts)) i) (rw place at bit))

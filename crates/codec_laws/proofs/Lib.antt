@@ -1,0 +1,11 @@
+pub mod Bits
+pub mod Contents
+pub mod Elements
+pub mod Formed
+pub mod Headers
+pub mod Messages
+pub mod NoMemory
+pub mod Originals
+pub mod Present
+pub mod Replies
+pub mod Whole

@@ -1,0 +1,7 @@
+pub mod Contents
+pub mod Elements
+pub mod Messages
+pub mod Reading
+pub mod Replies
+pub mod Spelling
+pub mod Types

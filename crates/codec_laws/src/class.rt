@@ -1,0 +1,10 @@
+/// The class of an element's characters (ISO 8583:1993: n, anp and ans).
+#[derive(Clone, Copy, Debug, PartialEq, Eq)]
+pub enum Class {
+    /// `0` to `9`.
+    Digits,
+    /// Letters, digits and spaces.
+    Alphanumeric,
+    /// 0x20 to 0x7E.
+    Printable,
+}

@@ -1,0 +1,78 @@
+ghost use Rattle.std.specs.Prelude.{◌≡◌};
+ghost use Rattle.codec_laws.specs.Elements.{element_number, shape_of, class_of};
+
+use crate::class::Class;
+use crate::shape::Shape;
+
+/// A data element (ISO 8583:1993).
+#[derive(Clone, Copy, Debug, PartialEq, Eq)]
+pub enum Element {
+    Pan,
+    Processing,
+    Amount,
+    Transmission,
+    Stan,
+    Stamp,
+    Function,
+    OriginalAmount,
+    Acquirer,
+    Retrieval,
+    Approval,
+    Action,
+    Terminal,
+    Currency,
+    Original,
+}
+
+impl Element {
+    /// Its number, which is that of its bit.
+    pub fn number(self) -> u8
+        ensures { result ≡ element_number self }
+    {
+        match self {
+            Element::Pan => 2,
+            Element::Processing => 3,
+            Element::Amount => 4,
+            Element::Transmission => 7,
+            Element::Stan => 11,
+            Element::Stamp => 12,
+            Element::Function => 24,
+            Element::OriginalAmount => 30,
+            Element::Acquirer => 32,
+            Element::Retrieval => 37,
+            Element::Approval => 38,
+            Element::Action => 39,
+            Element::Terminal => 41,
+            Element::Currency => 49,
+            Element::Original => 56,
+        }
+    }
+
+    /// How long its text is.
+    pub fn shape(self) -> Shape
+        ensures { result ≡ shape_of self }
+    {
+        match self {
+            Element::Pan => Shape::UpTo(12, 19),
+            Element::Processing | Element::Stan | Element::Approval => Shape::Fixed(6),
+            Element::Amount | Element::Stamp | Element::Retrieval => Shape::Fixed(12),
+            Element::Transmission => Shape::Fixed(10),
+            Element::OriginalAmount => Shape::Fixed(24),
+            Element::Acquirer => Shape::UpTo(1, 11),
+            Element::Function | Element::Action | Element::Currency => Shape::Fixed(3),
+            Element::Terminal => Shape::Fixed(8),
+            Element::Original => Shape::UpTo(25, 35),
+        }
+    }
+
+    /// What its text is made of.
+    pub fn class(self) -> Class
+        ensures { result ≡ class_of self }
+    {
+        match self {
+            Element::Retrieval | Element::Approval => Class::Alphanumeric,
+            Element::Terminal => Class::Printable,
+            _ => Class::Digits,
+        }
+    }
+}
