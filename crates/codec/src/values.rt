@@ -7,8 +7,9 @@ ghost use Rattle.codec_laws.specs.Messages.{IsOriginal};
 
 use codec_laws::Element;
 use iso8583::{
-    Acquirer, Action, Amount, Approval, Currency, Digits, FunctionCode, Identity, LocalStamp,
-    OriginalKind, OriginalRef, Pan, Processing, Retrieval, Stan, Terminal, Transmission,
+    Acquirer, Action, Alphanumeric, Amount, Approval, Currency, Digits, DigitsUpTo, FunctionCode,
+    Identity, LocalStamp, OriginalKind, OriginalRef, Pan, Printable, Processing, Retrieval, Stan,
+    Terminal, Transmission,
 };
 
 /// Element 2.
@@ -16,10 +17,7 @@ pub(crate) fn pan(text: &[u8]) -> Pan
     requires { IsText Element.Pan text.now }
     ensures { result.0 ≡ text.now }
 {
-    let Some(pan) = Pan::new(text) else {
-        unreachable!()
-    };
-    pan
+    Pan(DigitsUpTo::of_text(text))
 }
 
 /// Element 3.
@@ -27,10 +25,7 @@ pub(crate) fn processing(text: &[u8]) -> Processing
     requires { IsText Element.Processing text.now }
     ensures { result.0 ≡ text.now }
 {
-    let Some(processing) = Processing::new(text) else {
-        unreachable!()
-    };
-    processing
+    Processing(Digits::of_text(text))
 }
 
 /// Element 4.
@@ -40,10 +35,7 @@ pub(crate) fn amount(text: &[u8]) -> Amount
     ensures text { fixed_digits 12 result ≡ text.now }
     ensures bound { result < 10 ^ 12 }
 {
-    let Some(digits) = Digits::new(text) else {
-        unreachable!()
-    };
-    Amount::from_digits(&digits)
+    Amount::from_digits(&Digits::of_text(text))
 }
 
 /// Element 7.
@@ -51,10 +43,7 @@ pub(crate) fn transmission(text: &[u8]) -> Transmission
     requires { IsText Element.Transmission text.now }
     ensures { result.0 ≡ text.now }
 {
-    let Some(transmission) = Transmission::new(text) else {
-        unreachable!()
-    };
-    transmission
+    Transmission(Digits::of_text(text))
 }
 
 /// Element 11.
@@ -62,10 +51,7 @@ pub(crate) fn stan(text: &[u8]) -> Stan
     requires { IsText Element.Stan text.now }
     ensures { result.0 ≡ text.now }
 {
-    let Some(stan) = Stan::new(text) else {
-        unreachable!()
-    };
-    stan
+    Stan(Digits::of_text(text))
 }
 
 /// Element 12.
@@ -73,10 +59,7 @@ pub(crate) fn stamp(text: &[u8]) -> LocalStamp
     requires { IsText Element.Stamp text.now }
     ensures { result ≡ text.now }
 {
-    let Some(stamp) = LocalStamp::new(text) else {
-        unreachable!()
-    };
-    stamp
+    LocalStamp::of_text(text)
 }
 
 /// Element 24.
@@ -84,10 +67,7 @@ pub(crate) fn function(text: &[u8]) -> FunctionCode
     requires { IsText Element.Function text.now }
     ensures { result.0 ≡ text.now }
 {
-    let Some(function) = FunctionCode::new(text) else {
-        unreachable!()
-    };
-    function
+    FunctionCode(Digits::of_text(text))
 }
 
 /// Element 32.
@@ -95,10 +75,7 @@ pub(crate) fn acquirer(text: &[u8]) -> Acquirer
     requires { IsText Element.Acquirer text.now }
     ensures { result.0 ≡ text.now }
 {
-    let Some(acquirer) = Acquirer::new(text) else {
-        unreachable!()
-    };
-    acquirer
+    Acquirer(DigitsUpTo::of_text(text))
 }
 
 /// Element 37, if it is there.
@@ -107,10 +84,7 @@ pub(crate) fn retrieval(text: Option<&[u8]>) -> Option<Retrieval>
     ensures value { option_map (λ r. r.0) result ≡ option_map (λ t. t.now) text.entry }
     ensures text { IfSome result (λ r. IsText Element.Retrieval r.0) }
 {
-    let Some(retrieval) = Retrieval::new(text?) else {
-        unreachable!()
-    };
-    Some(retrieval)
+    Some(Retrieval(Alphanumeric::of_text(text?)))
 }
 
 /// Element 41.
@@ -118,10 +92,7 @@ pub(crate) fn terminal(text: &[u8]) -> Terminal
     requires { IsText Element.Terminal text.now }
     ensures { result.0 ≡ text.now }
 {
-    let Some(terminal) = Terminal::new(text) else {
-        unreachable!()
-    };
-    terminal
+    Terminal(Printable::of_text(text))
 }
 
 /// Element 49.
@@ -129,10 +100,7 @@ pub(crate) fn currency(text: &[u8]) -> Currency
     requires { IsText Element.Currency text.now }
     ensures { result.0 ≡ text.now }
 {
-    let Some(currency) = Currency::new(text) else {
-        unreachable!()
-    };
-    currency
+    Currency(Digits::of_text(text))
 }
 
 /// Element 30: its first twelve digits, behind which zeros stand.
@@ -151,10 +119,7 @@ pub(crate) fn approval(text: &[u8]) -> Approval
     requires { IsText Element.Approval text.now }
     ensures { result.0 ≡ text.now }
 {
-    let Some(approval) = Approval::new(text) else {
-        unreachable!()
-    };
-    approval
+    Approval(Alphanumeric::of_text(text))
 }
 
 /// Element 39.
@@ -164,10 +129,7 @@ pub(crate) fn action(text: &[u8]) -> Action
     ensures text { fixed_digits 3 result ≡ text.now }
     ensures bound { result < 10 ^ 3 }
 {
-    let Some(digits) = Digits::new(text) else {
-        unreachable!()
-    };
-    Action::from_digits(&digits)
+    Action::from_digits(&Digits::of_text(text))
 }
 
 /// The type of an original: its kind, and whether it was a repeat.

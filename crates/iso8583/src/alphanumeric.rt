@@ -33,19 +33,26 @@ impl<const N: usize> Alphanumeric<N> {
         if text.len() != N || !is_alphanumeric(text) {
             return None;
         }
+        Some(Alphanumeric::of_text(text))
+    }
+
+    /// A text that was tested: `N` letters, digits and spaces.
+    pub fn of_text(text: &[u8]) -> Self
+        requires len { length text.now ≡ N }
+        requires class { IsAlphanumeric text.now }
+        ensures { result ≡ text.now }
+    {
         let mut bytes = [0; N];
         bytes.copy_from_slice(text);
-        Some(Alphanumeric { bytes })
+        Alphanumeric { bytes }
     }
 
     /// Digits are letters, digits and spaces.
+    #[tactic(auto, using(crate::proofs::NumberLaws::alphanumeric_digits))]
     pub fn of_digits(digits: Digits<N>) -> Self
         ensures { result ≡ digits.entry }
     {
-        let Some(text) = Alphanumeric::new(digits.as_slice()) else {
-            unreachable!()
-        };
-        text
+        Alphanumeric::of_text(digits.as_slice())
     }
 
     /// The text.

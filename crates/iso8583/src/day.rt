@@ -43,10 +43,9 @@ impl Day {
         requires { IsLocalStamp stamp.now }
         ensures { result ≡ take 6 stamp.now }
     {
-        let Some(day) = Day::new(&stamp[..6]) else {
-            unreachable!()
-        };
-        day
+        Day {
+            digits: Digits::of_text(&stamp[..6]),
+        }
     }
 
     /// The day as text.

@@ -34,9 +34,18 @@ impl<const N: usize> Digits<N> {
         if text.len() != N || !is_digits(text) {
             return None;
         }
+        Some(Digits::of_text(text))
+    }
+
+    /// A text that was tested: `N` digits.
+    pub fn of_text(text: &[u8]) -> Self
+        requires len { length text.now ≡ N }
+        requires digits { IsDigits text.now }
+        ensures { result ≡ text.now }
+    {
         let mut bytes = [0; N];
         bytes.copy_from_slice(text);
-        Some(Digits { bytes })
+        Digits { bytes }
     }
 
     /// The last `N` digits of a number, with leading zeros.

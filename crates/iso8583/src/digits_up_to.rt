@@ -48,9 +48,18 @@ impl<const MIN: usize, const MAX: usize> DigitsUpTo<MIN, MAX> {
         if len < MIN || len > MAX || !is_digits(text) {
             return None;
         }
+        Some(DigitsUpTo::of_text(text))
+    }
+
+    /// A text that was tested: `MIN` to `MAX` digits.
+    pub fn of_text(text: &[u8]) -> Self
+        requires { HasDigits MIN MAX text.now }
+        ensures { result ≡ text.now }
+    {
+        let len = text.len();
         let mut bytes = [0; MAX];
         bytes[..len].copy_from_slice(text);
-        Some(DigitsUpTo { bytes, len })
+        DigitsUpTo { bytes, len }
     }
 
     /// The digits as text.

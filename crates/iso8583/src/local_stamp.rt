@@ -40,6 +40,16 @@ impl LocalStamp {
         }
     }
 
+    /// A text that was tested: twelve digits with a month, a day, an hour, a minute and a second.
+    pub fn of_text(text: &[u8]) -> LocalStamp
+        requires { IsLocalStamp text.now }
+        ensures { result ≡ text.now }
+    {
+        LocalStamp {
+            digits: Digits::of_text(text),
+        }
+    }
+
     /// The stamp as text.
     pub fn as_slice(&self) -> &[u8]
         ensures text { result.now ≡ self.now }

@@ -32,9 +32,18 @@ impl<const N: usize> Printable<N> {
         if text.len() != N || !is_printable(text) {
             return None;
         }
+        Some(Printable::of_text(text))
+    }
+
+    /// A text that was tested: `N` printable characters.
+    pub fn of_text(text: &[u8]) -> Self
+        requires len { length text.now ≡ N }
+        requires class { IsPrintable text.now }
+        ensures { result ≡ text.now }
+    {
         let mut bytes = [0; N];
         bytes.copy_from_slice(text);
-        Some(Printable { bytes })
+        Printable { bytes }
     }
 
     /// The text.

@@ -1,6 +1,6 @@
 use Rattle.std.proofs.Common.{arith, rules}
 use Rattle.iso8583.proofs.PaddedLemmas.{padded}
-use Rattle.iso8583.proofs.digits_up_to.DigitsUpTo.new.Goals as goal
+use Rattle.iso8583.proofs.digits_up_to.DigitsUpTo.of_text.Goals as goal
 
 pub invariant_of-result : goal.invariant_of-result
 invariant_of-result g c =
