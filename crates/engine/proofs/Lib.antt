@@ -1,0 +1,2 @@
+mod CoreLemmas
+mod Rest

@@ -1,4 +1,5 @@
-ghost use Rattle.std.specs.Prelude.{None};
+ghost use Rattle.std.specs.Prelude.{◌≡◌, None};
+ghost use Rattle.engine.specs.CoreAnswers.{stop_of, CoreAnswers};
 
 use rows::{RowKey, RowVal};
 use speccore::Core;
@@ -15,7 +16,9 @@ pub struct CoreRows<'a> {
 
 impl<'a> CoreRows<'a> {
     /// The rows that this version sees.
-    pub fn new(core: &'a mut Core, version: Version) -> CoreRows<'a> {
+    pub fn new(core: &'a mut Core, version: Version) -> CoreRows<'a>
+        ensures version { result.version ≡ version }
+    {
         CoreRows { core, version }
     }
 }
@@ -24,18 +27,24 @@ impl RowSource for CoreRows<'_> {
     // Which book a version sees isn't known: other messages may not have finished.
     ghost book = { λ _. None };
 
-    ghost answers = { λ _ _ _ _. Unit {0} };
+    // Each question is a step of the core.
+    ghost answers = { λ old row result new. CoreAnswers old.core.now old.version row result new.core.now × (new.version ≡ old.version) };
 
     fn read(&mut self, key: &RowKey) -> Result<Option<RowVal>, Stop> {
         let version = self.version;
-        self.core.read(version, key).map_err(stop_of)
+        match self.core.read(version, key) {
+            Ok(row) => Ok(row),
+            Err(fault) => Err(stop_of(fault)),
+        }
     }
 }
 
 /// Why a decision stops where the core refuses a call: want of memory, or the version isn't running any more.
-pub(crate) fn stop_of(fault: CoreFault) -> Stop {
+pub(crate) fn stop_of(fault: CoreFault) -> Stop
+    ensures { result ≡ stop_of fault }
+{
     match fault {
         CoreFault::OutOfMemory => Stop::OutOfMemory,
-        _ => Stop::Lost,
+        CoreFault::NotRunning | CoreFault::OtherReads | CoreFault::Worn => Stop::Lost,
     }
 }

@@ -14,6 +14,7 @@ use view::Decide;
 /// replies and book are those of deciding the messages one after another in the order of their arrival. The only
 /// fault is want of memory. `committed` is how many messages the core had committed when the rest was decided one
 /// after another.
+#[tactic(auto, using(crate::proofs::Rest::rows_of_both, crate::proofs::Rest::replies_of_both))]
 pub fn run<F: Decide + Sync, G: Gate>(
     alloc: Global,
     book: &Book,

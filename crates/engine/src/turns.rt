@@ -1,3 +1,7 @@
+ghost use Rattle.std.specs.Prelude.{◌+◌, ◌≤◌, ◌⊎◌, OnOk};
+ghost use Rattle.engine.specs.CoreAnswers.{IsHandedIn};
+ghost use Rattle.speccore_laws.specs.State.{IsExecuted};
+
 use crate::core_rows::{CoreRows, stop_of};
 use crate::gate::Gate;
 use rows::Frame;
@@ -49,16 +53,26 @@ fn record<F: Decide>(
     version: Version,
     frame: &Frame,
     decision: &F,
-) -> Result<(), Stop> {
+) -> Result<(), Stop>
+    ensures { OnOk result (IsHandedIn frame.now version core.new) }
+{
     let execution = execute(alloc, frame, CoreRows::new(core, version), decision)?;
-    core.finish(version, execution).map_err(stop_of)
+    match core.finish(version, execution) {
+        Ok(()) => Ok(()),
+        Err(fault) => Err(stop_of(fault)),
+    }
 }
 
-// Commits until the next message isn't ready for it.
-fn commit_all(core: &mut Core, most: usize) -> Result<(), Stop> {
+// Commits until the next message isn't ready for it, at most so many times.
+#[tactic(auto, using(crate::proofs::CoreLemmas::left_undone))]
+fn commit_all(core: &mut Core, most: usize) -> Result<(), Stop>
+    ensures { OnOk result ((¬ IsExecuted core.new core.new.committed) ⊎ (core.old.committed + most ≤ core.new.committed)) }
+{
     for _ in 0..most {
-        if !core.commit().map_err(stop_of)? {
-            break;
+        match core.commit() {
+            Ok(true) => {}
+            Ok(false) => return Ok(()),
+            Err(fault) => return Err(stop_of(fault)),
         }
     }
     Ok(())

@@ -44,6 +44,7 @@ impl Book {
     }
 
     /// The row's value, if there is such a row.
+    #[tactic(auto, using(crate::proofs::BookLaws::get_seen))]
     pub fn get(&self, key: &RowKey) -> Option<RowVal>
         ensures value { result ≡ map.get self.now key.now }
     {
@@ -62,6 +63,7 @@ impl Book {
     }
 
     /// Takes the row out.
+    #[tactic(auto, using(crate::proofs::BookLaws::get_seen, crate::proofs::BookLaws::remove_seen))]
     pub fn remove(&mut self, key: &RowKey) -> Option<RowVal>
         ensures value { result ≡ map.get self.old key.now }
         ensures after { self.new ≡ map.remove self.old key.now }

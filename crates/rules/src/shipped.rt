@@ -1,4 +1,5 @@
 ghost use Rattle.std.specs.Prelude.{◌≡◌, ◌⊎◌, IfOk, IfErr, IfSome};
+ghost use Rattle.iso8583.specs.declared.codec_fault.CodecFault.{CodecFault};
 ghost use Rattle.rows.specs.Agreement.{IsLocal};
 ghost use Rattle.rules.specs.Needs.{ReadsNeeds};
 ghost use Rattle.view.specs.Recording.{IsNew, IsStopOf};
@@ -13,6 +14,9 @@ use view::{Decide, Recorder, RowSource, Stop};
 pub fn decide<S: RowSource>(frame: &Frame, rows: &mut Recorder<S>) -> Result<ReplyBody, Stop>
     requires { IsNew rows.old }
     ensures local { IfOk result (λ reply. IsLocal frame.now rows.new.reads rows.new.writes reply) }
+
+    // A body that is no message is answered its fault, whatever the source and the memory.
+    ensures bad { (fault : CodecFault) → frame.now ≡ Frame.Bad fault → result ≡ Ok (ReplyBody.Fault fault) }
 
     // It stops where the source does or memory runs out; the rows that were read are the first of those that are needed.
     ensures stop { IfErr result (λ stop. (stop ≡ Stop.OutOfMemory) ⊎ IsStopOf S.answers stop) }

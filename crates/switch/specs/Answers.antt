@@ -1,5 +1,6 @@
 -- What one body is answered, from bytes to bytes.
 use Rattle.std.specs.Prelude.{◌≡◌, ℕ, false, List, Result, Err}
+use Rattle.hex.specs.Hex.{encode_lower}
 use Rattle.codec_laws.specs.Messages.{Spells}
 use Rattle.codec_laws.specs.Reading.{reading}
 use Rattle.codec_laws.specs.Replies.{reply_spelling}
@@ -36,3 +37,7 @@ answer_text (Fault fault) = fault_body fault
 -- the text answers the body as the decision table does on these rows
 abbrev pub IsAnswerTo : Rows → List ℕ → List ℕ → Type 0
 IsAnswerTo rows body text = (frame : Frame) × IsFrameOf body frame × (text ≡ answer_text (reply_of rows frame))
+
+-- the text is that answer in hexadecimal, in small letters
+abbrev pub IsAnswerInHexadecimal : Rows → List ℕ → List ℕ → Type 0
+IsAnswerInHexadecimal rows body text = (reply : List ℕ) × IsAnswerTo rows body reply × (text ≡ encode_lower reply)

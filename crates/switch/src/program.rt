@@ -1,4 +1,6 @@
-ghost use Rattle.std.specs.Prelude.{◌≡◌, ◌≤◌};
+ghost use Rattle.std.specs.Prelude.{◌≡◌, ◌≤◌, IfOk, string_bytes};
+ghost use Rattle.switch.specs.Answers.{IsAnswerInHexadecimal};
+ghost use Rattle.switch.specs.SampleBook.{sample_rows};
 
 use crate::answers::answer_on;
 use crate::command_line::{Command, read_words};
@@ -30,16 +32,21 @@ pub fn act<O: Write, E: Write>(alloc: Global, words: &[String], out: &mut O, err
 fn answer(alloc: Global, words: &[String]) -> Result<String, Fault> {
     match read_words(alloc, words)? {
         Command::Help(text) => Ok(text),
-        Command::One(body) => {
-            let book = sample_book(alloc)?;
-            match answer_on(alloc, &book, &body, two_workers())? {
-                Some(text) => Ok(hex::encode(alloc, text)?),
-                None => Err(usage(
-                    alloc,
-                    "FRAME: only authorization requests in their first form, 1100, are decided yet",
-                )),
-            }
-        }
+        Command::One(body) => decide_one(alloc, &body),
+    }
+}
+
+// The reply to one body on the sample book, in hexadecimal.
+fn decide_one(alloc: Global, body: &[u8]) -> Result<String, Fault>
+    ensures { IfOk result (λ text. IsAnswerInHexadecimal sample_rows body.now (string_bytes text)) }
+{
+    let book = sample_book(alloc)?;
+    match answer_on(alloc, &book, body, two_workers())? {
+        Some(reply) => Ok(hex::encode(alloc, reply)?),
+        None => Err(usage(
+            alloc,
+            "FRAME: only authorization requests in their first form, 1100, are decided yet",
+        )),
     }
 }
 
