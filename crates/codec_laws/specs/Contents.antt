@@ -6,6 +6,7 @@ use Rattle.codec_laws.specs.declared.element.Element.TheVariants as element
 use Rattle.codec_laws.specs.Elements.{IsText}
 use Rattle.codec_laws.specs.Spelling.{Field, with_field}
 
+-- the text of each element, in rising number; none where the element is absent
 pub record Content : Type 0 where
   pub pan : List ℕ
   pub processing : List ℕ

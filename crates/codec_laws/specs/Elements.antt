@@ -15,6 +15,7 @@ use Rattle.codec_laws.specs.declared.shape.Shape.TheVariants.{Fixed, UpTo}
 use Rattle.codec_laws.specs.declared.class.Class.{Class}
 use Rattle.codec_laws.specs.declared.class.Class.TheVariants as class
 
+-- the number of an element, which is that of its bit in the bitmap
 abbrev pub element_number : Element → ℕ
 element_number element.Pan = 2
 element_number element.Processing = 3
@@ -50,6 +51,7 @@ shape_of element.Terminal = Fixed 8
 shape_of element.Currency = Fixed 3
 shape_of element.Original = UpTo 25 35
 
+-- which characters the text of an element is made of
 abbrev pub class_of : Element → Class
 class_of element.Pan = class.Digits
 class_of element.Processing = class.Digits
@@ -73,6 +75,7 @@ is_of_class class.Digits text = is_digits text
 is_of_class class.Alphanumeric text = is_alphanumeric text
 is_of_class class.Printable text = is_printable text
 
+-- the second half of element 30
 abbrev pub twelve_zeros : List ℕ
 twelve_zeros = codes "000000000000"
 
@@ -87,6 +90,7 @@ original_type kind.Request true = codes "1101"
 original_type kind.Advice false = codes "1120"
 original_type kind.Advice true = codes "1121"
 
+-- 1100 or 1101 of a request, 1120 or 1121 of an advice
 unfoldable pub is_original_type : List ℕ → Bool
 is_original_type text = bytes_eq text (codes "1100") || bytes_eq text (codes "1101") || bytes_eq text (codes "1120") || bytes_eq text (codes "1121")
 
@@ -107,6 +111,7 @@ has_value element.OriginalAmount text = is_original_amount text
 has_value element.Original text = is_original text
 has_value _ text = true
 
+-- the text is as long as its shape says
 abbrev pub HasShape : Shape → List ℕ → Type 0
 HasShape (Fixed size) text = length text ≡ size
 HasShape (UpTo min max) text = (min ≤ length text) × (length text ≤ max)

@@ -14,6 +14,7 @@ use Rattle.codec_laws.specs.Contents.{Content, content, content_fields, IsTransa
 use Rattle.iso8583.specs.declared.transaction.Transaction.{Transaction}
 use Rattle.codec_laws.specs.Spelling.{Field, spelling}
 
+-- a message's type, by its kind and whether it is a repeat
 abbrev pub mti_of : Message → Mti
 mti_of (message.Request m) = if m.repeat then mti.RequestRepeat else mti.Request
 mti_of (message.Advice m) = if m.repeat then mti.AdviceRepeat else mti.Advice
@@ -30,6 +31,7 @@ abbrev pub scope_function : ReversalScope → List ℕ
 scope_function Full = codes "400"
 scope_function (Partial amount) = codes "401"
 
+-- element 30, of a partial reversal alone: the original's amount, and twelve zeros
 abbrev pub scope_amount : ReversalScope → Option (List ℕ)
 scope_amount Full = None
 scope_amount (Partial amount) = Some (fixed_digits 12 amount ++ twelve_zeros)
@@ -49,10 +51,12 @@ fields_of m = content_fields (content_of m)
 abbrev pub message_spelling : Message → List ℕ
 message_spelling m = spelling (mti_of m) (fields_of m)
 
+-- the original's amount has at most twelve digits
 abbrev pub IsScope : ReversalScope → Type 0
 IsScope Full = Unit {0}
 IsScope (Partial amount) = amount < 10 ^ 12
 
+-- trace number, date and time, and acquirer of an original are such texts
 pub record IsOriginal (o : OriginalRef) : Type 0 where
   pub stan : IsText element.Stan o.identity.stan.0
   pub stamp : IsText element.Stamp o.identity.stamp

@@ -18,6 +18,7 @@ use Rattle.codec_laws.specs.Types.{Part, mti_text, parts_of}
 use Rattle.codec_laws.specs.Spelling.{Field, with_field, is_set}
 
 infixl 10 ◌>>=◌
+-- go on with what was read, or stay at the first fault
 abbrev pub ◌>>=◌ : {A B : Type 0} → Result A CodecFault → (A → Result B CodecFault) → Result B CodecFault
 (Ok x) >>= f = f x
 (Err e) >>= f = Err e
@@ -100,15 +101,19 @@ unfoldable pub least : (ℕ → Bool) → ℕ → ℕ → Option ℕ
 least test from zero = None
 least test from (suc count) = if test from then Some from else least test (from + 1) count
 
+-- a message of the type may have element n
 abbrev pub is_listed : List Part → ℕ → Bool
 is_listed parts n = list_any (λ p. element_number p.1 == n) parts
 
+-- each message of the type has element n
 abbrev pub is_required : List Part → ℕ → Bool
 is_required parts n = list_any (λ p. p.0 && element_number p.1 == n) parts
 
+-- element n is there, and no message of the type has it
 abbrev pub is_unexpected : List Part → ℕ → ℕ → Bool
 is_unexpected parts bitmap n = is_set bitmap n && not (is_listed parts n)
 
+-- element n is not there, and each message of the type has it
 abbrev pub is_missing : List Part → ℕ → ℕ → Bool
 is_missing parts bitmap n = is_required parts n && not (is_set bitmap n)
 

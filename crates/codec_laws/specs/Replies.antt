@@ -13,6 +13,7 @@ use Rattle.codec_laws.specs.Elements.{IsText}
 use Rattle.codec_laws.specs.Contents.{Content, content, content_fields, IsTransaction}
 use Rattle.codec_laws.specs.Spelling.{Field, spelling}
 
+-- 1110 to a request, 1130 to an advice, 1430 to a reversal
 abbrev pub answer_mti : Answer → Mti
 answer_mti (answer.Request v) = mti.RequestReply
 answer_mti (answer.Advice a) = mti.AdviceReply
@@ -23,6 +24,7 @@ abbrev pub verdict_approval : Verdict → Option (List ℕ)
 verdict_approval (Approved code) = Some code.0
 verdict_approval (Declined code) = None
 
+-- element 39: 000 where the request is approved, else another action
 abbrev pub verdict_action : Verdict → List ℕ
 verdict_action (Approved code) = codes "000"
 verdict_action (Declined code) = fixed_digits 3 code
@@ -33,11 +35,13 @@ answer_approval (answer.Request v) = verdict_approval v
 answer_approval (answer.Advice a) = None
 answer_approval (answer.Reversal a) = None
 
+-- element 39 of a reply of each type
 abbrev pub answer_action : Answer → List ℕ
 answer_action (answer.Request v) = verdict_action v
 answer_action (answer.Advice a) = fixed_digits 3 a
 answer_action (answer.Reversal a) = fixed_digits 3 a
 
+-- a reply's type
 abbrev pub reply_mti : Reply → Mti
 reply_mti r = answer_mti r.answer
 
@@ -58,6 +62,7 @@ abbrev pub IsVerdict : Verdict → Type 0
 IsVerdict (Approved code) = IsText element.Approval code.0
 IsVerdict (Declined code) = (0 < code) × (code < 10 ^ 3)
 
+-- an action of at most three digits; to a request, a verdict in its range
 abbrev pub IsAnswer : Answer → Type 0
 IsAnswer (answer.Request v) = IsVerdict v
 IsAnswer (answer.Advice a) = a < 10 ^ 3

@@ -24,6 +24,7 @@ abbrev pub length_prefix : Shape → List ℕ → List ℕ
 length_prefix (Fixed size) text = []
 length_prefix (UpTo min max) text = fixed_digits 2 (length text)
 
+-- the spelling of one element: its text, behind its length where that may vary
 abbrev pub field : Field → List ℕ
 field f = length_prefix (shape_of f.0) f.1 ++ f.1
 
@@ -36,5 +37,6 @@ abbrev pub bitmap_of : List Field → ℕ
 bitmap_of [] = 0
 bitmap_of (f ∷ fields) = 2 ^ (64 - element_number f.0) + bitmap_of fields
 
+-- four digits of type, eight bytes of bitmap, and the elements
 abbrev pub spelling : Mti → List Field → List ℕ
 spelling mti fields = mti_text mti ++ to_be_bytes w64 (bitmap_of fields) ++ flat_map field fields

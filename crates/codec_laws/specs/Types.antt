@@ -9,6 +9,7 @@ use Rattle.codec_laws.specs.declared.rule.Rule.TheVariants.{Free, Scope, Verdict
 use Rattle.codec_laws.specs.declared.mti.Mti.{Mti}
 use Rattle.codec_laws.specs.declared.mti.Mti.TheVariants as mti
 
+-- the four digits of each type
 abbrev pub mti_text : Mti → List ℕ
 mti_text mti.Request = codes "1100"
 mti_text mti.RequestRepeat = codes "1101"
@@ -36,9 +37,11 @@ is_among types t = list_any (λ u. bytes_eq (mti_text u) (mti_text t)) types
 abbrev pub Part : Type 0
 Part = Bool × Element × Rule
 
+-- an element that each message of the type has
 abbrev pub required : Element → Part
 required e = (true, e, Free)
 
+-- an element that a message of the type may have
 abbrev pub optional : Element → Part
 optional e = (false, e, Free)
 

@@ -6,9 +6,11 @@ use Rattle.iso8583.specs.Class.{IsDigits}
 abbrev pub two_digits : List ℕ → ℕ → ℕ
 two_digits text place = 10 * (slice_index text place - 48) + (slice_index text (place + 1) - 48)
 
+-- 01 to 12
 abbrev pub is_month : ℕ → Bool
 is_month n = nat_le 1 n && nat_le n 12
 
+-- 01 to 31, whatever the month
 abbrev pub is_day_of_month : ℕ → Bool
 is_day_of_month n = nat_le 1 n && nat_le n 31
 

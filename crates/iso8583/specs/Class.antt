@@ -7,6 +7,7 @@ use Rattle.std.specs.Char.{is_ascii_digit, is_ascii_alphanumeric}
 abbrev pub is_digits : List ℕ → Bool
 is_digits text = list_all is_ascii_digit text
 
+-- the text has digits alone
 abbrev pub IsDigits : List ℕ → Type 0
 IsDigits text = IsTrue (is_digits text)
 
@@ -14,6 +15,7 @@ IsDigits text = IsTrue (is_digits text)
 abbrev pub is_alphanumeric : List ℕ → Bool
 is_alphanumeric text = list_all (λ c. is_ascii_alphanumeric c || c == 32) text
 
+-- the text has letters, digits and spaces alone
 abbrev pub IsAlphanumeric : List ℕ → Type 0
 IsAlphanumeric text = IsTrue (is_alphanumeric text)
 
@@ -21,5 +23,6 @@ IsAlphanumeric text = IsTrue (is_alphanumeric text)
 abbrev pub is_printable : List ℕ → Bool
 is_printable text = list_all (λ c. nat_le 32 c && nat_le c 126) text
 
+-- the text has printable characters alone
 abbrev pub IsPrintable : List ℕ → Type 0
 IsPrintable text = IsTrue (is_printable text)

@@ -14,26 +14,33 @@ use Rattle.rows.specs.declared.row_val.RowVal.{RowVal}
 abbrev pub PutsOnce : Writes → Type 0
 PutsOnce writes = (put other : RowKey × RowVal) → Contains writes put → Contains writes other → put.0 ≡ other.0 → put.1 ≡ other.1
 
+-- where nothing is put
 none_puts_once : PutsOnce []
 none_puts_once put other h k e = absurd (omega (arith, h.1))
 
+-- a list of one row has no other place than the first
 the_place : (w put : RowKey × RowVal) (k : ℕ) → k < length (w ∷ []) → slice_index_or (w ∷ []) k put ≡ put → w ≡ put
 the_place w put zero l e = e
 the_place w put (suc k) l e = absurd (omega arith)
 
+-- what stands in a list of one row is that row
 the_one : (w put : RowKey × RowVal) → Contains (w ∷ []) put → w ≡ put
 the_one w put h = the_place w put h.0 h.1 h.2
 
+-- where one row is put
 one_puts_once : (w : RowKey × RowVal) → PutsOnce (w ∷ [])
 one_puts_once w put other h k e = ap (λ (p : RowKey × RowVal). p.1) (sym (the_one w put h) ∙ the_one w other k)
 
+-- whatever the rows are, the plan puts none with two values
 abbrev Once : Plan → Type 0
 Once plan = (look : Lookup) → PutsOnce (carried_out plan look).writes
 
+-- of two plans, by a test
 either_once : (b : Bool) (p q : Plan) → Once p → Once q → Once (if b then p else q)
 either_once true p q h k = h
 either_once false p q h k = k
 
+-- the table of a request, once its card is known
 on_card_once : (r : Request) (card : Option CardRow) → Once (on_card r card)
 on_card_once r None = λ look. none_puts_once
 on_card_once r (Some card) =

@@ -15,8 +15,10 @@ pan_of (Card pan) = pan
 abbrev pub pan_text : RowKey → List ℕ
 pan_text key = (pan_of key).0
 
+-- which of two keys comes first: digit by digit, and a number before each that it begins
 abbrev pub key_cmp : RowKey → RowKey → Ordering
 key_cmp = on pan_text (slice_cmp nat_cmp)
 
+-- the test whether two keys have the same digits
 abbrev pub key_eq : RowKey → RowKey → Bool
 key_eq = on pan_text (pointwise ◌==◌)

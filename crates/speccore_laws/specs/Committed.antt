@@ -37,9 +37,11 @@ pub record Holds (s : State) : Type 0 where
 abbrev settled_messages : State → List MessageState
 settled_messages s = take s.committed s.messages
 
+-- a committed message among the settled ones
 committed_at : (s : State) (j : ℕ) → j < s.committed → get_or (settled_messages s) j fresh ≡ message s j
 committed_at s j l = get_or-take s.committed s.messages j fresh l
 
+-- past the committed count there is no settled message
 not_committed : (s : State) (j : ℕ) → s.committed ≤ j → get_or (settled_messages s) j fresh ≡ fresh
 not_committed s j l = get_or_past (settled_messages s) j fresh (omega (arith, length-take s.committed s.messages))
 
@@ -73,6 +75,7 @@ seen_is_fold s h read sound (Some seen) resolves origin =
     ∙ put-Follows s.opening (settled_messages s) (take s.committed s.frames) seen.version.index (seen.row, seen.value) h.follows there none_between
     ∙ sym (sound.stands seen.version seen (sym origin) resolves.0 refl resolves.1)
 
+-- an answer of a log is that of its first read, or of the reads behind it
 found_first : (b : Bool) (read : LoggedRead) (rest : Option (Option RowVal)) (value : Option RowVal) → cond b (Some read.value) rest ≡ Some value → ((b ≡ true) × (read.value ≡ value)) ⊎ (rest ≡ Some value)
 found_first true read rest value e = inl (refl, same_Some _ _ e)
 found_first false read rest value e = inr e

@@ -27,10 +27,12 @@ Follows rows (m ∷ ms) (frame ∷ frames) =
 abbrev pub reply_in : MessageState → Option ReplyBody
 reply_in m = option_map (λ execution. execution.reply) m.execution
 
+-- a message with an execution put what its execution put
 writes_are : (m : MessageState) (x : Executed) → m.execution ≡ Some x → writes_in m ≡ x.writes
 writes_are m x e =
     ap (λ (o : Option Executed). elim o as (λ _. Writes) [ None ↦ [] | Some execution ↦ execution.writes ]) e
 
+-- their replies are those of the fold
 pub replies-Follows : (rows : Rows) (ms : List MessageState) (frames : List Frame) → Follows rows ms frames → filter_map reply_in ms ≡ replies_to rows frames
 replies-Follows rows [] [] h = refl
 replies-Follows rows [] (frame ∷ frames) h = absurd h
@@ -39,6 +41,7 @@ replies-Follows rows (m ∷ ms) (frame ∷ frames) h =
     ap (λ (o : Option Executed). cons_option (option_map (λ execution. execution.reply) o) (filter_map reply_in ms)) h.1
     ∙ ap₂ (λ (r : ReplyBody) (rs : List ReplyBody). r ∷ rs) h.2 (replies-Follows (rows_after_one rows frame) ms frames h.4)
 
+-- the rows under what they put are those of the fold
 pub rows-Follows : (rows : Rows) (ms : List MessageState) (frames : List Frame) → Follows rows ms frames → rows_under rows ms ≡ rows_after rows frames
 rows-Follows rows [] [] h = refl
 rows-Follows rows [] (frame ∷ frames) h = absurd h

@@ -43,6 +43,7 @@ pub record HasTrueExecution (frames : List Frame) (i : ℕ) (m : MessageState) (
   pub logged : AreLogged m.log x.reads
   pub once : PutsOnce (writes_in m)
 
+-- the entries are those of the present executions, each execution is a true one, and each log is sound
 pub record AreKept (opening : Rows) (frames : List Frame) (entries : List Entry) (at : ℕ → MessageState) : Type 0 where
   -- each entry was put by the present execution of its message
   pub owned : (e : Entry) → Contains entries e → ((at e.version.index).status ≡ status.Executed) × (e.version.incarnation ≡ (at e.version.index).incarnation) × Contains (writes_in (at e.version.index)) (e.row, e.value)
@@ -103,9 +104,11 @@ kept_finished opening frames entries at after i x kept others before now same lo
       ];
     }
 
+-- the test of numbers finds a number equal to itself
 same_number : (n : ℕ) → nat_eq n n ≡ true
 same_number n = eq-eqb n n refl
 
+-- below or equal is below the next number
 at_most : (a b : ℕ) {P : Type 0} → (a < b) ⊎ (P × (a ≡ b)) → a < b + 1
 at_most a b (inl l) = omega arith
 at_most a b (inr h) = let e = h.1 in omega arith

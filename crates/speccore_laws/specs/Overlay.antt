@@ -15,9 +15,11 @@ use Rattle.rows.specs.PutsOnce.{PutsOnce}
 abbrev pub Puts : Writes → RowKey → Type 0
 Puts writes row = (put : RowKey × RowVal) × Contains writes put × (put.0 ≡ row)
 
+-- one row is put: it has the value that is put
 get_put : (rows : Rows) (w : RowKey × RowVal) (row : RowKey) → row ≡ w.0 → eq_by_cmp key_cmp row w.0 ≡ true → map.get (map.insert rows w.0 w.1) row ≡ Some w.1
 get_put rows w row e t = map.get-insert key_cmp_total rows w.0 w.1 row ∙ ap (λ b. cond b (Some w.1) (map.get rows row)) t
 
+-- one row is put: every other row stays
 get_other : (rows : Rows) (w : RowKey × RowVal) (row : RowKey) → eq_by_cmp key_cmp row w.0 ≡ false → map.get (map.insert rows w.0 w.1) row ≡ map.get rows row
 get_other rows w row t = map.get-insert key_cmp_total rows w.0 w.1 row ∙ ap (λ b. cond b (Some w.1) (map.get rows row)) t
 

@@ -30,6 +30,7 @@ use Rattle.speccore_laws.specs.declared.task.Task.{Task}
 use Rattle.speccore_laws.specs.declared.task.Task.TheVariants.{Execute, Idle, Done}
 use Rattle.speccore_laws.specs.declared.version.Version.{Version}
 
+-- the three statuses are apart
 ready_not_executed : status.Ready ≢ status.Executed
 ready_not_executed e = cc
 
@@ -46,9 +47,11 @@ executed_not_ready e = cc
 of_other : (m : MessageState) (is other : Status) → m.status ≡ is → is ≢ other → m.status ≢ other
 of_other m is other e ne same = ne (sym e ∙ same)
 
+-- the message that is changed is the new one
 message_same : (s : State) (i : ℕ) (m : MessageState) → i < length s.messages → message (with_message s i m) i ≡ m
 message_same s i m l = get_or-set_same s.messages i m fresh l
 
+-- the other messages stay
 message_other : (s : State) (i : ℕ) (m : MessageState) (j : ℕ) → j ≢ i → message (with_message s i m) j ≡ message s j
 message_other s i m j ne = get_or-set_other s.messages i j m fresh ne
 
@@ -67,6 +70,7 @@ Holds-changed s h i m entries past kept =
       follows = subst (λ (ms : List MessageState). Follows s.opening ms (take s.committed s.frames)) (sym (take-set-le s.committed s.messages i m past)) h.follows;
     }
 
+-- a ready message is handed out
 Holds-claimed : (s : State) → Holds s → (i : ℕ) → i < length s.messages → (message s i).status ≡ status.Ready → Holds (claimed s i)
 Holds-claimed s h i l ready =
     let m : MessageState = record (message s i) { status = status.Running } in
@@ -90,6 +94,7 @@ seen_is_sound s h row j (Some seen) resolves =
       stands = λ v other e c of_v of_row. ap Some (one_value s.opening s.frames s.entries (message s) h.kept seen other resolves.0 c (same_Some _ _ e ∙ sym of_v) (resolves.1 ∙ sym of_row));
     }
 
+-- a running version logs what it sees
 Holds-read : (s : State) → Holds s → (v : Version) (row : RowKey) (seen : Option Entry) → IsRunning s v → Resolves s.entries row v.index seen → Holds (with_read s v (read_of s.opening row seen))
 Holds-read s h v row seen running resolves =
     let read : LoggedRead = read_of s.opening row seen in
@@ -112,6 +117,7 @@ once_of_true log x true_one logged =
     let agrees : Agrees x.reads look = recursion_from_All (λ read. look read.0 ≡ read.1) x.reads (λ k d l. ap option_flatten (logged k d l)) in
     subst PutsOnce (ap (λ (d : Decided). d.writes) (true_one look agrees)) (puts_once look x.frame)
 
+-- a running version hands in a true execution of its frame, from reads that it logged
 Holds-finished : (s : State) → Holds s → (v : Version) (x : Executed) → IsTrueExecution x → IsRunning s v → IsOfVersion s v x → Holds (finished s v x)
 Holds-finished s h v x true_one running of_version =
     let m : MessageState = record (message s v.index) { status = status.Executed; execution = Some x } in
@@ -127,6 +133,7 @@ Holds-finished s h v x true_one running of_version =
     (subst (λ (w : Version). AreKept s.opening s.frames (s.entries ++ map (entry_of w) x.writes) (message (with_message s v.index m))) version
     (subst (λ (n : MessageState). AreKept s.opening s.frames (s.entries ++ map (entry_of (version_at v.index (message s v.index).incarnation)) (writes_in n)) (message (with_message s v.index m))) now kept))
 
+-- the next message in the order of the batch is given up
 Holds-given_up : (s : State) → Holds s → IsExecuted s s.committed → Holds (given_up s s.committed)
 Holds-given_up s h executed =
     let i : ℕ = s.committed in
@@ -137,11 +144,13 @@ Holds-given_up s h executed =
     (of_other (message (with_message s i m) i) status.Ready status.Executed (ap (λ (n : MessageState). n.status) now) ready_not_executed)
     (ap (λ (n : MessageState). n.incarnation) now) (ap (λ (n : MessageState). n.log) now))
 
+-- every answer to asking for a task
 Holds-ClaimStep : (old : State) (task : Task) (new : State) → ClaimStep old task new → Holds old → Holds new
 Holds-ClaimStep old Done new step h = subst Holds (sym step.1) h
 Holds-ClaimStep old (Execute v) new step h = subst Holds (sym step.3) (Holds-claimed old h v.index step.1.0 step.1.1)
 Holds-ClaimStep old Idle new step h = subst Holds (sym step.2) h
 
+-- every answer to a read
 Holds-ReadStep : (old : State) (v : Version) (row : RowKey) (answer : Result (Option RowVal) CoreFault) (new : State) → ReadStep old v row answer new → Holds old → Holds new
 Holds-ReadStep old v row (Ok got) new step h =
     elim step.1 [
@@ -153,6 +162,7 @@ Holds-ReadStep old v row (Err OutOfMemory) new step h = subst Holds (sym step.2)
 Holds-ReadStep old v row (Err OtherReads) new step h = absurd step
 Holds-ReadStep old v row (Err Worn) new step h = absurd step
 
+-- every answer to handing in an execution
 Holds-FinishStep : (old : State) (v : Version) (x : Executed) (answer : Result (Unit {0}) CoreFault) (new : State) → IsTrueExecution x → FinishStep old v x answer new → Holds old → Holds new
 Holds-FinishStep old v x (Ok u) new true_one step h = subst Holds (sym step.2) (Holds-finished old h v x true_one step.0 step.1)
 Holds-FinishStep old v x (Err NotRunning) new true_one step h = subst Holds (sym step.1) h
@@ -160,6 +170,7 @@ Holds-FinishStep old v x (Err OtherReads) new true_one step h = subst Holds (sym
 Holds-FinishStep old v x (Err OutOfMemory) new true_one step h = subst Holds (sym step.2) h
 Holds-FinishStep old v x (Err Worn) new true_one step h = absurd step
 
+-- every answer to a commit
 Holds-CommitStep : (old : State) (answer : Result Bool CoreFault) (new : State) → CommitStep old answer new → Holds old → Holds new
 Holds-CommitStep old (Ok true) new step h =
     subst Holds (sym step.2)
@@ -181,11 +192,13 @@ Holds-Step old (Read v row answer) new step h = Holds-ReadStep old v row answer 
 Holds-Step old (Finish v x answer) new step h = Holds-FinishStep old v x answer new step.0 step.1 h
 Holds-Step old (Commit answer) new step h = Holds-CommitStep old answer new step h
 
+-- of fresh messages each is fresh, and past the end too
 all_fresh : (frames : List Frame) (i : ℕ) → get_or (map (λ _. fresh) frames) i fresh ≡ fresh
 all_fresh [] i = refl
 all_fresh (frame ∷ frames) zero = refl
 all_fresh (frame ∷ frames) (suc i) = all_fresh frames i
 
+-- the opening state has nothing put, nothing logged and nothing committed
 Holds-start : (opening : Rows) (frames : List Frame) → Holds (start opening frames)
 Holds-start opening frames =
     let s : State = start opening frames in
@@ -207,9 +220,11 @@ Holds-start opening frames =
 abbrev IsOfSame : State → State → Type 0
 IsOfSame old new = (new.opening ≡ old.opening) × (new.frames ≡ old.frames)
 
+-- a state that is equal to one of the same book and frames has them too
 same_from : (old new was : State) → new ≡ was → IsOfSame old was → IsOfSame old new
 same_from old new was e h = subst (IsOfSame old) (sym e) h
 
+-- one call
 same-Step : (old : State) (call : Call) (new : State) → Step old call new → IsOfSame old new
 same-Step old (Claim Done) new step = same_from old new _ step.1 (refl, refl)
 same-Step old (Claim (Execute v)) new step = same_from old new _ step.3 (refl, refl)
@@ -233,6 +248,7 @@ same-Step old (Commit (Err NotRunning)) new step = absurd step
 same-Step old (Commit (Err OtherReads)) new step = absurd step
 same-Step old (Commit (Err OutOfMemory)) new step = absurd step
 
+-- a list of calls
 same-Run : (old : State) (calls : List Call) (new : State) → Run old calls new → IsOfSame old new
 same-Run old [] new run = same_from old new old run (refl, refl)
 same-Run old (call ∷ calls) new run =
@@ -240,10 +256,12 @@ same-Run old (call ∷ calls) new run =
     let rest = same-Run run.0 calls new run.2 in
     (rest.0 ∙ first.0, rest.1 ∙ first.1)
 
+-- a list of calls keeps what holds
 Holds-Run : (old : State) (calls : List Call) (new : State) → Run old calls new → Holds old → Holds new
 Holds-Run old [] new run h = subst Holds (sym run) h
 Holds-Run old (call ∷ calls) new run h = Holds-Run run.0 calls new run.2 (Holds-Step old call run.0 run.1 h)
 
+-- one more call at the end of a run
 Run-push : (old : State) (calls : List Call) (mid : State) (call : Call) (new : State) → Run old calls mid → Step mid call new → Run old (calls ++ call ∷ []) new
 Run-push old [] mid call new run step = (new, subst (λ (s : State). Step s call new) run step, refl)
 Run-push old (first ∷ calls) mid call new run step = (run.0, run.1, Run-push run.0 calls mid call new run.2 step)
@@ -253,6 +271,7 @@ pub IsReached-start : (opening : Rows) (frames : List Frame) → IsReached (star
 unfolding IsReached
 IsReached-start opening frames = ([], refl)
 
+-- the state after a call on one that is reached is reached
 pub IsReached-Step : (old : State) (call : Call) (new : State) → IsReached old → Step old call new → IsReached new
 unfolding IsReached
 IsReached-Step old call new reached step =
@@ -260,6 +279,7 @@ IsReached-Step old call new reached step =
     let run : Run (start old.opening old.frames) (reached.0 ++ call ∷ []) new = Run-push (start old.opening old.frames) reached.0 old call new reached.1 step in
     (reached.0 ++ call ∷ [], subst (λ (rows : Rows). Run (start rows new.frames) (reached.0 ++ call ∷ []) new) (sym same.0) (subst (λ (frames : List Frame). Run (start old.opening frames) (reached.0 ++ call ∷ []) new) (sym same.1) run))
 
+-- what holds of every state that is reached
 pub Holds-reached : (s : State) → IsReached s → Holds s
 unfolding IsReached
 Holds-reached s reached = Holds-Run (start s.opening s.frames) reached.0 s reached.1 (Holds-start s.opening s.frames)
@@ -268,9 +288,11 @@ Holds-reached s reached = Holds-Run (start s.opening s.frames) reached.0 s reach
 pub replies-reached : (s : State) → IsReached s → committed_replies s ≡ replies_to s.opening (take s.committed s.frames)
 replies-reached s reached = replies-Follows s.opening (take s.committed s.messages) (take s.committed s.frames) (Holds-reached s reached).follows
 
+-- the opening book under what is committed in a state of a run is the fold
 pub rows-reached : (s : State) → IsReached s → committed_rows s ≡ rows_after s.opening (take s.committed s.frames)
 rows-reached s reached = rows-Follows s.opening (take s.committed s.messages) (take s.committed s.frames) (Holds-reached s reached).follows
 
+-- a run from an opening state leads to a state that is reached
 reached_by : (opening : Rows) (frames : List Frame) (calls : List Call) (s : State) → Run (start opening frames) calls s → IsReached s
 unfolding IsReached
 reached_by opening frames calls s run =
@@ -283,6 +305,7 @@ CommitsTheFold opening frames s =
     (committed_replies s ≡ replies_to opening (take s.committed frames))
     × (committed_rows s ≡ rows_after opening (take s.committed frames))
 
+-- every run commits the fold
 pub CommitsTheFold-Run : (opening : Rows) (frames : List Frame) (calls : List Call) (s : State) → Run (start opening frames) calls s → CommitsTheFold opening frames s
 CommitsTheFold-Run opening frames calls s run =
     let same = same-Run (start opening frames) calls s run in
