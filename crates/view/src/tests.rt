@@ -1,10 +1,12 @@
 ghost use Rattle.std.specs.Prelude.{None};
 
-use crate::{Decide, Recorder, RowSource, Stop, execute};
+use crate::{Decide, Execution, ReadSet, Recorder, RowSource, Stop, WriteSet, execute};
 use iso8583::{CodecFault, Currency, Pan};
 use rows::{
     Balance, CardRow, CardStatus, Count, Expiry, Frame, FrameFault, ReplyBody, RowKey, RowVal,
 };
+use std::alloc::Global;
+use std::process::Abort;
 use std::test::Fail;
 
 // One row, and how often it was asked for any.
@@ -47,6 +49,10 @@ impl Decide for FaultsAlone {
     }
 }
 
+const THERE: &[u8] = b"4111110000000005";
+
+const ABSENT: &[u8] = b"4111110000000013";
+
 fn card(number: &[u8]) -> Option<RowKey> {
     Some(RowKey::Card(Pan::new(number)?))
 }
@@ -63,60 +69,103 @@ fn row(available: u64) -> Option<RowVal> {
     }))
 }
 
-#[test]
-fn asks_once_and_answers_what_it_put(rt: HostRuntime) -> Result<(), Fail> {
-    let there = card(b"4111110000000005").ok_or("card")?;
-    let absent = card(b"4111110000000013").ok_or("card")?;
-    let before = row(10000).ok_or("row")?;
+fn source() -> Option<OneRow> {
+    Some(OneRow {
+        key: card(THERE)?,
+        row: row(10000)?,
+        asked: 0,
+    })
+}
+
+// Asks for both rows twice.
+fn read_twice(rt: &impl Abort, recorder: &mut Recorder<OneRow>) -> Result<(), Fail> {
+    let there = card(THERE).ok_or("card")?;
+    let absent = card(ABSENT).ok_or("card")?;
+    let before = row(10000);
+    for (key, row) in [
+        (there, before),
+        (there, before),
+        (absent, None),
+        (absent, None),
+    ] {
+        assert_eq!(rt; recorder.read(&key)?, row);
+    }
+    Ok(())
+}
+
+// Puts the row that is there.
+fn put(rt: &impl Abort, recorder: &mut Recorder<OneRow>) -> Result<(), Fail> {
+    let there = card(THERE).ok_or("card")?;
     let after = row(4000).ok_or("row")?;
     assert!(rt; after.suits(&there));
-    let source = OneRow {
-        key: there,
-        row: before,
-        asked: 0,
-    };
-
-    let mut recorder = Recorder::new(rt.alloc(), source);
-    assert_eq!(rt; recorder.read(&there)?, Some(before));
-    assert_eq!(rt; recorder.read(&there)?, Some(before));
-    assert_eq!(rt; recorder.read(&absent)?, None);
-    assert_eq!(rt; recorder.read(&absent)?, None);
     recorder.write(there, after)?;
     assert_eq!(rt; recorder.read(&there)?, Some(after));
+    Ok(())
+}
 
-    let (source, reads, writes) = recorder.into_parts();
+// The source, what was read and what was put, where both rows were read before one was put.
+fn recorded(rt: &impl Abort, alloc: Global) -> Result<(OneRow, ReadSet, WriteSet), Fail> {
+    let mut recorder = Recorder::new(alloc, source().ok_or("source")?);
+    read_twice(rt, &mut recorder)?;
+    put(rt, &mut recorder)?;
+    Ok(recorder.into_parts())
+}
+
+#[test]
+fn asks_once_and_answers_what_it_put(rt: HostRuntime) -> Result<(), Fail> {
+    let (source, _, _) = recorded(&rt, rt.alloc())?;
     assert_eq!(rt; source.asked, 2);
+    Ok(())
+}
+
+#[test]
+fn logs_each_row_that_it_read_once(rt: HostRuntime) -> Result<(), Fail> {
+    let (_, reads, _) = recorded(&rt, rt.alloc())?;
+    let there = card(THERE).ok_or("card")?;
+    let absent = card(ABSENT).ok_or("card")?;
     assert_eq!(rt; reads.len(), 2);
-    assert_eq!(rt; reads.at(0), (there, Some(before)));
+    assert_eq!(rt; reads.at(0), (there, Some(row(10000).ok_or("row")?)));
     assert_eq!(rt; reads.at(1), (absent, None));
     assert_eq!(rt; reads.get(&absent), Some(None));
-    assert_eq!(rt; writes.len(), 1);
-    assert_eq!(rt; writes.at(0), (there, after));
-    assert_eq!(rt; writes.get(&absent), None);
     Ok(())
+}
+
+#[test]
+fn keeps_what_it_put(rt: HostRuntime) -> Result<(), Fail> {
+    let (_, _, writes) = recorded(&rt, rt.alloc())?;
+    let there = card(THERE).ok_or("card")?;
+    assert_eq!(rt; writes.len(), 1);
+    assert_eq!(rt; writes.at(0), (there, row(4000).ok_or("row")?));
+    assert_eq!(rt; writes.get(&card(ABSENT).ok_or("card")?), None);
+    Ok(())
+}
+
+// A body that is no message, decided to be answered its fault.
+fn fault_execution(alloc: Global, fault: FrameFault) -> Result<Execution, Fail> {
+    let source = source().ok_or("source")?;
+    Ok(execute(alloc, &Frame::Bad(fault), source, &FaultsAlone)?)
 }
 
 #[test]
 fn executes_a_decision(rt: HostRuntime) -> Result<(), Fail> {
     let fault = FrameFault::new(CodecFault::Trailing).ok_or("fault")?;
-    let source = OneRow {
-        key: card(b"4111110000000005").ok_or("card")?,
-        row: row(10000).ok_or("row")?,
-        asked: 0,
-    };
-
-    let execution = execute(rt.alloc(), &Frame::Bad(fault), source, &FaultsAlone)?;
+    let execution = fault_execution(rt.alloc(), fault)?;
     assert_eq!(rt; execution.frame(), Frame::Bad(fault));
     assert_eq!(rt; execution.reply(), ReplyBody::Fault(fault));
     assert!(rt; execution.reads().is_empty());
     assert!(rt; execution.writes().is_empty());
+    Ok(())
+}
 
-    let (frame, reads, writes, reply) = execution.into_parts();
+#[test]
+fn an_execution_comes_apart(rt: HostRuntime) -> Result<(), Fail> {
+    let fault = FrameFault::new(CodecFault::Trailing).ok_or("fault")?;
+    let (frame, reads, writes, reply) = fault_execution(rt.alloc(), fault)?.into_parts();
     assert_eq!(rt;
         (frame, reply),
         (Frame::Bad(fault), ReplyBody::Fault(fault))
     );
-    assert_eq!(rt; reads.len() + writes.len(), 0);
+    assert!(rt; reads.is_empty() && writes.is_empty());
     Ok(())
 }
 
