@@ -1,7 +1,6 @@
 pub mod Amounts
 pub mod Cuts
 pub mod Found
-pub mod Joining
 pub mod Least
 pub mod Others
 pub mod Parts

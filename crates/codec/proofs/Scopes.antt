@@ -7,6 +7,7 @@ use Rattle.std.proofs.lemmas.Slice.Eq.{bytes_eq-Decides}
 use Rattle.iso8583.specs.Number.{fixed_digits}
 use Rattle.iso8583.specs.declared.codec_fault.CodecFault.{CodecFault}
 use Rattle.codec_laws.specs.Reading.{scope_at, verdict_at}
+use Rattle.codec_laws.proofs.Codes.{zero_text}
 
 abbrev Ruled : Type 0
 Ruled = Result (Unit {0}) CodecFault
@@ -44,18 +45,6 @@ approved_action text h = sym ((bytes_eq-Decides text (codes "000")).0 (passes (b
 
 not_declined : (b : Bool) (d : CodecFault) (r : Ruled) → cond b (Err d) r ≡ Ok tt → b ≡ false
 not_declined b d r h = (fails b d r h).0
-
-pub full_text : fixed_digits 3 400 ≡ codes "400"
-unfolding fixed_digits
-full_text = refl
-
-pub partial_text : fixed_digits 3 401 ≡ codes "401"
-unfolding fixed_digits
-partial_text = refl
-
-pub zero_text : fixed_digits 3 0 ≡ codes "000"
-unfolding fixed_digits
-zero_text = refl
 
 -- an action that is not spelled 000 is not 0
 pub declined_action : (text : List ℕ) (code : ℕ) → verdict_at false text ≡ Ok tt → fixed_digits 3 code ≡ text → 0 < code

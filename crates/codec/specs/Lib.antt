@@ -1,4 +1,3 @@
 pub mod Bitmaps
 pub mod Sides
 pub mod Texts
-pub mod Writing

@@ -5,6 +5,7 @@ use Rattle.codec.specs.declared.side.Side.TheVariants.{TakenIn, GivenOut}
 use Rattle.codec_laws.specs.declared.mti.Mti.{Mti}
 use Rattle.codec_laws.specs.Types.{taken_in, given_out}
 
+-- the types that are read on a side
 abbrev pub types_of : Side → List Mti
 types_of TakenIn = taken_in
 types_of GivenOut = given_out

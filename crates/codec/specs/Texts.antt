@@ -13,11 +13,13 @@ use Rattle.codec_laws.specs.Spelling.{Field, with_field, is_set}
 use Rattle.codec_laws.specs.Contents.{Content}
 use Rattle.codec_laws.specs.Reading.{rule_at, scope_at, verdict_at}
 
+-- the elements of a front and their texts, in rising number
 abbrev pub front_fields : Front → List Field
 front_fields x =
     (element.Pan, x.pan.now) ∷ (element.Processing, x.processing.now) ∷ (element.Amount, x.amount.now)
     ∷ (element.Transmission, x.transmission.now) ∷ (element.Stan, x.stan.now) ∷ (element.Stamp, x.stamp.now) ∷ []
 
+-- each text of a front is one that its element can have
 pub record HasFrontTexts (x : Front) : Type 0 where
   pub pan : IsText element.Pan x.pan.now
   pub processing : IsText element.Processing x.processing.now
@@ -26,6 +28,7 @@ pub record HasFrontTexts (x : Front) : Type 0 where
   pub stan : IsText element.Stan x.stan.now
   pub stamp : IsText element.Stamp x.stamp.now
 
+-- the elements of a body that are there and their texts, in rising number
 abbrev pub body_fields : Body → List Field
 body_fields x =
     with_field element.Function (option_map (λ t. t.now) x.function) (with_field element.OriginalAmount (option_map (λ t. t.now) x.original_amount)
@@ -33,6 +36,7 @@ body_fields x =
     (with_field element.Approval (option_map (λ t. t.now) x.approval) (with_field element.Action (option_map (λ t. t.now) x.action)
     ((element.Terminal, x.terminal.now) ∷ (element.Currency, x.currency.now) ∷ with_field element.Original (option_map (λ t. t.now) x.original) [])))))
 
+-- each text of a body that is there is one that its element can have
 pub record HasBodyTexts (x : Body) : Type 0 where
   pub function : IfSome x.function (λ t. IsText element.Function t.now)
   pub original_amount : IfSome x.original_amount (λ t. IsText element.OriginalAmount t.now)
@@ -44,6 +48,7 @@ pub record HasBodyTexts (x : Body) : Type 0 where
   pub currency : IsText element.Currency x.currency.now
   pub original : IfSome x.original (λ t. IsText element.Original t.now)
 
+-- the texts of a front and of a body together
 abbrev pub texts_of : Front → Body → Content
 texts_of x y = record {
   pan = x.pan.now;
@@ -65,21 +70,25 @@ texts_of x y = record {
 
 -- ---- one reader for the bodies of all types: what a bitmap without fault says is there, is there
 
+-- the rule of element 24: in a reversal it says the scope, elsewhere it is free
 abbrev pub function_rule : Mti → Rule
 function_rule mti.Reversal = Scope
 function_rule mti.ReversalRepeat = Scope
 function_rule _ = Free
 
+-- the rule of element 39: in a reply to a request it says the verdict, elsewhere it is free
 abbrev pub action_rule : Mti → Rule
 action_rule mti.RequestReply = Verdict
 action_rule _ = Free
 
+-- the elements from 24 on for the one reader: 32, 41 and 49 required, the others optional
 abbrev pub body_parts : Mti → List Part
 body_parts t =
     (false, element.Function, function_rule t) ∷ optional element.OriginalAmount
     ∷ required element.Acquirer ∷ optional element.Retrieval ∷ optional element.Approval ∷ (false, element.Action, action_rule t)
     ∷ required element.Terminal ∷ required element.Currency ∷ optional element.Original ∷ []
 
+-- elements 24, 30, 38, 39 and 56 are there exactly where the bitmap says so, and the rules of 24 and 39 find no fault
 pub record IsThere (t : Mti) (bitmap : ℕ) (x : Body) : Type 0 where
   pub function : is_some x.function ≡ is_set bitmap 24
   pub original_amount : is_some x.original_amount ≡ is_set bitmap 30
@@ -91,6 +100,7 @@ pub record IsThere (t : Mti) (bitmap : ℕ) (x : Body) : Type 0 where
 
 -- ---- the elements of each type that no other type need have
 
+-- element 24, and none of 30, 38, 39 and 56
 pub record IsRequestBody (x : Body) : Type 0 where
   pub function : IsSome x.function
   pub original_amount : x.original_amount ≡ None
@@ -98,6 +108,7 @@ pub record IsRequestBody (x : Body) : Type 0 where
   pub action : x.action ≡ None
   pub original : x.original ≡ None
 
+-- elements 24 and 39, and none of 30, 38 and 56
 pub record IsAdviceBody (x : Body) : Type 0 where
   pub function : IsSome x.function
   pub original_amount : x.original_amount ≡ None
@@ -105,6 +116,7 @@ pub record IsAdviceBody (x : Body) : Type 0 where
   pub action : IsSome x.action
   pub original : x.original ≡ None
 
+-- elements 24 and 56, where 24 is 400 without element 30 or 401 with it, and neither 38 nor 39
 pub record IsReversalBody (x : Body) : Type 0 where
   pub function : IsSome x.function
   pub scope : IfSome x.function (λ t. scope_at (is_some x.original_amount) t.now ≡ Ok tt)
@@ -112,6 +124,7 @@ pub record IsReversalBody (x : Body) : Type 0 where
   pub action : x.action ≡ None
   pub original : IsSome x.original
 
+-- element 39, which is 000 with element 38 or another without it, and none of 24, 30 and 56
 pub record IsVerdictBody (x : Body) : Type 0 where
   pub function : x.function ≡ None
   pub original_amount : x.original_amount ≡ None
@@ -119,6 +132,7 @@ pub record IsVerdictBody (x : Body) : Type 0 where
   pub verdict : IfSome x.action (λ t. verdict_at (is_some x.approval) t.now ≡ Ok tt)
   pub original : x.original ≡ None
 
+-- element 39, and none of 24, 30, 38 and 56
 pub record IsActionBody (x : Body) : Type 0 where
   pub function : x.function ≡ None
   pub original_amount : x.original_amount ≡ None
@@ -126,6 +140,7 @@ pub record IsActionBody (x : Body) : Type 0 where
   pub action : IsSome x.action
   pub original : x.original ≡ None
 
+-- the body has the form, of those above, that belongs to the type
 abbrev pub IsBodyOf : Mti → Body → Type 0
 IsBodyOf mti.Request x = IsRequestBody x
 IsBodyOf mti.RequestRepeat x = IsRequestBody x

@@ -4,8 +4,6 @@
 mod bitmap;
 mod body;
 mod decoding;
-mod encoding;
-mod extras;
 mod fields;
 mod front;
 mod header;
@@ -16,10 +14,9 @@ mod texts;
 mod types;
 mod value_test;
 mod values;
-mod writer;
 
 pub use decoding::{decode, decode_reply};
-pub use encoding::{ROOM, encode, encode_reply};
+pub use encoder::{ROOM, encode, encode_reply};
 
 #[cfg(test)]
 mod tests;

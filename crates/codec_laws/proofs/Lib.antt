@@ -1,4 +1,5 @@
 pub mod Bits
+pub mod Codes
 pub mod Contents
 pub mod Elements
 pub mod Formed

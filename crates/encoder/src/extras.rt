@@ -1,7 +1,7 @@
 //! What messages and replies have beside their transaction.
 
 ghost use Rattle.std.specs.Prelude.{◌≡◌, List, ℕ, if◌then◌else◌};
-ghost use Rattle.codec.specs.Writing.{whole_content};
+ghost use Rattle.encoder.specs.Writing.{whole_content};
 ghost use Rattle.codec_laws.specs.Messages.{mti_of, transaction_of, content_of};
 ghost use Rattle.codec_laws.specs.Replies.{answer_mti, reply_mti, reply_content};
 
@@ -62,7 +62,7 @@ pub(crate) fn reply_mti(reply: &Reply) -> Mti
 }
 
 /// What a message has beside its transaction.
-#[tactic(auto, using(crate::proofs::Scopes::full_text, crate::proofs::Scopes::partial_text))]
+#[tactic(auto, using(codec_laws::proofs::Codes::full_text, codec_laws::proofs::Codes::partial_text))]
 pub(crate) fn extras_of(message: &Message) -> Extras
     ensures { whole_content (transaction_of message.now) result ≡ content_of message.now }
 {
@@ -100,7 +100,7 @@ pub(crate) fn extras_of(message: &Message) -> Extras
 }
 
 /// What a reply has beside its transaction.
-#[tactic(auto, using(crate::proofs::Scopes::zero_text))]
+#[tactic(auto, using(codec_laws::proofs::Codes::zero_text))]
 pub(crate) fn reply_extras(reply: &Reply) -> Extras
     ensures { whole_content reply.now.transaction result ≡ reply_content reply.now }
 {

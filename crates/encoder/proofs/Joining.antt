@@ -15,8 +15,8 @@ use Rattle.codec_laws.specs.Elements.{element_number, original_text}
 use Rattle.codec_laws.specs.Types.{mti_text}
 use Rattle.codec_laws.specs.Spelling.{Field, field, with_field, bitmap_of, spelling}
 use Rattle.codec_laws.specs.Contents.{Content, content_fields}
-use Rattle.codec.specs.declared.extras.Extras.{Extras}
-use Rattle.codec.specs.Writing.{whole_content, bit_if, front_list, scope_list, reference_list, answer_list, end_list, original_list}
+use Rattle.encoder.specs.declared.extras.Extras.{Extras}
+use Rattle.encoder.specs.Writing.{whole_content, bit_if, front_list, scope_list, reference_list, answer_list, end_list, original_list}
 
 -- ---- the bitmap
 

@@ -2,9 +2,9 @@ use Rattle.std.proofs.Common.{◌≡◌, ap, ◌∙◌}
 use Rattle.std.specs.Int.{w64, to_be_bytes}
 use Rattle.codec_laws.specs.Spelling.{bitmap_of}
 use Rattle.codec_laws.specs.Contents.{content_fields}
-use Rattle.codec.specs.Writing.{whole_content}
-use Rattle.codec.proofs.Joining.{spelling_written}
-use Rattle.codec.proofs.encoding.put_spelling.Goals as goal
+use Rattle.encoder.specs.Writing.{whole_content}
+use Rattle.encoder.proofs.Joining.{spelling_written}
+use Rattle.encoder.proofs.encoding.put_spelling.Goals as goal
 
 pub returns : goal.returns
 returns c =

@@ -1,8 +1,8 @@
 ghost use Rattle.std.specs.Prelude.{◌≡◌, ℕ, ◌+◌, ◌≤◌, [], ◌++◌, length, vec_len, vec_capacity, OnOk, OnErr, IfErr, IsOk, option_map};
 ghost use Rattle.std.specs.List.{flat_map};
 ghost use Rattle.iso8583.specs.Number.{fixed_digits};
-ghost use Rattle.codec.specs.declared.extras.Extras.{Extras};
-ghost use Rattle.codec.specs.Writing.{bit_if, whole_content, front_list, scope_list, reference_list, answer_list, end_list, original_list};
+ghost use Rattle.encoder.specs.declared.extras.Extras.{Extras};
+ghost use Rattle.encoder.specs.Writing.{bit_if, whole_content, front_list, scope_list, reference_list, answer_list, end_list, original_list};
 ghost use Rattle.codec_laws.specs.Elements.{original_text, original_type, twelve_zeros};
 ghost use Rattle.codec_laws.specs.Types.{mti_text};
 ghost use Rattle.codec_laws.specs.Spelling.{Field, field, with_field, bitmap_of, spelling};

@@ -1,5 +1,5 @@
-use Rattle.codec.proofs.Joining.{bitmap_parts}
-use Rattle.codec.proofs.encoding.bitmap_of.Goals as goal
+use Rattle.encoder.proofs.Joining.{bitmap_parts}
+use Rattle.encoder.proofs.encoding.bitmap_of.Goals as goal
 
 pub returns : goal.returns
 returns c =

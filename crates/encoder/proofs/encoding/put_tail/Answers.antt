@@ -1,6 +1,6 @@
-use Rattle.codec.specs.Writing.{whole_content}
-use Rattle.codec.proofs.Joining.{tail_written}
-use Rattle.codec.proofs.encoding.put_tail.Goals as goal
+use Rattle.encoder.specs.Writing.{whole_content}
+use Rattle.encoder.proofs.Joining.{tail_written}
+use Rattle.encoder.proofs.encoding.put_tail.Goals as goal
 
 pub returns : goal.returns
 returns c =

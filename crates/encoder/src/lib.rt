@@ -1,0 +1,8 @@
+//! Messages and replies of ISO 8583:1993 into bytes.
+#![tactic(auto)]
+
+mod encoding;
+mod extras;
+mod writer;
+
+pub use encoding::{ROOM, encode, encode_reply};
