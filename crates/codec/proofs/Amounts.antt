@@ -11,6 +11,7 @@ use Rattle.iso8583.proofs.NumberLaws.{fixed_digits-number_of, digit_bounds, is_d
 use Rattle.std.proofs.lemmas.List.{take-append-drop, length-take-le}
 use Rattle.std.proofs.lemmas.Slice.Eq.{bytes_eq-Decides}
 use Rattle.codec_laws.specs.declared.element.Element.TheVariants as element
+use Rattle.codec_laws.proofs.Conjunctions.{both_true}
 use Rattle.codec_laws.specs.Elements.{IsText, is_original_amount, twelve_zeros}
 
 pub digits_again : (text : List ℕ) → length text ≡ 12 → IsDigits text → fixed_digits 12 (number_of text) ≡ text
@@ -19,14 +20,10 @@ digits_again text len digits = fixed_digits-number_of 12 text len digits
 digit_below : (c : ℕ) → is_ascii_digit c ≡ true → digit_value c < 10
 digit_below c h = let range = digit_bounds c h in grind (arith, nat_tests)
 
-both_left : (a b : Bool) → (a && b) ≡ true → (a ≡ true) × (b ≡ true)
-both_left true b h = (refl, h)
-both_left false b h = absurd cc
-
 all_digits : (text : List ℕ) → IsDigits text → AllDigits 10 text
 all_digits [] h = tt
 all_digits (c ∷ cs) h =
-    let parts = both_left (is_ascii_digit c) (is_digits cs) h in
+    let parts = both_true (is_ascii_digit c) (is_digits cs) h in
     (digit_below c parts.0, all_digits cs parts.1)
 
 pub amount_bound : (text : List ℕ) → length text ≡ 12 → IsDigits text → number_of text < 10 ^ 12

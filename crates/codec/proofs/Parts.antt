@@ -1,9 +1,10 @@
 -- Reading elements one after the other.
-use Rattle.std.proofs.Common.{◌≡◌, ℕ, true, false, eqb, List, [], ◌∷◌, ◌++◌, length, Option, Some, None, Result, Ok, Err, refl, ap, ◌∙◌}
+use Rattle.std.proofs.Common.{◌≡◌, ℕ, true, false, eqb, List, [], ◌∷◌, ◌++◌, length, Option, Some, None, Result, Ok, Err, refl, sym, ap, ◌∙◌}
 use Rattle.std.specs.Prelude.{◌||◌}
 use Rattle.iso8583.specs.declared.codec_fault.CodecFault.{CodecFault}
 use Rattle.iso8583.specs.declared.codec_fault.CodecFault.TheVariants.{Trailing}
 use Rattle.codec_laws.specs.declared.element.Element.{Element}
+use Rattle.codec_laws.proofs.Joined.{with_field-joined}
 use Rattle.codec_laws.specs.Elements.{element_number}
 use Rattle.codec_laws.specs.Types.{Part}
 use Rattle.codec_laws.specs.Spelling.{Field, with_field, is_set}
@@ -22,12 +23,8 @@ abbrev pub and_then : ℕ → List Part → Read → Read
 and_then bitmap qs (Ok x) = with_front x.0 (fields_at bitmap qs x.1)
 and_then bitmap qs (Err f) = Err f
 
-with_field-append : (e : Element) (text : Option (List ℕ)) (xs ys : List Field) → with_field e text (xs ++ ys) ≡ with_field e text xs ++ ys
-with_field-append e None xs ys = refl
-with_field-append e (Some text) xs ys = refl
-
 regroup : (e : Element) (text : Option (List ℕ)) (xs : List Field) (read : Read) → with_first e text (with_front xs read) ≡ with_front (with_field e text xs) read
-regroup e text xs (Ok ys) = let rebuilt = λ (fs : List Field). let r : Read = Ok (fs, ys.1) in r in ap rebuilt (with_field-append e text xs ys.0)
+regroup e text xs (Ok ys) = let rebuilt = λ (fs : List Field). let r : Read = Ok (fs, ys.1) in r in ap rebuilt (sym (with_field-joined e text xs ys.0))
 regroup e text xs (Err f) = refl
 
 first_and_then : (bitmap : ℕ) (qs : List Part) (e : Element) (text : Option (List ℕ)) (read : Read) → with_first e text (and_then bitmap qs read) ≡ and_then bitmap qs (with_first e text read)

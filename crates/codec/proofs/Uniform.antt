@@ -1,5 +1,6 @@
 -- One reader for the bodies of all types: a bitmap without fault says which elements are there.
 use Rattle.std.proofs.Common.{◌≡◌, ℕ, ◌≤◌, Bool, true, false, leb, List, Option, Some, None, Result, Ok, Err, refl, subst, arith}
+use Rattle.std.proofs.lemmas.Bool.{leb-true}
 use Rattle.std.specs.Prelude.{not, ◌&&◌, is_some, IsSome, IfSome, option_map}
 use Rattle.iso8583.specs.declared.codec_fault.CodecFault.{CodecFault}
 use Rattle.codec_laws.specs.declared.element.Element.{Element}
@@ -14,9 +15,6 @@ use Rattle.codec_laws.proofs.Bits.{IsSound, is_sound}
 use Rattle.codec.specs.declared.body.Body.{Body}
 use Rattle.codec.specs.Texts.{body_parts, function_rule, action_rule, IsThere, IsRequestBody, IsAdviceBody, IsReversalBody, IsVerdictBody, IsActionBody, IsBodyOf}
 
-leb-le : (m n : ℕ) → leb m n ≡ true → m ≤ n
-leb-le m n h = grind arith
-
 not_listed : (set listed : Bool) → (set && not listed) ≡ false → listed ≡ false → set ≡ false
 not_listed false listed h k = refl
 not_listed true true h k = absurd cc
@@ -29,10 +27,10 @@ is_needed false false h k = absurd cc
 
 module _ (parts : List Part) (bitmap : ℕ) (sound : IsSound parts bitmap) where
   unset : (n : ℕ) → leb 2 n ≡ true → leb n 64 ≡ true → is_listed parts n ≡ false → is_set bitmap n ≡ false
-  unset n low high h = not_listed (is_set bitmap n) (is_listed parts n) (sound.unexpected n (leb-le 2 n low) (leb-le n 64 high)) h
+  unset n low high h = not_listed (is_set bitmap n) (is_listed parts n) (sound.unexpected n (leb-true 2 n low) (leb-true n 64 high)) h
 
   set : (n : ℕ) → leb 2 n ≡ true → leb n 64 ≡ true → is_required parts n ≡ true → is_set bitmap n ≡ true
-  set n low high h = is_needed (is_set bitmap n) (is_required parts n) (sound.missing n (leb-le 2 n low) (leb-le n 64 high)) h
+  set n low high h = is_needed (is_set bitmap n) (is_required parts n) (sound.missing n (leb-true 2 n low) (leb-true n 64 high)) h
 
 without_first : (e : Element) (read : Result (List Field × List ℕ) CodecFault) → with_first e None read ≡ read
 without_first e (Ok x) = refl

@@ -3,7 +3,7 @@ use Rattle.std.proofs.Common.{◌≡◌, ℕ, zero, suc, ◌+◌, ◌-◌, ◌*�
 use Rattle.std.specs.Prelude.{not, ◌||◌, ◌&&◌}
 use Rattle.std.specs.List.{list_any}
 use Rattle.std.specs.Int.{bit_at}
-use Rattle.std.proofs.lemmas.Bool.{eqb-true, cases_lt}
+use Rattle.std.proofs.lemmas.Bool.{eqb-true, leb-true, ltb-true, cases_lt}
 use Rattle.std.proofs.lemmas.Nat.Bits.{bit_at-lt, same_from_bits_below, bit_at_cat_low, bit_at_cat_high, bit_at_above, bit_at-zero}
 use Rattle.std.proofs.Math.Nat.{pow-suc, pow-le-pow_right}
 use Rattle.iso8583.specs.declared.codec_fault.CodecFault.{CodecFault}
@@ -12,6 +12,7 @@ use Rattle.codec_laws.specs.Elements.{element_number}
 use Rattle.codec_laws.specs.Types.{Part}
 use Rattle.codec_laws.specs.Spelling.{Field, bitmap_of, is_set}
 use Rattle.codec_laws.specs.Reading.{least, is_listed, is_required, is_unexpected, is_missing, first_wrong, presence_at}
+use Rattle.codec_laws.proofs.Conjunctions.{all_three_true}
 use Rattle.codec_laws.proofs.Present.{present, elements_of}
 
 -- the bits of elements
@@ -36,18 +37,6 @@ rises_from : (low high : ℕ) (es : List Element) → low ≤ high → Rises hig
 rises_from low high [] h r = tt
 rises_from low high (e ∷ es) h r = (omega (arith, r.0), r.1, r.2)
 
-and_parts : (a b c : Bool) → (a && b && c) ≡ true → (a ≡ true) × (b ≡ true) × (c ≡ true)
-and_parts true true true h = (refl, refl, refl)
-and_parts true true false h = absurd cc
-and_parts true false c h = absurd cc
-and_parts false b c h = absurd cc
-
-ltb-lt : (m n : ℕ) → ltb m n ≡ true → m < n
-ltb-lt m n h = grind arith
-
-leb-le : (m n : ℕ) → leb m n ≡ true → m ≤ n
-leb-le m n h = grind arith
-
 rises_here : (there : Bool) (low : ℕ) (e : Element) (es : List Element) → low < element_number e → element_number e ≤ 64 → Rises (element_number e) es → Rises low (cond there (e ∷ es) es)
 rises_here true low e es h k r = (h, k, r)
 rises_here false low e es h k r = rises_from low (element_number e) es (omega arith) r
@@ -55,8 +44,8 @@ rises_here false low e es h k r = rises_from low (element_number e) es (omega ar
 pub present_rises : (bitmap low : ℕ) (ps : List Part) → is_rising low ps ≡ true → Rises low (present bitmap ps)
 present_rises bitmap low [] h = tt
 present_rises bitmap low (p ∷ ps) h =
-    let parts = and_parts (ltb low (element_number p.1)) (leb (element_number p.1) 64) (is_rising (element_number p.1) ps) h in
-    rises_here (p.0 || is_set bitmap (element_number p.1)) low p.1 (present bitmap ps) (ltb-lt _ _ parts.0) (leb-le _ _ parts.1) (present_rises bitmap (element_number p.1) ps parts.2)
+    let parts = all_three_true (ltb low (element_number p.1)) (leb (element_number p.1) 64) (is_rising (element_number p.1) ps) h in
+    rises_here (p.0 || is_set bitmap (element_number p.1)) low p.1 (present bitmap ps) (ltb-true _ _ parts.0) (leb-true _ _ parts.1) (present_rises bitmap (element_number p.1) ps parts.2)
 
 powers : (i j : ℕ) → i ≤ j → 2 ^ i ≤ 2 ^ j
 powers i j h = let positive : 0 < 2 = omega arith in pow-le-pow_right positive h

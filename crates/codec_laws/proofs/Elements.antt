@@ -1,7 +1,7 @@
 -- The text of an element that was read is the one that was spelled, and what was spelled is read again.
 use Rattle.std.proofs.Common.{◌≡◌, ℕ, ◌<◌, ◌≤◌, Bool, true, false, cond, ltb, leb, List, ◌++◌, length, take, drop, Result, Ok, Err, refl, sym, ap, subst, ◌∙◌, append_assoc, arith, lit<}
 use Rattle.std.specs.Prelude.{not, ◌&&◌}
-use Rattle.std.proofs.lemmas.Bool.{ltb-false, le-ltb}
+use Rattle.std.proofs.lemmas.Bool.{ltb-false, le-ltb, leb-true, le-leb}
 use Rattle.std.proofs.lemmas.List.{take_at, drop_at, take-append-drop, length-append, length-take-le}
 use Rattle.iso8583.specs.declared.codec_fault.CodecFault.{CodecFault}
 use Rattle.iso8583.specs.declared.codec_fault.CodecFault.TheVariants.{Short, BadLength, BadCharacter, BadValue}
@@ -14,6 +14,7 @@ use Rattle.codec_laws.specs.declared.shape.Shape.{Shape}
 use Rattle.codec_laws.specs.declared.shape.Shape.TheVariants.{Fixed, UpTo}
 use Rattle.codec_laws.specs.Elements.{element_number, shape_of, class_of, is_of_class, has_value, HasShape, IsText}
 use Rattle.codec_laws.specs.Spelling.{field, length_prefix}
+use Rattle.codec_laws.proofs.Conjunctions.{all_three_true}
 use Rattle.codec_laws.specs.Reading.{◌>>=◌, bytes_at, is_length, shaped_at, element_at}
 
 -- the value of a step that did not fail
@@ -34,18 +35,6 @@ test_ok false d r y e = absurd cc
 not_true : {A : Type 0} (b : Bool) (d : CodecFault) (r : Result A CodecFault) (y : A) → cond (not b) (Err d) r ≡ Ok y → (b ≡ true) × (r ≡ Ok y)
 not_true true d r y e = (refl, e)
 not_true false d r y e = absurd cc
-
-both_parts : (a b c : Bool) → (a && b && c) ≡ true → (a ≡ true) × (b ≡ true) × (c ≡ true)
-both_parts true true true h = (refl, refl, refl)
-both_parts true true false h = absurd cc
-both_parts true false c h = absurd cc
-both_parts false b c h = absurd cc
-
-leb-le : (m n : ℕ) → leb m n ≡ true → m ≤ n
-leb-le m n h = grind arith
-
-le-leb : (m n : ℕ) → m ≤ n → leb m n ≡ true
-le-leb m n h = grind arith
 
 pub ok_is : {A : Type 0} {x y : A} (view : Result A CodecFault) → view ≡ Ok x → view ≡ Ok y → x ≡ y
 ok_is view h k = cc
@@ -73,10 +62,10 @@ shaped_taken n (UpTo min max) bytes text rest e =
     let t = test_ok (is_length min max digits) (BadLength n) (bytes_at n (number_of digits) behind) (text, rest) p.2 in
     let front = bytes_taken n 2 bytes digits behind p.1 in
     let back = bytes_taken n (number_of digits) behind text rest t.1 in
-    let parts = both_parts (is_digits digits) (leb min (number_of digits)) (leb (number_of digits) max) t.0 in
+    let parts = all_three_true (is_digits digits) (leb min (number_of digits)) (leb (number_of digits) max) t.0 in
     let size : fixed_digits 2 (length text) ≡ digits = rw back.1 (fixed_digits-number_of 2 digits front.1 parts.0) in (
       front.0 ∙ (ap (λ (x : List ℕ). digits ++ x) back.0 ∙ rw size (sym (append_assoc digits text rest))),
-      (rw back.1 (leb-le _ _ parts.1), rw back.1 (leb-le _ _ parts.2)),
+      (rw back.1 (leb-true _ _ parts.1), rw back.1 (leb-true _ _ parts.2)),
     )
 
 -- two digits say each length that the shape has

@@ -1,9 +1,11 @@
 pub mod Bits
 pub mod Codes
+pub mod Conjunctions
 pub mod Contents
 pub mod Elements
 pub mod Formed
 pub mod Headers
+pub mod Joined
 pub mod Messages
 pub mod NoMemory
 pub mod Originals

@@ -3,6 +3,7 @@ use Rattle.std.proofs.Common.{◌≡◌, ℕ, Bool, true, false, cond, List, [],
 use Rattle.std.specs.Prelude.{◌||◌, map, is_ok, ◌&&◌}
 use Rattle.std.specs.List.{flat_map, AllByRecursion}
 use Rattle.iso8583.specs.declared.codec_fault.CodecFault.{CodecFault}
+use Rattle.codec_laws.proofs.Conjunctions.{both_true}
 use Rattle.codec_laws.specs.declared.element.Element.{Element}
 use Rattle.codec_laws.specs.Elements.{element_number, IsText}
 use Rattle.codec_laws.specs.declared.rule.Rule.{Rule}
@@ -134,10 +135,6 @@ no_rule : (rule : Rule) (bitmap : ℕ) → rule_at rule bitmap None ≡ Ok tt
 no_rule Free bitmap = refl
 no_rule Scope bitmap = refl
 no_rule Verdict bitmap = refl
-
-both_true : (a b : Bool) → (a && b) ≡ true → (a ≡ true) × (b ≡ true)
-both_true true b h = (refl, h)
-both_true false b h = absurd cc
 
 rule_ok : (rule : Result (Unit {0}) CodecFault) → is_ok rule ≡ true → rule ≡ Ok tt
 rule_ok (Ok u) h = refl

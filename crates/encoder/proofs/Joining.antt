@@ -8,6 +8,7 @@ use Rattle.std.proofs.lemmas.Grind.{flat_map-append}
 use Rattle.iso8583.specs.Number.{fixed_digits}
 use Rattle.iso8583.specs.declared.original_ref.OriginalRef.{OriginalRef}
 use Rattle.iso8583.specs.declared.transaction.Transaction.{Transaction}
+use Rattle.codec_laws.proofs.Joined.{with_field-joined}
 use Rattle.codec_laws.specs.declared.element.Element.{Element}
 use Rattle.codec_laws.specs.declared.element.Element.TheVariants as element
 use Rattle.codec_laws.specs.declared.mti.Mti.{Mti}
@@ -33,10 +34,6 @@ pub bitmap_sum : (t : Transaction) (x : Extras) → bitmap_of (content_fields (w
 bitmap_sum t x = simp (bitmap_of-with, is_some-map) (omega arith)
 
 -- ---- the pieces
-
-with_field-joined : (e : Element) (text : Option (List ℕ)) (xs ys : List Field) → with_field e text xs ++ ys ≡ with_field e text (xs ++ ys)
-with_field-joined e None xs ys = refl
-with_field-joined e (Some text) xs ys = refl
 
 one_by_one : (e d : Element) (x y : Option (List ℕ)) → flat_map field (with_field e x (with_field d y [])) ≡ flat_map field (with_field e x []) ++ flat_map field (with_field d y [])
 one_by_one e d None y = refl
