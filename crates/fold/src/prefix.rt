@@ -1,4 +1,4 @@
-ghost use Rattle.std.specs.Prelude.{◌≡◌, ◌+◌, ◌<◌, ◌^◌, [], ◌∷◌, ◌++◌, OnOk};
+ghost use Rattle.std.specs.Prelude.{◌≡◌, ◌+◌, ◌<◌, ◌^◌, [], ◌∷◌, ◌++◌, IfOk};
 ghost use Rattle.rows.specs.Fold.{overlay, reply_of, rows_after_one};
 
 use crate::plain_rows::PlainRows;
@@ -31,37 +31,46 @@ impl Prefix {
         }
     }
 
-    // Decides one more body. After an error its rows may be put in part.
+    // Decides one more body.
     pub(crate) fn decide_next<F: Decide>(
-        &mut self,
+        self,
         alloc: Global,
         frame: &Frame,
         decision: &F,
-    ) -> Result<(), AllocError>
-        requires { self.old.count + 1 < 2 ^ 32 }
-        ensures count { OnOk result (self.new.count ≡ self.old.count + 1) }
-        ensures book { OnOk result (self.new.book ≡ rows_after_one self.old.book frame.now) }
-        ensures replies { OnOk result (self.new.replies.items ≡ self.old.replies.items ++ reply_of self.old.book frame.now ∷ []) }
+    ) -> Result<Prefix, AllocError>
+        requires { self.count + 1 < 2 ^ 32 }
+        ensures count { IfOk result (λ after. after.count ≡ self.count + 1) }
+        ensures book { IfOk result (λ after. after.book ≡ rows_after_one self.book frame.now) }
+        ensures replies { IfOk result (λ after. after.replies.items ≡ self.replies.items ++ reply_of self.book frame.now ∷ []) }
     {
         let execution = match execute(alloc, frame, PlainRows::new(&self.book), decision) {
             Ok(execution) => execution,
             Err(Stop::OutOfMemory) => return Err(AllocError),
             Err(_) => unreachable!(),
         };
-        put_all(&mut self.book, execution.writes())?;
-        self.replies.push(execution.reply())?;
-        self.count += 1;
-        Ok(())
+        let Prefix {
+            count,
+            book,
+            mut replies,
+        } = self;
+        let book = put_all(book, execution.writes())?;
+        replies.push(execution.reply())?;
+        Ok(Prefix {
+            count: count + 1,
+            book,
+            replies,
+        })
     }
 }
 
-/// Puts the rows, one after another. After an error some of them may be put.
-pub fn put_all(book: &mut Book, writes: &WriteSet) -> Result<(), AllocError>
-    ensures { OnOk result (book.new ≡ overlay book.old writes.now) }
+/// The book with these rows put, one after another. It is gone after an error.
+pub fn put_all(book: Book, writes: &WriteSet) -> Result<Book, AllocError>
+    ensures { IfOk result (λ after. after ≡ overlay book writes.now) }
 {
+    let mut after = book;
     for index in 0..writes.len() {
         let (key, row) = writes.at(index);
-        book.put(key, row)?;
+        after.put(key, row)?;
     }
-    Ok(())
+    Ok(after)
 }

@@ -36,7 +36,7 @@ pub fn decide_all_by<F: Decide>(
     let mut after = prefix;
     let rest = &frames[after.count as usize..];
     for frame in rest {
-        after.decide_next(alloc, frame, decision)?;
+        after = after.decide_next(alloc, frame, decision)?;
     }
     Ok(after)
 }

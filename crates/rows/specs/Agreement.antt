@@ -1,8 +1,8 @@
 -- When a decision that was made from a few rows is the decision on a whole book.
-use Rattle.std.specs.Prelude.{◌≡◌, List, map, Option}
+use Rattle.std.specs.Prelude.{◌≡◌, List, map, Option, Contains}
 use Rattle.std.specs.List.{AllByRecursion}
 use Rattle.rows.specs.Decision.{decision}
-use Rattle.rows.specs.Plan.{Writes, Lookup}
+use Rattle.rows.specs.Plan.{Writes, Lookup, Decided}
 use Rattle.rows.specs.declared.frame.Frame.{Frame}
 use Rattle.rows.specs.declared.reply_body.ReplyBody.{ReplyBody}
 use Rattle.rows.specs.declared.row_key.RowKey.{RowKey}
@@ -20,10 +20,17 @@ keys_read reads = map (λ read. read.0) reads
 abbrev pub Agrees : Reads → Lookup → Type 0
 Agrees reads look = AllByRecursion (λ read. look read.0 ≡ read.1) reads
 
+-- each of these rows was read
+abbrev pub AreRead : List RowKey → Reads → Type 0
+AreRead keys reads = AllByRecursion (Contains (keys_read reads)) keys
+
+-- a decision came to this reply and these rows, and needed no row but those that were read
+abbrev pub ComesTo : Decided → Reads → Writes → ReplyBody → Type 0
+ComesTo d reads writes reply = (d.reply ≡ reply) × (d.writes ≡ writes) × AreRead d.needs reads
+
 -- On all rows that agree with these reads, the frame gets this reply and puts these rows, and no other row is needed.
 abbrev pub IsLocal : Frame → Reads → Writes → ReplyBody → Type 0
-IsLocal frame reads writes reply =
-    (look : Lookup) → Agrees reads look → decision look frame ≡ record { reply = reply; writes = writes; needs = keys_read reads }
+IsLocal frame reads writes reply = (look : Lookup) → Agrees reads look → ComesTo (decision look frame) reads writes reply
 
 -- a decision that was made: of which frame, from which reads, and what it came to
 pub record Executed : Type 0 where

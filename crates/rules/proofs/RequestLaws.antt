@@ -4,9 +4,9 @@ use Rattle.std.proofs.lemmas.Bool.Decides.{nat_tests}
 use Rattle.iso8583.specs.Number.{fixed_digits}
 use Rattle.iso8583.specs.declared.request.Request.{Request}
 use Rattle.iso8583.specs.declared.verdict.Verdict.TheVariants.{Approved, Declined}
-use Rattle.rows.specs.Agreement.{Reads, IsLocal}
+use Rattle.rows.specs.Agreement.{Reads, IsLocal, ComesTo}
 use Rattle.rows.specs.Decision.{decision}
-use Rattle.rows.specs.Plan.{Plan, Answer, Writes, after_look, carried_out}
+use Rattle.rows.specs.Plan.{Plan, Answer, Decided, Lookup, Writes, after_look, carried_out}
 use Rattle.rows.specs.Table.{card_in, on_card, declined, approved, charged, reply_to}
 use Rattle.rows.specs.declared.card_row.CardRow.{CardRow}
 use Rattle.rows.specs.declared.frame.Frame.{Frame}
@@ -19,7 +19,7 @@ use Rattle.rows.specs.declared.row_val.RowVal.{RowVal}
 use Rattle.rows.specs.declared.row_val.RowVal.TheVariants as val
 use Rattle.view.specs.Recording.{Recording, IsNew, kept, first_kept}
 use Rattle.view.specs.RowSets.{value_in, logged, put}
-use Rattle.rules.specs.Needs.{ReadsNeeds}
+use Rattle.rules.specs.Needs.{ReadsNeeds, ReadsAllNeeds}
 
 -- nothing is kept of any row in a new recorder
 kept_new : {S : Type 0} (old : Recording S) (k : RowKey) → IsNew old → kept old k ≡ None
@@ -58,12 +58,27 @@ module _ (r : Request) (row : Option RowVal) where
   by_row : (reply : ReplyBody) (writes : Writes) → on_card r (card_in row) ≡ Answer reply writes → IsLocal (Good r) ((key.Card r.transaction.pan, row) ∷ []) writes reply
   unfolding decision
   by_row reply writes is look agrees =
+      let came : decision look (Good r) ≡ record { reply = reply; writes = writes; needs = key.Card r.transaction.pan ∷ [] } =
       ap (λ (v : Option RowVal). after_look (key.Card r.transaction.pan) (carried_out (on_card r (card_in v)) look)) agrees.0
-      ∙ ap (λ (plan : Plan). after_look (key.Card r.transaction.pan) (carried_out plan look)) is
+      ∙ ap (λ (plan : Plan). after_look (key.Card r.transaction.pan) (carried_out plan look)) is in
+      subst (λ (d : Decided). ComesTo d ((key.Card r.transaction.pan, row) ∷ []) writes reply) (sym came) (refl, refl, (search rules, tt))
 
   needs_row : ReadsNeeds (Good r) ((key.Card r.transaction.pan, row) ∷ [])
   unfolding decision
   needs_row look agrees = refl
+
+  -- behind the card's row no other is looked at
+  no_more : (found : Option CardRow) (look : Lookup) → (carried_out (on_card r found) look).needs ≡ []
+  no_more None look = refl
+  no_more (Some card) look = by_tests (nat_le 999999 card.approvals) (nat_lt card.available r.transaction.amount) where
+    by_tests : (worn short : Bool) → (carried_out (if worn then declined r 909 else (if short then declined r 116 else approved r card)) look).needs ≡ []
+    by_tests true short = refl
+    by_tests false true = refl
+    by_tests false false = refl
+
+  all_of_row : ReadsAllNeeds (Good r) ((key.Card r.transaction.pan, row) ∷ [])
+  unfolding decision
+  all_of_row look agrees = ap (λ (ks : List RowKey). key.Card r.transaction.pan ∷ ks) (sym (no_more (card_in (look (key.Card r.transaction.pan))) look))
 
   no_card : card_in row ≡ None → on_card r (card_in row) ≡ declined r 118
   no_card none = ap (on_card r) none
@@ -86,6 +101,10 @@ module _ (r : Request) (row : Option RowVal) (reads : Reads) (writes : Writes) (
   -- a stop after the card's row was read
   pub needs_card : ReadsNeeds (Good r) reads
   needs_card = subst (ReadsNeeds (Good r)) (sym log) (needs_row r row)
+
+  -- where it replies, the card's row is all that was needed
+  pub needs_no_other : ReadsAllNeeds (Good r) reads
+  needs_no_other = subst (ReadsAllNeeds (Good r)) (sym log) (all_of_row r row)
 
   refused : (action : ℕ) (reply : ReplyBody) → on_card r (card_in row) ≡ declined r action → reply ≡ body.Reply (reply_to r (Declined action)) → IsLocal (Good r) reads writes reply
   refused action reply is e = along reply writes (by_row r row reply writes (is ∙ ap (λ rep. Answer rep []) (sym e) ∙ ap (Answer reply) (sym none)))

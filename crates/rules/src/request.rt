@@ -1,7 +1,7 @@
 ghost use Rattle.std.specs.Prelude.{◌≡◌, ◌⊎◌, IfOk, IfErr, IfSome};
 ghost use Rattle.rows.specs.Agreement.{IsLocal};
 ghost use Rattle.rows.specs.declared.frame.Frame.TheVariants.{Good};
-ghost use Rattle.rules.specs.Needs.{ReadsNeeds};
+ghost use Rattle.rules.specs.Needs.{ReadsNeeds, ReadsAllNeeds};
 ghost use Rattle.view.specs.Recording.{IsNew, IsStopOf};
 
 use crate::action::{NO_CARD_RECORD, NOT_SUFFICIENT_FUNDS, SYSTEM_MALFUNCTION};
@@ -18,8 +18,9 @@ pub(crate) fn decide_request<S: RowSource>(
 ) -> Result<ReplyBody, Stop>
     requires { IsNew rows.old }
     ensures local { IfOk result (λ reply. IsLocal (Good request.now) rows.new.reads rows.new.writes reply) }
-    ensures stop { IfErr result (λ stop. (stop ≡ Stop.OutOfMemory) ⊎ IsStopOf S.answers stop) }
+    ensures stop { IfErr result (λ stop. (stop ≡ Stop.OutOfMemory) ⊎ IsStopOf S.answers rows.new.source stop) }
     ensures needs { ReadsNeeds (Good request.now) rows.new.reads }
+    ensures all { IfOk result (λ _. ReadsAllNeeds (Good request.now) rows.new.reads) }
     ensures stops { IfSome (S.book rows.old.source) (λ _. IfErr result (λ stop. stop ≡ Stop.OutOfMemory)) }
     ensures book { S.book rows.new.source ≡ S.book rows.old.source }
 {

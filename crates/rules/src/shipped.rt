@@ -1,7 +1,7 @@
 ghost use Rattle.std.specs.Prelude.{◌≡◌, ◌⊎◌, IfOk, IfErr, IfSome};
 ghost use Rattle.iso8583.specs.declared.codec_fault.CodecFault.{CodecFault};
 ghost use Rattle.rows.specs.Agreement.{IsLocal};
-ghost use Rattle.rules.specs.Needs.{ReadsNeeds};
+ghost use Rattle.rules.specs.Needs.{ReadsNeeds, ReadsAllNeeds};
 ghost use Rattle.view.specs.Recording.{IsNew, IsStopOf};
 
 use crate::request::decide_request;
@@ -18,9 +18,11 @@ pub fn decide<S: RowSource>(frame: &Frame, rows: &mut Recorder<S>) -> Result<Rep
     // A body that is no message is answered its fault, whatever the source and the memory.
     ensures bad { (fault : CodecFault) → frame.now ≡ Frame.Bad fault → result ≡ Ok (ReplyBody.Fault fault) }
 
-    // It stops where the source does or memory runs out; the rows that were read are the first of those that are needed.
-    ensures stop { IfErr result (λ stop. (stop ≡ Stop.OutOfMemory) ⊎ IsStopOf S.answers stop) }
+    // It stops where the source does or memory runs out; the rows that were read are the first of those that are needed,
+    // and all of them where it replies.
+    ensures stop { IfErr result (λ stop. (stop ≡ Stop.OutOfMemory) ⊎ IsStopOf S.answers rows.new.source stop) }
     ensures needs { ReadsNeeds frame.now rows.new.reads }
+    ensures all { IfOk result (λ _. ReadsAllNeeds frame.now rows.new.reads) }
 
     // A known book stays, and want of memory is all that stops it.
     ensures stops { IfSome (S.book rows.old.source) (λ _. IfErr result (λ stop. stop ≡ Stop.OutOfMemory)) }

@@ -11,7 +11,7 @@ use std::alloc::{AllocError, Global};
 /// The book under what these messages put, and their replies.
 pub(crate) fn prefix_of(
     alloc: Global,
-    mut book: Book,
+    book: Book,
     slots: Vec<Slot>,
     count: u32,
 ) -> Result<Prefix, AllocError>
@@ -19,25 +19,33 @@ pub(crate) fn prefix_of(
     ensures book { IfOk result (λ prefix. prefix.book ≡ rows_under book slots.items) }
     ensures replies { IfOk result (λ prefix. prefix.replies.items ≡ filter_map reply_in slots.items) }
 {
+    let mut after = book;
     let mut replies = Vec::new(alloc);
     for slot in slots {
-        add_message(&mut book, &mut replies, slot)?;
+        after = add_message(after, &mut replies, slot)?;
     }
     Ok(Prefix {
         count,
-        book,
+        book: after,
         replies,
     })
 }
 
-// Puts what the message put, and adds its reply. After want of memory some of its rows may be put.
-fn add_message(book: &mut Book, replies: &mut Vec<ReplyBody>, slot: Slot) -> Result<(), AllocError>
-    ensures book { OnOk result (book.new ≡ overlay book.old (writes_in slot)) }
+// The book with what the message put; its reply is added. The book is gone after want of memory.
+fn add_message(
+    book: Book,
+    replies: &mut Vec<ReplyBody>,
+    slot: Slot,
+) -> Result<Book, AllocError>
+    ensures book { IfOk result (λ after. after ≡ overlay book (writes_in slot)) }
     ensures replies { OnOk result (replies.new.items ≡ replies.old.items ++ option_to_list (reply_in slot)) }
 {
-    if let Some(execution) = slot.execution() {
-        put_all(book, execution.writes())?;
-        replies.push(execution.reply())?;
+    match slot.execution() {
+        Some(execution) => {
+            let after = put_all(book, execution.writes())?;
+            replies.push(execution.reply())?;
+            Ok(after)
+        }
+        None => Ok(book),
     }
-    Ok(())
 }

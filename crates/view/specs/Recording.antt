@@ -37,6 +37,6 @@ AgreesWithBook book reads = IfSome book (λ rows. Agrees reads (map.get rows))
 abbrev pub AsksOnce : {S : Type 0} → (S → RowKey → Result (Option RowVal) Stop → S → Type 0) → S → RowKey → Result (Option RowVal) Stop → S → Type 0
 AsksOnce answers old key result new = answers old key result new ⊎ ((result ≡ Err OutOfMemory) × (new ≡ old))
 
--- a source stopped a question so
-abbrev pub IsStopOf : {S : Type 0} → (S → RowKey → Result (Option RowVal) Stop → S → Type 0) → Stop → Type 0
-IsStopOf {S} answers stop = (old : S) × (key : RowKey) × (new : S) × answers old key (Err stop) new
+-- the last question to the source was stopped so
+abbrev pub IsStopOf : {S : Type 0} → (S → RowKey → Result (Option RowVal) Stop → S → Type 0) → S → Stop → Type 0
+IsStopOf {S} answers new stop = (old : S) × (key : RowKey) × answers old key (Err stop) new

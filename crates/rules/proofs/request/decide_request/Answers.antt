@@ -1,5 +1,5 @@
 use Rattle.std.proofs.Common.{◌∙◌, sym, ap}
-use Rattle.rules.proofs.RequestLaws.{first_read, needs_none, needs_card, unknown_card, worn_card, short_of_funds, approved_card}
+use Rattle.rules.proofs.RequestLaws.{first_read, needs_none, needs_card, needs_no_other, unknown_card, worn_card, short_of_funds, approved_card}
 use Rattle.rules.proofs.request.decide_request.Goals as goal
 
 pub returns-in_err-read-clause-needs : goal.returns-in_err-read-clause-needs
@@ -49,4 +49,21 @@ returns-clause-local g c =
 pub returns-clause-needs : goal.returns-clause-needs
 returns-clause-needs g c =
     needs_card c.args.request.now c.in_ok-read.field-0 _ _
+    (ap (λ (r : _). r.reads) c.in_ok-write.ensures.ok ∙ first_read c.args.rows.now _ _ _ c.requires c.in_ok-read.ensures.logged) (c.in_ok-read.ensures.writes ∙ c.requires.1)
+
+pub returns-in_default-clause-all : goal.returns-in_default-clause-all
+returns-in_default-clause-all g c =
+    needs_no_other c.args.request.now c.in_ok-read.field-0 _ _ (first_read c.args.rows.now _ _ _ c.requires c.in_ok-read.ensures.logged) (c.in_ok-read.ensures.writes ∙ c.requires.1)
+
+pub returns-in_default-checked_next-clause-all : goal.returns-in_default-checked_next-clause-all
+returns-in_default-checked_next-clause-all g c =
+    needs_no_other c.args.request.now c.in_ok-read.field-0 _ _ (first_read c.args.rows.now _ _ _ c.requires c.in_ok-read.ensures.logged) (c.in_ok-read.ensures.writes ∙ c.requires.1)
+
+pub returns-in_default-checked_sub-clause-all : goal.returns-in_default-checked_sub-clause-all
+returns-in_default-checked_sub-clause-all g c =
+    needs_no_other c.args.request.now c.in_ok-read.field-0 _ _ (first_read c.args.rows.now _ _ _ c.requires c.in_ok-read.ensures.logged) (c.in_ok-read.ensures.writes ∙ c.requires.1)
+
+pub returns-clause-all : goal.returns-clause-all
+returns-clause-all g c =
+    needs_no_other c.args.request.now c.in_ok-read.field-0 _ _
     (ap (λ (r : _). r.reads) c.in_ok-write.ensures.ok ∙ first_read c.args.rows.now _ _ _ c.requires c.in_ok-read.ensures.logged) (c.in_ok-read.ensures.writes ∙ c.requires.1)
