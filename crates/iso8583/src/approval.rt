@@ -18,7 +18,7 @@ impl Approval {
         Some(Approval(Alphanumeric::new(text)?))
     }
 
-    /// The approval code of a card's approvals so far: the count as six digits.
+    /// The approval code that numbers a card's approvals: the last six digits of the count, with leading zeros.
     pub fn of_count(count: u32) -> Approval
         ensures { result ≡ record { 0 = fixed_digits 6 count } }
     {
