@@ -25,11 +25,16 @@ fn texts_are_in_the_order_of_their_bytes(rt: HostRuntime) -> Result<(), Fail> {
 }
 
 #[test]
-fn numbers_are_their_digits(rt: HostRuntime) -> Result<(), Fail> {
+fn an_amount_is_its_digits(rt: HostRuntime) -> Result<(), Fail> {
     let amount = Amount::from_digits(&Digits::new(b"000000000100").ok_or("digits")?);
     assert_eq!(rt; amount, Amount::new(100).ok_or("in range")?);
     assert_eq!(rt; amount.minor(), 100);
     assert_eq!(rt; amount.digits().as_slice(), b"000000000100".as_slice());
+    Ok(())
+}
+
+#[test]
+fn an_action_is_its_digits(rt: HostRuntime) -> Result<(), Fail> {
     let action = Action::from_digits(&Digits::new(b"116").ok_or("digits")?);
     assert_eq!(rt; action, Action::new(116).ok_or("in range")?);
     assert_eq!(rt; action.digits().as_slice(), b"116".as_slice());
@@ -37,25 +42,37 @@ fn numbers_are_their_digits(rt: HostRuntime) -> Result<(), Fail> {
         DeclineCode::new(action).ok_or("declined")?.action().code(),
         116
     );
-    assert_eq!(rt; Approval::of_count(7).as_slice(), b"000007".as_slice());
     Ok(())
 }
 
 #[test]
-fn texts_of_their_classes(rt: HostRuntime) -> Result<(), Fail> {
+fn a_count_is_its_approval_code(rt: HostRuntime) {
+    assert_eq!(rt; Approval::of_count(7).as_slice(), b"000007".as_slice());
+}
+
+#[test]
+fn a_stamp_has_its_day(rt: HostRuntime) -> Result<(), Fail> {
     let stamp = LocalStamp::new(b"260110120000").ok_or("a stamp")?;
     assert_eq!(rt; stamp.day(), Day::new(b"260110").ok_or("a day")?);
     assert_eq!(rt; stamp.day().as_slice(), b"260110".as_slice());
-    assert!(rt; Stan::new(b"000001").is_some());
-    assert!(rt; PanPrefix::new(b"411111").is_some());
-    assert!(rt; Processing::new(b"000000").is_some());
-    assert!(rt; Transmission::new(b"0110120000").is_some());
-    assert!(rt; FunctionCode::new(b"100").is_some());
-    assert!(rt; Currency::new(b"978").is_some());
-    assert!(rt; Retrieval::new(b"RRN 00000001").is_some());
-    assert!(rt; Terminal::new(b"TERM0001").is_some());
-    assert!(rt; Approval::new(b"ab 001").is_some());
     Ok(())
+}
+
+#[test]
+fn texts_of_their_classes(rt: HostRuntime) {
+    for (name, is_taken) in [
+        ("stan", Stan::new(b"000001").is_some()),
+        ("prefix", PanPrefix::new(b"411111").is_some()),
+        ("processing", Processing::new(b"000000").is_some()),
+        ("transmission", Transmission::new(b"0110120000").is_some()),
+        ("function", FunctionCode::new(b"100").is_some()),
+        ("currency", Currency::new(b"978").is_some()),
+        ("retrieval", Retrieval::new(b"RRN 00000001").is_some()),
+        ("terminal", Terminal::new(b"TERM0001").is_some()),
+        ("approval", Approval::new(b"ab 001").is_some()),
+    ] {
+        assert!(rt; is_taken, "{name}");
+    }
 }
 
 #[test]
