@@ -1,3 +1,5 @@
+ghost use Rattle.std.specs.Prelude.{◌≡◌, IfOk};
+
 use crate::{PlainRows, Prefix, decide_all, decide_all_by};
 use iso8583::{
     Acquirer, Action, Amount, Answer, Approval, CodecFault, Currency, DeclineCode, FunctionCode,
@@ -8,6 +10,7 @@ use rows::{
 };
 use rules::Shipped;
 use std::alloc::Global;
+use std::process::Abort;
 use std::test::Fail;
 use view::RowSource;
 
@@ -85,16 +88,29 @@ fn approved(code: &[u8]) -> Option<Verdict> {
     Some(Verdict::Approved(Approval::new(code)?))
 }
 
+// The opening book, of which no body is decided yet.
+fn opening(alloc: Global) -> Result<Prefix, Fail>
+    ensures { IfOk result (λ prefix. prefix.count ≡ 0) }
+{
+    Ok(Prefix::new(alloc, book(alloc, 10000, 0)?))
+}
+
+fn assert_verdicts(rt: &impl Abort, replies: &[ReplyBody], verdicts: &[Option<Verdict>]) {
+    assert_eq!(rt; replies.len(), verdicts.len());
+    for (reply, expected) in replies.iter().zip(verdicts) {
+        assert_eq!(rt; verdict(reply), *expected);
+    }
+}
+
 #[test]
 fn decides_in_the_order_of_arrival(rt: HostRuntime) -> Result<(), Fail> {
     let alloc = rt.alloc();
     let frames = requests(alloc, &[(CARD, 10000), (CARD, 1), (UNKNOWN, 1)])?;
     assert_eq!(rt; frames.len(), 3);
-    let after = decide_all(alloc, Prefix::new(alloc, book(alloc, 10000, 0)?), &frames)?;
-    assert_eq!(rt; (after.count, after.replies.len()), (3, 3));
-    assert_eq!(rt; verdict(&after.replies[0]), approved(b"000001"));
-    assert_eq!(rt; verdict(&after.replies[1]), declined(116));
-    assert_eq!(rt; verdict(&after.replies[2]), declined(118));
+    let after = decide_all(alloc, opening(alloc)?, &frames)?;
+    assert_eq!(rt; after.count, 3);
+    let verdicts = [approved(b"000001"), declined(116), declined(118)];
+    assert_verdicts(&rt, &after.replies, &verdicts);
     assert!(rt; after.book.is_same(&book(alloc, 0, 1)?));
     Ok(())
 }
@@ -104,12 +120,7 @@ fn counts_approvals_up(rt: HostRuntime) -> Result<(), Fail> {
     let alloc = rt.alloc();
     let frames = requests(alloc, &[(CARD, 100); 64])?;
     assert_eq!(rt; frames.len(), 64);
-    let after = decide_all_by(
-        alloc,
-        Prefix::new(alloc, book(alloc, 10000, 0)?),
-        &frames,
-        &Shipped,
-    )?;
+    let after = decide_all_by(alloc, opening(alloc)?, &frames, &Shipped)?;
     assert_eq!(rt; after.replies.len(), 64);
     for (i, reply) in after.replies.iter().enumerate() {
         let code = format!(in alloc; "{:06}", i + 1)?;
@@ -122,28 +133,33 @@ fn counts_approvals_up(rt: HostRuntime) -> Result<(), Fail> {
 #[test]
 fn an_empty_batch_changes_nothing(rt: HostRuntime) -> Result<(), Fail> {
     let alloc = rt.alloc();
-    let after = decide_all(alloc, Prefix::new(alloc, book(alloc, 10000, 0)?), &[])?;
+    let after = decide_all(alloc, opening(alloc)?, &[])?;
     assert_eq!(rt; (after.count, after.replies.len()), (0, 0));
     assert!(rt; after.book.is_same(&book(alloc, 10000, 0)?));
     Ok(())
+}
+
+// A request, a body that is no message, and a request.
+fn bodies(alloc: Global, fault: FrameFault) -> Result<Vec<Frame>, Fail> {
+    let mut frames = requests(alloc, &[(CARD, 6000)])?;
+    frames.push(Frame::Bad(fault))?;
+    frames.push(request(CARD, b"000009", 4000).ok_or("request")?)?;
+    Ok(frames)
 }
 
 #[test]
 fn goes_on_after_a_prefix(rt: HostRuntime) -> Result<(), Fail> {
     let alloc = rt.alloc();
     let fault = FrameFault::new(CodecFault::Trailing).ok_or("fault")?;
-    let mut frames = requests(alloc, &[(CARD, 6000)])?;
-    assert_eq!(rt; frames.len(), 1);
-    let first = decide_all(alloc, Prefix::new(alloc, book(alloc, 10000, 0)?), &frames)?;
-    frames.push(Frame::Bad(fault))?;
-    frames.push(request(CARD, b"000009", 4000).ok_or("request")?)?;
+    let frames = bodies(alloc, fault)?;
     assert_eq!(rt; frames.len(), 3);
+    let first = decide_all(alloc, opening(alloc)?, &frames[..1])?;
     assert_eq!(rt; first.count, 1);
     let after = decide_all(alloc, first, &frames)?;
-    assert_eq!(rt; (after.count, after.replies.len()), (3, 3));
-    assert_eq!(rt; verdict(&after.replies[0]), approved(b"000001"));
-    assert_eq!(rt; after.replies[1], ReplyBody::Fault(fault));
-    assert_eq!(rt; verdict(&after.replies[2]), approved(b"000002"));
+    assert_eq!(rt; after.count, 3);
+    let verdicts = [approved(b"000001"), None, approved(b"000002")];
+    assert_verdicts(&rt, &after.replies, &verdicts);
+    assert_eq!(rt; after.replies.get(1), Some(&ReplyBody::Fault(fault)));
     assert!(rt; after.book.is_same(&book(alloc, 0, 2)?));
     Ok(())
 }

@@ -2,7 +2,7 @@
 
 use crate::sample_book;
 use engine::{Gate, OpenGate, Workers, run};
-use fold::{Prefix, decide_all};
+use fold::{Outcome, Prefix, decide_all};
 use iso8583::{
     Acquirer, Amount, Answer, Currency, FunctionCode, LocalStamp, Pan, Processing, Request, Stan,
     Terminal, Transaction, Transmission, Verdict,
@@ -144,6 +144,7 @@ fn an_empty_batch_changes_nothing(rt: HostRuntime) -> Result<(), Fail> {
     Ok(())
 }
 
+// How often the gate was passed, before a decision and after its record.
 #[derive(Drop)]
 struct CountingGate {
     before: AtomicU64,
@@ -160,26 +161,42 @@ impl Gate for CountingGate {
     }
 }
 
+fn counting_gate() -> CountingGate {
+    CountingGate {
+        before: AtomicU64::new(0),
+        after: AtomicU64::new(0),
+    }
+}
+
+fn on_both_cards() -> Option<[Frame; 3]> {
+    Some([
+        request(FIRST, 100, b"000001")?,
+        request(SECOND, 100, b"000002")?,
+        request(FIRST, 100, b"000003")?,
+    ])
+}
+
+fn run_on_both_cards(alloc: Global, gate: &CountingGate) -> Result<Outcome, Fail> {
+    let book = sample_book(alloc)?;
+    let frames = on_both_cards().ok_or("requests")?;
+    let workers = Workers::new(2).ok_or("two workers")?;
+    Ok(run(alloc, &book, &frames, workers, &Shipped, gate)?)
+}
+
 // Every message goes through the core: the rest that is decided one after another is empty.
 #[test]
 fn the_core_commits_every_message(rt: HostRuntime) -> Result<(), Fail> {
-    let alloc = rt.alloc();
-    let book = sample_book(alloc)?;
-    let frames = [
-        request(FIRST, 100, b"000001").ok_or("a request")?,
-        request(SECOND, 100, b"000002").ok_or("a request")?,
-        request(FIRST, 100, b"000003").ok_or("a request")?,
-    ];
-    let gate = CountingGate {
-        before: AtomicU64::new(0),
-        after: AtomicU64::new(0),
-    };
-    let workers = Workers::new(2).ok_or("two workers")?;
-    let outcome = run(alloc, &book, &frames, workers, &Shipped, &gate)?;
-    assert_eq!(rt; outcome.started, 1);
-    assert_eq!(rt; outcome.committed, 3);
+    let gate = counting_gate();
+    let outcome = run_on_both_cards(rt.alloc(), &gate)?;
+    assert_eq!(rt; (outcome.started, outcome.committed), (1, 3));
     assert_eq!(rt; gate.before.load(Ordering::SeqCst), 3);
     assert_eq!(rt; gate.after.load(Ordering::SeqCst), 3);
+    Ok(())
+}
+
+#[test]
+fn each_card_pays_its_own_requests(rt: HostRuntime) -> Result<(), Fail> {
+    let outcome = run_on_both_cards(rt.alloc(), &counting_gate())?;
     assert_eq!(rt; available(&outcome.book, FIRST)?, 9_800);
     assert_eq!(rt; available(&outcome.book, SECOND)?, 400);
     Ok(())

@@ -104,16 +104,27 @@ fn words_that_are_no_command_are_a_usage_fault(rt: HostRuntime) -> Result<(), Fa
     assert_answer(&rt, alloc, most.as_str(), "463032303030")
 }
 
-// A repeat, an advice with its element 39, and a full reversal of the request are read, but not decided yet.
 #[test]
-fn messages_that_are_not_decided_yet_are_a_usage_fault(rt: HostRuntime) -> Result<(), Fail> {
+fn a_repeat_is_not_decided_yet(rt: HostRuntime) -> Result<(), Fail> {
     let alloc = rt.alloc();
     let repeat = changed(alloc, 0, "31313031")?;
-    assert_usage(&rt, alloc, &["one", repeat.as_str()])?;
+    assert_usage(&rt, alloc, &["one", repeat.as_str()])
+}
+
+// The request as an advice, with its element 39.
+#[test]
+fn an_advice_is_not_decided_yet(rt: HostRuntime) -> Result<(), Fail> {
+    let alloc = rt.alloc();
     let front = REQUEST.get(24..174).ok_or("within the request")?;
     let back = REQUEST.get(174..).ok_or("within the request")?;
     let advice = format!(in alloc; "313132307230010102808000{front}303030{back}")?;
-    assert_usage(&rt, alloc, &["one", advice.as_str()])?;
+    assert_usage(&rt, alloc, &["one", advice.as_str()])
+}
+
+// A full reversal of the request.
+#[test]
+fn a_reversal_is_not_decided_yet(rt: HostRuntime) -> Result<(), Fail> {
+    let alloc = rt.alloc();
     let begin = REQUEST.get(24..152).ok_or("within the request")?;
     let end = REQUEST.get(158..).ok_or("within the request")?;
     let reversal = format!(in alloc;
