@@ -144,7 +144,8 @@ fn an_empty_batch_changes_nothing(rt: HostRuntime) -> Result<(), Fail> {
     Ok(())
 }
 
-// How often the gate was passed, before a decision and after its record.
+// How often each message passed the gate, before its decision and after its record: message 0 in the ones, message 1
+// in the tens, message 2 in the hundreds.
 #[derive(Drop)]
 struct CountingGate {
     before: AtomicU64,
@@ -152,12 +153,21 @@ struct CountingGate {
 }
 
 impl Gate for CountingGate {
-    fn before_decide(&self, _index: u32, _incarnation: u32) {
-        self.before.fetch_add(1, Ordering::SeqCst);
+    fn before_decide(&self, index: u32, _incarnation: u32) {
+        self.before.fetch_add(place_of(index), Ordering::SeqCst);
     }
 
-    fn after_record(&self, _index: u32, _incarnation: u32) {
-        self.after.fetch_add(1, Ordering::SeqCst);
+    fn after_record(&self, index: u32, _incarnation: u32) {
+        self.after.fetch_add(place_of(index), Ordering::SeqCst);
+    }
+}
+
+fn place_of(index: u32) -> u64 {
+    match index {
+        0 => 1,
+        1 => 10,
+        2 => 100,
+        _ => 1000,
     }
 }
 
@@ -189,8 +199,8 @@ fn the_core_commits_every_message(rt: HostRuntime) -> Result<(), Fail> {
     let gate = counting_gate();
     let outcome = run_on_both_cards(rt.alloc(), &gate)?;
     assert_eq!(rt; (outcome.started, outcome.committed), (1, 3));
-    assert_eq!(rt; gate.before.load(Ordering::SeqCst), 3);
-    assert_eq!(rt; gate.after.load(Ordering::SeqCst), 3);
+    assert_eq!(rt; gate.before.load(Ordering::SeqCst), 111);
+    assert_eq!(rt; gate.after.load(Ordering::SeqCst), 111);
     Ok(())
 }
 
