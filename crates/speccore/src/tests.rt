@@ -1,4 +1,4 @@
-ghost use Rattle.std.specs.Prelude.{None, length};
+ghost use Rattle.std.specs.Prelude.{None};
 
 use crate::Core;
 use fold::PlainRows;
@@ -13,6 +13,11 @@ use std::alloc::Global;
 use std::process::Abort;
 use std::test::Fail;
 use view::{Execution, RowSource, Stop, execute};
+
+// The trace numbers of the two requests.
+const FIRST: &[u8] = b"000001";
+
+const SECOND: &[u8] = b"000002";
 
 // The rows that one version sees.
 #[derive(Drop)]
@@ -87,10 +92,6 @@ fn request(trace: &[u8]) -> Option<Frame> {
     }))
 }
 
-const FIRST: &[u8] = b"000001";
-
-const SECOND: &[u8] = b"000002";
-
 fn two_requests() -> Result<[Frame; 2], Fail> {
     let first = request(FIRST).ok_or("request")?;
     let second = request(SECOND).ok_or("request")?;
@@ -157,8 +158,8 @@ fn is_approved(reply: &ReplyBody, code: &[u8]) -> bool {
     }
 }
 
-// Both messages were decided on the opening book, the second one first, and the first is committed. The second read
-// the row that the first has put since.
+// A core where both messages were decided on the opening book, the second one first, and the first is committed. The
+// second read the row that the first has put since.
 fn second_is_old(rt: &impl Abort, alloc: Global) -> Result<Core, Fail> {
     let mut core = opened(alloc)?;
     let both = [version(0, 0), version(1, 0)];
@@ -172,7 +173,7 @@ fn second_is_old(rt: &impl Abort, alloc: Global) -> Result<Core, Fail> {
     Ok(core)
 }
 
-// The second was decided again, and both are committed.
+// The core after that, where the second was decided again, and both are committed.
 fn both_committed(rt: &impl Abort, alloc: Global) -> Result<Core, Fail> {
     let mut core = second_is_old(rt, alloc)?;
     let again = version(1, 1);
@@ -203,8 +204,8 @@ fn executes_again_what_read_an_old_row(rt: HostRuntime) -> Result<(), Fail> {
     assert_eq!(rt; core.committed(), 2);
     let prefix = core.into_prefix(alloc)?;
     assert_eq!(rt; (prefix.count, prefix.replies.len()), (2, 2));
-    assert!(rt; is_approved(&prefix.replies[0], FIRST));
-    assert!(rt; is_approved(&prefix.replies[1], SECOND));
+    assert!(rt; is_approved(&prefix.replies[0], b"000001"));
+    assert!(rt; is_approved(&prefix.replies[1], b"000002"));
     assert!(rt; prefix.book.is_same(&book(alloc, 9800, 2)?));
     Ok(())
 }
@@ -236,7 +237,7 @@ fn assert_logs(rt: &impl Abort, core: &mut Core) -> Result<(), Fail> {
     Ok(())
 }
 
-// What was refused while no message was running.
+// A core that was asked for what it refuses, while no message was running.
 fn refused_while_ready(rt: &impl Abort, alloc: Global) -> Result<Core, Fail> {
     let mut core = opened(alloc)?;
     assert_eq!(rt; core.commit(), Ok(false));
@@ -244,7 +245,8 @@ fn refused_while_ready(rt: &impl Abort, alloc: Global) -> Result<Core, Fail> {
     Ok(core)
 }
 
-// Then the first message runs, and refuses what was not read of the core, or is another message's.
+// The core after that, where the first message runs, and what was not read of the core, or is another message's, was
+// refused.
 fn refused_while_running(rt: &impl Abort, alloc: Global) -> Result<Core, Fail> {
     let mut core = refused_while_ready(rt, alloc)?;
     let first = version(0, 0);
