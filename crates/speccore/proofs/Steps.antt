@@ -37,7 +37,7 @@ claim_kept s i slot after reached left first is change =
     let here : slot ≡ message s i = at_message s i slot first.0 is in
     let v : Version = record { index = i; incarnation = (message s i).incarnation } in
     let new : State = with_message s i after in
-    let step : ClaimStep s (Execute v) new = (left, first, refl, ap (with_message s i) (change ∙ ap (λ (m : MessageState). record m { status = status.Running }) here)) in
+    let step : ClaimStep s (Execute v) new = (left, (first.0, first.1), refl, ap (with_message s i) (change ∙ ap (λ (m : MessageState). record m { status = status.Running }) here)) in
     IsReached-Step s (Claim (Execute v)) new reached step
 
 pub read_step : (s : State) (v : Version) (row : RowKey) (seen : Option Entry) (read : LoggedRead) (slot after : MessageState) → IsRunning s v → v.index < length s.messages → logged_in (message s v.index).log row ≡ None → slot ≡ get_or s.messages v.index slot → Resolves s.entries row v.index seen → read ≡ read_of s.opening row seen → after ≡ record slot { log = slot.log ++ read ∷ [] } → ReadStep s v row (Ok read.value) (record s { messages = set s.messages v.index after })

@@ -148,7 +148,7 @@ Holds-given_up s h executed =
 Holds-ClaimStep : (old : State) (task : Task) (new : State) → ClaimStep old task new → Holds old → Holds new
 Holds-ClaimStep old Done new step h = subst Holds (sym step.1) h
 Holds-ClaimStep old (Execute v) new step h = subst Holds (sym step.3) (Holds-claimed old h v.index step.1.0 step.1.1)
-Holds-ClaimStep old Idle new step h = subst Holds (sym step.2) h
+Holds-ClaimStep old Idle new step h = subst Holds (sym step.1) h
 
 -- every answer to a read
 Holds-ReadStep : (old : State) (v : Version) (row : RowKey) (answer : Result (Option RowVal) CoreFault) (new : State) → ReadStep old v row answer new → Holds old → Holds new
@@ -228,7 +228,7 @@ same_from old new was e h = subst (IsOfSame old) (sym e) h
 same-Step : (old : State) (call : Call) (new : State) → Step old call new → IsOfSame old new
 same-Step old (Claim Done) new step = same_from old new _ step.1 (refl, refl)
 same-Step old (Claim (Execute v)) new step = same_from old new _ step.3 (refl, refl)
-same-Step old (Claim Idle) new step = same_from old new _ step.2 (refl, refl)
+same-Step old (Claim Idle) new step = same_from old new _ step.1 (refl, refl)
 same-Step old (Read v row (Ok got)) new step =
     elim step.1 [ inl again ↦ same_from old new _ again.1 (refl, refl) | inr first ↦ same_from old new _ first.4 (refl, refl) ]
 same-Step old (Read v row (Err NotRunning)) new step = same_from old new _ step.1 (refl, refl)
