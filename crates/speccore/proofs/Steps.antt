@@ -7,11 +7,10 @@ use Rattle.rows.specs.Agreement.{Executed, IsTrueExecution}
 use Rattle.rows.specs.Fold.{Rows, overlay}
 use Rattle.rows.specs.declared.frame.Frame.{Frame}
 use Rattle.rows.specs.declared.reply_body.ReplyBody.{ReplyBody}
-use Rattle.speccore_laws.specs.Follows.{reply_in}
 use Rattle.rows.specs.declared.row_key.RowKey.{RowKey}
-use Rattle.speccore_laws.specs.Reached.{IsReached-Step, IsReached-start, Holds-reached}
+use Rattle.speccore_laws.proofs.Reached.{IsReached-Step, IsReached-start, Holds-reached}
 use Rattle.speccore_laws.specs.Resolves.{Resolves, ResolvesAs, read_of}
-use Rattle.speccore_laws.specs.Run.{IsReached, writes_in, rows_under, Claim, Read, Finish, Commit}
+use Rattle.speccore_laws.specs.Run.{IsReached, reply_in, writes_in, rows_under, Claim, Read, Finish, Commit}
 use Rattle.speccore_laws.specs.State.{State, MessageState, message, with_message, fresh, start, IsAt, IsRunning, IsExecuted}
 use Rattle.speccore_laws.specs.Step.{ClaimStep, ReadStep, FinishStep, CommitStep, IsCurrent, AreLogged, logged_in, entry_of, entries_without, last_incarnation}
 use Rattle.speccore_laws.specs.declared.entry.Entry.{Entry}
