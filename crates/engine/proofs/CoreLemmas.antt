@@ -1,6 +1,6 @@
 -- Where the core commits no more.
 use Rattle.std.proofs.Common.{◌≡◌, ◌≢◌, ◌<◌, inl, inr, length, get_or-set_same, sym, ap, subst, ◌∙◌, Ok, false}
-use Rattle.speccore_laws.specs.Committed.{in_batch}
+use Rattle.speccore_laws.proofs.Committed.{in_batch}
 use Rattle.speccore_laws.specs.State.{State, MessageState, message, fresh, IsExecuted}
 use Rattle.speccore_laws.specs.Step.{CommitStep, given_up}
 use Rattle.speccore_laws.specs.declared.status.Status.TheVariants as status

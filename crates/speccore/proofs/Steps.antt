@@ -7,11 +7,10 @@ use Rattle.rows.specs.Agreement.{Executed, IsTrueExecution}
 use Rattle.rows.specs.Fold.{Rows, overlay}
 use Rattle.rows.specs.declared.frame.Frame.{Frame}
 use Rattle.rows.specs.declared.reply_body.ReplyBody.{ReplyBody}
-use Rattle.speccore_laws.specs.Follows.{reply_in}
 use Rattle.rows.specs.declared.row_key.RowKey.{RowKey}
-use Rattle.speccore_laws.specs.Reached.{IsReached-Step, IsReached-start, Holds-reached}
+use Rattle.speccore_laws.proofs.Reached.{IsReached-Step, IsReached-start, Holds-reached}
 use Rattle.speccore_laws.specs.Resolves.{Resolves, ResolvesAs, read_of}
-use Rattle.speccore_laws.specs.Run.{IsReached, writes_in, rows_under, Claim, Read, Finish, Commit}
+use Rattle.speccore_laws.specs.Run.{IsReached, reply_in, writes_in, rows_under, Claim, Read, Finish, Commit}
 use Rattle.speccore_laws.specs.State.{State, MessageState, message, with_message, fresh, start, IsAt, IsRunning, IsExecuted}
 use Rattle.speccore_laws.specs.Step.{ClaimStep, ReadStep, FinishStep, CommitStep, IsCurrent, AreLogged, logged_in, entry_of, entries_without, last_incarnation}
 use Rattle.speccore_laws.specs.declared.entry.Entry.{Entry}
@@ -37,7 +36,7 @@ claim_kept s i slot after reached left first is change =
     let here : slot ≡ message s i = at_message s i slot first.0 is in
     let v : Version = record { index = i; incarnation = (message s i).incarnation } in
     let new : State = with_message s i after in
-    let step : ClaimStep s (Execute v) new = (left, first, refl, ap (with_message s i) (change ∙ ap (λ (m : MessageState). record m { status = status.Running }) here)) in
+    let step : ClaimStep s (Execute v) new = (left, (first.0, first.1), refl, ap (with_message s i) (change ∙ ap (λ (m : MessageState). record m { status = status.Running }) here)) in
     IsReached-Step s (Claim (Execute v)) new reached step
 
 pub read_step : (s : State) (v : Version) (row : RowKey) (seen : Option Entry) (read : LoggedRead) (slot after : MessageState) → IsRunning s v → v.index < length s.messages → logged_in (message s v.index).log row ≡ None → slot ≡ get_or s.messages v.index slot → Resolves s.entries row v.index seen → read ≡ read_of s.opening row seen → after ≡ record slot { log = slot.log ++ read ∷ [] } → ReadStep s v row (Ok read.value) (record s { messages = set s.messages v.index after })

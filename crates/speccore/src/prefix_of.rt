@@ -1,7 +1,6 @@
 ghost use Rattle.std.specs.Prelude.{◌≡◌, ◌++◌, filter_map, option_to_list, IfOk, OnOk};
 ghost use Rattle.rows.specs.Fold.{overlay};
-ghost use Rattle.speccore_laws.specs.Follows.{reply_in};
-ghost use Rattle.speccore_laws.specs.Run.{rows_under, writes_in};
+ghost use Rattle.speccore_laws.specs.Run.{reply_in, rows_under, writes_in};
 
 use crate::slot::Slot;
 use fold::{Prefix, put_all};

@@ -1,8 +1,8 @@
-ghost use Rattle.std.specs.Prelude.{◌≡◌, ◌≢◌, ◌<◌, ◌≤◌, ◌↔◌, None, length, take, IsTrue, IfOk, IfSome};
+ghost use Rattle.std.specs.Prelude.{◌≡◌, ◌≢◌, ◌<◌, ◌≤◌, ◌↔◌, None, length, take, All, IsTrue, IfOk, IfSome};
 ghost use Rattle.rows.specs.Fold.{rows_after, replies_to};
 ghost use Rattle.rows.specs.RowVal.{IsOfKind};
 ghost use Rattle.speccore_laws.specs.State.{message, start};
-ghost use Rattle.speccore_laws.specs.Step.{ClaimStep, ReadStep, FinishStep, CommitStep, logged_by};
+ghost use Rattle.speccore_laws.specs.Step.{ClaimStep, IsLeastReady, ReadStep, FinishStep, CommitStep, logged_by};
 
 use crate::entries::{add_entries, read_of, remove_entries, resolve};
 use crate::frames::{are_same, is_at};
@@ -65,6 +65,8 @@ impl Core {
     /// What is to be done next: the least message that waits is handed out.
     pub fn next_task(&mut self) -> Task
         ensures step { ClaimStep self.old result self.new }
+        ensures least { (v : Version) → result ≡ Task.Execute v → IsLeastReady self.old v.index }
+        ensures idle { result ≡ Task.Idle → All (λ m. m.status ≢ Status.Ready) self.old.messages }
     {
         if self.committed as usize == self.frames.len() {
             return Task::Done;

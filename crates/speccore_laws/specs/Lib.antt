@@ -1,10 +1,6 @@
-pub mod Committed
 pub mod Follows
+pub mod Holds
 pub mod Kept
-pub mod Keys
-pub mod Members
-pub mod Overlay
-pub mod Reached
 pub mod Resolves
 pub mod Run
 pub mod State

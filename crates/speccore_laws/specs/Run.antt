@@ -1,8 +1,9 @@
 -- Whole lists of calls, in any order, and what is committed after them.
 use Rattle.std.specs.Prelude.{◌≡◌, List, [], ◌∷◌, take, Option, Some, None, option_map, filter_map, Bool, Result}
 use Rattle.rows.specs.Agreement.{Executed, IsTrueExecution}
-use Rattle.rows.specs.Fold.{Rows, overlay}
+use Rattle.rows.specs.Fold.{Rows, overlay, rows_after, replies_to}
 use Rattle.rows.specs.Plan.{Writes}
+use Rattle.rows.specs.declared.frame.Frame.{Frame}
 use Rattle.rows.specs.declared.reply_body.ReplyBody.{ReplyBody}
 use Rattle.rows.specs.declared.row_key.RowKey.{RowKey}
 use Rattle.rows.specs.declared.row_val.RowVal.{RowVal}
@@ -44,10 +45,22 @@ abbrev pub rows_under : Rows → List MessageState → Rows
 rows_under rows [] = rows
 rows_under rows (m ∷ ms) = rows_under (overlay rows (writes_in m)) ms
 
+-- the reply of a message, if it has an execution
+abbrev pub reply_in : MessageState → Option ReplyBody
+reply_in m = option_map (λ execution. execution.reply) m.execution
+
 -- the replies to the committed messages
 abbrev pub committed_replies : State → List ReplyBody
-committed_replies s = filter_map (λ m. option_map (λ execution. execution.reply) m.execution) (take s.committed s.messages)
+committed_replies s = filter_map reply_in (take s.committed s.messages)
 
 -- the opening book under what the committed messages put
 abbrev pub committed_rows : State → Rows
 committed_rows s = rows_under s.opening (take s.committed s.messages)
+
+-- the committed replies are those of deciding as many messages one after another
+abbrev pub RepliesAreTheFold : Rows → List Frame → State → Type 0
+RepliesAreTheFold opening frames s = committed_replies s ≡ replies_to opening (take s.committed frames)
+
+-- the opening book under what the committed messages put is that after deciding as many messages one after another
+abbrev pub RowsAreTheFold : Rows → List Frame → State → Type 0
+RowsAreTheFold opening frames s = committed_rows s ≡ rows_after opening (take s.committed frames)

@@ -15,27 +15,28 @@ use Rattle.speccore_laws.specs.declared.task.Task.{Task}
 use Rattle.speccore_laws.specs.declared.task.Task.TheVariants.{Execute, Idle, Done}
 use Rattle.speccore_laws.specs.declared.version.Version.{Version}
 
+-- a message is at i, and it is ready
+abbrev pub IsReady : State → ℕ → Type 0
+IsReady s i = (i < length s.messages) × ((message s i).status ≡ status.Ready)
+
 -- the message at i is ready, and none before it is
 abbrev pub IsLeastReady : State → ℕ → Type 0
-IsLeastReady s i =
-    (i < length s.messages) × ((message s i).status ≡ status.Ready)
-    × ((j : ℕ) → j < i → (message s j).status ≢ status.Ready)
+IsLeastReady s i = IsReady s i × ((j : ℕ) → j < i → (message s j).status ≢ status.Ready)
 
 -- the message at i is handed out
 abbrev pub claimed : State → ℕ → State
 claimed s i = with_message s i (record (message s i) { status = status.Running })
 
--- Asked for a task.
+-- Asked for a task. Which message is handed out, and when none is, is left open.
 abbrev pub ClaimStep : State → Task → State → Type 0
 -- all messages are committed
 ClaimStep old Done new = (old.committed ≡ length old.frames) × (new ≡ old)
--- the least ready message is handed out, at its present incarnation
+-- a ready message is handed out, at its present incarnation
 ClaimStep old (Execute v) new =
-    (old.committed ≢ length old.frames) × IsLeastReady old v.index × (v.incarnation ≡ (message old v.index).incarnation)
+    (old.committed ≢ length old.frames) × IsReady old v.index × (v.incarnation ≡ (message old v.index).incarnation)
     × (new ≡ claimed old v.index)
--- none is ready
-ClaimStep old Idle new =
-    (old.committed ≢ length old.frames) × All (λ m. m.status ≢ status.Ready) old.messages × (new ≡ old)
+-- nothing is handed out
+ClaimStep old Idle new = (old.committed ≢ length old.frames) × (new ≡ old)
 
 -- what was logged of the row
 abbrev pub logged_in : List LoggedRead → RowKey → Option (Option RowVal)

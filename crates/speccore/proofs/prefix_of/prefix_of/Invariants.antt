@@ -1,6 +1,5 @@
 use Rattle.std.proofs.Common.{◌≡◌, filter_map}
-use Rattle.speccore_laws.specs.Follows.{reply_in}
-use Rattle.speccore_laws.specs.Run.{rows_under}
+use Rattle.speccore_laws.specs.Run.{reply_in, rows_under}
 use Rattle.speccore.proofs.prefix_of.prefix_of.Given as goal
 
 abbrev pub invariant-loop-slot : goal.invariant-loop-slot

@@ -1,8 +1,7 @@
 use Rattle.std.proofs.Common.{◌≡◌, ◌≤◌, length, take, subst, sym, ap, ◌∙◌, filter_map}
 use Rattle.std.proofs.lemmas.Result.{IfOk-weaker}
-use Rattle.speccore_laws.specs.Follows.{reply_in}
-use Rattle.speccore_laws.specs.Reached.{replies-reached, rows-reached}
-use Rattle.speccore_laws.specs.Run.{rows_under}
+use Rattle.speccore_laws.proofs.Reached.{replies-reached, rows-reached}
+use Rattle.speccore_laws.specs.Run.{reply_in, rows_under}
 use Rattle.speccore_laws.specs.State.{State}
 use Rattle.fold.specs.declared.prefix.Prefix.{Prefix}
 use Rattle.rows.specs.Fold.{rows_after, replies_to}

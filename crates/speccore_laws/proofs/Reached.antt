@@ -6,18 +6,22 @@ use Rattle.std.proofs.lemmas.List.Elements.{Contains-push_cases, recursion_from_
 use Rattle.std.proofs.lemmas.Option.{same_Some, none-some}
 use Rattle.std.specs.Option.{option_flatten}
 use Rattle.rows.specs.Agreement.{Executed, IsTrueExecution, Agrees}
-use Rattle.rows.specs.Fold.{Rows, rows_after, replies_to}
+use Rattle.rows.specs.Fold.{Rows}
 use Rattle.rows.specs.Plan.{Decided}
 use Rattle.rows.specs.declared.frame.Frame.{Frame}
 use Rattle.rows.specs.declared.row_key.RowKey.{RowKey}
 use Rattle.rows.specs.declared.row_val.RowVal.{RowVal}
-use Rattle.speccore_laws.specs.Committed.{Holds, Holds-commit, in_batch}
-use Rattle.speccore_laws.specs.Follows.{Follows, replies-Follows, rows-Follows}
-use Rattle.speccore_laws.specs.Kept.{AreKept, HasTrueExecution, IsSoundRead, version_at, one_value, kept_unfinished, kept_finished, kept_given_up}
-use Rattle.speccore_laws.specs.Members.{Contains-nil}
-use Rattle.rows.specs.PutsOnce.{PutsOnce, puts_once}
+use Rattle.speccore_laws.proofs.Committed.{Holds-commit, in_batch}
+use Rattle.speccore_laws.specs.Follows.{Follows}
+use Rattle.speccore_laws.specs.Holds.{Holds}
+use Rattle.speccore_laws.proofs.Follows.{replies-Follows, rows-Follows}
+use Rattle.speccore_laws.specs.Kept.{AreKept, HasTrueExecution, IsSoundRead, version_at}
+use Rattle.speccore_laws.proofs.Kept.{one_value, kept_unfinished, kept_finished, kept_given_up}
+use Rattle.speccore_laws.proofs.Members.{Contains-nil}
+use Rattle.rows.specs.PutsOnce.{PutsOnce}
+use Rattle.rows.proofs.PutsOnce.{puts_once}
 use Rattle.speccore_laws.specs.Resolves.{Resolves, read_of}
-use Rattle.speccore_laws.specs.Run.{Call, Claim, Read, Finish, Commit, Step, Run, IsReached, writes_in, committed_replies, committed_rows}
+use Rattle.speccore_laws.specs.Run.{Call, Claim, Read, Finish, Commit, Step, Run, IsReached, writes_in, RepliesAreTheFold, RowsAreTheFold}
 use Rattle.speccore_laws.specs.State.{State, MessageState, message, with_message, fresh, start, IsExecuted, IsRunning}
 use Rattle.speccore_laws.specs.Step.{ClaimStep, ReadStep, FinishStep, CommitStep, AreLogged, IsOfVersion, logged_in, entry_of, entries_without, claimed, with_read, finished, given_up}
 use Rattle.speccore_laws.specs.declared.core_fault.CoreFault.{CoreFault}
@@ -115,7 +119,7 @@ once_of_true : (log : List LoggedRead) (x : Executed) → IsTrueExecution x → 
 once_of_true log x true_one logged =
     let look : RowKey → Option RowVal = λ row. option_flatten (logged_in log row) in
     let agrees : Agrees x.reads look = recursion_from_All (λ read. look read.0 ≡ read.1) x.reads (λ k d l. ap option_flatten (logged k d l)) in
-    subst PutsOnce (ap (λ (d : Decided). d.writes) (true_one look agrees)) (puts_once look x.frame)
+    subst PutsOnce (true_one look agrees).1 (puts_once look x.frame)
 
 -- a running version hands in a true execution of its frame, from reads that it logged
 Holds-finished : (s : State) → Holds s → (v : Version) (x : Executed) → IsTrueExecution x → IsRunning s v → IsOfVersion s v x → Holds (finished s v x)
@@ -148,7 +152,7 @@ Holds-given_up s h executed =
 Holds-ClaimStep : (old : State) (task : Task) (new : State) → ClaimStep old task new → Holds old → Holds new
 Holds-ClaimStep old Done new step h = subst Holds (sym step.1) h
 Holds-ClaimStep old (Execute v) new step h = subst Holds (sym step.3) (Holds-claimed old h v.index step.1.0 step.1.1)
-Holds-ClaimStep old Idle new step h = subst Holds (sym step.2) h
+Holds-ClaimStep old Idle new step h = subst Holds (sym step.1) h
 
 -- every answer to a read
 Holds-ReadStep : (old : State) (v : Version) (row : RowKey) (answer : Result (Option RowVal) CoreFault) (new : State) → ReadStep old v row answer new → Holds old → Holds new
@@ -228,7 +232,7 @@ same_from old new was e h = subst (IsOfSame old) (sym e) h
 same-Step : (old : State) (call : Call) (new : State) → Step old call new → IsOfSame old new
 same-Step old (Claim Done) new step = same_from old new _ step.1 (refl, refl)
 same-Step old (Claim (Execute v)) new step = same_from old new _ step.3 (refl, refl)
-same-Step old (Claim Idle) new step = same_from old new _ step.2 (refl, refl)
+same-Step old (Claim Idle) new step = same_from old new _ step.1 (refl, refl)
 same-Step old (Read v row (Ok got)) new step =
     elim step.1 [ inl again ↦ same_from old new _ again.1 (refl, refl) | inr first ↦ same_from old new _ first.4 (refl, refl) ]
 same-Step old (Read v row (Err NotRunning)) new step = same_from old new _ step.1 (refl, refl)
@@ -285,11 +289,11 @@ unfolding IsReached
 Holds-reached s reached = Holds-Run (start s.opening s.frames) reached.0 s reached.1 (Holds-start s.opening s.frames)
 
 -- what is committed in a state of a run is the fold
-pub replies-reached : (s : State) → IsReached s → committed_replies s ≡ replies_to s.opening (take s.committed s.frames)
+pub replies-reached : (s : State) → IsReached s → RepliesAreTheFold s.opening s.frames s
 replies-reached s reached = replies-Follows s.opening (take s.committed s.messages) (take s.committed s.frames) (Holds-reached s reached).follows
 
 -- the opening book under what is committed in a state of a run is the fold
-pub rows-reached : (s : State) → IsReached s → committed_rows s ≡ rows_after s.opening (take s.committed s.frames)
+pub rows-reached : (s : State) → IsReached s → RowsAreTheFold s.opening s.frames s
 rows-reached s reached = rows-Follows s.opening (take s.committed s.messages) (take s.committed s.frames) (Holds-reached s reached).follows
 
 -- a run from an opening state leads to a state that is reached
@@ -299,16 +303,17 @@ reached_by opening frames calls s run =
     let same = same-Run (start opening frames) calls s run in
     (calls, subst (λ (rows : Rows). Run (start rows s.frames) calls s) (sym same.0) (subst (λ (fs : List Frame). Run (start opening fs) calls s) (sym same.1) run))
 
--- Whatever calls are made, in any order: what is committed is the fold of as many frames.
-abbrev pub CommitsTheFold : Rows → List Frame → State → Type 0
-CommitsTheFold opening frames s =
-    (committed_replies s ≡ replies_to opening (take s.committed frames))
-    × (committed_rows s ≡ rows_after opening (take s.committed frames))
-
--- every run commits the fold
-pub CommitsTheFold-Run : (opening : Rows) (frames : List Frame) (calls : List Call) (s : State) → Run (start opening frames) calls s → CommitsTheFold opening frames s
-CommitsTheFold-Run opening frames calls s run =
+-- whatever calls are made, in any order: what holds of the frames and the opening book of every state of a run holds of those that it began with
+of_run : (P : Rows → List Frame → State → Type 0) → ((s : State) → IsReached s → P s.opening s.frames s) → (opening : Rows) (frames : List Frame) (calls : List Call) (s : State) → Run (start opening frames) calls s → P opening frames s
+of_run P each opening frames calls s run =
     let same = same-Run (start opening frames) calls s run in
     let reached = reached_by opening frames calls s run in
-    subst (λ (rows : Rows). CommitsTheFold rows frames s) same.0
-    (subst (λ (fs : List Frame). CommitsTheFold s.opening fs s) same.1 (replies-reached s reached, rows-reached s reached))
+    subst (λ (rows : Rows). P rows frames s) same.0 (subst (λ (fs : List Frame). P s.opening fs s) same.1 (each s reached))
+
+-- every run commits the fold's replies
+pub replies-Run : (opening : Rows) (frames : List Frame) (calls : List Call) (s : State) → Run (start opening frames) calls s → RepliesAreTheFold opening frames s
+replies-Run = of_run RepliesAreTheFold replies-reached
+
+-- every run commits the fold's rows
+pub rows-Run : (opening : Rows) (frames : List Frame) (calls : List Call) (s : State) → Run (start opening frames) calls s → RowsAreTheFold opening frames s
+rows-Run = of_run RowsAreTheFold rows-reached

@@ -1,4 +1,4 @@
--- What holds of every state of a run, and why a message whose reads still resolve as they were logged may be committed.
+-- Why a message whose reads still resolve as they were logged may be committed.
 use Rattle.std.proofs.Common.{◌≡◌, ◌≢◌, ℕ, ◌<◌, ◌≤◌, ◌+◌, List, [], ◌∷◌, ◌++◌, ◌⊎◌, inl, inr, length, take, get_or, Contains, refl, sym, ap, ◌∙◌, subst, Option, Some, None, Bool, true, false, cond, arith}
 use Rattle.std.proofs.lemmas.Bool.{cases_lt}
 use Rattle.std.proofs.lemmas.List.{get_or-take, get_or_past, take_more, length-take}
@@ -12,11 +12,13 @@ use Rattle.rows.specs.RowKey.{key_eq}
 use Rattle.rows.specs.declared.frame.Frame.{Frame}
 use Rattle.rows.specs.declared.row_key.RowKey.{RowKey}
 use Rattle.rows.specs.declared.row_val.RowVal.{RowVal}
-use Rattle.speccore_laws.specs.Follows.{Follows, Follows-push, put-Follows, unput-Follows}
-use Rattle.speccore_laws.specs.Kept.{AreKept, IsSoundRead, version_at}
-use Rattle.speccore_laws.specs.Keys.{key_eq-true}
-use Rattle.speccore_laws.specs.Members.{Contains-head, Contains-tail, Contains-nil}
-use Rattle.speccore_laws.specs.Overlay.{Puts}
+use Rattle.speccore_laws.specs.Follows.{Follows}
+use Rattle.speccore_laws.specs.Holds.{Holds}
+use Rattle.speccore_laws.proofs.Follows.{Follows-push, put-Follows, unput-Follows}
+use Rattle.speccore_laws.specs.Kept.{IsSoundRead, version_at}
+use Rattle.speccore_laws.proofs.Keys.{key_eq-true}
+use Rattle.speccore_laws.proofs.Members.{Contains-head, Contains-tail, Contains-nil}
+use Rattle.speccore_laws.proofs.Overlay.{Puts}
 use Rattle.speccore_laws.specs.Resolves.{Resolves, ResolvesAs, origin_of}
 use Rattle.speccore_laws.specs.Run.{writes_in}
 use Rattle.speccore_laws.specs.State.{State, MessageState, message, fresh, IsExecuted}
@@ -24,14 +26,6 @@ use Rattle.speccore_laws.specs.Step.{AreLogged, IsCurrent, logged_in, entry_of}
 use Rattle.speccore_laws.specs.declared.entry.Entry.{Entry}
 use Rattle.speccore_laws.specs.declared.logged_read.LoggedRead.{LoggedRead}
 use Rattle.speccore_laws.specs.declared.status.Status.TheVariants as status
-
--- Of every state of a run: entries, executions and logs are kept, and the committed messages are the fold of as many frames.
-pub record Holds (s : State) : Type 0 where
-  pub paired : length s.messages ≡ length s.frames
-  pub within : s.committed ≤ length s.messages
-  pub kept : AreKept s.opening s.frames s.entries (message s)
-  pub settled : (i : ℕ) → i < s.committed → IsExecuted s i
-  pub follows : Follows s.opening (take s.committed s.messages) (take s.committed s.frames)
 
 -- the messages from the first up to below the committed count
 abbrev settled_messages : State → List MessageState
@@ -116,7 +110,7 @@ Holds-commit s h executed current l =
     let frame_there : get_or s.frames s.committed x.frame ≡ x.frame = sym has.1.of_frame.1 in
     let one_more : Follows s.opening (take s.committed s.messages ++ message s s.committed ∷ []) (take s.committed s.frames ++ x.frame ∷ []) =
     Follows-push s.opening (take s.committed s.messages) (take s.committed s.frames) (message s s.committed) x.frame x h.follows has.1.is
-    (sym (ap (λ (d : Decided). d.reply) decided)) (sym (ap (λ (d : Decided). d.writes) decided)) in
+    (sym decided.0) (sym decided.1) in
     let messages_more : take (s.committed + 1) s.messages ≡ take s.committed s.messages ++ message s s.committed ∷ [] = take_more s.messages s.committed fresh l in
     let frames_more : take (s.committed + 1) s.frames ≡ take s.committed s.frames ++ x.frame ∷ [] =
     take_more s.frames s.committed x.frame has.1.of_frame.0 ∙ ap (λ (f : Frame). take s.committed s.frames ++ f ∷ []) frame_there in

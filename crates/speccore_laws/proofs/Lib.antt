@@ -1,0 +1,7 @@
+pub mod Committed
+pub mod Follows
+pub mod Kept
+pub mod Keys
+pub mod Members
+pub mod Overlay
+pub mod Reached
