@@ -1,5 +1,5 @@
 -- A bitmap without a fault is that of the elements which it says are there.
-use Rattle.std.proofs.Common.{◌≡◌, ℕ, zero, suc, ◌+◌, ◌-◌, ◌*◌, ◌^◌, ◌<◌, ◌≤◌, Bool, true, false, cond, eqb, leb, ltb, List, [], ◌∷◌, Option, Some, None, Result, Ok, Err, refl, sym, ap, ◌∙◌, arith, inl, inr}
+use Rattle.std.proofs.Common.{◌≡◌, ℕ, suc, ◌+◌, ◌-◌, ◌*◌, ◌^◌, ◌<◌, ◌≤◌, Bool, true, false, cond, eqb, leb, ltb, List, [], ◌∷◌, Option, Some, None, Result, Ok, Err, refl, sym, ap, ◌∙◌, arith, inl, inr}
 use Rattle.std.specs.Prelude.{not, ◌||◌, ◌&&◌}
 use Rattle.std.specs.List.{list_any}
 use Rattle.std.specs.Int.{bit_at}
@@ -13,6 +13,7 @@ use Rattle.codec_laws.specs.Types.{Part}
 use Rattle.codec_laws.specs.Spelling.{Field, bitmap_of, is_set}
 use Rattle.codec_laws.specs.Reading.{least, is_listed, is_required, is_unexpected, is_missing, first_wrong, presence_at}
 use Rattle.codec_laws.proofs.Conjunctions.{all_three_true}
+use Rattle.codec_laws.proofs.Least.{all_fail}
 use Rattle.codec_laws.proofs.Present.{present, elements_of}
 
 -- the bits of elements
@@ -163,19 +164,6 @@ has_number-required bitmap n (p ∷ ps) h =
     let one = there_step bitmap n p (p.0 || is_set bitmap (element_number p.1)) false ps (eqb (element_number p.1) n) refl (known_here bitmap n false p h) in
     let only : ((p.0 || false) && eqb (element_number p.1) n) ≡ (p.0 && eqb (element_number p.1) n) = rw (or_false p.0) refl in
     one ∙ rw (only, has_number-required bitmap n ps h) refl
-
--- no number that passes
-pub all_fail : (test : ℕ → Bool) (from count n : ℕ) → least test from count ≡ None → from ≤ n → n < from + count → test n ≡ false
-unfolding least
-all_fail test from zero n h low high = absurd (omega arith)
-all_fail test from (suc count) n h low high =
-    elim (test from) as (λ b. test from ≡ b → cond b (Some from) (least test (from + 1) count) ≡ None → test n ≡ false) [
-      | true ↦ λ _ k. absurd cc
-      | false ↦ λ e k. elim (cases_lt from n) [
-        | inl lt ↦ all_fail test (from + 1) count n k (omega arith) (omega arith)
-        | inr le ↦ (let same : n ≡ from = omega arith in rw same e)
-      ]
-    ] refl h
 
 neither_wrong : (a b : Option ℕ) → first_wrong a b ≡ Ok tt → (a ≡ None) × (b ≡ None)
 neither_wrong None None h = (refl, refl)

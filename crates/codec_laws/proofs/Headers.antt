@@ -148,15 +148,19 @@ header_taken types bytes x fits h =
     let type = mti_taken types text t b.1 in
     headed_along types bytes (t, from_be_bytes w64 bits, rest) x same (headed types bytes text behind bits rest t fits front.0 back.0 back.1 type.0 type.1 d.1)
 
-pub header_again : (types : List Mti) (t : Mti) (bitmap : ℕ) (rest : List ℕ) → is_among types t ≡ true → bitmap < 2 ^ 64 → presence_at (parts_of t) bitmap ≡ Ok tt
-    → header_at types ((mti_text t ++ to_be_bytes w64 bitmap) ++ rest) ≡ Ok (t, bitmap, rest)
+-- what is read of a type of the list and a bitmap
+pub header_known : (types : List Mti) (t : Mti) (bitmap : ℕ) (rest : List ℕ) → is_among types t ≡ true → bitmap < 2 ^ 64
+    → header_at types ((mti_text t ++ to_be_bytes w64 bitmap) ++ rest) ≡ (presence_at (parts_of t) bitmap >>= λ _. let r : Result Header CodecFault = Ok (t, bitmap, rest) in r)
 unfolding header_at
-header_again types t bitmap rest among fits sound =
+header_known types t bitmap rest among fits =
     rw (
       append_assoc (mti_text t) (to_be_bytes w64 bitmap) rest,
       bytes_again 0 4 (mti_text t) (to_be_bytes w64 bitmap ++ rest) (length-mti_text t),
       mti_again types t among,
       bytes_again 0 8 (to_be_bytes w64 bitmap) rest (length-bitmap bitmap),
       from_be_bytes-to_be_bytes_8 bitmap fits,
-      sound,
     ) refl
+
+pub header_again : (types : List Mti) (t : Mti) (bitmap : ℕ) (rest : List ℕ) → is_among types t ≡ true → bitmap < 2 ^ 64 → presence_at (parts_of t) bitmap ≡ Ok tt
+    → header_at types ((mti_text t ++ to_be_bytes w64 bitmap) ++ rest) ≡ Ok (t, bitmap, rest)
+header_again types t bitmap rest among fits sound = header_known types t bitmap rest among fits ∙ rw sound refl

@@ -1,11 +1,14 @@
 pub mod Bits
+pub mod BodyFaults
 pub mod Codes
 pub mod Conjunctions
 pub mod Contents
 pub mod Elements
+pub mod Faults
 pub mod Formed
 pub mod Headers
 pub mod Joined
+pub mod Least
 pub mod Messages
 pub mod NoMemory
 pub mod Originals

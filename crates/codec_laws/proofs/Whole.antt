@@ -1,10 +1,10 @@
 -- A text that is read is the one spelling of what was read, and no spelling begins another.
-use Rattle.std.proofs.Common.{◌≡◌, ℕ, ◌^◌, ◌<◌, Bool, true, false, cond, eqb, List, [], ◌∷◌, ◌++◌, length, Result, Ok, Err, refl, sym, ap, subst, ◌∙◌, append_assoc}
+use Rattle.std.proofs.Common.{◌≡◌, ℕ, ◌^◌, ◌<◌, Bool, true, false, cond, eqb, List, [], ◌∷◌, ◌++◌, length, Result, Ok, Err, refl, sym, ap, subst, ◌∙◌, append_assoc, arith}
 use Rattle.std.specs.Prelude.{◌||◌}
 use Rattle.std.specs.List.{flat_map}
 use Rattle.std.specs.Int.{w64, to_be_bytes}
 use Rattle.std.specs.Str.{bytes_eq}
-use Rattle.std.proofs.lemmas.Bool.{eqb-true}
+use Rattle.std.proofs.lemmas.Bool.{eqb-true, ne_eqb}
 use Rattle.std.proofs.lemmas.List.{append-nil, nil_from_length}
 use Rattle.std.proofs.lemmas.Slice.Eq.{bytes_eq-Decides}
 use Rattle.iso8583.specs.declared.codec_fault.CodecFault.{CodecFault}
@@ -27,7 +27,7 @@ pub record AreFields (t : Mti) (fields : List Field) : Type 0 where
   pub fits : bitmap_of fields < 2 ^ 64
   pub sound : presence_at (parts_of t) (bitmap_of fields) ≡ Ok tt
 
-rising : (t : Mti) → is_rising 1 (parts_of t) ≡ true
+pub rising : (t : Mti) → is_rising 1 (parts_of t) ≡ true
 rising mti.Request = refl
 rising mti.RequestRepeat = refl
 rising mti.RequestReply = refl
@@ -96,7 +96,7 @@ unfolding reading
 reading_again types t fields are among =
     rw (header_again types t (bitmap_of fields) (flat_map field fields) among are.fits are.sound, whole_again (bitmap_of fields) (parts_of t) fields are.elements are.texts are.rules) refl
 
--- ---- no spelling begins another
+-- ---- a text that begins with a spelling
 
 same_here : (t : Mti) → bytes_eq (mti_text t) (mti_text t) ≡ true
 same_here t = (bytes_eq-Decides (mti_text t) (mti_text t)).1 refl
@@ -112,6 +112,15 @@ front_read : (types : List Mti) (t : Mti) (fields : List Field) (rest : List ℕ
 front_read types t fields rest are among =
     subst (λ (x : List ℕ). header_at types x ≡ Ok (t, bitmap_of fields, flat_map field fields ++ rest)) (sym (append_assoc (mti_text t ++ to_be_bytes w64 (bitmap_of fields)) (flat_map field fields) rest))
     (header_again types t (bitmap_of fields) (flat_map field fields ++ rest) among are.fits are.sound)
+
+-- with a byte behind it
+pub trailing_read : (types : List Mti) (t : Mti) (fields : List Field) (byte : ℕ) (rest : List ℕ) → AreFields t fields → is_among types t ≡ true → reading types (spelling t fields ++ (byte ∷ rest)) ≡ Err Trailing
+unfolding reading whole_at
+trailing_read types t fields byte rest are among =
+    let some : eqb (length (byte ∷ rest)) 0 ≡ false = ne_eqb (length (byte ∷ rest)) 0 (λ e. omega arith) in
+    rw (front_read types t fields (byte ∷ rest) are among, fields_again (bitmap_of fields) (parts_of t) fields (byte ∷ rest) are.elements are.texts are.rules, some) refl
+
+-- ---- no spelling begins another
 
 abbrev header_of : Header → Result Header CodecFault
 header_of x = Ok x

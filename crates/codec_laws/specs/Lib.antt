@@ -1,5 +1,6 @@
 pub mod Contents
 pub mod Elements
+pub mod Faults
 pub mod Messages
 pub mod Reading
 pub mod Replies

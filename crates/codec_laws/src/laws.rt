@@ -1,10 +1,12 @@
-//! Laws of the spellings, for callers that put one behind another.
+//! Laws of the spellings and of the first fault.
 
 ghost use Rattle.std.specs.Prelude.{◌≡◌, ℕ, List, ◌++◌};
 ghost use Rattle.iso8583.specs.declared.message.Message.{Message};
 ghost use Rattle.iso8583.specs.declared.reply.Reply.{Reply};
 ghost use Rattle.codec_laws.specs.Messages.{IsMessage, message_spelling};
 ghost use Rattle.codec_laws.specs.Replies.{IsReply, reply_spelling};
+ghost use Rattle.codec_laws.specs.declared.mti.Mti.{Mti};
+ghost use Rattle.codec_laws.specs.Faults.{NamesTheLeastUnexpected, NamesTheLeastMissing, NamesASecondaryBitmap, NamesAnUnknownType, NamesAShortHeader, NamesATrailingByte, NamesATrailingByteOfAReply};
 
 /// No spelling of a message begins another's, so a text spells at most one message.
 pub fn no_message_begins_another()
@@ -16,4 +18,32 @@ pub fn no_message_begins_another()
 pub fn no_reply_begins_another()
     ensures { (r s : Reply) (x y : List ℕ) → IsReply r → IsReply s
         → reply_spelling r ++ x ≡ reply_spelling s ++ y → (r ≡ s) × (x ≡ y) }
+{}
+
+/// Reading names the least element that is there and that the type never has.
+pub fn names_the_least_unexpected()
+    ensures { (types : List Mti) → NamesTheLeastUnexpected types }
+{}
+
+/// Where the type may have each element that is there, reading names the least that it must have and that is absent.
+pub fn names_the_least_missing()
+    ensures { (types : List Mti) → NamesTheLeastMissing types }
+{}
+
+/// Where bit 1 is set, reading names a second bitmap, whatever else is there or absent.
+pub fn names_a_secondary_bitmap()
+    ensures { (types : List Mti) → NamesASecondaryBitmap types }
+{}
+
+/// Reading names another type where four bytes are no text of the list's types, and a short text where there are
+/// fewer than four, or fewer than eight behind a type of the list.
+pub fn names_an_unknown_type()
+    ensures unknown { (types : List Mti) → NamesAnUnknownType types }
+    ensures short { (types : List Mti) → NamesAShortHeader types }
+{}
+
+/// Reading names a trailing byte where a whole message or a whole reply is spelled before it.
+pub fn names_a_trailing_byte()
+    ensures message { NamesATrailingByte }
+    ensures reply { NamesATrailingByteOfAReply }
 {}

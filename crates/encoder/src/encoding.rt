@@ -7,10 +7,11 @@ ghost use Rattle.codec_laws.specs.Elements.{original_text, original_type, twelve
 ghost use Rattle.codec_laws.specs.Types.{mti_text};
 ghost use Rattle.codec_laws.specs.Spelling.{Field, field, with_field, bitmap_of, spelling};
 ghost use Rattle.codec_laws.specs.Contents.{content_fields};
-ghost use Rattle.codec_laws.specs.Messages.{message_spelling};
-ghost use Rattle.codec_laws.specs.Replies.{reply_spelling};
+ghost use Rattle.codec_laws.specs.Messages.{Spells, message_spelling};
+ghost use Rattle.codec_laws.specs.Replies.{SpellsReply, reply_spelling};
 
 use crate::extras::{Extras, extras_of, mti_of, reply_extras, reply_mti, transaction_of};
+use crate::values::{message_in_range, reply_in_range};
 use crate::writer::{put, put_field};
 use codec_laws::{Element, Mti};
 use iso8583::{
@@ -248,7 +249,10 @@ pub fn encode(message: &Message, out: &mut Vec<u8>) -> Result<(), CodecFault>
     ensures err { OnErr result (out.new.items ≡ out.old.items) }
     // Room for the longest message is enough.
     ensures room { vec_len out.old + ROOM ≤ vec_capacity out.old → IsOk result }
+    // So decoding what is appended gives the message again.
+    ensures spells { Spells (message_spelling message.now) message.now }
 {
+    message_in_range(message);
     make_room(out)?;
     put_spelling(
         out,
@@ -267,7 +271,10 @@ pub fn encode_reply(reply: &Reply, out: &mut Vec<u8>) -> Result<(), CodecFault>
     ensures err { OnErr result (out.new.items ≡ out.old.items) }
     // Room for the longest reply is enough.
     ensures room { vec_len out.old + ROOM ≤ vec_capacity out.old → IsOk result }
+    // So decoding what is appended gives the reply again.
+    ensures spells { SpellsReply (reply_spelling reply.now) reply.now }
 {
+    reply_in_range(reply);
     make_room(out)?;
     put_spelling(
         out,

@@ -3,6 +3,7 @@
 
 mod encoding;
 mod extras;
+mod values;
 mod writer;
 
 pub use encoding::{ROOM, encode, encode_reply};

@@ -1,0 +1,5 @@
+use Rattle.codec_laws.proofs.Faults.{secondary_bitmap}
+use Rattle.codec_laws.proofs.laws.names_a_secondary_bitmap.Goals as goal
+
+pub returns : goal.returns
+returns c = secondary_bitmap

@@ -1,0 +1,72 @@
+-- Which fault a text is answered that is no message of these types, by what is there and what its type asks for.
+-- Elements 30 and 38 of the types that may have them are left out where elements are named: the rules of elements
+-- 24 and 39 name them too, further on.
+use Rattle.std.specs.Prelude.{◌≡◌, ◌≢◌, ◌↔◌, ℕ, ◌<◌, ◌≤◌, ◌^◌, List, ◌∷◌, ◌++◌, length, take, Err, IsTrue, IsFalse}
+use Rattle.std.specs.Int.{w64, to_be_bytes}
+use Rattle.iso8583.specs.declared.codec_fault.CodecFault.TheVariants.{Short, BadMti, SecondaryBitmap, Unexpected, Missing, Trailing}
+use Rattle.iso8583.specs.declared.message.Message.{Message}
+use Rattle.iso8583.specs.declared.reply.Reply.{Reply}
+use Rattle.codec_laws.specs.declared.mti.Mti.{Mti}
+use Rattle.codec_laws.specs.Types.{mti_text, parts_of, is_among, taken_in, given_out}
+use Rattle.codec_laws.specs.Spelling.{is_set}
+use Rattle.codec_laws.specs.Messages.{Spells}
+use Rattle.codec_laws.specs.Replies.{SpellsReply}
+use Rattle.codec_laws.specs.Reading.{is_listed, is_required, reading}
+
+-- a bitmap says that element n is there
+abbrev pub IsPresent : ℕ → ℕ → Type 0
+IsPresent bitmap n = IsTrue (is_set bitmap n)
+
+-- it says that element n isn't there
+abbrev pub IsAbsent : ℕ → ℕ → Type 0
+IsAbsent bitmap n = IsFalse (is_set bitmap n)
+
+-- a message of the type may have element n
+abbrev pub MayHave : Mti → ℕ → Type 0
+MayHave t n = IsTrue (is_listed (parts_of t) n)
+
+-- no message of the type has element n
+abbrev pub NeverHas : Mti → ℕ → Type 0
+NeverHas t n = IsFalse (is_listed (parts_of t) n)
+
+-- each message of the type has element n
+abbrev pub MustHave : Mti → ℕ → Type 0
+MustHave t n = IsTrue (is_required (parts_of t) n)
+
+-- a type, a bitmap, and anything behind them
+abbrev pub begins : Mti → ℕ → List ℕ → List ℕ
+begins t bitmap rest = mti_text t ++ to_be_bytes w64 bitmap ++ rest
+
+-- an element that its type never has: named exactly where it is the least of these that is there
+abbrev pub NamesTheLeastUnexpected : List Mti → Type 0
+NamesTheLeastUnexpected types = (t : Mti) (bitmap n : ℕ) (rest : List ℕ) → IsTrue (is_among types t) → bitmap < 2 ^ 64 → IsAbsent bitmap 1 → 2 ≤ n → n ≤ 64 → NeverHas t n
+    → (reading types (begins t bitmap rest) ≡ Err (Unexpected n)) ↔ (IsPresent bitmap n × ((m : ℕ) → 2 ≤ m → m < n → IsPresent bitmap m → MayHave t m))
+
+-- an element that its type must have: named exactly where the type may have each that is there, and it is the least of these that is absent
+abbrev pub NamesTheLeastMissing : List Mti → Type 0
+NamesTheLeastMissing types = (t : Mti) (bitmap n : ℕ) (rest : List ℕ) → IsTrue (is_among types t) → bitmap < 2 ^ 64 → IsAbsent bitmap 1 → MustHave t n
+    → (reading types (begins t bitmap rest) ≡ Err (Missing n))
+    ↔ (((m : ℕ) → 2 ≤ m → m ≤ 64 → IsPresent bitmap m → MayHave t m) × IsAbsent bitmap n × ((m : ℕ) → m < n → MustHave t m → IsPresent bitmap m))
+
+-- a second bitmap: named exactly where bit 1 is set, whatever else is
+abbrev pub NamesASecondaryBitmap : List Mti → Type 0
+NamesASecondaryBitmap types = (t : Mti) (bitmap : ℕ) (rest : List ℕ) → IsTrue (is_among types t) → bitmap < 2 ^ 64
+    → (reading types (begins t bitmap rest) ≡ Err SecondaryBitmap) ↔ IsPresent bitmap 1
+
+-- another type: named exactly where there are four bytes, and they are the text of no type of the list
+abbrev pub NamesAnUnknownType : List Mti → Type 0
+NamesAnUnknownType types = (bytes : List ℕ)
+    → (reading types bytes ≡ Err BadMti) ↔ ((4 ≤ length bytes) × ((t : Mti) → IsTrue (is_among types t) → take 4 bytes ≢ mti_text t))
+
+-- fewer than the four bytes of a type, or than the eight of a bitmap behind a type of the list
+abbrev pub NamesAShortHeader : List Mti → Type 0
+NamesAShortHeader types = ((bytes : List ℕ) → length bytes < 4 → reading types bytes ≡ Err (Short 0))
+    × ((t : Mti) (rest : List ℕ) → IsTrue (is_among types t) → length rest < 8 → reading types (mti_text t ++ rest) ≡ Err (Short 0))
+
+-- at least one byte behind the spelling of a message
+abbrev pub NamesATrailingByte : Type 0
+NamesATrailingByte = (bytes : List ℕ) (m : Message) (byte : ℕ) (rest : List ℕ) → Spells bytes m → reading taken_in (bytes ++ (byte ∷ rest)) ≡ Err Trailing
+
+-- at least one byte behind the spelling of a reply
+abbrev pub NamesATrailingByteOfAReply : Type 0
+NamesATrailingByteOfAReply = (bytes : List ℕ) (r : Reply) (byte : ℕ) (rest : List ℕ) → SpellsReply bytes r → reading given_out (bytes ++ (byte ∷ rest)) ≡ Err Trailing
