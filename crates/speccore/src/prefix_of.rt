@@ -31,11 +31,7 @@ pub(crate) fn prefix_of(
 }
 
 // The book with what the message put; its reply is added. The book is gone after want of memory.
-fn add_message(
-    book: Book,
-    replies: &mut Vec<ReplyBody>,
-    slot: Slot,
-) -> Result<Book, AllocError>
+fn add_message(book: Book, replies: &mut Vec<ReplyBody>, slot: Slot) -> Result<Book, AllocError>
     ensures book { IfOk result (λ after. after ≡ overlay book (writes_in slot)) }
     ensures replies { OnOk result (replies.new.items ≡ replies.old.items ++ option_to_list (reply_in slot)) }
 {
