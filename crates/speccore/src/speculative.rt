@@ -1,6 +1,7 @@
 ghost use Rattle.std.specs.Prelude.{◌≡◌, ◌≢◌, ◌<◌, ◌≤◌, ◌↔◌, None, length, take, All, IsTrue, IfOk, IfSome};
 ghost use Rattle.rows.specs.Fold.{rows_after, replies_to};
 ghost use Rattle.rows.specs.RowVal.{IsOfKind};
+ghost use Rattle.speccore_laws.specs.Run.{IsReached};
 ghost use Rattle.speccore_laws.specs.State.{message, start};
 ghost use Rattle.speccore_laws.specs.Step.{ClaimStep, IsLeastReady, ReadStep, FinishStep, CommitStep, logged_by};
 
@@ -148,6 +149,7 @@ impl Core {
     pub fn committed(&self) -> u32
         ensures value { result ≡ self.now.committed }
         ensures within { result ≤ length self.now.frames }
+        ensures reached { IsReached self.now }
     {
         self.committed
     }

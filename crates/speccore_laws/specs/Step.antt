@@ -79,7 +79,8 @@ IsOfVersion s v execution =
 abbrev pub entry_of : Version → RowKey × RowVal → Entry
 entry_of v put = record { row = put.0; version = v; value = put.1 }
 
--- the state after the version finished: what it put stands at it
+-- The state after the version finished: what it put is appended. In every state of a run a running message has no entries, since
+-- giving it up takes them out.
 abbrev pub finished : State → Version → Executed → State
 finished s v execution =
     record (with_message s v.index (record (message s v.index) { status = status.Executed; execution = Some execution })) {
