@@ -90,7 +90,7 @@ mti_again (u ∷ us) t h =
 
 -- ---- the bitmap
 
-bytes_front : (a b : List ℕ) → IsBytes (a ++ b) → IsBytes a
+pub bytes_front : (a b : List ℕ) → IsBytes (a ++ b) → IsBytes a
 bytes_front a b h i =
     elim (cases_lt i (length a)) [
       | inl lt ↦ subst (λ (x : ℕ). x < 256) (get_or-append a b 0 i lt) (h i)

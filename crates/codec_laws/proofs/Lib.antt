@@ -1,11 +1,13 @@
+pub mod BitmapFaults
 pub mod Bits
 pub mod BodyFaults
 pub mod Codes
 pub mod Conjunctions
 pub mod Contents
 pub mod Elements
-pub mod Faults
+pub mod EndFaults
 pub mod Formed
+pub mod HeaderFaults
 pub mod Headers
 pub mod Joined
 pub mod Least
@@ -14,4 +16,5 @@ pub mod NoMemory
 pub mod Originals
 pub mod Present
 pub mod Replies
+pub mod TypeFaults
 pub mod Whole

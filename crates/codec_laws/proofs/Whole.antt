@@ -50,7 +50,7 @@ whole_taken bitmap ps bytes fields h =
     let none : a.0.1 ≡ [] = nil_from_length a.0.1 (eqb-true (length a.0.1) 0 end.0) in
     subst (λ (r : List ℕ). Taken bitmap ps bytes fields r) none (subst (λ (fs : List Field). Taken bitmap ps bytes fs a.0.1) end.1 (fields_taken bitmap ps bytes a.0 a.1))
 
-whole_again : (bitmap : ℕ) (ps : List Part) (fields : List Field) → elements_of fields ≡ present bitmap ps → AreTexts fields → are_ruled bitmap (present_parts bitmap ps) fields ≡ true → whole_at bitmap ps (flat_map field fields) ≡ Ok fields
+pub whole_again : (bitmap : ℕ) (ps : List Part) (fields : List Field) → elements_of fields ≡ present bitmap ps → AreTexts fields → are_ruled bitmap (present_parts bitmap ps) fields ≡ true → whole_at bitmap ps (flat_map field fields) ≡ Ok fields
 unfolding whole_at
 whole_again bitmap ps fields same texts rules =
     let read : fields_at bitmap ps (flat_map field fields) ≡ Ok (fields, []) = subst (λ (x : List ℕ). fields_at bitmap ps x ≡ Ok (fields, [])) (append-nil (flat_map field fields)) (fields_again bitmap ps fields [] same texts rules) in

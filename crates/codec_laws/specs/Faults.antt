@@ -1,7 +1,7 @@
 -- Which fault a text is answered that is no message of these types, by what is there and what its type asks for.
 -- Elements 30 and 38 of the types that may have them are left out where elements are named: the rules of elements
 -- 24 and 39 name them too, further on.
-use Rattle.std.specs.Prelude.{◌≡◌, ◌≢◌, ◌↔◌, ℕ, ◌<◌, ◌≤◌, ◌^◌, List, ◌∷◌, ◌++◌, length, take, Err, IsTrue, IsFalse}
+use Rattle.std.specs.Prelude.{◌≡◌, ◌≢◌, ◌↔◌, ◌⊎◌, ℕ, ◌<◌, ◌≤◌, ◌^◌, List, ◌∷◌, ◌++◌, length, take, Err, IsOk, IsTrue, IsFalse, slice_index}
 use Rattle.std.specs.Int.{w64, to_be_bytes}
 use Rattle.iso8583.specs.declared.codec_fault.CodecFault.TheVariants.{Short, BadMti, SecondaryBitmap, Unexpected, Missing, Trailing}
 use Rattle.iso8583.specs.declared.message.Message.{Message}
@@ -58,15 +58,20 @@ abbrev pub NamesAnUnknownType : List Mti → Type 0
 NamesAnUnknownType types = (bytes : List ℕ)
     → (reading types bytes ≡ Err BadMti) ↔ ((4 ≤ length bytes) × ((t : Mti) → IsTrue (is_among types t) → take 4 bytes ≢ mti_text t))
 
--- fewer than the four bytes of a type, or than the eight of a bitmap behind a type of the list
+-- too few bytes for a type and a bitmap: named exactly where there are fewer than four, or fewer than eight behind a type of the list
 abbrev pub NamesAShortHeader : List Mti → Type 0
-NamesAShortHeader types = ((bytes : List ℕ) → length bytes < 4 → reading types bytes ≡ Err (Short 0))
-    × ((t : Mti) (rest : List ℕ) → IsTrue (is_among types t) → length rest < 8 → reading types (mti_text t ++ rest) ≡ Err (Short 0))
+NamesAShortHeader types = (bytes : List ℕ) → (reading types bytes ≡ Err (Short 0))
+    ↔ ((length bytes < 4) ⊎ ((t : Mti) × (rest : List ℕ) × IsTrue (is_among types t) × (bytes ≡ mti_text t ++ rest) × (length rest < 8)))
 
--- at least one byte behind the spelling of a message
-abbrev pub NamesATrailingByte : Type 0
-NamesATrailingByte = (bytes : List ℕ) (m : Message) (byte : ℕ) (rest : List ℕ) → Spells bytes m → reading taken_in (bytes ++ (byte ∷ rest)) ≡ Err Trailing
+-- at least one byte too many: named exactly where a part of the text, from its first byte on, is read whole
+abbrev pub NamesATrailingByte : List Mti → Type 0
+NamesATrailingByte types = (bytes : List ℕ) → ((i : ℕ) → slice_index bytes i < 256)
+    → (reading types bytes ≡ Err Trailing) ↔ ((front : List ℕ) × (byte : ℕ) × (rest : List ℕ) × (bytes ≡ front ++ (byte ∷ rest)) × IsOk (reading types front))
 
--- at least one byte behind the spelling of a reply
-abbrev pub NamesATrailingByteOfAReply : Type 0
-NamesATrailingByteOfAReply = (bytes : List ℕ) (r : Reply) (byte : ℕ) (rest : List ℕ) → SpellsReply bytes r → reading given_out (bytes ++ (byte ∷ rest)) ≡ Err Trailing
+-- so it is behind each spelling of a message
+abbrev pub NamesAByteBehindAMessage : Type 0
+NamesAByteBehindAMessage = (bytes : List ℕ) (m : Message) (byte : ℕ) (rest : List ℕ) → Spells bytes m → reading taken_in (bytes ++ (byte ∷ rest)) ≡ Err Trailing
+
+-- and behind each spelling of a reply
+abbrev pub NamesAByteBehindAReply : Type 0
+NamesAByteBehindAReply = (bytes : List ℕ) (r : Reply) (byte : ℕ) (rest : List ℕ) → SpellsReply bytes r → reading given_out (bytes ++ (byte ∷ rest)) ≡ Err Trailing

@@ -6,7 +6,7 @@ ghost use Rattle.iso8583.specs.declared.reply.Reply.{Reply};
 ghost use Rattle.codec_laws.specs.Messages.{IsMessage, message_spelling};
 ghost use Rattle.codec_laws.specs.Replies.{IsReply, reply_spelling};
 ghost use Rattle.codec_laws.specs.declared.mti.Mti.{Mti};
-ghost use Rattle.codec_laws.specs.Faults.{NamesTheLeastUnexpected, NamesTheLeastMissing, NamesASecondaryBitmap, NamesAnUnknownType, NamesAShortHeader, NamesATrailingByte, NamesATrailingByteOfAReply};
+ghost use Rattle.codec_laws.specs.Faults.{NamesTheLeastUnexpected, NamesTheLeastMissing, NamesASecondaryBitmap, NamesAnUnknownType, NamesAShortHeader, NamesATrailingByte, NamesAByteBehindAMessage, NamesAByteBehindAReply};
 
 /// No spelling of a message begins another's, so a text spells at most one message.
 pub fn no_message_begins_another()
@@ -35,15 +35,16 @@ pub fn names_a_secondary_bitmap()
     ensures { (types : List Mti) → NamesASecondaryBitmap types }
 {}
 
-/// Reading names another type where four bytes are no text of the list's types, and a short text where there are
-/// fewer than four, or fewer than eight behind a type of the list.
+/// Reading names another type where the first four bytes are the text of no type of the list, and a short text
+/// where there are fewer than four, or fewer than the eight of a bitmap behind a type of the list.
 pub fn names_an_unknown_type()
     ensures unknown { (types : List Mti) → NamesAnUnknownType types }
     ensures short { (types : List Mti) → NamesAShortHeader types }
 {}
 
-/// Reading names a trailing byte where a whole message or a whole reply is spelled before it.
+/// Reading names a trailing byte where a whole text stands before it, as the spelling of a message or of a reply.
 pub fn names_a_trailing_byte()
-    ensures message { NamesATrailingByte }
-    ensures reply { NamesATrailingByteOfAReply }
+    ensures whole { (types : List Mti) → NamesATrailingByte types }
+    ensures message { NamesAByteBehindAMessage }
+    ensures reply { NamesAByteBehindAReply }
 {}

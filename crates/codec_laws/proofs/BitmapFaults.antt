@@ -1,30 +1,22 @@
--- Which fault reading names, and when.
-use Rattle.std.proofs.Common.{◌≡◌, ◌≢◌, ◌⊎◌, ℕ, ◌^◌, ◌<◌, ◌≤◌, Bool, true, false, ltb, eqb, leb, List, [], ◌∷◌, ◌++◌, length, take, drop, Option, Some, None, Result, Ok, Err, refl, sym, ap, subst, ◌∙◌, arith, inl, inr}
+-- Which fault of a bitmap reading names, and when.
+use Rattle.std.proofs.Common.{◌≡◌, ◌≢◌, ◌⊎◌, ℕ, ◌^◌, ◌<◌, ◌≤◌, Bool, true, false, ltb, eqb, leb, List, [], ◌∷◌, Option, Some, None, Result, Ok, Err, refl, sym, ap, subst, ◌∙◌, arith, inl, inr}
 use Rattle.std.specs.Prelude.{not, ◌&&◌, ◌||◌, IfErr}
-use Rattle.std.specs.Str.{bytes_eq}
-use Rattle.std.specs.Int.{w64, from_be_bytes}
-use Rattle.std.proofs.lemmas.Bool.{cases_lt, eqb-true, ltb-true, leb-true, lt-ltb, le-ltb, or_right}
-use Rattle.std.proofs.lemmas.List.{take-append-drop}
-use Rattle.std.proofs.lemmas.Slice.Eq.{bytes_eq-Decides}
+use Rattle.std.proofs.lemmas.Bool.{eqb-true, ltb-true, leb-true}
 use Rattle.iso8583.specs.declared.codec_fault.CodecFault.{CodecFault}
-use Rattle.iso8583.specs.declared.codec_fault.CodecFault.TheVariants.{BadMti, SecondaryBitmap, Unexpected, Missing}
+use Rattle.iso8583.specs.declared.codec_fault.CodecFault.TheVariants.{SecondaryBitmap, Unexpected, Missing}
 use Rattle.codec_laws.specs.declared.mti.Mti.{Mti}
 use Rattle.codec_laws.specs.Elements.{element_number}
-use Rattle.codec_laws.specs.Types.{Part, mti_text, parts_of, is_among, taken_in, given_out}
+use Rattle.codec_laws.specs.Types.{Part, parts_of, is_among}
 use Rattle.codec_laws.specs.Spelling.{Field, is_set}
-use Rattle.codec_laws.specs.Messages.{mti_of, fields_of}
-use Rattle.codec_laws.specs.Replies.{reply_mti, reply_fields}
-use Rattle.codec_laws.specs.Reading.{◌>>=◌, bytes_at, mti_at, least, is_listed, is_required, is_unexpected, is_missing, first_wrong, presence_at, header_at, whole_at, reading}
-use Rattle.codec_laws.specs.Faults.{begins, NamesTheLeastUnexpected, NamesTheLeastMissing, NamesASecondaryBitmap, NamesAnUnknownType, NamesAShortHeader, NamesATrailingByte, NamesATrailingByteOfAReply}
+use Rattle.codec_laws.specs.Reading.{◌>>=◌, least, is_listed, is_required, is_unexpected, is_missing, first_wrong, presence_at, whole_at, reading}
+use Rattle.codec_laws.specs.Faults.{begins, NamesTheLeastUnexpected, NamesTheLeastMissing, NamesASecondaryBitmap}
 use Rattle.codec_laws.proofs.Conjunctions.{both_true, all_three_true}
-use Rattle.codec_laws.proofs.Elements.{bytes_again}
+use Rattle.codec_laws.proofs.Elements.{bind_err}
 use Rattle.codec_laws.proofs.Bits.{is_rising}
 use Rattle.codec_laws.proofs.Least.{least_is, least_where, least_none, all_fail}
-use Rattle.codec_laws.proofs.Headers.{Header, length-mti_text, mti_again, header_known}
-use Rattle.codec_laws.proofs.BodyFaults.{then_holds, either_holds, other_holds, is_body_fault, is_named, named_listed, whole_faults}
-use Rattle.codec_laws.proofs.Whole.{rising, trailing_read}
-use Rattle.codec_laws.proofs.Messages.{message_are, message_taken}
-use Rattle.codec_laws.proofs.Replies.{reply_are, reply_given}
+use Rattle.codec_laws.proofs.Headers.{Header, header_known}
+use Rattle.codec_laws.proofs.BodyFaults.{then_holds, is_body_fault, is_named, named_listed, whole_faults}
+use Rattle.codec_laws.proofs.Whole.{rising}
 
 abbrev Whole : Type 0
 Whole = Result (Mti × List Field) CodecFault
@@ -34,10 +26,6 @@ Whole = Result (Mti × List Field) CodecFault
 bind_twice : {A B C : Type 0} (r : Result A CodecFault) (f : A → Result B CodecFault) (g : B → Result C CodecFault) → ((r >>= f) >>= g) ≡ (r >>= λ x. f x >>= g)
 bind_twice (Ok x) f g = refl
 bind_twice (Err d) f g = refl
-
-bind_err : {A B : Type 0} (r : Result A CodecFault) (f : A → Result B CodecFault) (d : CodecFault) → (r >>= f) ≡ Err d → (r ≡ Err d) ⊎ ((x : A) × (r ≡ Ok x) × (f x ≡ Err d))
-bind_err (Ok x) f d h = inr (x, refl, h)
-bind_err (Err e) f d h = inl cc
 
 -- the elements behind the bitmap
 abbrev behind : Mti → ℕ → List ℕ → Whole
@@ -53,14 +41,14 @@ module _ (types : List Mti) (t : Mti) (bitmap : ℕ) (rest : List ℕ) (among : 
   fault_named : (d : CodecFault) → presence_at (parts_of t) bitmap ≡ Err d → reading types (begins t bitmap rest) ≡ Err d
   fault_named d h = reading_known ∙ rw h refl
 
-  behind_faults : IfErr (behind t bitmap rest) (λ d. is_body_fault (is_named (parts_of t)) d ≡ true)
-  behind_faults = then_holds (λ d. is_body_fault (is_named (parts_of t)) d ≡ true) (whole_at bitmap (parts_of t) rest) _ (whole_faults bitmap (parts_of t) rest) (λ fields. tt)
+  behind_faults : IfErr (behind t bitmap rest) (λ d. is_body_fault true (is_named (parts_of t)) d ≡ true)
+  behind_faults = then_holds (λ d. is_body_fault true (is_named (parts_of t)) d ≡ true) (whole_at bitmap (parts_of t) rest) _ (whole_faults bitmap (parts_of t) rest) (λ fields. tt)
 
-  named_fault : (d : CodecFault) → reading types (begins t bitmap rest) ≡ Err d → (presence_at (parts_of t) bitmap ≡ Err d) ⊎ (is_body_fault (is_named (parts_of t)) d ≡ true)
+  named_fault : (d : CodecFault) → reading types (begins t bitmap rest) ≡ Err d → (presence_at (parts_of t) bitmap ≡ Err d) ⊎ (is_body_fault true (is_named (parts_of t)) d ≡ true)
   named_fault d h =
       elim (bind_err (presence_at (parts_of t) bitmap) (λ _. behind t bitmap rest) d (sym reading_known ∙ h)) [
         | inl e ↦ inl e
-        | inr x ↦ inr (subst (λ (r : Whole). IfErr r (λ d. is_body_fault (is_named (parts_of t)) d ≡ true)) x.2 behind_faults)
+        | inr x ↦ inr (subst (λ (r : Whole). IfErr r (λ d. is_body_fault true (is_named (parts_of t)) d ≡ true)) x.2 behind_faults)
       ]
 
 -- ---- its bitmap
@@ -196,86 +184,3 @@ secondary_bitmap types t bitmap rest among fits = (
   ],
   λ h. fault_named types t bitmap rest among fits SecondaryBitmap (presence_first (parts_of t) bitmap h),
 )
-
--- ---- the type
-
-unknown : (types : List Mti) (text : List ℕ) → ((t : Mti) → is_among types t ≡ true → text ≢ mti_text t) → mti_at types text ≡ Err BadMti
-unfolding mti_at
-unknown [] text h = refl
-unknown (u ∷ us) text h =
-    let other : bytes_eq text (mti_text u) ≡ false =
-    elim (bytes_eq text (mti_text u)) as (λ b. bytes_eq text (mti_text u) ≡ b → b ≡ false) [
-      | true ↦ λ e.
-          (let here : bytes_eq (mti_text u) (mti_text u) ≡ true = (bytes_eq-Decides (mti_text u) (mti_text u)).1 refl in
-          absurd (h u (rw here refl) ((bytes_eq-Decides text (mti_text u)).0 e)))
-      | false ↦ λ e. refl
-    ] refl in
-    rw other (unknown us text (λ t k. h t (or_right (bytes_eq (mti_text u) (mti_text t)) (is_among us t) k)))
-
-pub short_header : (types : List Mti) → NamesAShortHeader types
-unfolding reading header_at
-short_header types = (
-  λ bytes h. let few : ltb (length bytes) 4 ≡ true = lt-ltb (length bytes) 4 h in rw few refl,
-  λ t rest among h.
-      let few : ltb (length rest) 8 ≡ true = lt-ltb (length rest) 8 h in
-      rw (bytes_again 0 4 (mti_text t) rest (length-mti_text t), mti_again types t among, few) refl,
-)
-
-abbrev IsOther : CodecFault → Type 0
-IsOther d = d ≢ BadMti
-
-wrong_other : (a b : Option ℕ) → IfErr (first_wrong a b) IsOther
-wrong_other (Some n) b = λ e. cc
-wrong_other None (Some n) = λ e. cc
-wrong_other None None = tt
-
-presence_other : (ps : List Part) (bitmap : ℕ) → IfErr (presence_at ps bitmap) IsOther
-unfolding presence_at
-presence_other ps bitmap = either_holds IsOther (is_set bitmap 1) _ _ (λ e. cc) (wrong_other (least (is_unexpected ps bitmap) 2 63) (least (is_missing ps bitmap) 2 63))
-
-whole_other : (bitmap : ℕ) (ps : List Part) (bytes : List ℕ) → IfErr (whole_at bitmap ps bytes) IsOther
-whole_other bitmap ps bytes =
-    other_holds (λ d. is_body_fault (is_named ps) d ≡ true) IsOther (whole_at bitmap ps bytes) (λ d h e.
-    let none : is_body_fault (is_named ps) BadMti ≡ true = ap (is_body_fault (is_named ps)) (sym e) ∙ h in
-    absurd cc) (whole_faults bitmap ps bytes)
-
--- a text that begins with a type of the list
-known : (types : List Mti) (t : Mti) (rest : List ℕ) → is_among types t ≡ true → IfErr (reading types (mti_text t ++ rest)) IsOther
-unfolding reading header_at
-known types t rest among =
-    rw (bytes_again 0 4 (mti_text t) rest (length-mti_text t), mti_again types t among)
-    (then_holds IsOther (bytes_at 0 8 rest >>= λ bits. presence_at (parts_of t) (from_be_bytes w64 bits.0) >>= λ _. let r : Result Header CodecFault = Ok (t, from_be_bytes w64 bits.0, bits.1) in r) _
-    (then_holds IsOther (bytes_at 0 8 rest) _ (either_holds IsOther (ltb (length rest) 8) _ _ (λ e. cc) tt) (λ bits.
-    then_holds IsOther (presence_at (parts_of t) (from_be_bytes w64 bits.0)) _ (presence_other (parts_of t) (from_be_bytes w64 bits.0)) (λ _. tt))) (λ head.
-    then_holds IsOther (whole_at head.1 (parts_of head.0) head.2) _ (whole_other head.1 (parts_of head.0) head.2) (λ _. tt)))
-
-unknown_read : (types : List Mti) (bytes : List ℕ) → 4 ≤ length bytes → ((t : Mti) → is_among types t ≡ true → take 4 bytes ≢ mti_text t) → reading types bytes ≡ Err BadMti
-unfolding reading header_at
-unknown_read types bytes enough h =
-    let long : ltb (length bytes) 4 ≡ false = le-ltb (length bytes) 4 enough in
-    rw (long, unknown types (take 4 bytes) h) refl
-
-pub unknown_type : (types : List Mti) → NamesAnUnknownType types
-unknown_type types bytes = (
-  λ h. (
-    elim (cases_lt (length bytes) 4) [
-      | inl lt ↦ (let short = (short_header types).0 bytes lt in absurd cc)
-      | inr le ↦ le
-    ],
-    λ t among same.
-        let text : mti_text t ++ drop 4 bytes ≡ bytes = rw (← same) (take-append-drop 4 bytes) in
-        let other = subst (λ (x : List ℕ). IfErr (reading types x) IsOther) text (known types t (drop 4 bytes) among) in
-        subst (λ (r : Whole). IfErr r IsOther) h other refl,
-  ),
-  λ h. unknown_read types bytes h.0 h.1,
-)
-
--- ---- a byte too many
-
-pub trailing_byte : NamesATrailingByte
-trailing_byte bytes m byte rest h =
-    ap (λ (x : List ℕ). reading taken_in (x ++ (byte ∷ rest))) h.1 ∙ trailing_read taken_in (mti_of m) (fields_of m) byte rest (message_are m h.0) (message_taken m)
-
-pub trailing_byte_of_reply : NamesATrailingByteOfAReply
-trailing_byte_of_reply bytes r byte rest h =
-    ap (λ (x : List ℕ). reading given_out (x ++ (byte ∷ rest))) h.1 ∙ trailing_read given_out (reply_mti r) (reply_fields r) byte rest (reply_are r h.0) (reply_given r)
