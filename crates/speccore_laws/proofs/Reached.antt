@@ -303,7 +303,7 @@ reached_by opening frames calls s run =
     let same = same-Run (start opening frames) calls s run in
     (calls, subst (λ (rows : Rows). Run (start rows s.frames) calls s) (sym same.0) (subst (λ (fs : List Frame). Run (start opening fs) calls s) (sym same.1) run))
 
--- whatever calls are made, in any order: what holds of the frames and the opening book of every state of a run holds of those that it began with
+-- what holds of every state that is reached, with its book and frames, holds after every run, with those that the run began with
 of_run : (P : Rows → List Frame → State → Type 0) → ((s : State) → IsReached s → P s.opening s.frames s) → (opening : Rows) (frames : List Frame) (calls : List Call) (s : State) → Run (start opening frames) calls s → P opening frames s
 of_run P each opening frames calls s run =
     let same = same-Run (start opening frames) calls s run in
