@@ -1,5 +1,6 @@
 -- A number that was read is written again as it was.
 use Rattle.std.proofs.Common.{◌≡◌, ℕ, ◌^◌, ◌<◌, Bool, true, false, List, [], ◌∷◌, ◌++◌, length, take, drop, refl, arith}
+use Rattle.std.proofs.lemmas.Bool.{and_parts}
 use Rattle.std.specs.Prelude.{◌&&◌}
 use Rattle.std.specs.Char.{is_ascii_digit, digit_value}
 use Rattle.std.specs.Str.Parse.{AllDigits}
@@ -11,7 +12,6 @@ use Rattle.iso8583.proofs.NumberLaws.{fixed_digits-number_of, digit_bounds, is_d
 use Rattle.std.proofs.lemmas.List.{take-append-drop, length-take-le}
 use Rattle.std.proofs.lemmas.Slice.Eq.{bytes_eq-Decides}
 use Rattle.codec_laws.specs.declared.element.Element.TheVariants as element
-use Rattle.codec_laws.proofs.Conjunctions.{both_true}
 use Rattle.codec_laws.specs.Elements.{IsText, is_original_amount, twelve_zeros}
 
 pub digits_again : (text : List ℕ) → length text ≡ 12 → IsDigits text → fixed_digits 12 (number_of text) ≡ text
@@ -23,7 +23,7 @@ digit_below c h = let range = digit_bounds c h in grind (arith, nat_tests)
 all_digits : (text : List ℕ) → IsDigits text → AllDigits 10 text
 all_digits [] h = tt
 all_digits (c ∷ cs) h =
-    let parts = both_true (is_ascii_digit c) (is_digits cs) h in
+    let parts = and_parts (is_ascii_digit c) (is_digits cs) h in
     (digit_below c parts.0, all_digits cs parts.1)
 
 pub amount_bound : (text : List ℕ) → length text ≡ 12 → IsDigits text → number_of text < 10 ^ 12

@@ -1,7 +1,7 @@
 -- Which fault of a bitmap reading names, and when.
 use Rattle.std.proofs.Common.{◌≡◌, ◌≢◌, ◌⊎◌, ℕ, ◌^◌, ◌<◌, ◌≤◌, Bool, true, false, ltb, eqb, leb, List, [], ◌∷◌, Option, Some, None, Result, Ok, Err, refl, sym, ap, subst, ◌∙◌, arith, inl, inr}
 use Rattle.std.specs.Prelude.{not, ◌&&◌, ◌||◌, IfErr}
-use Rattle.std.proofs.lemmas.Bool.{eqb-true, ltb-true, leb-true}
+use Rattle.std.proofs.lemmas.Bool.{and_parts, eqb-true, ltb-true, leb-true}
 use Rattle.iso8583.specs.declared.codec_fault.CodecFault.{CodecFault}
 use Rattle.iso8583.specs.declared.codec_fault.CodecFault.TheVariants.{SecondaryBitmap, Unexpected, Missing}
 use Rattle.codec_laws.specs.declared.mti.Mti.{Mti}
@@ -10,7 +10,7 @@ use Rattle.codec_laws.specs.Types.{Part, parts_of, is_among}
 use Rattle.codec_laws.specs.Spelling.{Field, is_set}
 use Rattle.codec_laws.specs.Reading.{◌>>=◌, least, is_listed, is_required, is_unexpected, is_missing, first_wrong, presence_at, whole_at, reading}
 use Rattle.codec_laws.specs.Faults.{begins, NamesTheLeastUnexpected, NamesTheLeastMissing, NamesASecondaryBitmap}
-use Rattle.codec_laws.proofs.Conjunctions.{both_true, all_three_true}
+use Rattle.codec_laws.proofs.Conjunctions.{all_three_true}
 use Rattle.codec_laws.proofs.Elements.{bind_err}
 use Rattle.codec_laws.proofs.Bits.{is_rising}
 use Rattle.codec_laws.proofs.Least.{least_is, least_where, least_none, all_fail}
@@ -107,9 +107,6 @@ module _ (ps : List Part) (bitmap : ℕ) where
         | false ↦ λ e. absurd (wrong_first stranger gap (sym (presence_past e) ∙ h))
       ] refl
 
-second_true : (a b : Bool) → (a && b) ≡ true → b ≡ true
-second_true a b h = (both_true a b h).1
-
 -- the numbers of the elements that a type requires
 required_number : (low : ℕ) (ps : List Part) (n : ℕ) → is_rising low ps ≡ true → is_required ps n ≡ true → (low < n) × (n ≤ 64)
 required_number low [] n h k = absurd cc
@@ -119,7 +116,7 @@ required_number low (p ∷ ps) n h k =
     let within : element_number p.1 ≤ 64 = leb-true _ _ parts.1 in
     elim (p.0 && eqb (element_number p.1) n) as (λ b. (p.0 && eqb (element_number p.1) n) ≡ b → (b || is_required ps n) ≡ true → (low < n) × (n ≤ 64)) [
       | true ↦ λ e _.
-          (let same : element_number p.1 ≡ n = eqb-true (element_number p.1) n (second_true p.0 (eqb (element_number p.1) n) e) in
+          (let same : element_number p.1 ≡ n = eqb-true (element_number p.1) n (and_parts p.0 (eqb (element_number p.1) n) e).1 in
           (omega arith, omega arith))
       | false ↦ λ _ e.
           (let rest = required_number (element_number p.1) ps n parts.2 e in

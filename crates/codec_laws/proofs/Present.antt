@@ -1,9 +1,9 @@
 -- The elements that a bitmap says are there, and the fields that are read by it.
 use Rattle.std.proofs.Common.{◌≡◌, ℕ, Bool, true, false, cond, List, [], ◌∷◌, ◌++◌, Option, Some, None, Result, Ok, Err, refl, sym, ap, subst, ◌∙◌, append_assoc}
+use Rattle.std.proofs.lemmas.Bool.{and_parts}
 use Rattle.std.specs.Prelude.{◌||◌, map, is_ok, ◌&&◌}
 use Rattle.std.specs.List.{flat_map, AllByRecursion}
 use Rattle.iso8583.specs.declared.codec_fault.CodecFault.{CodecFault}
-use Rattle.codec_laws.proofs.Conjunctions.{both_true}
 use Rattle.codec_laws.specs.declared.element.Element.{Element}
 use Rattle.codec_laws.specs.Elements.{element_number, IsText}
 use Rattle.codec_laws.specs.declared.rule.Rule.{Rule}
@@ -149,7 +149,7 @@ again_step bitmap p ps fields rest false others same texts rules =
     rw (none_again p.1 (flat_map field fields ++ rest), no_rule p.2 bitmap, others fields same texts rules) refl
 again_step bitmap p ps [] rest true others same texts rules = absurd cc
 again_step bitmap p ps (f ∷ fs) rest true others same texts rules =
-    let ruled = both_true (is_ok (rule_at p.2 bitmap (Some f.1))) (are_ruled bitmap (present_parts bitmap ps) fs) rules in
+    let ruled = and_parts (is_ok (rule_at p.2 bitmap (Some f.1))) (are_ruled bitmap (present_parts bitmap ps) fs) rules in
     let passed : rule_at p.2 bitmap (Some f.1) ≡ Ok tt = rule_ok (rule_at p.2 bitmap (Some f.1)) ruled.0 in
     let parts = head_is f.0 p.1 (elements_of fs) (present bitmap ps) same in
     let one : optional_at true p.1 (field (f.0, f.1) ++ (flat_map field fs ++ rest)) ≡ Ok (Some f.1, flat_map field fs ++ rest) =
