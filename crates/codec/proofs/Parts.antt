@@ -1,5 +1,5 @@
 -- Reading elements one after the other.
-use Rattle.std.proofs.Common.{◌≡◌, ℕ, true, false, eqb, List, [], ◌∷◌, ◌++◌, length, Option, Some, None, Result, Ok, Err, refl, sym, ap, ◌∙◌}
+use Rattle.std.proofs.Common.{◌≡◌, ℕ, true, false, eqb, List, [], ◌∷◌, ◌++◌, length, Option, Result, Ok, Err, refl, sym, ap, ◌∙◌}
 use Rattle.std.specs.Prelude.{◌||◌}
 use Rattle.iso8583.specs.declared.codec_fault.CodecFault.{CodecFault}
 use Rattle.iso8583.specs.declared.codec_fault.CodecFault.TheVariants.{Trailing}

@@ -1,5 +1,5 @@
 -- One reader for the bodies of all types: a bitmap without fault says which elements are there.
-use Rattle.std.proofs.Common.{◌≡◌, ℕ, ◌≤◌, Bool, true, false, leb, List, Option, Some, None, Result, Ok, Err, refl, subst, arith}
+use Rattle.std.proofs.Common.{◌≡◌, ℕ, Bool, true, false, leb, List, Option, Some, None, Result, Ok, Err, refl, subst}
 use Rattle.std.proofs.lemmas.Bool.{leb-true}
 use Rattle.std.specs.Prelude.{not, ◌&&◌, is_some, IsSome, IfSome, option_map}
 use Rattle.iso8583.specs.declared.codec_fault.CodecFault.{CodecFault}

@@ -7,7 +7,6 @@ use Rattle.std.proofs.lemmas.Option.{same_Some, none-some}
 use Rattle.std.specs.FinMap as map_of
 use Rattle.rows.specs.Agreement.{Executed, Agrees, Reads}
 use Rattle.rows.specs.Fold.{Rows, rows_after}
-use Rattle.rows.specs.Plan.{Decided}
 use Rattle.rows.specs.RowKey.{key_eq}
 use Rattle.rows.specs.declared.frame.Frame.{Frame}
 use Rattle.rows.specs.declared.row_key.RowKey.{RowKey}

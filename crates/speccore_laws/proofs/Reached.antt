@@ -7,7 +7,6 @@ use Rattle.std.proofs.lemmas.Option.{same_Some, none-some}
 use Rattle.std.specs.Option.{option_flatten}
 use Rattle.rows.specs.Agreement.{Executed, IsTrueExecution, Agrees}
 use Rattle.rows.specs.Fold.{Rows}
-use Rattle.rows.specs.Plan.{Decided}
 use Rattle.rows.specs.declared.frame.Frame.{Frame}
 use Rattle.rows.specs.declared.row_key.RowKey.{RowKey}
 use Rattle.rows.specs.declared.row_val.RowVal.{RowVal}

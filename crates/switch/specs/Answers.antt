@@ -1,5 +1,5 @@
 -- What one body is answered, from bytes to bytes.
-use Rattle.std.specs.Prelude.{◌≡◌, ℕ, false, List, Result, Err}
+use Rattle.std.specs.Prelude.{◌≡◌, ℕ, false, List, Err}
 use Rattle.hex.specs.Hex.{encode_lower}
 use Rattle.codec_laws.specs.Messages.{Spells}
 use Rattle.codec_laws.specs.Reading.{reading}
