@@ -35,9 +35,10 @@ fn book(alloc: Global, available: u64, approvals: u32) -> Result<Book, Fail> {
     let mut book = Book::new(alloc);
     let key = RowKey::Card(Pan::new(CARD).ok_or("card")?);
     let row = card_row(available, approvals).ok_or("row")?;
-    if row.suits(&key) {
-        book.put(key, row)?;
+    if !row.suits(&key) {
+        return Err("a row of another kind".into());
     }
+    book.put(key, row)?;
     Ok(book)
 }
 
