@@ -7,20 +7,35 @@ use crate::shape::Shape;
 /// A data element (ISO 8583:1993).
 #[derive(Clone, Copy, Debug, PartialEq, Eq)]
 pub enum Element {
+    /// 2, primary account number.
     Pan,
+    /// 3, processing code.
     Processing,
+    /// 4, amount of the transaction, in minor units.
     Amount,
+    /// 7, date and time of transmission, MMDDhhmmss.
     Transmission,
+    /// 11, systems trace audit number.
     Stan,
+    /// 12, local date and time of the transaction, YYMMDDhhmmss.
     Stamp,
+    /// 24, function code.
     Function,
+    /// 30, original amount: twelve digits in minor units, and twelve zeros.
     OriginalAmount,
+    /// 32, acquiring institution.
     Acquirer,
+    /// 37, retrieval reference number.
     Retrieval,
+    /// 38, approval code.
     Approval,
+    /// 39, action code.
     Action,
+    /// 41, card acceptor terminal.
     Terminal,
+    /// 49, currency of the transaction, three digits.
     Currency,
+    /// 56, original data elements: type, trace number, local date and time, acquirer.
     Original,
 }
 
