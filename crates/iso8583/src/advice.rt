@@ -1,5 +1,6 @@
 ghost use Rattle.std.specs.Prelude.{◌≡◌, ◌↔◌, IsTrue};
 
+use crate::account_id::AccountId;
 use crate::action::Action;
 use crate::function_code::FunctionCode;
 use crate::transaction::Transaction;
@@ -13,6 +14,8 @@ pub struct Advice {
     pub function: FunctionCode,
     /// Element 39: what the acquirer answered.
     pub action: Action,
+    /// Element 102, if it is present.
+    pub account: Option<AccountId>,
     /// All other elements.
     pub transaction: Transaction,
 }
@@ -25,6 +28,7 @@ impl Advice {
         self.repeat == other.repeat
             && self.function == other.function
             && self.action == other.action
+            && self.account == other.account
             && self.transaction.is_same(&other.transaction)
     }
 }

@@ -1,4 +1,4 @@
-ghost use Rattle.std.specs.Prelude.{◌≡◌, ℕ, ◌≤◌, ◌==◌, length};
+ghost use Rattle.std.specs.Prelude.{◌≡◌, ℕ, ◌≤◌, ◌<◌, ◌==◌, length};
 ghost use Rattle.std.proofs.Common.{rules};
 ghost use Rattle.std.specs.Cmp.{partial_order_from_own_ties};
 ghost use Rattle.std.specs.Cmp.Lexicographic.{pointwise, slice_cmp};
@@ -14,34 +14,36 @@ use std::cmp::Ordering;
 use std::hash::{Hash, Hasher};
 use std::marker::Model;
 
-/// A text of `MIN` to `MAX` digits.
+/// A text of `MIN` to `MAX` digits; `MAX` is at most 255.
 #[derive(Clone, Copy, Debug)]
 pub struct DigitsUpTo<const MIN: usize, const MAX: usize> {
     bytes: [u8; MAX],
-    len: usize,
+    len: u8,
 }
 
 impl<const MIN: usize, const MAX: usize> Model for DigitsUpTo<MIN, MAX> {
     ghost use Rattle.std.specs.Prelude.{ℕ, ◌-◌, List, ◌++◌, length, take, replicate};
+    ghost use Rattle.iso8583.specs.Class.{IsDigits};
     ghost use Rattle.iso8583.specs.Padded.{IsPadded, bytes_back, length_back};
 
     ghost Value = { List ℕ };
 
     ghost view = { λ d. take d.len d.bytes };
 
-    ghost invariant = { λ d. IsPadded MIN MAX d.bytes d.len };
+    ghost invariant = { λ d. IsPadded IsDigits MIN MAX d.bytes d.len };
 
     ghost inverse = { λ text. record { bytes = text ++ replicate (MAX - length text) 0; len = length text } };
 
     ghost inverse_ok = { λ d h i. record {
-      bytes = bytes_back MIN MAX d.bytes d.len h i;
-      len = length_back MIN MAX d.bytes d.len h i;
+      bytes = bytes_back IsDigits MIN MAX d.bytes d.len h i;
+      len = length_back IsDigits MIN MAX d.bytes d.len h i;
     } };
 }
 
 impl<const MIN: usize, const MAX: usize> DigitsUpTo<MIN, MAX> {
     /// The text, if it is `MIN` to `MAX` digits.
     pub fn new(text: &[u8]) -> Option<Self>
+        requires { MAX < 256 }
         ensures { SomeIff result (HasDigits MIN MAX text.now) text.now }
     {
         let len = text.len();
@@ -53,13 +55,17 @@ impl<const MIN: usize, const MAX: usize> DigitsUpTo<MIN, MAX> {
 
     /// A text that was tested: `MIN` to `MAX` digits.
     pub fn of_text(text: &[u8]) -> Self
-        requires { HasDigits MIN MAX text.now }
+        requires max { MAX < 256 }
+        requires text { HasDigits MIN MAX text.now }
         ensures { result ≡ text.now }
     {
         let len = text.len();
         let mut bytes = [0; MAX];
         bytes[..len].copy_from_slice(text);
-        DigitsUpTo { bytes, len }
+        DigitsUpTo {
+            bytes,
+            len: len as u8,
+        }
     }
 
     /// The digits as text.
@@ -67,7 +73,7 @@ impl<const MIN: usize, const MAX: usize> DigitsUpTo<MIN, MAX> {
         ensures text { result.now ≡ self.now }
         ensures digits { HasDigits MIN MAX result.now }
     {
-        &self.bytes[..self.len]
+        &self.bytes[..usize::from(self.len)]
     }
 }
 

@@ -1,6 +1,7 @@
 //! Values of ISO 8583:1993 messages. Each type keeps its values in range.
 #![tactic(auto)]
 
+mod account_id;
 mod acquirer;
 mod action;
 mod advice;
@@ -26,6 +27,7 @@ mod original_ref;
 mod pan;
 mod pan_prefix;
 mod printable;
+mod printable_up_to;
 mod processing;
 mod reply;
 mod request;
@@ -38,6 +40,7 @@ mod transaction;
 mod transmission;
 mod verdict;
 
+pub use account_id::AccountId;
 pub use acquirer::Acquirer;
 pub use action::Action;
 pub use advice::Advice;
@@ -63,6 +66,7 @@ pub use original_ref::OriginalRef;
 pub use pan::Pan;
 pub use pan_prefix::PanPrefix;
 pub use printable::Printable;
+pub use printable_up_to::PrintableUpTo;
 pub use processing::Processing;
 pub use reply::Reply;
 pub use request::Request;

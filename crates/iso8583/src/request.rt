@@ -1,5 +1,6 @@
 ghost use Rattle.std.specs.Prelude.{◌≡◌, ◌↔◌, IsTrue};
 
+use crate::account_id::AccountId;
 use crate::function_code::FunctionCode;
 use crate::transaction::Transaction;
 
@@ -10,6 +11,8 @@ pub struct Request {
     pub repeat: bool,
     /// Element 24.
     pub function: FunctionCode,
+    /// Element 102, if it is present.
+    pub account: Option<AccountId>,
     /// All other elements.
     pub transaction: Transaction,
 }
@@ -21,6 +24,7 @@ impl Request {
     {
         self.repeat == other.repeat
             && self.function == other.function
+            && self.account == other.account
             && self.transaction.is_same(&other.transaction)
     }
 }
