@@ -25,6 +25,12 @@ impl Model for Action {
 }
 
 impl Action {
+    /// 000: approved.
+    pub const APPROVED: Action = Action { code: 0 };
+
+    /// 901: acknowledged, with financial liability accepted.
+    pub const LIABILITY_ACCEPTED: Action = Action { code: 901 };
+
     /// The action code, if it has at most three digits.
     pub fn new(code: u16) -> Option<Action>
         ensures { SomeIff result (code < 1000) code }

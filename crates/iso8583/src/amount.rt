@@ -25,6 +25,9 @@ impl Model for Amount {
 }
 
 impl Amount {
+    /// Nothing.
+    pub const ZERO: Amount = Amount { minor: 0 };
+
     /// The amount, if it has at most twelve digits.
     pub fn new(minor: u64) -> Option<Amount>
         ensures { SomeIff result (minor < 10 ^ 12) minor }

@@ -59,6 +59,15 @@ impl LocalStamp {
         self.digits.as_slice()
     }
 
+    /// The month of the stamp, YYMM.
+    pub fn month(&self) -> &[u8]
+        ensures text { result.now ≡ take 4 self.now }
+        ensures digits { IsDigits result.now }
+        ensures len { length result.now ≡ 4 }
+    {
+        &self.as_slice()[..4]
+    }
+
     /// The day of the stamp.
     pub fn day(&self) -> Day
         ensures { result ≡ take 6 self.now }

@@ -1,8 +1,10 @@
-ghost use Rattle.std.specs.Prelude.{◌≡◌};
+ghost use Rattle.std.specs.Prelude.{◌≡◌, take};
 ghost use Rattle.std.specs.Option.{SomeIff};
 ghost use Rattle.iso8583.specs.Padded.{HasDigits};
 
+use crate::digits::Digits;
 use crate::digits_up_to::DigitsUpTo;
+use crate::pan_prefix::PanPrefix;
 
 /// Primary account number, element 2: 12 to 19 digits (ISO/IEC 7812-1, ISO 8583:1993).
 #[derive(Clone, Copy, Debug, PartialEq, Eq, PartialOrd, Ord, Hash)]
@@ -22,5 +24,12 @@ impl Pan {
         ensures digits { HasDigits 12 19 result.now }
     {
         self.0.as_slice()
+    }
+
+    /// The first six digits.
+    pub fn prefix(&self) -> PanPrefix
+        ensures { result ≡ record { 0 = take 6 self.now.0 } }
+    {
+        PanPrefix(Digits::of_text(&self.as_slice()[..6]))
     }
 }

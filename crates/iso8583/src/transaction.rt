@@ -3,6 +3,7 @@ ghost use Rattle.std.specs.Prelude.{◌≡◌, ◌↔◌, IsTrue};
 use crate::acquirer::Acquirer;
 use crate::amount::Amount;
 use crate::currency::Currency;
+use crate::identity::Identity;
 use crate::local_stamp::LocalStamp;
 use crate::pan::Pan;
 use crate::processing::Processing;
@@ -37,6 +38,17 @@ pub struct Transaction {
 }
 
 impl Transaction {
+    /// What names the message.
+    pub fn identity(&self) -> Identity
+        ensures { result ≡ record { acquirer = self.now.acquirer; stan = self.now.stan; stamp = self.now.stamp } }
+    {
+        Identity {
+            acquirer: self.acquirer,
+            stan: self.stan,
+            stamp: self.stamp,
+        }
+    }
+
     /// Whether the other is the same.
     pub fn is_same(&self, other: &Transaction) -> bool
         ensures { IsTrue result ↔ (self.now ≡ other.now) }

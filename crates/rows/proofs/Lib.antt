@@ -1,2 +1,2 @@
 pub mod BookLaws
-pub mod PutsOnce
+pub mod KeyLaws

@@ -1,9 +1,18 @@
 -- Values of rows and their kinds.
+use Rattle.std.specs.Prelude.{◌≡◌, ℕ}
+use Rattle.rows.specs.RowKey.{kind_of}
 use Rattle.rows.specs.declared.row_key.RowKey.{RowKey}
 use Rattle.rows.specs.declared.row_val.RowVal.{RowVal}
-use Rattle.rows.specs.declared.row_key.RowKey.TheVariants as key
 use Rattle.rows.specs.declared.row_val.RowVal.TheVariants as val
+
+-- the place of a value's kind among the five
+abbrev pub kind_of_value : RowVal → ℕ
+kind_of_value (val.Card row) = 0
+kind_of_value (val.Velocity row) = 1
+kind_of_value (val.Budget row) = 2
+kind_of_value (val.Original row) = 3
+kind_of_value (val.Account row) = 4
 
 -- the value is of the key's kind
 abbrev pub IsOfKind : RowKey → RowVal → Type 0
-IsOfKind (key.Card pan) (val.Card card) = Unit {0}
+IsOfKind key value = kind_of key ≡ kind_of_value value

@@ -1,4 +1,4 @@
-ghost use Rattle.std.specs.Prelude.{◌≡◌, ℕ, ◌-◌, ◌≤◌, ◌^◌};
+ghost use Rattle.std.specs.Prelude.{◌≡◌, ℕ, ◌+◌, ◌-◌, ◌≤◌, ◌^◌};
 ghost use Rattle.std.specs.Option.{SomeIff};
 
 use iso8583::Amount;
@@ -49,5 +49,12 @@ impl Balance {
         Some(Balance {
             minor: self.minor.checked_sub(amount.minor())?,
         })
+    }
+
+    /// The balance and the amount, if they are at most 10^15 together.
+    pub fn checked_add(&self, amount: Amount) -> Option<Balance>
+        ensures { SomeIff result (self.now + amount ≤ 10 ^ 15) (self.now + amount) }
+    {
+        Balance::new(self.minor + amount.minor())
     }
 }

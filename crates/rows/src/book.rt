@@ -1,4 +1,5 @@
-ghost use Rattle.std.specs.Prelude.{◌≡◌, ◌↔◌, OnOk, OnErr, IfOk, IsTrue, None};
+ghost use Rattle.std.specs.Prelude.{◌≡◌, ◌↔◌, OnOk, OnErr, IfOk, IfSome, IfNone, IsTrue, Some, None};
+ghost use Rattle.std.specs.BTreeMap.{Updates, IsUnchanged, insert_entry, get};
 ghost use Rattle.std.specs.FinMap as map;
 ghost use Rattle.rows.specs.RowVal.{IsOfKind};
 ghost use Rattle.rows.specs.RowKey.{key_cmp};
@@ -58,8 +59,7 @@ impl Book {
         ensures err { OnErr result (self.new ≡ self.old) }
         ensures full { OnErr result (map.get self.old key ≡ None) }
     {
-        self.rows.insert(key, val)?;
-        Ok(())
+        put_in(&mut self.rows, key, val).ok_or(AllocError)
     }
 
     /// Takes the row out.
@@ -105,6 +105,24 @@ impl Book {
     pub fn is_same(&self, other: &Book) -> bool
         ensures { IsTrue result ↔ (self.now ≡ other.now) }
     {
-        self.rows.len() == other.rows.len() && self.rows == other.rows
+        if self.rows.len() != other.rows.len() {
+            return false;
+        }
+        for ((key, val), (other_key, other_val)) in self.rows.iter().zip(other.rows.iter()) {
+            if key != other_key || !val.is_same(other_val) {
+                return false;
+            }
+        }
+        true
     }
+}
+
+// Puts the value at the key of a map, over what was there; `None` where memory ran out.
+fn put_in<K: Ord + Drop, V: Drop>(map: &mut BTreeMap<K, V>, key: K, val: V) -> Option<()>
+    ensures updates { IfSome result (λ _. Updates K.cmp map.old map.new key (Some val)) }
+    ensures entries { IfSome result (λ _. map.new.entries ≡ insert_entry K.cmp map.old.entries key val) }
+    ensures none { IfNone result (IsUnchanged map.old map.new × (get K.cmp map.old key ≡ None)) }
+{
+    map.insert(key, val).ok()?;
+    Some(())
 }

@@ -1,4 +1,4 @@
-ghost use Rattle.std.specs.Prelude.{◌≡◌, ℕ, ◌+◌, ◌<◌};
+ghost use Rattle.std.specs.Prelude.{◌≡◌, ℕ, ◌+◌, ◌-◌, ◌<◌};
 ghost use Rattle.std.specs.Option.{SomeIff};
 
 use std::marker::Model;
@@ -46,5 +46,14 @@ impl Count {
         ensures { SomeIff result (self.now < 999999) (self.now + 1) }
     {
         Count::new(self.number + 1)
+    }
+
+    /// One less, unless the count is 0.
+    pub fn checked_previous(&self) -> Option<Count>
+        ensures { SomeIff result (0 < self.now) (self.now - 1) }
+    {
+        Some(Count {
+            number: self.number.checked_sub(1)?,
+        })
     }
 }

@@ -1,8 +1,10 @@
-ghost use Rattle.std.specs.Prelude.{◌≡◌};
+ghost use Rattle.std.specs.Prelude.{◌≡◌, nat_lt};
+ghost use Rattle.iso8583.specs.Number.{number_of};
 ghost use Rattle.std.specs.Option.{SomeIff};
 ghost use Rattle.rows.specs.Expiry.{IsExpiry};
+ghost use Rattle.rows.specs.Facts.{month_of};
 
-use iso8583::{Digits, number_of};
+use iso8583::{Digits, LocalStamp, number_of};
 use std::marker::Model;
 
 /// Month in which a card expires, YYMM: the month is 01 to 12.
@@ -44,5 +46,12 @@ impl Expiry {
     {
         let _ = &self.digits;
         self.digits.as_slice()
+    }
+
+    /// Whether the month is before that of the date and time; years compare as two digits.
+    pub fn is_before(&self, stamp: &LocalStamp) -> bool
+        ensures { result ≡ nat_lt (number_of self.now) (number_of (month_of stamp.now)) }
+    {
+        number_of(self.as_slice()) < number_of(stamp.month())
     }
 }

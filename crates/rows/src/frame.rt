@@ -1,13 +1,13 @@
 ghost use Rattle.std.specs.Prelude.{◌≡◌, ◌↔◌, IsTrue};
 
 use crate::frame_fault::FrameFault;
-use iso8583::Request;
+use iso8583::Message;
 
 /// A body of a batch.
 #[derive(Clone, Copy, Debug, PartialEq, Eq)]
 pub enum Frame {
-    /// It is this authorization request.
-    Good(Request),
+    /// It is this message.
+    Good(Message),
     /// It is no message.
     Bad(FrameFault),
 }

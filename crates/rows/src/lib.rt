@@ -1,29 +1,52 @@
 //! Rows of the issuer's book, messages in their frames, and what a message does to a book.
 #![tactic(auto)]
 
+mod account_row;
 mod balance;
 mod book;
+mod budget_mode;
+mod budget_row;
 mod card_row;
 mod card_status;
 mod count;
 mod expiry;
 mod frame;
 mod frame_fault;
+mod funds;
+mod kept;
+mod mark;
+mod original_row;
+mod outcome;
+mod payer;
+mod payment;
 mod reply_body;
 mod row_key;
 mod row_val;
+mod settlement;
+mod unposted_action;
+mod velocity_row;
 
+pub use account_row::AccountRow;
 pub use balance::Balance;
 pub use book::Book;
+pub use budget_mode::BudgetMode;
+pub use budget_row::BudgetRow;
 pub use card_row::CardRow;
 pub use card_status::CardStatus;
 pub use count::Count;
 pub use expiry::Expiry;
 pub use frame::Frame;
 pub use frame_fault::FrameFault;
+pub use funds::Funds;
+pub use kept::Kept;
+pub use mark::Mark;
+pub use original_row::OriginalRow;
+pub use outcome::Outcome;
+pub use payer::Payer;
+pub use payment::Payment;
 pub use reply_body::ReplyBody;
 pub use row_key::RowKey;
 pub use row_val::RowVal;
-
-#[cfg(test)]
-mod tests;
+pub use settlement::Settlement;
+pub use unposted_action::UnpostedAction;
+pub use velocity_row::VelocityRow;

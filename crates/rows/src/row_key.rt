@@ -1,13 +1,12 @@
-ghost use Rattle.std.specs.Prelude.{◌≡◌, ℕ, ◌==◌};
+ghost use Rattle.std.specs.Prelude.{◌≡◌, ℕ, ◌∷◌, ◌++◌};
 ghost use Rattle.std.proofs.Common.{rules};
 ghost use Rattle.std.specs.Cmp.{partial_order_from_own_ties};
-ghost use Rattle.std.specs.Cmp.Lexicographic.{slice_cmp};
 ghost use Rattle.std.specs.Cmp.Rules.{comparing, hashing};
 ghost use Rattle.std.specs.Hash as fed;
-ghost use Rattle.std.specs.Ordering.{nat_cmp, as_partial_cmp};
-ghost use Rattle.rows.specs.RowKey.{key_cmp, key_eq, pan_of, pan_text};
+ghost use Rattle.std.specs.Ordering.{as_partial_cmp};
+ghost use Rattle.rows.specs.RowKey.{key_cmp, key_eq, kind_of, first_text, second_text, third_text};
 
-use iso8583::Pan;
+use iso8583::{AccountId, Day, Identity, Pan, PanPrefix};
 use std::cmp::Ordering;
 use std::hash::{Hash, Hasher};
 
@@ -16,35 +15,73 @@ use std::hash::{Hash, Hasher};
 pub enum RowKey {
     /// The card with this number.
     Card(Pan),
+    /// What was spent with the card on this day.
+    Velocity(Pan, Day),
+    /// The stand-in budget of the cards whose numbers begin so.
+    Budget(PanPrefix),
+    /// The request or advice of this identity.
+    Original(Identity),
+    /// The account of this name.
+    Account(AccountId),
 }
 
 impl RowKey {
-    /// The card number in the key.
-    pub fn pan(&self) -> Pan
-        ensures { result ≡ pan_of self.now }
+    // The place of the key's kind among the five.
+    fn kind(&self) -> u8
+        ensures { result ≡ kind_of self.now }
     {
         match self {
-            RowKey::Card(pan) => *pan,
+            RowKey::Card(_) => 0,
+            RowKey::Velocity(_, _) => 1,
+            RowKey::Budget(_) => 2,
+            RowKey::Original(_) => 3,
+            RowKey::Account(_) => 4,
         }
     }
 
-    // The digits of the card number.
-    fn text(&self) -> &[u8]
-        ensures { result.now ≡ pan_text self.now }
+    // The text that the order looks at first.
+    fn first(&self) -> &[u8]
+        ensures { result.now ≡ first_text self.now }
     {
         match self {
-            RowKey::Card(pan) => pan.as_slice(),
+            RowKey::Card(pan) | RowKey::Velocity(pan, _) => pan.as_slice(),
+            RowKey::Budget(prefix) => prefix.as_slice(),
+            RowKey::Original(identity) => identity.acquirer.as_slice(),
+            RowKey::Account(id) => id.as_slice(),
+        }
+    }
+
+    // The text that it looks at next, if the kind has one.
+    fn second(&self) -> &[u8]
+        ensures { result.now ≡ second_text self.now }
+    {
+        match self {
+            RowKey::Velocity(_, day) => day.as_slice(),
+            RowKey::Original(identity) => identity.stan.as_slice(),
+            RowKey::Card(_) | RowKey::Budget(_) | RowKey::Account(_) => &[],
+        }
+    }
+
+    // The text that it looks at last, if the kind has one.
+    fn third(&self) -> &[u8]
+        ensures { result.now ≡ third_text self.now }
+    {
+        match self {
+            RowKey::Original(identity) => identity.stamp.as_slice(),
+            _ => &[],
         }
     }
 }
 
 impl PartialEq for RowKey {
     ghost eq = { key_eq };
-
     ghost laws = { Prim.search (comparing, rules) };
 
     fn eq(&self, other: &RowKey) -> bool {
-        self.text() == other.text()
+        self.kind() == other.kind()
+            && self.first() == other.first()
+            && self.second() == other.second()
+            && self.third() == other.third()
     }
 }
 
@@ -53,33 +90,35 @@ impl Eq for RowKey {
 }
 
 impl Hash for RowKey {
-    ghost hash_input = { λ key. fed.slice fed.u8 (pan_text key) };
-
+    ghost hash_input = { λ key. fed.u8 (kind_of key) ++ fed.slice fed.u8 (first_text key) ++ fed.slice fed.u8 (second_text key) ++ fed.slice fed.u8 (third_text key) };
     ghost respects_eq = { Prim.search (hashing, rules) };
 
     fn hash<H: Hasher>(&self, state: &mut H) {
-        self.text().hash(state);
+        self.kind().hash(state);
+        self.first().hash(state);
+        self.second().hash(state);
+        self.third().hash(state);
     }
 }
 
-/// By the bytes of the digits.
+/// By kind, in the order Card, Velocity, Budget, Original, Account; inside a kind by the bytes of what names the row.
 impl Ord for RowKey {
     ghost cmp = { key_cmp };
-
     ghost total = { Prim.search (comparing, rules) };
-
     ghost matches_partial_cmp = { Prim.search (comparing, rules) };
-
     ghost matches_eq = { Prim.search (comparing, rules) };
 
     fn cmp(&self, other: &RowKey) -> Ordering {
-        self.text().cmp(other.text())
+        self.kind()
+            .cmp(&other.kind())
+            .then_with(|| self.first().cmp(other.first()))
+            .then_with(|| self.second().cmp(other.second()))
+            .then_with(|| self.third().cmp(other.third()))
     }
 }
 
 impl PartialOrd for RowKey {
     ghost partial_cmp = { as_partial_cmp key_cmp };
-
     ghost laws = { partial_order_from_own_ties (Prim.search (comparing, rules)) (Prim.search (comparing, rules)) };
 
     fn partial_cmp(&self, other: &RowKey) -> Option<Ordering> {

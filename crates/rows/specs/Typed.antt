@@ -1,0 +1,39 @@
+-- The row of each kind in what was found under a key.
+use Rattle.std.specs.Prelude.{Option, Some, None}
+use Rattle.rows.specs.declared.account_row.AccountRow.{AccountRow}
+use Rattle.rows.specs.declared.budget_row.BudgetRow.{BudgetRow}
+use Rattle.rows.specs.declared.card_row.CardRow.{CardRow}
+use Rattle.rows.specs.declared.original_row.OriginalRow.{OriginalRow}
+use Rattle.rows.specs.declared.row_val.RowVal.{RowVal}
+use Rattle.rows.specs.declared.row_val.RowVal.TheVariants as val
+use Rattle.rows.specs.declared.velocity_row.VelocityRow.{VelocityRow}
+
+-- the card, if there is one
+abbrev pub card_in : Option RowVal → Option CardRow
+card_in (Some (val.Card row)) = Some row
+card_in _ = None
+
+-- the card's day, if there is one
+abbrev pub velocity_in : Option RowVal → Option VelocityRow
+velocity_in (Some (val.Velocity row)) = Some row
+velocity_in _ = None
+
+-- the budget, if there is one
+abbrev pub budget_in : Option RowVal → Option BudgetRow
+budget_in (Some (val.Budget row)) = Some row
+budget_in _ = None
+
+-- the original or its mark, if there is one
+abbrev pub original_in : Option RowVal → Option OriginalRow
+original_in (Some (val.Original row)) = Some row
+original_in _ = None
+
+-- the account, if there is one
+abbrev pub account_in : Option RowVal → Option AccountRow
+account_in (Some (val.Account row)) = Some row
+account_in _ = None
+
+-- what was spent on a day: nothing where there is no row
+abbrev pub spent_in : Option VelocityRow → VelocityRow
+spent_in None = record { count = 0; sum = 0 }
+spent_in (Some day) = day

@@ -1,0 +1,8 @@
+/// Who pays for the cards of a prefix.
+#[derive(Clone, Copy, Debug, PartialEq, Eq)]
+pub enum BudgetMode {
+    /// Their accounts.
+    Direct,
+    /// The budget, standing in for them.
+    StandIn,
+}
