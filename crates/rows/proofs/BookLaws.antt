@@ -76,3 +76,7 @@ of_kind_insert (e ∷ es) k v h kind =
 pub of_kind_remove : (es : List (RowKey × RowVal)) (p : RowKey → Bool) → AllOfKind es → AllOfKind (remove_entry p es)
 of_kind_remove [] p h = tt
 of_kind_remove (e ∷ es) p h = elim (p e.0) as (λ b. AllOfKind (if b then es else e ∷ remove_entry p es)) [ true ↦ h.1 | false ↦ (h.0, of_kind_remove es p h.1) ]
+
+-- maps that are the same have as many entries
+pub same_length : (m n : tree.BTreeMap RowKey RowVal) → tree.IsOrdered key_cmp m → tree.IsOrdered key_cmp n → map.from_entries {R = key_cmp} m.entries ≡ map.from_entries n.entries → length m.entries ≡ length n.entries
+same_length m n h k e = ap length (sym (entries_seen m h) ∙ ap map.entries e ∙ entries_seen n k)

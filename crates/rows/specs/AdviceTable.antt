@@ -7,11 +7,11 @@ use Rattle.iso8583.specs.declared.answer.Answer.TheVariants as answer
 use Rattle.iso8583.specs.declared.original_kind.OriginalKind.TheVariants as kind
 use Rattle.iso8583.specs.declared.reply.Reply.{Reply}
 use Rattle.iso8583.specs.declared.transaction.Transaction.{Transaction}
+use Rattle.rows.specs.CardAccounts.{account_of}
 use Rattle.rows.specs.Facts.{identity_of, prefix_of, is_same_currency, is_marked, is_of_same}
 use Rattle.rows.specs.Funds.{balance_of, with_balance, key_of_funds, row_of_funds, paid_by}
 use Rattle.rows.specs.Kept.{action_of_outcome}
 use Rattle.rows.specs.Plan.{Plan, Answer, Look}
-use Rattle.rows.specs.RequestTable.{account_of}
 use Rattle.rows.specs.Typed.{card_in, budget_in, original_in, account_in}
 use Rattle.rows.specs.declared.account_row.AccountRow.{AccountRow}
 use Rattle.rows.specs.declared.budget_mode.BudgetMode.{BudgetMode}
@@ -38,7 +38,7 @@ reply_to_advice a action = body.Reply (record { transaction = a.transaction; ans
 -- what is kept of an advice
 abbrev pub kept_of_advice : Advice → Outcome → RowVal
 kept_of_advice a o =
-    val.Original (original.Kept (record { card = a.transaction.pan; amount = a.transaction.amount; processing = a.transaction.processing; outcome = o }))
+    val.Kept (record { card = a.transaction.pan; amount = a.transaction.amount; processing = a.transaction.processing; outcome = o })
 
 -- an action, and nothing is put
 abbrev pub answered_unkept : Advice → ℕ → Plan
@@ -107,7 +107,7 @@ advice_on_named a (Some id) = Look (key.Account id) (λ row. advice_on_account a
 -- the card's row was looked at: 900 where there is no card record
 abbrev pub advice_on_card : Advice → Option CardRow → Plan
 advice_on_card a None = acknowledged a
-advice_on_card a (Some card) = advice_on_named a (account_of card a.account)
+advice_on_card a (Some card) = advice_on_named a (account_of card.accounts a.account)
 
 -- an advice whose identity wasn't seen before: 900 where the acquirer didn't approve, and nothing else is looked at
 abbrev pub fresh_advice : Advice → Plan

@@ -4,14 +4,14 @@ use Rattle.std.specs.List.{sum_by}
 use Rattle.std.specs.FinMap as map
 use Rattle.iso8583.specs.declared.account_id.AccountId.{AccountId}
 use Rattle.iso8583.specs.declared.pan_prefix.PanPrefix.{PanPrefix}
-use Rattle.rows.specs.Facts.{is_same_account, prefix_of}
+use Rattle.rows.specs.CardAccounts.{is_same_account}
+use Rattle.rows.specs.Facts.{prefix_of}
 use Rattle.rows.specs.Fold.{Rows}
 use Rattle.rows.specs.Kept.{KeptOriginal, payment_of_outcome, stay_of}
 use Rattle.rows.specs.RowKey.{text_eq}
 use Rattle.rows.specs.Typed.{account_in, budget_in}
 use Rattle.rows.specs.declared.account_row.AccountRow.{AccountRow}
 use Rattle.rows.specs.declared.budget_row.BudgetRow.{BudgetRow}
-use Rattle.rows.specs.declared.original_row.OriginalRow.TheVariants as original
 use Rattle.rows.specs.declared.payer.Payer.{Payer}
 use Rattle.rows.specs.declared.payer.Payer.TheVariants as payer
 use Rattle.rows.specs.declared.payment.Payment.{Payment}
@@ -22,7 +22,7 @@ use Rattle.rows.specs.declared.row_val.RowVal.TheVariants as val
 
 -- the original that a row keeps, if it keeps one
 abbrev pub kept_in : RowKey → RowVal → Option KeptOriginal
-kept_in (key.Original identity) (val.Original (original.Kept k)) = Some k
+kept_in (key.Original identity) (val.Kept k) = Some k
 kept_in _ _ = None
 
 -- this account is the payer

@@ -1,6 +1,5 @@
 -- What the tables ask of messages and rows.
-use Rattle.std.specs.Prelude.{ℕ, Bool, true, false, ◌&&◌, ◌||◌, ◌==◌, List, take, Option, Some, None}
-use Rattle.iso8583.specs.declared.account_id.AccountId.{AccountId}
+use Rattle.std.specs.Prelude.{ℕ, Bool, true, false, ◌&&◌, ◌||◌, ◌==◌, List, take}
 use Rattle.iso8583.specs.declared.currency.Currency.{Currency}
 use Rattle.iso8583.specs.declared.identity.Identity.{Identity}
 use Rattle.iso8583.specs.declared.original_kind.OriginalKind.{OriginalKind}
@@ -47,10 +46,6 @@ is_same_kind kind.Advice kind.Advice = true
 -- the same currency
 abbrev pub is_same_currency : Currency → Currency → Bool
 is_same_currency a b = text_eq a.0 b.0
-
--- the same account
-abbrev pub is_same_account : AccountId → AccountId → Bool
-is_same_account a b = text_eq a.0 b.0
 
 -- the message's card and kind are those that the mark names
 abbrev pub is_marked : Mark → Transaction → OriginalKind → Bool

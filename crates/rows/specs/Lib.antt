@@ -2,6 +2,7 @@ pub mod AdviceTable
 pub mod Agreement
 pub mod Backing
 pub mod Book
+pub mod CardAccounts
 pub mod Decision
 pub mod Expiry
 pub mod Facts

@@ -1,6 +1,6 @@
 -- The decision table of an authorization request, 1100 and 1101. The first rule that applies decides; a row is looked at
 -- where the first rule that needs it is reached.
-use Rattle.std.specs.Prelude.{ℕ, ◌+◌, ◌-◌, Bool, false, ◌==◌, ◌&&◌, ◌||◌, not, nat_le, nat_lt, if◌then◌else◌, List, [], ◌∷◌, take, codes, Option, Some, None, Result, Ok, Err}
+use Rattle.std.specs.Prelude.{ℕ, ◌+◌, ◌-◌, Bool, ◌==◌, ◌&&◌, ◌||◌, not, nat_le, nat_lt, if◌then◌else◌, List, [], ◌∷◌, take, codes, Option, Some, None, Result, Ok, Err}
 use Rattle.iso8583.specs.Luhn.{passes_luhn}
 use Rattle.iso8583.specs.Number.{number_of, fixed_digits}
 use Rattle.iso8583.specs.declared.account_id.AccountId.{AccountId}
@@ -12,7 +12,8 @@ use Rattle.iso8583.specs.declared.request.Request.{Request}
 use Rattle.iso8583.specs.declared.transaction.Transaction.{Transaction}
 use Rattle.iso8583.specs.declared.verdict.Verdict.{Verdict}
 use Rattle.iso8583.specs.declared.verdict.Verdict.TheVariants as verdict
-use Rattle.rows.specs.Facts.{identity_of, day_of, month_of, prefix_of, is_same_currency, is_same_account, is_marked, is_of_same}
+use Rattle.rows.specs.CardAccounts.{account_of}
+use Rattle.rows.specs.Facts.{identity_of, day_of, month_of, prefix_of, is_same_currency, is_marked, is_of_same}
 use Rattle.rows.specs.Funds.{balance_of, with_balance, key_of_funds, row_of_funds, paid_by}
 use Rattle.rows.specs.Kept.{KeptOriginal, action_of_outcome, approval_of_outcome}
 use Rattle.rows.specs.Plan.{Plan, Answer, Look}
@@ -47,7 +48,7 @@ reply_to_request r verdict = body.Reply (record { transaction = r.transaction; a
 -- what is kept of a request
 abbrev pub kept_of_request : Request → Outcome → RowVal
 kept_of_request r o =
-    val.Original (original.Kept (record { card = r.transaction.pan; amount = r.transaction.amount; processing = r.transaction.processing; outcome = o }))
+    val.Kept (record { card = r.transaction.pan; amount = r.transaction.amount; processing = r.transaction.processing; outcome = o })
 
 -- another action than 000, and nothing is put
 abbrev pub declined_unkept : Request → ℕ → Plan
@@ -99,16 +100,6 @@ refused_by_status status.Blocked = Some 100
 refused_by_status status.Lost = Some 208
 refused_by_status status.Stolen = Some 209
 
--- the card's second account, if it has one, is this one
-abbrev pub is_second : Option AccountId → AccountId → Bool
-is_second None id = false
-is_second (Some second) id = is_same_account id second
-
--- the account that the message names, if it is one of the card's two; where it names none, the card's first
-abbrev pub account_of : CardRow → Option AccountId → Option AccountId
-account_of card None = Some card.account
-account_of card (Some id) = if is_same_account id card.account || is_second card.second id then Some id else None
-
 -- refused by the card's status, and else this
 abbrev pub unless_status : Option ℕ → Result AccountId ℕ → Result AccountId ℕ
 unless_status (Some action) else_so = Err action
@@ -123,7 +114,7 @@ or_not_permitted None = Err 119
 abbrev pub usable_account : Request → CardRow → Result AccountId ℕ
 usable_account r card =
     unless_status (refused_by_status card.status)
-    (if nat_lt (number_of card.expiry) (number_of (month_of r.transaction.stamp)) then Err 101 else or_not_permitted (account_of card r.account))
+    (if nat_lt (number_of card.expiry) (number_of (month_of r.transaction.stamp)) then Err 101 else or_not_permitted (account_of card.accounts r.account))
 
 -- what a request is refused for by the limits of its card: 123 one approval too many on that day, 121 too much money, 909
 -- the card's approvals are at their greatest

@@ -38,15 +38,15 @@ reply_to_reversal r action = body.Reply (record { transaction = r.transaction; a
 abbrev pub unchanged : Reversal → ℕ → Plan
 unchanged r action = Answer (reply_to_reversal r action) []
 
--- the original's row, changed
-abbrev pub original_put : Reversal → OriginalRow → RowKey × RowVal
-original_put r row = (key.Original r.original.identity, val.Original row)
+-- the row of the original that the reversal names
+abbrev pub original_put : Reversal → RowVal → RowKey × RowVal
+original_put r value = (key.Original r.original.identity, value)
 
 -- 914, not able to trace back to the original: a mark is put, with this card, the kind that is named, and this message
 abbrev pub marked_ahead : Reversal → Plan
 marked_ahead r =
     Answer (reply_to_reversal r 914)
-    (original_put r (original.Ahead (record { card = r.transaction.pan; kind = r.original.kind; reversal = identity_of r.transaction })) ∷ [])
+    (original_put r (val.Ahead (record { card = r.transaction.pan; kind = r.original.kind; reversal = identity_of r.transaction })) ∷ [])
 
 -- how much of an original's amount is given back: all of it, or what is over the amount of a partial reversal
 abbrev pub difference : ReversalScope → ℕ → ℕ → ℕ
@@ -68,7 +68,7 @@ greatest_balance = 1000000000000000
 
 -- the original, reversed by this message
 abbrev pub reversed_original : Reversal → KeptOriginal → RowKey × RowVal
-reversed_original r k = original_put r (original.Kept (settled k (identity_of r.transaction) (k.amount - given_back r k)))
+reversed_original r k = original_put r (val.Kept (settled k (identity_of r.transaction) (k.amount - given_back r k)))
 
 -- the row that paid, with the difference given back
 abbrev pub refunded : Reversal → KeptOriginal → Funds → RowKey × RowVal
@@ -136,7 +136,7 @@ by_payer r k payer.Budget =
 -- amount
 abbrev pub on_payment : Reversal → KeptOriginal → Option Payment → Plan
 on_payment r k None =
-    Answer (reply_to_reversal r 400) (original_put r (original.Kept (settled k (identity_of r.transaction) 0)) ∷ [])
+    Answer (reply_to_reversal r 400) (original_put r (val.Kept (settled k (identity_of r.transaction) 0)) ∷ [])
 on_payment r k (Some payment) =
     if is_wrong_part r.scope r.transaction.amount k.amount then unchanged r 110 else by_payer r k payment.payer
 

@@ -10,7 +10,8 @@ abbrev pub kind_of_value : RowVal → ℕ
 kind_of_value (val.Card row) = 0
 kind_of_value (val.Velocity row) = 1
 kind_of_value (val.Budget row) = 2
-kind_of_value (val.Original row) = 3
+kind_of_value (val.Kept original) = 3
+kind_of_value (val.Ahead mark) = 3
 kind_of_value (val.Account row) = 4
 
 -- the value is of the key's kind

@@ -4,6 +4,7 @@ use Rattle.rows.specs.declared.account_row.AccountRow.{AccountRow}
 use Rattle.rows.specs.declared.budget_row.BudgetRow.{BudgetRow}
 use Rattle.rows.specs.declared.card_row.CardRow.{CardRow}
 use Rattle.rows.specs.declared.original_row.OriginalRow.{OriginalRow}
+use Rattle.rows.specs.declared.original_row.OriginalRow.TheVariants as original
 use Rattle.rows.specs.declared.row_val.RowVal.{RowVal}
 use Rattle.rows.specs.declared.row_val.RowVal.TheVariants as val
 use Rattle.rows.specs.declared.velocity_row.VelocityRow.{VelocityRow}
@@ -25,7 +26,8 @@ budget_in _ = None
 
 -- the original or its mark, if there is one
 abbrev pub original_in : Option RowVal → Option OriginalRow
-original_in (Some (val.Original row)) = Some row
+original_in (Some (val.Kept k)) = Some (original.Kept k)
+original_in (Some (val.Ahead mark)) = Some (original.Ahead mark)
 original_in _ = None
 
 -- the account, if there is one
@@ -37,3 +39,8 @@ account_in _ = None
 abbrev pub spent_in : Option VelocityRow → VelocityRow
 spent_in None = record { count = 0; sum = 0 }
 spent_in (Some day) = day
+
+-- the value of an original's row
+abbrev pub row_of_original : OriginalRow → RowVal
+row_of_original (original.Kept k) = val.Kept k
+row_of_original (original.Ahead mark) = val.Ahead mark

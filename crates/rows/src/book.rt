@@ -1,5 +1,4 @@
-ghost use Rattle.std.specs.Prelude.{◌≡◌, ◌↔◌, OnOk, OnErr, IfOk, IfSome, IfNone, IsTrue, Some, None};
-ghost use Rattle.std.specs.BTreeMap.{Updates, IsUnchanged, insert_entry, get};
+ghost use Rattle.std.specs.Prelude.{◌≡◌, ◌↔◌, OnOk, OnErr, IfOk, IsTrue, None};
 ghost use Rattle.std.specs.FinMap as map;
 ghost use Rattle.rows.specs.RowVal.{IsOfKind};
 ghost use Rattle.rows.specs.RowKey.{key_cmp};
@@ -59,7 +58,8 @@ impl Book {
         ensures err { OnErr result (self.new ≡ self.old) }
         ensures full { OnErr result (map.get self.old key ≡ None) }
     {
-        put_in(&mut self.rows, key, val).ok_or(AllocError)
+        self.rows.insert(key, val)?;
+        Ok(())
     }
 
     /// Takes the row out.
@@ -115,14 +115,4 @@ impl Book {
         }
         true
     }
-}
-
-// Puts the value at the key of a map, over what was there; `None` where memory ran out.
-fn put_in<K: Ord + Drop, V: Drop>(map: &mut BTreeMap<K, V>, key: K, val: V) -> Option<()>
-    ensures updates { IfSome result (λ _. Updates K.cmp map.old map.new key (Some val)) }
-    ensures entries { IfSome result (λ _. map.new.entries ≡ insert_entry K.cmp map.old.entries key val) }
-    ensures none { IfNone result (IsUnchanged map.old map.new × (get K.cmp map.old key ≡ None)) }
-{
-    map.insert(key, val).ok()?;
-    Some(())
 }

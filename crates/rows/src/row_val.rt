@@ -4,7 +4,8 @@ ghost use Rattle.rows.specs.RowVal.{IsOfKind};
 use crate::account_row::AccountRow;
 use crate::budget_row::BudgetRow;
 use crate::card_row::CardRow;
-use crate::original_row::OriginalRow;
+use crate::kept::Kept;
+use crate::mark::Mark;
 use crate::row_key::RowKey;
 use crate::velocity_row::VelocityRow;
 
@@ -17,8 +18,10 @@ pub enum RowVal {
     Velocity(VelocityRow),
     /// Of a stand-in budget.
     Budget(BudgetRow),
-    /// Of a request or an advice.
-    Original(OriginalRow),
+    /// Of a request or an advice that was decided.
+    Kept(Kept),
+    /// Of a request or an advice whose reversal came ahead of it.
+    Ahead(Mark),
     /// Of an account.
     Account(AccountRow),
 }
@@ -32,7 +35,8 @@ impl RowVal {
             (RowVal::Card(mine), RowVal::Card(theirs)) => mine.is_same(theirs),
             (RowVal::Velocity(mine), RowVal::Velocity(theirs)) => mine == theirs,
             (RowVal::Budget(mine), RowVal::Budget(theirs)) => mine == theirs,
-            (RowVal::Original(mine), RowVal::Original(theirs)) => mine.is_same(theirs),
+            (RowVal::Kept(mine), RowVal::Kept(theirs)) => mine.is_same(theirs),
+            (RowVal::Ahead(mine), RowVal::Ahead(theirs)) => mine.is_same(theirs),
             (RowVal::Account(mine), RowVal::Account(theirs)) => mine == theirs,
             _ => false,
         }
@@ -47,7 +51,7 @@ impl RowVal {
             (RowKey::Card(_), RowVal::Card(_))
                 | (RowKey::Velocity(_, _), RowVal::Velocity(_))
                 | (RowKey::Budget(_), RowVal::Budget(_))
-                | (RowKey::Original(_), RowVal::Original(_))
+                | (RowKey::Original(_), RowVal::Kept(_) | RowVal::Ahead(_))
                 | (RowKey::Account(_), RowVal::Account(_))
         )
     }
