@@ -1,2 +1,3 @@
+pub mod BackingLaws
 pub mod BookLaws
 pub mod KeyLaws
