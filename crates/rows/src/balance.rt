@@ -23,6 +23,9 @@ impl Model for Balance {
 }
 
 impl Balance {
+    /// Nothing.
+    pub const ZERO: Balance = Balance { minor: 0 };
+
     /// The balance, if it is at most 10^15.
     pub fn new(minor: u64) -> Option<Balance>
         ensures { SomeIff result (minor ≤ 10 ^ 15) minor }
