@@ -6,6 +6,7 @@ use Rattle.std.specs.Map.{keys_of, remove_entry}
 use Rattle.std.specs.Ordering.{match_ordering}
 use Rattle.rows.proofs.KeyLaws.{key_cmp_total, key_cmp_antisymmetric}
 use Rattle.rows.specs.Book.{AllOfKind}
+use Rattle.rows.specs.Fold.{Rows}
 use Rattle.rows.specs.RowKey.{kind_of, key_cmp}
 use Rattle.rows.specs.RowVal.{IsOfKind}
 use Rattle.std.specs.BTreeMap as tree
@@ -77,6 +78,6 @@ pub of_kind_remove : (es : List (RowKey × RowVal)) (p : RowKey → Bool) → Al
 of_kind_remove [] p h = tt
 of_kind_remove (e ∷ es) p h = elim (p e.0) as (λ b. AllOfKind (if b then es else e ∷ remove_entry p es)) [ true ↦ h.1 | false ↦ (h.0, of_kind_remove es p h.1) ]
 
--- maps that are the same have as many entries
-pub same_length : (m n : tree.BTreeMap RowKey RowVal) → tree.IsOrdered key_cmp m → tree.IsOrdered key_cmp n → map.from_entries {R = key_cmp} m.entries ≡ map.from_entries n.entries → length m.entries ≡ length n.entries
-same_length m n h k e = ap length (sym (entries_seen m h) ∙ ap map.entries e ∙ entries_seen n k)
+-- books are the same exactly where their rows are
+pub same_rows_same_book : (m n : Rows) → map.entries m ≡ map.entries n → m ≡ n
+same_rows_same_book m n e = map.same_entries_map m n e

@@ -96,7 +96,7 @@ abbrev pub advice_on_account : Advice → AccountId → Option AccountRow → Pl
 advice_on_account a id None = acknowledged a
 advice_on_account a id (Some account) =
     if is_same_currency a.transaction.currency account.currency then
-      Look (key.Budget (prefix_of a.transaction.pan)) (λ row. advice_on_funds a (advice_funds a.transaction id account (budget_in row)))
+    Look (key.Budget (prefix_of a.transaction.pan)) (λ row. advice_on_funds a (advice_funds a.transaction id account (budget_in row)))
     else acknowledged a
 
 -- the account that pays is known: 900 where the advice names one that is not the card's

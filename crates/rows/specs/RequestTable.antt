@@ -185,7 +185,7 @@ abbrev pub on_account : Request → CardRow → AccountId → Option AccountRow 
 on_account r card id None = declined_request r 909
 on_account r card id (Some account) =
     if is_same_currency r.transaction.currency account.currency then
-      Look (key.Velocity r.transaction.pan (day_of r.transaction.stamp)) (λ row. on_day r card id account (spent_in (velocity_in row)))
+    Look (key.Velocity r.transaction.pan (day_of r.transaction.stamp)) (λ row. on_day r card id account (spent_in (velocity_in row)))
     else declined_request r 100
 
 -- the account that pays is known, or what the card refuses the request for

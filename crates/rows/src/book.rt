@@ -102,17 +102,26 @@ impl Book {
     }
 
     /// Whether the other book has the same rows.
+    #[tactic(auto, using(crate::proofs::BookLaws::same_rows_same_book))]
     pub fn is_same(&self, other: &Book) -> bool
         ensures { IsTrue result ↔ (self.now ≡ other.now) }
     {
-        if self.rows.len() != other.rows.len() {
+        are_same_rows(self.rows(), other.rows())
+    }
+}
+
+// Whether the rows that are left of the two are the same.
+fn are_same_rows(mine: Iter<'_, RowKey, RowVal>, theirs: Iter<'_, RowKey, RowVal>) -> bool
+    ensures { IsTrue result ↔ (mine ≡ theirs) }
+{
+    let mut theirs = theirs;
+    for (key, val) in mine {
+        let Some((other_key, other_val)) = theirs.next() else {
+            return false;
+        };
+        if key != other_key || !val.is_same(other_val) {
             return false;
         }
-        for ((key, val), (other_key, other_val)) in self.rows.iter().zip(other.rows.iter()) {
-            if key != other_key || !val.is_same(other_val) {
-                return false;
-            }
-        }
-        true
     }
+    theirs.next().is_none()
 }

@@ -1,8 +1,8 @@
 ghost use Rattle.std.specs.Prelude.{◌≡◌, ◌↔◌, IsTrue};
 
+use crate::balance::Balance;
 use crate::card_accounts::CardAccounts;
 use crate::card_status::CardStatus;
-use crate::balance::Balance;
 use crate::count::Count;
 use crate::expiry::Expiry;
 

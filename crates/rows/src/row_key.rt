@@ -75,6 +75,7 @@ impl RowKey {
 
 impl PartialEq for RowKey {
     ghost eq = { key_eq };
+
     ghost laws = { Prim.search (comparing, rules) };
 
     fn eq(&self, other: &RowKey) -> bool {
@@ -91,6 +92,7 @@ impl Eq for RowKey {
 
 impl Hash for RowKey {
     ghost hash_input = { λ key. fed.u8 (kind_of key) ++ fed.slice fed.u8 (first_text key) ++ fed.slice fed.u8 (second_text key) ++ fed.slice fed.u8 (third_text key) };
+
     ghost respects_eq = { Prim.search (hashing, rules) };
 
     fn hash<H: Hasher>(&self, state: &mut H) {
@@ -104,8 +106,11 @@ impl Hash for RowKey {
 /// By kind, in the order Card, Velocity, Budget, Original, Account; inside a kind by the bytes of what names the row.
 impl Ord for RowKey {
     ghost cmp = { key_cmp };
+
     ghost total = { Prim.search (comparing, rules) };
+
     ghost matches_partial_cmp = { Prim.search (comparing, rules) };
+
     ghost matches_eq = { Prim.search (comparing, rules) };
 
     fn cmp(&self, other: &RowKey) -> Ordering {
@@ -119,6 +124,7 @@ impl Ord for RowKey {
 
 impl PartialOrd for RowKey {
     ghost partial_cmp = { as_partial_cmp key_cmp };
+
     ghost laws = { partial_order_from_own_ties (Prim.search (comparing, rules)) (Prim.search (comparing, rules)) };
 
     fn partial_cmp(&self, other: &RowKey) -> Option<Ordering> {
