@@ -1,2 +1,3 @@
 pub mod BookLaws
 pub mod KeyLaws
+pub mod PutsOnce
