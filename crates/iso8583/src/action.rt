@@ -28,8 +28,59 @@ impl Action {
     /// 000: approved.
     pub const APPROVED: Action = Action { code: 0 };
 
-    /// 901: acknowledged, with financial liability accepted.
+    /// 100: do not honour.
+    pub const DO_NOT_HONOUR: Action = Action { code: 100 };
+
+    /// 101: expired card.
+    pub const EXPIRED_CARD: Action = Action { code: 101 };
+
+    /// 110: invalid amount.
+    pub const INVALID_AMOUNT: Action = Action { code: 110 };
+
+    /// 111: invalid card number.
+    pub const INVALID_CARD_NUMBER: Action = Action { code: 111 };
+
+    /// 116: not sufficient funds.
+    pub const NOT_SUFFICIENT_FUNDS: Action = Action { code: 116 };
+
+    /// 118: no card record.
+    pub const NO_CARD_RECORD: Action = Action { code: 118 };
+
+    /// 119: transaction not permitted to cardholder.
+    pub const NOT_PERMITTED: Action = Action { code: 119 };
+
+    /// 121: exceeds withdrawal amount limit.
+    pub const EXCEEDS_AMOUNT_LIMIT: Action = Action { code: 121 };
+
+    /// 123: exceeds withdrawal frequency limit.
+    pub const EXCEEDS_FREQUENCY_LIMIT: Action = Action { code: 123 };
+
+    /// 208: lost card.
+    pub const LOST_CARD: Action = Action { code: 208 };
+
+    /// 209: stolen card.
+    pub const STOLEN_CARD: Action = Action { code: 209 };
+
+    /// 400: accepted (reversal).
+    pub const REVERSED: Action = Action { code: 400 };
+
+    /// 900: advice acknowledged, no financial liability accepted.
+    pub const ACKNOWLEDGED: Action = Action { code: 900 };
+
+    /// 901: advice acknowledged, financial liability accepted.
     pub const LIABILITY_ACCEPTED: Action = Action { code: 901 };
+
+    /// 907: issuer or switch inoperative.
+    pub const ISSUER_INOPERATIVE: Action = Action { code: 907 };
+
+    /// 909: system malfunction.
+    pub const SYSTEM_MALFUNCTION: Action = Action { code: 909 };
+
+    /// 913: duplicate transmission.
+    pub const DUPLICATE: Action = Action { code: 913 };
+
+    /// 914: not able to trace back to original.
+    pub const NOT_TRACED: Action = Action { code: 914 };
 
     /// The action code, if it has at most three digits.
     pub fn new(code: u16) -> Option<Action>

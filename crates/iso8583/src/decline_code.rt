@@ -23,6 +23,81 @@ impl Model for DeclineCode {
 }
 
 impl DeclineCode {
+    /// 100: do not honour.
+    pub const DO_NOT_HONOUR: DeclineCode = DeclineCode {
+        action: Action::DO_NOT_HONOUR,
+    };
+
+    /// 101: expired card.
+    pub const EXPIRED_CARD: DeclineCode = DeclineCode {
+        action: Action::EXPIRED_CARD,
+    };
+
+    /// 110: invalid amount.
+    pub const INVALID_AMOUNT: DeclineCode = DeclineCode {
+        action: Action::INVALID_AMOUNT,
+    };
+
+    /// 111: invalid card number.
+    pub const INVALID_CARD_NUMBER: DeclineCode = DeclineCode {
+        action: Action::INVALID_CARD_NUMBER,
+    };
+
+    /// 116: not sufficient funds.
+    pub const NOT_SUFFICIENT_FUNDS: DeclineCode = DeclineCode {
+        action: Action::NOT_SUFFICIENT_FUNDS,
+    };
+
+    /// 118: no card record.
+    pub const NO_CARD_RECORD: DeclineCode = DeclineCode {
+        action: Action::NO_CARD_RECORD,
+    };
+
+    /// 119: transaction not permitted to cardholder.
+    pub const NOT_PERMITTED: DeclineCode = DeclineCode {
+        action: Action::NOT_PERMITTED,
+    };
+
+    /// 121: exceeds withdrawal amount limit.
+    pub const EXCEEDS_AMOUNT_LIMIT: DeclineCode = DeclineCode {
+        action: Action::EXCEEDS_AMOUNT_LIMIT,
+    };
+
+    /// 123: exceeds withdrawal frequency limit.
+    pub const EXCEEDS_FREQUENCY_LIMIT: DeclineCode = DeclineCode {
+        action: Action::EXCEEDS_FREQUENCY_LIMIT,
+    };
+
+    /// 208: lost card.
+    pub const LOST_CARD: DeclineCode = DeclineCode {
+        action: Action::LOST_CARD,
+    };
+
+    /// 209: stolen card.
+    pub const STOLEN_CARD: DeclineCode = DeclineCode {
+        action: Action::STOLEN_CARD,
+    };
+
+    /// 907: issuer or switch inoperative.
+    pub const ISSUER_INOPERATIVE: DeclineCode = DeclineCode {
+        action: Action::ISSUER_INOPERATIVE,
+    };
+
+    /// 909: system malfunction.
+    pub const SYSTEM_MALFUNCTION: DeclineCode = DeclineCode {
+        action: Action::SYSTEM_MALFUNCTION,
+    };
+
+    /// 913: duplicate transmission.
+    pub const DUPLICATE: DeclineCode = DeclineCode {
+        action: Action::DUPLICATE,
+    };
+
+    /// 914: not able to trace back to original.
+    pub const NOT_TRACED: DeclineCode = DeclineCode {
+        action: Action::NOT_TRACED,
+    };
+
     /// The code, if it is no approval.
     pub fn new(action: Action) -> Option<DeclineCode>
         ensures { SomeIff result (0 < action) action }

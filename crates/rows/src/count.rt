@@ -22,6 +22,9 @@ impl Model for Count {
 }
 
 impl Count {
+    /// None.
+    pub const ZERO: Count = Count { number: 0 };
+
     /// The count, if it is at most 999,999.
     pub fn new(number: u32) -> Option<Count>
         ensures { SomeIff result (number < 1000000) number }

@@ -1,6 +1,6 @@
-ghost use Rattle.std.specs.Prelude.{◌≡◌, IfOk, IfErr, IfSome};
+ghost use Rattle.std.specs.Prelude.{◌≡◌, ◌⊎◌, IfOk, IfErr, IfSome};
 ghost use Rattle.rows.specs.Agreement.{IsLocal};
-ghost use Rattle.view.specs.Recording.{IsNew};
+ghost use Rattle.view.specs.Recording.{IsNew, IsStopOf};
 
 use crate::recorder::Recorder;
 use crate::row_source::RowSource;
@@ -15,6 +15,8 @@ pub trait Decide {
         requires { IsNew rows.old }
         ensures local { IfOk result (λ reply. IsLocal frame.now rows.new.reads rows.new.writes reply) }
 
+        // It stops where its source's last question did, or memory ran out.
+        ensures stop { IfErr result (λ stop. (stop ≡ Stop.OutOfMemory) ⊎ IsStopOf S.answers rows.new.source stop) }
         // A known book stays, and want of memory is all that stops it.
         ensures stops { IfSome (S.book rows.old.source) (λ _. IfErr result (λ stop. stop ≡ Stop.OutOfMemory)) }
         ensures book { S.book rows.new.source ≡ S.book rows.old.source };

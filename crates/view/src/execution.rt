@@ -1,7 +1,7 @@
-ghost use Rattle.std.specs.Prelude.{◌≡◌, IfOk, IfErr, IfSome};
+ghost use Rattle.std.specs.Prelude.{◌≡◌, ◌⊎◌, IfOk, IfErr, IfSome};
 ghost use Rattle.rows.specs.Agreement.{IsTrueExecution};
 ghost use Rattle.rows.specs.Fold.{reply_of, writes_of};
-ghost use Rattle.view.specs.Recording.{AgreesWithBook};
+ghost use Rattle.view.specs.Recording.{AgreesWithBook, IsStopOf};
 
 use crate::decide::Decide;
 use crate::read_set::ReadSet;
@@ -94,6 +94,8 @@ pub fn execute<S: RowSource, F: Decide>(
     ensures agrees { IfOk result (λ e. AgreesWithBook (S.book source) e.reads) }
     ensures reply { IfOk result (λ e. IfSome (S.book source) (λ rows. e.reply ≡ reply_of rows frame.now)) }
     ensures writes { IfOk result (λ e. IfSome (S.book source) (λ rows. e.writes ≡ writes_of rows frame.now)) }
+    // It stops where a question to the source did, or memory ran out.
+    ensures stop { IfErr result (λ stop. (stop ≡ Stop.OutOfMemory) ⊎ ((asked : S) × IsStopOf S.answers asked stop)) }
     ensures stops { IfSome (S.book source) (λ _. IfErr result (λ stop. stop ≡ Stop.OutOfMemory)) }
 {
     let mut recorder = Recorder::new(alloc, source);

@@ -17,5 +17,3 @@ pub use row_source::RowSource;
 pub use stop::Stop;
 pub use write_set::WriteSet;
 
-#[cfg(test)]
-mod tests;

@@ -39,6 +39,13 @@ impl ReadSet {
         }
     }
 
+    /// Takes all rows out, and keeps the memory.
+    pub fn clear(&mut self)
+        ensures { self.new ≡ [] }
+    {
+        self.rows.clear();
+    }
+
     /// How many rows were read.
     pub fn len(&self) -> usize
         ensures len { result ≡ length self.now }

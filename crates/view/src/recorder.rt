@@ -42,6 +42,20 @@ impl<S: RowSource> Recorder<S> {
         }
     }
 
+    /// A recorder that has read and put nothing, over the memory of these sets; what they held is gone.
+    pub fn over(source: S, reads: ReadSet, writes: WriteSet) -> Recorder<S>
+        ensures { result ≡ record { source = source; reads = []; writes = [] } }
+    {
+        let (mut reads, mut writes) = (reads, writes);
+        reads.clear();
+        writes.clear();
+        Recorder {
+            source,
+            reads,
+            writes,
+        }
+    }
+
     /// What the row is: as it is put, else as it was read, else as the source answers, which is then logged.
     pub fn read(&mut self, key: &RowKey) -> Result<Option<RowVal>, Stop>
         // A row that is put or was read is answered as it is kept, and nothing changes.

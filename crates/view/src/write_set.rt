@@ -34,6 +34,13 @@ impl WriteSet {
         }
     }
 
+    /// Takes all rows out, and keeps the memory.
+    pub fn clear(&mut self)
+        ensures { self.new ≡ [] }
+    {
+        self.rows.clear();
+    }
+
     /// How many rows are put.
     pub fn len(&self) -> usize
         ensures len { result ≡ length self.now }
