@@ -1,13 +1,17 @@
 //! The shipped decision: what a message is answered, and which rows it puts.
 #![tactic(auto)]
 
-mod action;
-mod reply;
+mod advice;
+mod advice_answers;
+mod advice_facts;
+mod facts;
+mod look_up;
 mod request;
+mod request_answers;
+mod request_facts;
 mod shipped;
 mod typed;
 
-pub use shipped::{Shipped, decide};
-
-#[cfg(test)]
-mod tests;
+pub use advice::decide_advice;
+pub use shipped::Shipped;
+pub use request::decide_request;
