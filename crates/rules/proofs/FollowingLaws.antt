@@ -1,6 +1,7 @@
 -- How a decision follows its plan from one row to the next, and what it has come to at its end.
 use Rattle.std.proofs.Common.{◌≡◌, ℕ, suc, Bool, true, false, not, ◌&&◌, ◌==◌, if◌then◌else◌, List, [], ◌∷◌, ◌++◌, map, length, take, Option, Some, None, IsTrue, refl, sym, ap, subst, ◌∙◌, rules, arith, append_assoc, cond}
 use Rattle.std.proofs.lemmas.Bool.{false≢true}
+use Rattle.std.proofs.lemmas.Bool.Decides.{nat_tests}
 use Rattle.std.specs.List.{AllByRecursion, list_all}
 use Rattle.rows.specs.Agreement.{Reads, Agrees, keys_read, IsLocal, ComesTo, AreRead}
 use Rattle.rows.specs.Decision.{decision, plan_of}
@@ -23,6 +24,13 @@ not_true false h = refl
 pub not_false : (b : Bool) → not b ≡ false → b ≡ true
 not_false true h = refl
 not_false false h = sym h
+
+-- the test whether two numbers are the same
+pub same_number : (m n : ℕ) → m ≡ n → (m == n) ≡ true
+same_number m n e = grind (arith, nat_tests)
+
+pub other_number : (m n : ℕ) → (m ≡ n → ⊥) → (m == n) ≡ false
+other_number m n e = grind (arith, nat_tests)
 
 -- ---- rows that were not read yet
 
