@@ -16,7 +16,4 @@ mod reversal_refunds;
 mod shipped;
 mod typed;
 
-pub use advice::decide_advice;
-pub use reversal::decide_reversal;
-pub use shipped::Shipped;
-pub use request::decide_request;
+pub use shipped::{Shipped, decide};

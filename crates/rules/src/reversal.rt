@@ -18,7 +18,7 @@ use rows::{Funds, Kept, OriginalRow, Payer, ReplyBody, RowKey};
 use view::{Recorder, RowSource, Stop};
 
 // Decides a reversal advice.
-pub fn decide_reversal<S: RowSource>(
+pub(crate) fn decide_reversal<S: RowSource>(
     reversal: &Reversal,
     rows: &mut Recorder<S>,
 ) -> Result<ReplyBody, Stop>
@@ -31,10 +31,29 @@ pub fn decide_reversal<S: RowSource>(
     ensures book { S.book rows.new.source ≡ S.book rows.old.source }
 {
     let key = RowKey::Original(reversal.original.identity);
-    match &original_in(&look_up(rows, &key)?) {
+    match original_in(&look_up(rows, &key)?) {
+        Some(row) => decide_on_row(reversal, &row, rows),
         None => mark_ahead(reversal, rows),
-        Some(OriginalRow::Ahead(_)) => Ok(unchanged(reversal, Action::NOT_TRACED)),
-        Some(OriginalRow::Kept(kept)) => decide_on_kept(reversal, kept, rows),
+    }
+}
+
+// Decides a reversal of an identity that was seen before.
+fn decide_on_row<S: RowSource>(
+    reversal: &Reversal,
+    row: &OriginalRow,
+    rows: &mut Recorder<S>,
+) -> Result<ReplyBody, Stop>
+    requires follows { Follows (Good (message.Reversal reversal.now)) rows.old.reads rows.old.writes (table.on_reversed reversal.now (Some row.now)) }
+    requires kinds { kinds_read rows.old.reads ≡ 3 ∷ [] }
+    ensures done { IfOk result (λ reply. Concludes (Good (message.Reversal reversal.now)) rows.new.reads rows.new.writes reply) }
+    ensures so_far { ReadsNeeds (Good (message.Reversal reversal.now)) rows.new.reads }
+    ensures stop { IfErr result (λ stop. (stop ≡ Stop.OutOfMemory) ⊎ IsStopOf S.answers rows.new.source stop) }
+    ensures stops { IfSome (S.book rows.old.source) (λ _. IfErr result (λ stop. stop ≡ Stop.OutOfMemory)) }
+    ensures book { S.book rows.new.source ≡ S.book rows.old.source }
+{
+    match row {
+        OriginalRow::Ahead(_) => Ok(unchanged(reversal, Action::NOT_TRACED)),
+        OriginalRow::Kept(kept) => decide_on_kept(reversal, kept, rows),
     }
 }
 

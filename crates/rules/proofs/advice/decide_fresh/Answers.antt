@@ -20,16 +20,16 @@ acknowledge-requires-in_default g c =
     let a = c.args.advice.now in
     record {
       follows =
-      looked_as _ _ _ _ _ _ _ _ _ _ (follows_then _ _ _ _ (table.looked_for_card a) _ c.requires.follows (same_number _ _ (sym c.code.ensures.value ∙ c.if-code-ne0.false)))
-      c.in_ok-look_up.ensures.logged c.in_ok-look_up.ensures.writes refl
-      (ap (table.advice_on_card a) (sym c.card_in.ensures ∙ c.in_default.is));
+          looked_as _ _ _ _ _ _ _ _ _ _ (follows_then _ _ _ _ (table.looked_for_card a) _ c.requires.follows (same_number _ _ (sym c.code.ensures.value ∙ c.if-code-ne0.false)))
+          c.in_ok-look_up.ensures.logged c.in_ok-look_up.ensures.writes refl
+          (ap (table.advice_on_card a) (sym c.card_in.ensures ∙ c.in_default.is));
     }
 
 pub decide_on_account-requires-clause-follows : goal.decide_on_account-requires-clause-follows
 decide_on_account-requires-clause-follows g c =
     let a = c.args.advice.now in
     looked_as _ _ _ _ _ _ _ _ _ _ (follows_then _ _ _ _ (table.looked_for_card a) _ c.requires.follows (same_number _ _ (sym c.code.ensures.value ∙ c.if-code-ne0.false)))
-      c.in_ok-look_up.ensures.logged c.in_ok-look_up.ensures.writes refl
+    c.in_ok-look_up.ensures.logged c.in_ok-look_up.ensures.writes refl
     (ap (table.advice_on_card a) (sym c.card_in.ensures ∙ c.in-Some.is) ∙ ap (table.advice_on_named a) (sym c.account_of.ensures ∙ c.in-Some-account_of.is))
 
 pub acknowledge-requires-in-None : goal.acknowledge-requires-in-None
@@ -37,7 +37,7 @@ acknowledge-requires-in-None g c =
     let a = c.args.advice.now in
     record {
       follows =
-      looked_as _ _ _ _ _ _ _ _ _ _ (follows_then _ _ _ _ (table.looked_for_card a) _ c.requires.follows (same_number _ _ (sym c.code.ensures.value ∙ c.if-code-ne0.false)))
-      c.in_ok-look_up.ensures.logged c.in_ok-look_up.ensures.writes refl
-      (ap (table.advice_on_card a) (sym c.card_in.ensures ∙ c.in-Some.is) ∙ ap (table.advice_on_named a) (sym c.account_of.ensures ∙ c.in-None.is));
+          looked_as _ _ _ _ _ _ _ _ _ _ (follows_then _ _ _ _ (table.looked_for_card a) _ c.requires.follows (same_number _ _ (sym c.code.ensures.value ∙ c.if-code-ne0.false)))
+          c.in_ok-look_up.ensures.logged c.in_ok-look_up.ensures.writes refl
+          (ap (table.advice_on_card a) (sym c.card_in.ensures ∙ c.in-Some.is) ∙ ap (table.advice_on_named a) (sym c.account_of.ensures ∙ c.in-None.is));
     }

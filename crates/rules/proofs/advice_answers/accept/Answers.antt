@@ -22,14 +22,14 @@ returns-clause-done g c =
     let a = c.args.advice.now in
     let paying = c.args.paying.now in
     let outcome : outcome.Accepted (record { payer = c.payer.result; settlement = None }) ≡ outcome.Accepted (paid_by paying) =
-        λ i. outcome.Accepted (record { payer = c.payer.ensures i; settlement = None }) in
+    λ i. outcome.Accepted (record { payer = c.payer.ensures i; settlement = None }) in
     let kept = c.kept_of-kept.ensures ∙ ap (kept_of_advice a) outcome in
     let balance : c.in-Some.balance ≡ balance_of paying - a.transaction.amount = c.in-Some.ensures.1 ∙ ap (λ n. n - a.transaction.amount) c.balance.ensures in
     let paid : c.with_balance-paid.result ≡ with_balance paying (balance_of paying - a.transaction.amount) = c.with_balance-paid.ensures ∙ ap (with_balance paying) balance in
     let row = c.row.ensures ∙ ap row_of_funds paid in
     let puts = two_puts c.args.rows.now _ _ _ _ paying _ _ c.requires.follows.unput c.in_ok-write.ensures.ok c.in_ok-write-2.ensures.ok c.key.ensures in
     let table : c.write-2.new.self.writes ≡ accepted_writes a paying =
-        puts.1 ∙ (λ i. (key.Original (c.identity.ensures i), kept i) ∷ (key_of_funds paying, row i) ∷ []) in
+    puts.1 ∙ (λ i. (key.Original (c.identity.ensures i), kept i) ∷ (key_of_funds paying, row i) ∷ []) in
     concluded _ _ _ _ _ _ _ _ c.requires.follows puts.0 table c.reply_to.ensures
 
 pub returns-clause-so_far : goal.returns-clause-so_far
