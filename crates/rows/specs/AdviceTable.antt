@@ -1,11 +1,10 @@
 -- The decision table of an authorization advice, 1120 and 1121. The first rule that applies decides; a row is looked at
 -- where the first rule that needs it is reached.
-use Rattle.std.specs.Prelude.{ℕ, ◌-◌, ◌==◌, ◌&&◌, nat_le, if◌then◌else◌, List, [], ◌∷◌, Option, Some, None}
+use Rattle.std.specs.Prelude.{ℕ, ◌-◌, ◌==◌, ◌&&◌, nat_le, if◌then◌else◌, [], ◌∷◌, Option, Some, None}
 use Rattle.iso8583.specs.declared.account_id.AccountId.{AccountId}
 use Rattle.iso8583.specs.declared.advice.Advice.{Advice}
 use Rattle.iso8583.specs.declared.answer.Answer.TheVariants as answer
 use Rattle.iso8583.specs.declared.original_kind.OriginalKind.TheVariants as kind
-use Rattle.iso8583.specs.declared.reply.Reply.{Reply}
 use Rattle.iso8583.specs.declared.transaction.Transaction.{Transaction}
 use Rattle.rows.specs.CardAccounts.{account_of}
 use Rattle.rows.specs.Facts.{identity_of, prefix_of, is_same_currency, is_marked, is_of_same}

@@ -1,22 +1,20 @@
 -- The decision table of a reversal advice, 1420 and 1421. The first rule that applies decides; a row is looked at where the
 -- first rule that needs it is reached.
-use Rattle.std.specs.Prelude.{ℕ, ◌+◌, ◌-◌, ◌^◌, Bool, true, false, ◌==◌, ◌&&◌, ◌||◌, not, nat_le, nat_lt, if◌then◌else◌, List, [], ◌∷◌, ◌++◌, Option, Some, None, option_map}
+use Rattle.std.specs.Prelude.{ℕ, ◌+◌, ◌-◌, Bool, true, false, ◌==◌, ◌&&◌, ◌||◌, not, nat_lt, if◌then◌else◌, [], ◌∷◌, Option, Some, None, option_map}
 use Rattle.iso8583.specs.declared.answer.Answer.TheVariants as answer
 use Rattle.iso8583.specs.declared.identity.Identity.{Identity}
 use Rattle.iso8583.specs.declared.original_kind.OriginalKind.{OriginalKind}
 use Rattle.iso8583.specs.declared.original_kind.OriginalKind.TheVariants as kind
-use Rattle.iso8583.specs.declared.reply.Reply.{Reply}
 use Rattle.iso8583.specs.declared.reversal.Reversal.{Reversal}
 use Rattle.iso8583.specs.declared.reversal_scope.ReversalScope.{ReversalScope}
 use Rattle.iso8583.specs.declared.reversal_scope.ReversalScope.TheVariants as scope
 use Rattle.rows.specs.Facts.{identity_of, day_of, prefix_of, is_same_card, is_same_identity, is_same_kind}
 use Rattle.rows.specs.Funds.{balance_of, with_balance, key_of_funds, row_of_funds}
 use Rattle.rows.specs.Kept.{KeptOriginal, kind_of_outcome, payment_of_outcome, reversal_of_outcome, settled}
-use Rattle.rows.specs.Plan.{Plan, Writes, Answer, Look}
+use Rattle.rows.specs.Plan.{Plan, Answer, Look}
 use Rattle.rows.specs.Typed.{velocity_in, budget_in, original_in, account_in}
 use Rattle.rows.specs.declared.funds.Funds.{Funds}
 use Rattle.rows.specs.declared.funds.Funds.TheVariants as funds
-use Rattle.rows.specs.declared.mark.Mark.{Mark}
 use Rattle.rows.specs.declared.original_row.OriginalRow.{OriginalRow}
 use Rattle.rows.specs.declared.original_row.OriginalRow.TheVariants as original
 use Rattle.rows.specs.declared.payer.Payer.{Payer}
