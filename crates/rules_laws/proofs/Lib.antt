@@ -1,2 +1,5 @@
+pub mod AdviceWays
+pub mod Funding
 pub mod Keys
+pub mod RequestWays
 pub mod Sums
