@@ -2,4 +2,5 @@ pub mod AdviceWays
 pub mod Funding
 pub mod Keys
 pub mod RequestWays
+pub mod ReversalWays
 pub mod Sums
