@@ -1,4 +1,5 @@
 pub mod AdviceWays
+pub mod Backings
 pub mod Funding
 pub mod Keys
 pub mod RequestWays
