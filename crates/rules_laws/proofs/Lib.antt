@@ -1,5 +1,7 @@
 pub mod AdviceWays
 pub mod Backings
+pub mod Balanced
+pub mod Conserved
 pub mod Funding
 pub mod Keys
 pub mod RequestWays
