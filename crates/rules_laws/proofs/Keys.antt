@@ -1,15 +1,15 @@
 -- Rows of a book under what was put, and what the tests of keys and texts say.
-use Rattle.std.proofs.Common.{◌≡◌, ◌≢◌, ℕ, Bool, true, false, cond, ◌==◌, not, List, [], ◌∷◌, Option, Some, None, Ordering, Less, Equal, Greater, Decides, IsTrue, refl, sym, ap, ◌∙◌, subst, arith, rules}
+use Rattle.std.proofs.Common.{◌≡◌, ◌≢◌, ℕ, Bool, true, false, cond, ◌==◌, not, List, [], ◌∷◌, Option, Some, None, Ordering, Less, Equal, Greater, Decides, IsTrue, ◌⊎◌, inl, inr, refl, sym, ap, ◌∙◌, subst, arith, rules}
 use Rattle.std.proofs.lemmas.Bool.{false≢true}
 use Rattle.std.proofs.lemmas.Bool.Decides.{nat_tests}
 use Rattle.std.specs.FinMap as map
 use Rattle.std.specs.Ordering.{is_eq, eq_by_cmp}
 use Rattle.std.specs.Cmp.{tied_itself}
-use Rattle.rows.proofs.KeyLaws.{key_cmp_total, key_cmp_antisymmetric}
+use Rattle.rows.proofs.KeyLaws.{key_cmp_total, key_cmp_antisymmetric, key_eq_decides}
 use Rattle.rows.proofs.PutsOnce.{IsFresh, not_another}
 use Rattle.rows.specs.Fold.{Rows, overlay}
 use Rattle.rows.specs.Plan.{Writes}
-use Rattle.rows.specs.RowKey.{kind_of, key_cmp, text_eq}
+use Rattle.rows.specs.RowKey.{kind_of, key_cmp, key_eq, text_eq}
 use Rattle.rows.specs.declared.row_key.RowKey.{RowKey}
 use Rattle.rows.specs.declared.row_val.RowVal.{RowVal}
 
@@ -55,3 +55,11 @@ texts_apart s t e same = false≢true (sym e ∙ (text_eq_decides s t).1 same)
 -- a number is the same as itself
 pub same_number : (n : ℕ) → (n == n) ≡ true
 same_number n = grind (arith, nat_tests)
+
+-- keys are the same, or they are not
+pub same_or_other : (a b : RowKey) → (a ≡ b) ⊎ (a ≢ b)
+same_or_other a b =
+    elim (key_eq a b) as (λ t. key_eq a b ≡ t → (a ≡ b) ⊎ (a ≢ b)) [
+      | true ↦ λ e. inl ((key_eq_decides a b).0 e)
+      | false ↦ λ e. inr (λ same. false≢true (sym e ∙ (key_eq_decides a b).1 same))
+    ] refl
