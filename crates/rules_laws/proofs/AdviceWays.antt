@@ -1,5 +1,5 @@
 -- What becomes of an advice whose identity wasn't seen: it is acknowledged without liability, or accepted and paid.
-use Rattle.std.proofs.Common.{◌≡◌, ℕ, Bool, true, false, if◌then◌else◌, ◌==◌, ◌-◌, List, [], ◌∷◌, Option, Some, None, ◌⊎◌, inl, inr, refl}
+use Rattle.std.proofs.Common.{◌≡◌, Bool, true, false, if◌then◌else◌, ◌==◌, ◌-◌, [], ◌∷◌, Option, Some, None, ◌⊎◌, inl, inr, refl}
 use Rattle.iso8583.specs.declared.account_id.AccountId.{AccountId}
 use Rattle.iso8583.specs.declared.advice.Advice.{Advice}
 use Rattle.rows.specs.AdviceTable.{reply_to_advice, kept_of_advice, acknowledged, advice_funds, advice_on_funds, advice_on_account, advice_on_named, advice_on_card, fresh_advice}

@@ -1,24 +1,21 @@
 -- What each row adds to the backing of an account or a prefix, and the backing after rows are put.
-use Rattle.std.proofs.Common.{◌≡◌, ℕ, ◌+◌, Bool, true, false, if◌then◌else◌, ◌&&◌, ◌==◌, not, List, [], ◌∷◌, Option, Some, None, IsTrue, refl, sym, ap, ◌∙◌, subst, arith}
+use Rattle.std.proofs.Common.{◌≡◌, ℕ, ◌+◌, Bool, true, false, if◌then◌else◌, ◌==◌, not, [], ◌∷◌, Option, Some, IsTrue, refl, sym, ap, ◌∙◌, arith}
 use Rattle.std.proofs.lemmas.Bool.Decides.{nat_tests}
 use Rattle.std.specs.FinMap as map
 use Rattle.iso8583.specs.declared.account_id.AccountId.{AccountId}
-use Rattle.iso8583.specs.declared.pan.Pan.{Pan}
 use Rattle.iso8583.specs.declared.pan_prefix.PanPrefix.{PanPrefix}
 use Rattle.rows.proofs.PutsOnce.{IsFresh, AreApart}
-use Rattle.rows.specs.Backing.{kept_in, is_account, is_budget, is_from_account, is_from_budget, stay_if, stays, available_in, left_in, backing_of_account, backing_of_prefix}
+use Rattle.rows.specs.Backing.{kept_in, is_from_account, is_from_budget, stay_if, stays, available_in, left_in, backing_of_account, backing_of_prefix}
 use Rattle.rows.specs.CardAccounts.{is_same_account}
-use Rattle.rows.specs.Facts.{prefix_of}
 use Rattle.rows.specs.Fold.{Rows, overlay}
 use Rattle.rows.specs.Kept.{KeptOriginal}
 use Rattle.rows.specs.Plan.{Lookup, Writes}
 use Rattle.rows.specs.RowKey.{kind_of, text_eq}
 use Rattle.rows.specs.Typed.{account_in, budget_in}
-use Rattle.rows.specs.declared.payer.Payer.{Payer}
 use Rattle.rows.specs.declared.row_key.RowKey.{RowKey}
 use Rattle.rows.specs.declared.row_key.RowKey.TheVariants as key
 use Rattle.rows.specs.declared.row_val.RowVal.{RowVal}
-use Rattle.rules_laws.proofs.Keys.{get-put, get-other, other_key, same_text, texts_same, texts_apart}
+use Rattle.rules_laws.proofs.Keys.{get-put, get-other, other_key, texts_same, texts_apart}
 use Rattle.rules_laws.proofs.Sums.{part, sum-insert}
 
 -- an account, or a prefix with its budget

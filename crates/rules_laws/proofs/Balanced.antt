@@ -1,57 +1,49 @@
 -- The rows that a decision puts add as much to each backing as before.
-use Rattle.std.proofs.Common.{◌≡◌, ℕ, ◌+◌, ◌-◌, ◌≤◌, Bool, true, false, if◌then◌else◌, ◌&&◌, ◌||◌, ◌==◌, not, nat_lt, List, [], ◌∷◌, ◌++◌, Option, Some, None, option_map, ◌⊎◌, inl, inr, refl, sym, ap, ◌∙◌, subst, arith}
-use Rattle.std.proofs.lemmas.Bool.Decides.{nat_tests}
-use Rattle.std.proofs.lemmas.Bool.{false≢true}
+use Rattle.std.proofs.Common.{◌≡◌, ℕ, ◌+◌, ◌-◌, ◌≤◌, Bool, true, false, if◌then◌else◌, ◌&&◌, List, [], ◌∷◌, ◌++◌, Option, Some, None, option_map, inl, inr, refl, sym, ap, ◌∙◌, subst, arith}
 use Rattle.iso8583.specs.declared.advice.Advice.{Advice}
 use Rattle.iso8583.specs.declared.identity.Identity.{Identity}
-use Rattle.iso8583.specs.declared.message.Message.{Message}
 use Rattle.iso8583.specs.declared.message.Message.TheVariants as message
 use Rattle.iso8583.specs.declared.original_kind.OriginalKind.TheVariants as kind
 use Rattle.iso8583.specs.declared.pan.Pan.{Pan}
 use Rattle.iso8583.specs.declared.pan_prefix.PanPrefix.{PanPrefix}
-use Rattle.iso8583.specs.declared.processing.Processing.{Processing}
 use Rattle.iso8583.specs.declared.request.Request.{Request}
 use Rattle.iso8583.specs.declared.reversal.Reversal.{Reversal}
 use Rattle.iso8583.specs.declared.reversal_scope.ReversalScope.{ReversalScope}
 use Rattle.iso8583.specs.declared.reversal_scope.ReversalScope.TheVariants as scope
-use Rattle.rows.specs.AdviceTable.{advice_again, advice_on_original, fresh_advice, accepted, marked_advice, kept_of_advice}
-use Rattle.rows.specs.Backing.{kept_in, is_account, is_budget, account_paid, budget_paid, stay_if, available_in, left_in}
-use Rattle.rows.specs.Decision.{decision, message_plan}
+use Rattle.rows.specs.AdviceTable.{advice_on_original, kept_of_advice}
+use Rattle.rows.specs.Backing.{is_account, is_budget, account_paid, budget_paid, stay_if, available_in, left_in}
+use Rattle.rows.specs.Decision.{decision}
 use Rattle.rows.specs.Facts.{identity_of, day_of, prefix_of, is_marked, is_of_same}
 use Rattle.rows.specs.Funds.{balance_of, with_balance, key_of_funds, row_of_funds, payer_of, paid_by}
 use Rattle.rows.specs.Kept.{KeptOriginal, payment_of_outcome, reversal_of_outcome, settled, settled_outcome, settled_payment, stay_of, stay_of_payment, stay_of_settlement}
-use Rattle.rows.specs.Plan.{Plan, Lookup, Writes, Decided, carried_out}
-use Rattle.rows.specs.RequestTable.{request_again, on_original, fresh_request, kept_of_request, approved_card, spent_more}
-use Rattle.rows.specs.ReversalTable.{difference, is_wrong_part, given_back, reversed_original, refunded, reversal_plan, original_put, spent_less}
+use Rattle.rows.specs.Plan.{Plan, Lookup, Writes, carried_out}
+use Rattle.rows.specs.RequestTable.{on_original, kept_of_request, approved_card, spent_more}
+use Rattle.rows.specs.ReversalTable.{difference, given_back, reversed_original, refunded, reversal_plan, spent_less}
 use Rattle.rows.specs.RowKey.{text_eq}
-use Rattle.rows.specs.Typed.{original_in, account_in, budget_in, velocity_in, spent_in}
+use Rattle.rows.specs.Typed.{original_in, velocity_in, spent_in}
 use Rattle.rows.specs.declared.account_row.AccountRow.{AccountRow}
 use Rattle.rows.specs.declared.budget_row.BudgetRow.{BudgetRow}
 use Rattle.rows.specs.declared.frame.Frame.{Frame}
 use Rattle.rows.specs.declared.frame.Frame.TheVariants.{Good, Bad}
 use Rattle.rows.specs.declared.funds.Funds.{Funds}
 use Rattle.rows.specs.declared.funds.Funds.TheVariants as funds
-use Rattle.rows.specs.declared.mark.Mark.{Mark}
 use Rattle.rows.specs.declared.original_row.OriginalRow.{OriginalRow}
 use Rattle.rows.specs.declared.original_row.OriginalRow.TheVariants as original
 use Rattle.rows.specs.declared.outcome.Outcome.{Outcome}
 use Rattle.rows.specs.declared.outcome.Outcome.TheVariants as outcome
 use Rattle.rows.specs.declared.payer.Payer.{Payer}
-use Rattle.rows.specs.declared.payer.Payer.TheVariants as payer
 use Rattle.rows.specs.declared.payment.Payment.{Payment}
 use Rattle.rows.specs.declared.reply_body.ReplyBody.{ReplyBody}
-use Rattle.rows.specs.declared.row_key.RowKey.{RowKey}
 use Rattle.rows.specs.declared.row_key.RowKey.TheVariants as key
 use Rattle.rows.specs.declared.row_val.RowVal.{RowVal}
 use Rattle.rows.specs.declared.row_val.RowVal.TheVariants as val
 use Rattle.rows.specs.declared.settlement.Settlement.{Settlement}
 use Rattle.rows.specs.declared.velocity_row.VelocityRow.{VelocityRow}
 use Rattle.rules_laws.proofs.AdviceWays as advice
-use Rattle.rules_laws.proofs.Backings.{Holder, Account, Prefix, is_from, is_account_of, is_prefix_of, own_part, stay_part, weight, IsBalanced}
-use Rattle.rules_laws.proofs.Funding.{IsFound, IsOfCard, CanPay}
-use Rattle.rules_laws.proofs.Keys.{same_text}
+use Rattle.rules_laws.proofs.Backings.{Holder, Account, Prefix, is_from, is_account_of, is_prefix_of, own_part, stay_part, IsBalanced}
+use Rattle.rules_laws.proofs.Funding.{IsFound, IsOfCard}
 use Rattle.rules_laws.proofs.RequestWays as request
-use Rattle.rules_laws.proofs.ReversalWays.{Refuses, MarksAhead, Names, Repeats, SettlesUnposted, SettlesPosted, IsReversalDecided, day_put, reversal_ways}
+use Rattle.rules_laws.proofs.ReversalWays.{SettlesPosted, day_put, reversal_ways}
 
 -- what stays paid of an original's row
 abbrev stay_seen : Holder → Option OriginalRow → ℕ

@@ -1,5 +1,5 @@
 -- An original that has a reversal stays as it is, so another reversal of it is a duplicate.
-use Rattle.std.proofs.Common.{◌≡◌, ◌≢◌, ℕ, Bool, true, false, if◌then◌else◌, ◌&&◌, ◌==◌, ◌-◌, not, List, [], ◌∷◌, ◌++◌, Option, Some, None, IsTrue, ◌⊎◌, inl, inr, refl, sym, ap, ◌∙◌, subst, arith}
+use Rattle.std.proofs.Common.{◌≡◌, ◌≢◌, ℕ, Bool, true, false, if◌then◌else◌, ◌&&◌, ◌-◌, List, [], ◌∷◌, ◌++◌, Option, Some, None, ◌⊎◌, inl, inr, refl, sym, ap, ◌∙◌, subst, arith}
 use Rattle.std.proofs.lemmas.Bool.{false≢true}
 use Rattle.std.specs.FinMap as map
 use Rattle.iso8583.specs.declared.advice.Advice.{Advice}
@@ -18,8 +18,8 @@ use Rattle.rows.specs.Fold.{Rows, overlay, writes_of, rows_after_one, rows_after
 use Rattle.rows.specs.Kept.{KeptOriginal, kind_of_outcome, reversal_of_outcome, settled, settled_outcome}
 use Rattle.rows.specs.Plan.{Plan, Lookup, Writes, carried_out}
 use Rattle.rows.specs.RequestTable.{on_original, kept_of_request}
-use Rattle.rows.specs.ReversalTable.{reply_to_reversal, unchanged, reversed_original, refunded, given_back, is_named, on_reversal, on_reversed, reversal_plan}
-use Rattle.rows.specs.RowKey.{kind_of, text_eq}
+use Rattle.rows.specs.ReversalTable.{reply_to_reversal, unchanged, refunded, given_back, is_named, on_reversal, on_reversed, reversal_plan}
+use Rattle.rows.specs.RowKey.{text_eq}
 use Rattle.rows.specs.Typed.{original_in}
 use Rattle.rows.specs.declared.frame.Frame.{Frame}
 use Rattle.rows.specs.declared.frame.Frame.TheVariants.{Good, Bad}
@@ -36,7 +36,7 @@ use Rattle.rows.specs.declared.row_val.RowVal.{RowVal}
 use Rattle.rows.specs.declared.row_val.RowVal.TheVariants as val
 use Rattle.rows.specs.declared.velocity_row.VelocityRow.{VelocityRow}
 use Rattle.rules_laws.proofs.AdviceWays as advice
-use Rattle.rules_laws.proofs.Keys.{get-put, get-other, get-fresh, same_text, texts_same, same_or_other}
+use Rattle.rules_laws.proofs.Keys.{get-other, get-fresh, texts_same, same_or_other}
 use Rattle.rules_laws.proofs.Repeated.{funds_other, original_stands}
 use Rattle.rules_laws.proofs.RequestWays as request
 use Rattle.rules_laws.proofs.ReversalWays.{IsReversalDecided, day_put, reversal_ways}

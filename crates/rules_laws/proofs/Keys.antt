@@ -1,9 +1,9 @@
 -- Rows of a book under what was put, and what the tests of keys and texts say.
-use Rattle.std.proofs.Common.{◌≡◌, ◌≢◌, ℕ, Bool, true, false, cond, ◌==◌, not, List, [], ◌∷◌, Option, Some, None, Ordering, Less, Equal, Greater, Decides, IsTrue, ◌⊎◌, inl, inr, refl, sym, ap, ◌∙◌, subst, arith, rules}
+use Rattle.std.proofs.Common.{◌≡◌, ◌≢◌, ℕ, true, false, cond, ◌==◌, not, List, [], ◌∷◌, Some, Ordering, Less, Equal, Greater, Decides, IsTrue, ◌⊎◌, inl, inr, refl, sym, ap, ◌∙◌, subst, arith, rules}
 use Rattle.std.proofs.lemmas.Bool.{false≢true}
 use Rattle.std.proofs.lemmas.Bool.Decides.{nat_tests}
 use Rattle.std.specs.FinMap as map
-use Rattle.std.specs.Ordering.{is_eq, eq_by_cmp}
+use Rattle.std.specs.Ordering.{is_eq}
 use Rattle.std.specs.Cmp.{tied_itself}
 use Rattle.rows.proofs.KeyLaws.{key_cmp_total, key_cmp_antisymmetric, key_eq_decides}
 use Rattle.rows.proofs.PutsOnce.{IsFresh, not_another}

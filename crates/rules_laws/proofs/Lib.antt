@@ -8,4 +8,5 @@ pub mod Keys
 pub mod Repeated
 pub mod RequestWays
 pub mod ReversalWays
+pub mod Reversing
 pub mod Sums

@@ -1,5 +1,5 @@
 -- A repeat gets the reply that was given first.
-use Rattle.std.proofs.Common.{◌≡◌, ℕ, Bool, true, false, if◌then◌else◌, ◌&&◌, ◌==◌, not, List, [], ◌∷◌, Option, Some, None, IsTrue, inl, inr, refl, sym, ap, ◌∙◌, subst}
+use Rattle.std.proofs.Common.{◌≡◌, Bool, true, if◌then◌else◌, ◌&&◌, ◌==◌, not, [], ◌∷◌, Option, Some, None, IsTrue, inl, inr, refl, sym, ap, ◌∙◌, subst}
 use Rattle.std.specs.Cmp.Derive.{both_true}
 use Rattle.std.specs.FinMap as map
 use Rattle.iso8583.specs.declared.advice.Advice.{Advice}
@@ -8,14 +8,14 @@ use Rattle.iso8583.specs.declared.original_kind.OriginalKind.TheVariants as kind
 use Rattle.iso8583.specs.declared.request.Request.{Request}
 use Rattle.iso8583.specs.declared.transaction.Transaction.{Transaction}
 use Rattle.rows.proofs.PutsOnce.{IsFresh}
-use Rattle.rows.specs.AdviceTable.{reply_to_advice, advice_on_original, answered_unkept, kept_of_advice}
+use Rattle.rows.specs.AdviceTable.{reply_to_advice, advice_on_original, answered_unkept}
 use Rattle.rows.specs.Decision.{decision}
 use Rattle.rows.specs.Facts.{identity_of, is_of_same}
 use Rattle.rows.specs.Fold.{Rows, overlay, rows_after_one}
 use Rattle.rows.specs.Funds.{key_of_funds, paid_by}
 use Rattle.rows.specs.Kept.{KeptOriginal, action_of_outcome}
 use Rattle.rows.specs.Plan.{Lookup, Writes, Answer, carried_out}
-use Rattle.rows.specs.RequestTable.{reply_to_request, kept_verdict, on_original, declined_unkept, kept_of_request, approval_code}
+use Rattle.rows.specs.RequestTable.{reply_to_request, kept_verdict, on_original, declined_unkept, approval_code}
 use Rattle.rows.specs.RowKey.{kind_of, text_eq}
 use Rattle.rows.specs.Typed.{original_in}
 use Rattle.rows.specs.declared.funds.Funds.{Funds}
@@ -24,14 +24,13 @@ use Rattle.rows.specs.declared.original_row.OriginalRow.{OriginalRow}
 use Rattle.rows.specs.declared.original_row.OriginalRow.TheVariants as original
 use Rattle.rows.specs.declared.outcome.Outcome.{Outcome}
 use Rattle.rows.specs.declared.outcome.Outcome.TheVariants as outcome
-use Rattle.rows.specs.declared.reply_body.ReplyBody.{ReplyBody}
 use Rattle.rows.specs.declared.row_key.RowKey.TheVariants as key
 use Rattle.rows.specs.declared.row_val.RowVal.{RowVal}
 use Rattle.rules_laws.proofs.AdviceWays as advice
 use Rattle.rules_laws.proofs.Keys.{get-put, get-fresh, same_text, same_number}
 use Rattle.rules_laws.proofs.RequestWays as request
-use Rattle.rules_laws.specs.Messages.{request_frame, advice_frame, IsUnseen}
-use Rattle.rules_laws.specs.Repeated.{GetsSameReply, repeat_of_request, repeat_of_advice, RequestIsAnsweredAlike, AdviceIsAnsweredAlike}
+use Rattle.rules_laws.specs.Messages.{request_frame, advice_frame}
+use Rattle.rules_laws.specs.Repeated.{repeat_of_request, repeat_of_advice, RequestIsAnsweredAlike, AdviceIsAnsweredAlike}
 
 -- what becomes of a request whose identity wasn't seen
 pub request_unseen : (r : Request) (look : Lookup) → original_in (look (key.Original (identity_of r.transaction))) ≡ None → request.IsDecidedFresh r look (decision look (request_frame r))

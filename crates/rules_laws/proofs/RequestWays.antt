@@ -1,12 +1,12 @@
 -- What becomes of a request whose identity wasn't seen: it is declined and kept, or it is approved and paid.
-use Rattle.std.proofs.Common.{◌≡◌, ℕ, ◌<◌, Bool, true, false, if◌then◌else◌, nat_lt, nat_le, ◌==◌, ◌+◌, ◌-◌, List, [], ◌∷◌, Option, Some, None, Result, Ok, Err, ◌⊎◌, inl, inr, refl, arith}
+use Rattle.std.proofs.Common.{◌≡◌, ℕ, ◌<◌, Bool, true, false, if◌then◌else◌, nat_lt, nat_le, ◌==◌, ◌+◌, ◌-◌, [], ◌∷◌, Option, Some, None, Result, Ok, Err, ◌⊎◌, inl, inr, refl, arith}
 use Rattle.iso8583.specs.Luhn.{passes_luhn}
 use Rattle.iso8583.specs.Number.{number_of}
 use Rattle.iso8583.specs.declared.account_id.AccountId.{AccountId}
 use Rattle.iso8583.specs.declared.request.Request.{Request}
 use Rattle.iso8583.specs.declared.verdict.Verdict.TheVariants as verdict
 use Rattle.rows.specs.CardAccounts.{account_of}
-use Rattle.rows.specs.Facts.{identity_of, day_of, month_of, prefix_of, is_same_currency}
+use Rattle.rows.specs.Facts.{identity_of, day_of, month_of, is_same_currency}
 use Rattle.rows.specs.Funds.{balance_of, with_balance, key_of_funds, row_of_funds, paid_by}
 use Rattle.rows.specs.Plan.{Plan, Lookup, Writes, Decided, carried_out}
 use Rattle.rows.specs.RequestTable.{reply_to_request, kept_of_request, declined_request, is_unpermitted, refused_unseen, refused_by_status, unless_status, or_not_permitted, usable_account, refused_by_limits, request_funds, approval_code, approved_card, spent_more, unless_refused, on_funds, on_account, on_usable, on_card, fresh_request}

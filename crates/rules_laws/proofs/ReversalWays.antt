@@ -1,5 +1,5 @@
 -- What becomes of a reversal.
-use Rattle.std.proofs.Common.{◌≡◌, ◌≢◌, ℕ, ◌<◌, Bool, true, false, if◌then◌else◌, ◌==◌, ◌&&◌, ◌-◌, List, [], ◌∷◌, ◌++◌, Option, Some, None, option_map, ◌⊎◌, inl, inr, refl, sym, ap, ◌∙◌, arith}
+use Rattle.std.proofs.Common.{◌≡◌, ◌≢◌, ℕ, Bool, true, false, if◌then◌else◌, ◌&&◌, [], ◌∷◌, ◌++◌, Option, Some, None, option_map, ◌⊎◌, inl, inr, refl, sym, arith}
 use Rattle.std.proofs.lemmas.Bool.{false≢true}
 use Rattle.iso8583.specs.declared.identity.Identity.{Identity}
 use Rattle.iso8583.specs.declared.original_kind.OriginalKind.{OriginalKind}
@@ -8,23 +8,18 @@ use Rattle.iso8583.specs.declared.reversal.Reversal.{Reversal}
 use Rattle.rows.specs.Facts.{identity_of, prefix_of, is_same_identity}
 use Rattle.rows.specs.Funds.{payer_of}
 use Rattle.rows.specs.Kept.{KeptOriginal, kind_of_outcome, payment_of_outcome, reversal_of_outcome, settled}
-use Rattle.rows.specs.Plan.{Plan, Lookup, Writes, Decided, carried_out}
-use Rattle.rows.specs.ReversalTable.{reply_to_reversal, unchanged, original_put, is_wrong_part, is_overfull, day_is_short, spent_less, day_key, reversed_original, refunded, reversed_advice, on_original_day, by_kind, on_paid, by_payer, on_payment, on_reversal, is_named, on_reversed, reversal_plan}
+use Rattle.rows.specs.Plan.{Plan, Lookup, Writes, carried_out}
+use Rattle.rows.specs.ReversalTable.{reply_to_reversal, unchanged, original_put, is_wrong_part, is_overfull, day_is_short, spent_less, day_key, reversed_original, refunded, on_original_day, by_kind, on_paid, by_payer, on_payment, on_reversal, is_named, on_reversed, reversal_plan}
 use Rattle.rows.specs.Typed.{velocity_in, budget_in, original_in, account_in}
-use Rattle.rows.specs.declared.account_row.AccountRow.{AccountRow}
-use Rattle.rows.specs.declared.budget_row.BudgetRow.{BudgetRow}
 use Rattle.rows.specs.declared.funds.Funds.{Funds}
 use Rattle.rows.specs.declared.funds.Funds.TheVariants as funds
-use Rattle.rows.specs.declared.mark.Mark.{Mark}
 use Rattle.rows.specs.declared.original_row.OriginalRow.{OriginalRow}
 use Rattle.rows.specs.declared.original_row.OriginalRow.TheVariants as original
 use Rattle.rows.specs.declared.payer.Payer.{Payer}
 use Rattle.rows.specs.declared.payer.Payer.TheVariants as payer
 use Rattle.rows.specs.declared.payment.Payment.{Payment}
 use Rattle.rows.specs.declared.reply_body.ReplyBody.{ReplyBody}
-use Rattle.rows.specs.declared.row_key.RowKey.{RowKey}
 use Rattle.rows.specs.declared.row_key.RowKey.TheVariants as key
-use Rattle.rows.specs.declared.row_val.RowVal.{RowVal}
 use Rattle.rows.specs.declared.row_val.RowVal.TheVariants as val
 use Rattle.rows.specs.declared.velocity_row.VelocityRow.{VelocityRow}
 use Rattle.rules_laws.proofs.Funding.{IsFound, IsOfCard}
