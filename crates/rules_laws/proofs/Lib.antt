@@ -10,3 +10,4 @@ pub mod RequestWays
 pub mod ReversalWays
 pub mod Reversing
 pub mod Sums
+pub mod Undone
