@@ -1,8 +1,7 @@
 -- A full reversal, right after the original that it names: what is put back.
-use Rattle.std.proofs.Common.{◌≡◌, ℕ, ◌+◌, ◌-◌, ◌≤◌, Bool, true, false, if◌then◌else◌, ◌&&◌, ◌||◌, ◌==◌, nat_lt, List, [], ◌∷◌, Option, Some, None, option_map, refl, sym, ap, ◌∙◌, arith}
+use Rattle.std.proofs.Common.{◌≡◌, ℕ, ◌+◌, ◌-◌, ◌≤◌, Bool, true, false, if◌then◌else◌, ◌&&◌, ◌||◌, ◌==◌, nat_lt, [], ◌∷◌, Option, Some, option_map, refl, sym, ap, ◌∙◌, arith}
 use Rattle.std.proofs.lemmas.Bool.Decides.{nat_tests}
 use Rattle.iso8583.specs.declared.approval.Approval.{Approval}
-use Rattle.iso8583.specs.declared.identity.Identity.{Identity}
 use Rattle.iso8583.specs.declared.original_kind.OriginalKind.{OriginalKind}
 use Rattle.iso8583.specs.declared.original_kind.OriginalKind.TheVariants as kind
 use Rattle.iso8583.specs.declared.pan_prefix.PanPrefix.{PanPrefix}
@@ -14,10 +13,8 @@ use Rattle.rows.specs.Funds.{balance_of, with_balance, key_of_funds, row_of_fund
 use Rattle.rows.specs.Kept.{KeptOriginal, kind_of_outcome, reversal_of_outcome}
 use Rattle.rows.specs.Plan.{Plan, Lookup, Writes, Answer, carried_out}
 use Rattle.rows.specs.RequestTable.{spent_more}
-use Rattle.rows.specs.ReversalTable.{reply_to_reversal, unchanged, greatest_balance, reversed_original, refunded, spent_less, day_is_short, is_overfull, day_key, reversed_advice, on_original_day, by_kind, on_paid, by_payer, on_reversal, on_reversed, reversal_plan, is_named}
+use Rattle.rows.specs.ReversalTable.{reply_to_reversal, unchanged, greatest_balance, reversed_original, refunded, spent_less, day_is_short, is_overfull, day_key, on_original_day, by_kind, on_paid, by_payer, on_reversal, on_reversed, reversal_plan, is_named}
 use Rattle.rows.specs.Typed.{account_in, budget_in, original_in, velocity_in}
-use Rattle.rows.specs.declared.account_row.AccountRow.{AccountRow}
-use Rattle.rows.specs.declared.budget_row.BudgetRow.{BudgetRow}
 use Rattle.rows.specs.declared.funds.Funds.{Funds}
 use Rattle.rows.specs.declared.funds.Funds.TheVariants as funds
 use Rattle.rows.specs.declared.original_row.OriginalRow.{OriginalRow}

@@ -1,15 +1,12 @@
 -- An original and its full reversal leave the money as it was.
-use Rattle.std.proofs.Common.{◌≡◌, ◌≢◌, ℕ, ◌-◌, ◌<◌, ◌≤◌, Bool, true, false, if◌then◌else◌, ◌==◌, not, nat_lt, List, [], ◌∷◌, Option, Some, None, option_map, IsTrue, ◌⊎◌, inl, inr, refl, sym, ap, ◌∙◌, subst, arith}
+use Rattle.std.proofs.Common.{◌≡◌, ◌≢◌, ℕ, ◌-◌, ◌≤◌, Bool, true, false, if◌then◌else◌, ◌==◌, not, nat_lt, List, [], ◌∷◌, Option, Some, None, option_map, IsTrue, ◌⊎◌, inl, inr, refl, sym, ap, ◌∙◌, subst, arith}
 use Rattle.std.proofs.lemmas.Bool.Decides.{nat_tests}
 use Rattle.std.specs.FinMap as map
-use Rattle.iso8583.specs.declared.account_id.AccountId.{AccountId}
 use Rattle.iso8583.specs.declared.advice.Advice.{Advice}
 use Rattle.iso8583.specs.declared.original_kind.OriginalKind.TheVariants as kind
 use Rattle.iso8583.specs.declared.pan.Pan.{Pan}
 use Rattle.iso8583.specs.declared.request.Request.{Request}
 use Rattle.iso8583.specs.declared.reversal.Reversal.{Reversal}
-use Rattle.iso8583.specs.declared.transaction.Transaction.{Transaction}
-use Rattle.rows.proofs.PutsOnce.{IsFresh}
 use Rattle.rows.specs.AdviceTable.{kept_of_advice}
 use Rattle.rows.specs.Backing.{available_in, left_in}
 use Rattle.rows.specs.Decision.{decision}
@@ -20,7 +17,7 @@ use Rattle.rows.specs.Plan.{Lookup, Writes}
 use Rattle.rows.specs.RequestTable.{kept_of_request, approval_code, approved_card, spent_more}
 use Rattle.rows.specs.ReversalTable.{reply_to_reversal, greatest_balance, reversed_original, reversal_plan}
 use Rattle.rows.specs.RowKey.{kind_of}
-use Rattle.rows.specs.Typed.{account_in, budget_in, original_in, velocity_in, spent_in}
+use Rattle.rows.specs.Typed.{account_in, budget_in, velocity_in, spent_in}
 use Rattle.rows.specs.declared.account_row.AccountRow.{AccountRow}
 use Rattle.rows.specs.declared.budget_row.BudgetRow.{BudgetRow}
 use Rattle.rows.specs.declared.card_row.CardRow.{CardRow}
@@ -32,15 +29,14 @@ use Rattle.rows.specs.declared.row_key.RowKey.{RowKey}
 use Rattle.rows.specs.declared.row_key.RowKey.TheVariants as key
 use Rattle.rows.specs.declared.row_val.RowVal.{RowVal}
 use Rattle.rows.specs.declared.row_val.RowVal.TheVariants as val
-use Rattle.rows.specs.declared.velocity_row.VelocityRow.{VelocityRow}
 use Rattle.rules_laws.proofs.AdviceWays as advice
-use Rattle.rules_laws.proofs.Funding.{IsFound, IsOfCard, CanPay}
-use Rattle.rules_laws.proofs.Keys.{get-put, get-other, get-fresh, other_key, same_or_other}
+use Rattle.rules_laws.proofs.Funding.{IsFound, CanPay}
+use Rattle.rules_laws.proofs.Keys.{get-put, get-other, other_key, same_or_other}
 use Rattle.rules_laws.proofs.Repeated.{kept_with, request_unseen, advice_unseen, funds_other, original_stands}
 use Rattle.rules_laws.proofs.RequestWays as request
-use Rattle.rules_laws.proofs.Reversing.{full, is_full, comes_to, put_back, is_charged, request_put_back, advice_put_back}
-use Rattle.rules_laws.specs.Messages.{request_frame, advice_frame, reversal_frame, HasAction}
-use Rattle.rules_laws.specs.Undone.{spent_on, IsMoneyAsBefore, IsWithinRange, IsFullReversal, IsAnsweredFirst, IsReversed, RequestIsUndone, RequestIsReversed, AdviceIsUndone, AdviceIsReversed}
+use Rattle.rules_laws.proofs.Reversing.{full, is_full, comes_to, put_back, request_put_back, advice_put_back}
+use Rattle.rules_laws.specs.Messages.{request_frame, advice_frame, HasAction}
+use Rattle.rules_laws.specs.Undone.{spent_on, IsMoneyAsBefore, IsWithinRange, RequestIsUndone, RequestIsReversed, AdviceIsUndone, AdviceIsReversed}
 
 -- the key is none of those that are put
 abbrev IsApart : RowKey → Writes → Type 0
