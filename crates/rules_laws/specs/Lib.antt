@@ -1,5 +1,3 @@
-pub mod Conserved
 pub mod Duplicate
 pub mod Messages
 pub mod Repeated
-pub mod Undone

@@ -1,10 +1,7 @@
-//! Laws of the decision tables: money is neither made nor lost, a repeat is answered alike, a full reversal undoes its
-//! original, and a second reversal of an original is a duplicate.
+//! Laws of the decision tables about messages that come again: a repeat is answered alike, and a second reversal of an
+//! original is a duplicate.
 #![tactic(auto)]
 
 mod laws;
 
-pub use laws::{
-    a_full_reversal_undoes_its_original, a_repeat_is_answered_alike,
-    a_second_reversal_is_a_duplicate, every_decision_keeps_backing,
-};
+pub use laws::{a_repeat_is_answered_alike, a_second_reversal_is_a_duplicate};

@@ -1,5 +1,5 @@
-use Rattle.rules_laws.proofs.Undone.{request_undone, request_reversed, advice_undone, advice_reversed}
-use Rattle.rules_laws.proofs.laws.a_full_reversal_undoes_its_original.Goals as goal
+use Rattle.money_laws.proofs.Undone.{request_undone, request_reversed, advice_undone, advice_reversed}
+use Rattle.money_laws.proofs.laws.a_full_reversal_undoes_its_original.Goals as goal
 
 pub returns-clause-request : goal.returns-clause-request
 returns-clause-request c = request_undone

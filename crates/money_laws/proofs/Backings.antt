@@ -16,7 +16,7 @@ use Rattle.rows.specs.declared.row_key.RowKey.{RowKey}
 use Rattle.rows.specs.declared.row_key.RowKey.TheVariants as key
 use Rattle.rows.specs.declared.row_val.RowVal.{RowVal}
 use Rattle.rules_laws.proofs.Keys.{get-put, get-other, other_key, texts_same, texts_apart}
-use Rattle.rules_laws.proofs.Sums.{part, sum-insert}
+use Rattle.money_laws.proofs.Sums.{part, sum-insert}
 
 -- an account, or a prefix with its budget
 pub data Holder : Type 0 where

@@ -30,7 +30,7 @@ use Rattle.rows.specs.declared.velocity_row.VelocityRow.{VelocityRow}
 use Rattle.rules_laws.proofs.Funding.{IsOfCard}
 use Rattle.rules_laws.proofs.Keys.{same_text}
 use Rattle.rules_laws.proofs.Repeated.{kept_with}
-use Rattle.rules_laws.specs.Undone.{IsFullReversal}
+use Rattle.money_laws.specs.Undone.{IsFullReversal}
 
 -- the full reversal of this message
 abbrev pub full : Reversal → OriginalKind → Transaction → Reversal

@@ -40,7 +40,7 @@ use Rattle.rows.specs.declared.row_val.RowVal.TheVariants as val
 use Rattle.rows.specs.declared.settlement.Settlement.{Settlement}
 use Rattle.rows.specs.declared.velocity_row.VelocityRow.{VelocityRow}
 use Rattle.rules_laws.proofs.AdviceWays as advice
-use Rattle.rules_laws.proofs.Backings.{Holder, Account, Prefix, is_from, is_account_of, is_prefix_of, own_part, stay_part, IsBalanced}
+use Rattle.money_laws.proofs.Backings.{Holder, Account, Prefix, is_from, is_account_of, is_prefix_of, own_part, stay_part, IsBalanced}
 use Rattle.rules_laws.proofs.Funding.{IsFound, IsOfCard}
 use Rattle.rules_laws.proofs.RequestWays as request
 use Rattle.rules_laws.proofs.ReversalWays.{SettlesPosted, day_put, reversal_ways}

@@ -34,9 +34,9 @@ use Rattle.rules_laws.proofs.Funding.{IsFound, CanPay}
 use Rattle.rules_laws.proofs.Keys.{get-put, get-other, other_key, same_or_other}
 use Rattle.rules_laws.proofs.Repeated.{kept_with, request_unseen, advice_unseen, funds_other, original_stands}
 use Rattle.rules_laws.proofs.RequestWays as request
-use Rattle.rules_laws.proofs.Reversing.{full, is_full, comes_to, put_back, request_put_back, advice_put_back}
+use Rattle.money_laws.proofs.Reversing.{full, is_full, comes_to, put_back, request_put_back, advice_put_back}
 use Rattle.rules_laws.specs.Messages.{request_frame, advice_frame, HasAction}
-use Rattle.rules_laws.specs.Undone.{spent_on, IsMoneyAsBefore, IsWithinRange, RequestIsUndone, RequestIsReversed, AdviceIsUndone, AdviceIsReversed}
+use Rattle.money_laws.specs.Undone.{spent_on, IsMoneyAsBefore, IsWithinRange, RequestIsUndone, RequestIsReversed, AdviceIsUndone, AdviceIsReversed}
 
 -- the key is none of those that are put
 abbrev IsApart : RowKey → Writes → Type 0

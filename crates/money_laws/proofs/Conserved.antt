@@ -4,9 +4,9 @@ use Rattle.std.specs.FinMap as map
 use Rattle.rows.proofs.PutsOnce.{kinds_apart}
 use Rattle.rows.specs.Fold.{Rows, rows_after_one, rows_after}
 use Rattle.rows.specs.declared.frame.Frame.{Frame}
-use Rattle.rules_laws.proofs.Backings.{Holder, Account, Prefix, backing, balanced_keeps}
-use Rattle.rules_laws.proofs.Balanced.{decision_balanced}
-use Rattle.rules_laws.specs.Conserved.{KeepsAccounts, KeepsPrefixes}
+use Rattle.money_laws.proofs.Backings.{Holder, Account, Prefix, backing, balanced_keeps}
+use Rattle.money_laws.proofs.Balanced.{decision_balanced}
+use Rattle.money_laws.specs.Conserved.{KeepsAccounts, KeepsPrefixes}
 
 kept_by_one : (h : Holder) (rows : Rows) (frame : Frame) → backing h (rows_after_one rows frame) ≡ backing h rows
 kept_by_one h rows frame = balanced_keeps h rows _ (kinds_apart (map.get rows) frame) (decision_balanced h (map.get rows) frame)

@@ -1,5 +1,5 @@
-use Rattle.rules_laws.proofs.Conserved.{accounts_kept, prefixes_kept, accounts_kept_by_batch, prefixes_kept_by_batch}
-use Rattle.rules_laws.proofs.laws.every_decision_keeps_backing.Goals as goal
+use Rattle.money_laws.proofs.Conserved.{accounts_kept, prefixes_kept, accounts_kept_by_batch, prefixes_kept_by_batch}
+use Rattle.money_laws.proofs.laws.every_decision_keeps_backing.Goals as goal
 
 pub returns-clause-account : goal.returns-clause-account
 returns-clause-account c = accounts_kept
