@@ -3,13 +3,13 @@ use Rattle.std.proofs.Common.{◌≡◌, ◌≢◌, ◌⊎◌, ℕ, ◌^◌, ◌
 use Rattle.std.specs.Prelude.{not, ◌&&◌, ◌||◌, IfErr}
 use Rattle.std.proofs.lemmas.Bool.{and_parts, eqb-true, ltb-true, leb-true}
 use Rattle.iso8583.specs.declared.codec_fault.CodecFault.{CodecFault}
-use Rattle.iso8583.specs.declared.codec_fault.CodecFault.TheVariants.{SecondaryBitmap, Unexpected, Missing}
+use Rattle.iso8583.specs.declared.codec_fault.CodecFault.TheVariants.{Unexpected, Missing}
 use Rattle.codec_laws.specs.declared.mti.Mti.{Mti}
 use Rattle.codec_laws.specs.Elements.{element_number}
 use Rattle.codec_laws.specs.Types.{Part, parts_of, is_among}
 use Rattle.codec_laws.specs.Spelling.{Field, is_set}
 use Rattle.codec_laws.specs.Reading.{◌>>=◌, least, is_listed, is_required, is_unexpected, is_missing, first_wrong, presence_at, whole_at, reading}
-use Rattle.codec_laws.specs.Faults.{begins, NamesTheLeastUnexpected, NamesTheLeastMissing, NamesASecondaryBitmap}
+use Rattle.codec_laws.specs.Faults.{begins, NamesTheLeastUnexpected, NamesTheLeastMissing}
 use Rattle.codec_laws.proofs.Conjunctions.{all_three_true}
 use Rattle.codec_laws.proofs.Elements.{bind_err}
 use Rattle.codec_laws.proofs.Bits.{is_rising}
@@ -31,7 +31,7 @@ bind_twice (Err d) f g = refl
 abbrev behind : Mti → ℕ → List ℕ → Whole
 behind t bitmap rest = whole_at bitmap (parts_of t) rest >>= λ fields. let r : Whole = Ok (t, fields) in r
 
-module _ (types : List Mti) (t : Mti) (bitmap : ℕ) (rest : List ℕ) (among : is_among types t ≡ true) (fits : bitmap < 2 ^ 64) where
+module _ (types : List Mti) (t : Mti) (bitmap : ℕ) (rest : List ℕ) (among : is_among types t ≡ true) (fits : bitmap < 2 ^ 127) where
   reading_known : reading types (begins t bitmap rest) ≡ (presence_at (parts_of t) bitmap >>= λ _. behind t bitmap rest)
   unfolding reading
   reading_known =
@@ -80,41 +80,24 @@ wrong_missing (Some m) b n h = absurd cc
 wrong_missing None (Some m) n h = (refl, (let same : m ≡ n = cc in ap (λ (k : ℕ). Some k) same))
 wrong_missing None None n h = absurd cc
 
-wrong_first : (a b : Option ℕ) → first_wrong a b ≢ Err SecondaryBitmap
-wrong_first (Some m) b h = cc
-wrong_first None (Some m) h = cc
-wrong_first None None h = cc
+abbrev stranger : List Part → ℕ → Option ℕ
+stranger ps bitmap = least (is_unexpected ps bitmap) 2 127
 
-module _ (ps : List Part) (bitmap : ℕ) where
-  abbrev stranger : Option ℕ
-  stranger = least (is_unexpected ps bitmap) 2 63
+abbrev gap : List Part → ℕ → Option ℕ
+gap ps bitmap = least (is_missing ps bitmap) 2 127
 
-  abbrev gap : Option ℕ
-  gap = least (is_missing ps bitmap) 2 63
-
-  presence_past : is_set bitmap 1 ≡ false → presence_at ps bitmap ≡ first_wrong stranger gap
-  unfolding presence_at
-  presence_past first = rw first refl
-
-  presence_first : is_set bitmap 1 ≡ true → presence_at ps bitmap ≡ Err SecondaryBitmap
-  unfolding presence_at
-  presence_first first = rw first refl
-
-  first_set : presence_at ps bitmap ≡ Err SecondaryBitmap → is_set bitmap 1 ≡ true
-  first_set h =
-      elim (is_set bitmap 1) as (λ b. is_set bitmap 1 ≡ b → b ≡ true) [
-        | true ↦ λ e. refl
-        | false ↦ λ e. absurd (wrong_first stranger gap (sym (presence_past e) ∙ h))
-      ] refl
+presence_is : (ps : List Part) (bitmap : ℕ) → presence_at ps bitmap ≡ first_wrong (stranger ps bitmap) (gap ps bitmap)
+unfolding presence_at
+presence_is ps bitmap = refl
 
 -- the numbers of the elements that a type requires
-required_number : (low : ℕ) (ps : List Part) (n : ℕ) → is_rising low ps ≡ true → is_required ps n ≡ true → (low < n) × (n ≤ 64)
+required_number : (low : ℕ) (ps : List Part) (n : ℕ) → is_rising low ps ≡ true → is_required ps n ≡ true → (low < n) × (n ≤ 128)
 required_number low [] n h k = absurd cc
 required_number low (p ∷ ps) n h k =
-    let parts = all_three_true (ltb low (element_number p.1)) (leb (element_number p.1) 64) (is_rising (element_number p.1) ps) h in
+    let parts = all_three_true (ltb low (element_number p.1)) (leb (element_number p.1) 128) (is_rising (element_number p.1) ps) h in
     let above : low < element_number p.1 = ltb-true _ _ parts.0 in
-    let within : element_number p.1 ≤ 64 = leb-true _ _ parts.1 in
-    elim (p.0 && eqb (element_number p.1) n) as (λ b. (p.0 && eqb (element_number p.1) n) ≡ b → (b || is_required ps n) ≡ true → (low < n) × (n ≤ 64)) [
+    let within : element_number p.1 ≤ 128 = leb-true _ _ parts.1 in
+    elim (p.0 && eqb (element_number p.1) n) as (λ b. (p.0 && eqb (element_number p.1) n) ≡ b → (b || is_required ps n) ≡ true → (low < n) × (n ≤ 128)) [
       | true ↦ λ e _.
           (let same : element_number p.1 ≡ n = eqb-true (element_number p.1) n (and_parts p.0 (eqb (element_number p.1) n) e).1 in
           (omega arith, omega arith))
@@ -126,18 +109,18 @@ required_number low (p ∷ ps) n h k =
 -- ---- the laws
 
 pub least_unexpected : (types : List Mti) → NamesTheLeastUnexpected types
-least_unexpected types t bitmap n rest among fits first low high never =
+least_unexpected types t bitmap n rest among fits low high never =
     let test = is_unexpected (parts_of t) bitmap in
-    let past = presence_past (parts_of t) bitmap first in (
+    let past = presence_is (parts_of t) bitmap in (
       λ h. elim (named_fault types t bitmap rest among fits (Unexpected n) h) [
         | inl e ↦
-            (let place = least_where (is_unexpected (parts_of t) bitmap) 2 63 n (wrong_unexpected (stranger (parts_of t) bitmap) (gap (parts_of t) bitmap) n (sym past ∙ e)) in
+            (let place = least_where (is_unexpected (parts_of t) bitmap) 2 127 n (wrong_unexpected (stranger (parts_of t) bitmap) (gap (parts_of t) bitmap) n (sym past ∙ e)) in
             ((both_parts (is_set bitmap n) (is_listed (parts_of t) n) place.passes).0, λ m least less. none_then (is_set bitmap m) (is_listed (parts_of t) m) (place.below m least less)))
         | inr e ↦ (let listed = (named_listed t n e).0 in absurd cc)
       ],
       λ h.
           let found : stranger (parts_of t) bitmap ≡ Some n =
-          least_is (is_unexpected (parts_of t) bitmap) 2 63 n (record {
+          least_is (is_unexpected (parts_of t) bitmap) 2 127 n (record {
             low = low;
             high = omega arith;
             passes = both_from (is_set bitmap n) (is_listed (parts_of t) n) h.0 never;
@@ -147,14 +130,14 @@ least_unexpected types t bitmap n rest among fits first low high never =
     )
 
 pub least_missing : (types : List Mti) → NamesTheLeastMissing types
-least_missing types t bitmap n rest among fits first must =
-    let past = presence_past (parts_of t) bitmap first in
+least_missing types t bitmap n rest among fits must =
+    let past = presence_is (parts_of t) bitmap in
     let number = required_number 1 (parts_of t) n (rising t) must in (
       λ h. elim (named_fault types t bitmap rest among fits (Missing n) h) [
         | inl e ↦
             (let wrong = wrong_missing (stranger (parts_of t) bitmap) (gap (parts_of t) bitmap) n (sym past ∙ e) in
-            let place = least_where (is_missing (parts_of t) bitmap) 2 63 n wrong.1 in (
-              λ m least most. none_then (is_set bitmap m) (is_listed (parts_of t) m) (all_fail (is_unexpected (parts_of t) bitmap) 2 63 m wrong.0 least (omega arith)),
+            let place = least_where (is_missing (parts_of t) bitmap) 2 127 n wrong.1 in (
+              λ m least most. none_then (is_set bitmap m) (is_listed (parts_of t) m) (all_fail (is_unexpected (parts_of t) bitmap) 2 127 m wrong.0 least (omega arith)),
               (both_parts (is_required (parts_of t) n) (is_set bitmap n) place.passes).1,
               λ m less needed. none_then (is_required (parts_of t) m) (is_set bitmap m) (place.below m (required_number 1 (parts_of t) m (rising t) needed).0 less) needed,
             ))
@@ -162,9 +145,9 @@ least_missing types t bitmap n rest among fits first must =
       ],
       λ h.
           let none : stranger (parts_of t) bitmap ≡ None =
-          least_none (is_unexpected (parts_of t) bitmap) 2 63 (λ m least less. none_from (is_set bitmap m) (is_listed (parts_of t) m) (h.0 m least (omega arith))) in
+          least_none (is_unexpected (parts_of t) bitmap) 2 127 (λ m least less. none_from (is_set bitmap m) (is_listed (parts_of t) m) (h.0 m least (omega arith))) in
           let found : gap (parts_of t) bitmap ≡ Some n =
-          least_is (is_missing (parts_of t) bitmap) 2 63 n (record {
+          least_is (is_missing (parts_of t) bitmap) 2 127 n (record {
             low = number.0;
             high = omega (arith, number.1);
             passes = both_from (is_required (parts_of t) n) (is_set bitmap n) must h.1;
@@ -172,12 +155,3 @@ least_missing types t bitmap n rest among fits first must =
           }) in
           fault_named types t bitmap rest among fits (Missing n) (past ∙ rw (none, found) refl),
     )
-
-pub secondary_bitmap : (types : List Mti) → NamesASecondaryBitmap types
-secondary_bitmap types t bitmap rest among fits = (
-  λ h. elim (named_fault types t bitmap rest among fits SecondaryBitmap h) [
-    | inl e ↦ first_set (parts_of t) bitmap e
-    | inr e ↦ absurd cc
-  ],
-  λ h. fault_named types t bitmap rest among fits SecondaryBitmap (presence_first (parts_of t) bitmap h),
-)

@@ -65,6 +65,7 @@ numbered element.Action = refl
 numbered element.Terminal = refl
 numbered element.Currency = refl
 numbered element.Original = refl
+numbered element.Account = refl
 
 -- element 30 or 38
 abbrev names : Rule → ℕ → Bool

@@ -1,5 +1,6 @@
 pub mod BitmapFaults
 pub mod Bits
+pub mod BitsFaults
 pub mod BodyFaults
 pub mod Codes
 pub mod Conjunctions

@@ -3,7 +3,7 @@ use Rattle.std.specs.Prelude.{ℕ, Bool, true, false, List, [], ◌∷◌, ◌++
 use Rattle.std.specs.List.{list_any}
 use Rattle.std.specs.Str.{bytes_eq}
 use Rattle.codec_laws.specs.declared.element.Element.{Element}
-use Rattle.codec_laws.specs.declared.element.Element.TheVariants.{Pan, Processing, Amount, Transmission, Stan, Stamp, Function, OriginalAmount, Acquirer, Retrieval, Approval, Action, Terminal, Currency, Original}
+use Rattle.codec_laws.specs.declared.element.Element.TheVariants.{Pan, Processing, Amount, Transmission, Stan, Stamp, Function, OriginalAmount, Acquirer, Retrieval, Approval, Action, Terminal, Currency, Original, Account}
 use Rattle.codec_laws.specs.declared.rule.Rule.{Rule}
 use Rattle.codec_laws.specs.declared.rule.Rule.TheVariants.{Free, Scope, Verdict}
 use Rattle.codec_laws.specs.declared.mti.Mti.{Mti}
@@ -52,15 +52,15 @@ front_parts =
 
 -- the elements of each type from 24 on, in rising number
 abbrev pub tail_parts : Mti → List Part
-tail_parts mti.Request = required Function ∷ required Acquirer ∷ optional Retrieval ∷ required Terminal ∷ required Currency ∷ []
-tail_parts mti.RequestRepeat = required Function ∷ required Acquirer ∷ optional Retrieval ∷ required Terminal ∷ required Currency ∷ []
+tail_parts mti.Request = required Function ∷ required Acquirer ∷ optional Retrieval ∷ required Terminal ∷ required Currency ∷ optional Account ∷ []
+tail_parts mti.RequestRepeat = required Function ∷ required Acquirer ∷ optional Retrieval ∷ required Terminal ∷ required Currency ∷ optional Account ∷ []
 tail_parts mti.RequestReply =
-    required Acquirer ∷ optional Retrieval ∷ optional Approval ∷ (true, Action, Verdict) ∷ required Terminal ∷ required Currency ∷ []
+    required Acquirer ∷ optional Retrieval ∷ optional Approval ∷ (true, Action, Verdict) ∷ required Terminal ∷ required Currency ∷ optional Account ∷ []
 tail_parts mti.Advice =
-    required Function ∷ required Acquirer ∷ optional Retrieval ∷ required Action ∷ required Terminal ∷ required Currency ∷ []
+    required Function ∷ required Acquirer ∷ optional Retrieval ∷ required Action ∷ required Terminal ∷ required Currency ∷ optional Account ∷ []
 tail_parts mti.AdviceRepeat =
-    required Function ∷ required Acquirer ∷ optional Retrieval ∷ required Action ∷ required Terminal ∷ required Currency ∷ []
-tail_parts mti.AdviceReply = required Acquirer ∷ optional Retrieval ∷ required Action ∷ required Terminal ∷ required Currency ∷ []
+    required Function ∷ required Acquirer ∷ optional Retrieval ∷ required Action ∷ required Terminal ∷ required Currency ∷ optional Account ∷ []
+tail_parts mti.AdviceReply = required Acquirer ∷ optional Retrieval ∷ required Action ∷ required Terminal ∷ required Currency ∷ optional Account ∷ []
 tail_parts mti.Reversal =
     (true, Function, Scope) ∷ optional OriginalAmount ∷ required Acquirer ∷ optional Retrieval ∷ required Terminal ∷ required Currency ∷ required Original ∷ []
 tail_parts mti.ReversalRepeat =

@@ -37,6 +37,8 @@ pub enum Element {
     Currency,
     /// 56, original data elements: type, trace number, local date and time, acquirer.
     Original,
+    /// 102, account identification 1.
+    Account,
 }
 
 impl Element {
@@ -60,6 +62,7 @@ impl Element {
             Element::Terminal => 41,
             Element::Currency => 49,
             Element::Original => 56,
+            Element::Account => 102,
         }
     }
 
@@ -77,6 +80,7 @@ impl Element {
             Element::Function | Element::Action | Element::Currency => Shape::Fixed(3),
             Element::Terminal => Shape::Fixed(8),
             Element::Original => Shape::UpTo(25, 35),
+            Element::Account => Shape::UpTo(1, 28),
         }
     }
 
@@ -86,7 +90,7 @@ impl Element {
     {
         match self {
             Element::Retrieval | Element::Approval => Class::Alphanumeric,
-            Element::Terminal => Class::Printable,
+            Element::Terminal | Element::Account => Class::Printable,
             _ => Class::Digits,
         }
     }

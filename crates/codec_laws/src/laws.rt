@@ -30,13 +30,13 @@ pub fn names_the_least_missing()
     ensures { (types : List Mti) → NamesTheLeastMissing types }
 {}
 
-/// Where bit 1 is set, reading names a second bitmap, whatever else is there or absent.
+/// Where bit 1 is set and the eight bytes of the second bitmap are zeros, reading names it, whatever else is there or absent.
 pub fn names_a_secondary_bitmap()
     ensures { (types : List Mti) → NamesASecondaryBitmap types }
 {}
 
 /// Reading names another type where the first four bytes are the text of no type of the list, and a short text
-/// where there are fewer than four, or fewer than the eight of a bitmap behind a type of the list.
+/// where there are fewer than four, or fewer than a bitmap's eight or sixteen behind a type of the list.
 pub fn names_an_unknown_type()
     ensures unknown { (types : List Mti) → NamesAnUnknownType types }
     ensures short { (types : List Mti) → NamesAShortHeader types }
