@@ -1,4 +1,4 @@
-ghost use Rattle.std.specs.Prelude.{◌≡◌};
+ghost use Rattle.std.specs.Prelude.{◌≡◌, ◌-◌, ◌^◌};
 ghost use Rattle.codec_laws.specs.Elements.{element_number, shape_of, class_of};
 
 use crate::class::Class;
@@ -64,6 +64,13 @@ impl Element {
             Element::Original => 56,
             Element::Account => 102,
         }
+    }
+
+    /// Its bit in a bitmap of 128, of which bit 1 is the highest.
+    pub fn bit(self) -> u128
+        ensures { result ≡ 2 ^ (128 - element_number self) }
+    {
+        1 << (128 - self.number())
     }
 
     /// How long its text is.
