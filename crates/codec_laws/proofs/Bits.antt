@@ -9,17 +9,12 @@ use Rattle.std.proofs.Math.Nat.{pow-suc, pow-le-pow_right}
 use Rattle.iso8583.specs.declared.codec_fault.CodecFault.{CodecFault}
 use Rattle.codec_laws.specs.declared.element.Element.{Element}
 use Rattle.codec_laws.specs.Elements.{element_number}
-use Rattle.codec_laws.specs.Types.{Part}
+use Rattle.codec_laws.specs.Types.{Part, bits_of}
 use Rattle.codec_laws.specs.Spelling.{Field, bitmap_of, is_set}
 use Rattle.codec_laws.specs.Reading.{least, is_listed, is_required, is_unexpected, is_missing, first_wrong, presence_at}
 use Rattle.codec_laws.proofs.Conjunctions.{all_three_true}
 use Rattle.codec_laws.proofs.Least.{all_fail}
 use Rattle.codec_laws.proofs.Present.{present, elements_of}
-
--- the bits of elements
-abbrev pub bits_of : List Element → ℕ
-bits_of [] = 0
-bits_of (e ∷ es) = 2 ^ (128 - element_number e) + bits_of es
 
 pub bitmap_of-elements : (fields : List Field) → bitmap_of fields ≡ bits_of (elements_of fields)
 bitmap_of-elements [] = refl

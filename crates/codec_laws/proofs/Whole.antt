@@ -10,12 +10,12 @@ use Rattle.iso8583.specs.declared.codec_fault.CodecFault.{CodecFault}
 use Rattle.iso8583.specs.declared.codec_fault.CodecFault.TheVariants.{Trailing}
 use Rattle.codec_laws.specs.declared.mti.Mti.{Mti}
 use Rattle.codec_laws.specs.declared.mti.Mti.TheVariants as mti
-use Rattle.codec_laws.specs.Types.{Part, mti_text, parts_of, is_among}
+use Rattle.codec_laws.specs.Types.{Part, mti_text, parts_of, is_among, bits_of}
 use Rattle.codec_laws.specs.Spelling.{Field, field, bitmap_of, bitmap_bytes, spelling}
 use Rattle.codec_laws.specs.Reading.{◌>>=◌, fields_at, whole_at, presence_at, header_at, reading}
 use Rattle.codec_laws.proofs.Elements.{bind_ok}
 use Rattle.codec_laws.proofs.Present.{present, present_parts, are_ruled, elements_of, AreTexts, Taken, fields_taken, fields_again}
-use Rattle.codec_laws.proofs.Bits.{bits_of, bitmap_of-elements, is_rising, bitmap_is}
+use Rattle.codec_laws.proofs.Bits.{bitmap_of-elements, is_rising, bitmap_is}
 use Rattle.codec_laws.proofs.Headers.{IsBytes, Header, Headed, header_taken, header_again}
 
 -- fields that a message of the type has

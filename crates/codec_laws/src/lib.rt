@@ -15,6 +15,6 @@ pub use laws::{
     names_the_least_missing, names_the_least_unexpected, no_message_begins_another,
     no_reply_begins_another,
 };
-pub use mti::Mti;
+pub use mti::{COMMON, Mti};
 pub use rule::Rule;
 pub use shape::Shape;

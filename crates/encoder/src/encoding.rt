@@ -13,7 +13,7 @@ ghost use Rattle.codec_laws.specs.Replies.{SpellsReply, reply_spelling};
 use crate::extras::{Extras, extras_of, mti_of, reply_extras, reply_mti, transaction_of};
 use crate::values::{message_in_range, reply_in_range};
 use crate::writer::{put, put_field};
-use codec_laws::{Element, Mti};
+use codec_laws::{COMMON, Element, Mti};
 use iso8583::{
     AccountId, Amount, Approval, CodecFault, Digits, Message, OriginalKind, OriginalRef, Reply, Transaction,
 };
@@ -46,9 +46,6 @@ fn bit(there: bool, element: Element) -> u128
 {
     if there { element.bit() } else { 0 }
 }
-
-/// The elements that every message and every reply has: 2, 3, 4, 7, 11, 12, 32, 41 and 49.
-const COMMON: u128 = 0x7230_0001_0080_8000 << 64;
 
 /// The bitmap: the elements of every message and reply, and those that are there.
 fn bitmap_of(transaction: &Transaction, extras: &Extras) -> u128
