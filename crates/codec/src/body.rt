@@ -21,6 +21,7 @@ pub(crate) struct Body<'a> {
     pub(crate) terminal: &'a [u8],
     pub(crate) currency: &'a [u8],
     pub(crate) original: Option<&'a [u8]>,
+    pub(crate) account: Option<&'a [u8]>,
     pub(crate) rest: &'a [u8],
 }
 
@@ -46,7 +47,7 @@ fn action_rule(mti: Mti) -> Rule
 
 /// Reads the elements that the bitmap says are there.
 #[tactic(auto, unfolding(codec_laws::specs::Reading::optional_at, codec_laws::specs::Reading::fields_at))]
-pub(crate) fn body_at(mti: Mti, bitmap: u64, bytes: &[u8]) -> Result<Body<'_>, CodecFault>
+pub(crate) fn body_at(mti: Mti, bitmap: u128, bytes: &[u8]) -> Result<Body<'_>, CodecFault>
     ensures gives { Gives (λ x. (body_fields x, x.rest.now)) result (fields_at bitmap (body_parts mti) bytes.now) }
     ensures texts { IfOk result HasBodyTexts }
     ensures there { IfOk result (IsThere mti bitmap) }
@@ -62,6 +63,7 @@ pub(crate) fn body_at(mti: Mti, bitmap: u64, bytes: &[u8]) -> Result<Body<'_>, C
     let (terminal, rest) = element_at(Element::Terminal, rest)?;
     let (currency, rest) = element_at(Element::Currency, rest)?;
     let (original, rest) = optional_at(is_set(bitmap, 56), Element::Original, rest)?;
+    let (account, rest) = optional_at(is_set(bitmap, 102), Element::Account, rest)?;
     Ok(Body {
         function,
         original_amount,
@@ -72,6 +74,7 @@ pub(crate) fn body_at(mti: Mti, bitmap: u64, bytes: &[u8]) -> Result<Body<'_>, C
         terminal,
         currency,
         original,
+        account,
         rest,
     })
 }

@@ -130,7 +130,7 @@ fn verdict_at(approval: bool, text: &[u8]) -> Result<(), CodecFault>
 }
 
 /// What the rule finds in the text of an element, if it is there.
-pub(crate) fn rule_at(rule: Rule, bitmap: u64, text: Option<&[u8]>) -> Result<(), CodecFault>
+pub(crate) fn rule_at(rule: Rule, bitmap: u128, text: Option<&[u8]>) -> Result<(), CodecFault>
     ensures { Gives (λ _. tt) result (rule_at rule bitmap (option_map (λ t. t.now) text.entry)) }
 {
     let Some(text) = text else {

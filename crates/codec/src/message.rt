@@ -21,8 +21,8 @@ pub(crate) fn transaction_of(front: &Front, body: &Body) -> Transaction
     requires front { HasFrontTexts front.now }
     requires body { HasBodyTexts body.now }
     // Whatever the other elements are.
-    ensures texts { (f m c a o : Option (List ℕ)) → content result f m c a o
-        ≡ record (texts_of front.now body.now) { function = f; original_amount = m; approval = c; action = a; original = o } }
+    ensures texts { (f m c a o i : Option (List ℕ)) → content result f m c a o i
+        ≡ record (texts_of front.now body.now) { function = f; original_amount = m; approval = c; action = a; original = o; account = i } }
     ensures values { IsTransaction result }
 {
     Transaction {
@@ -54,6 +54,7 @@ fn request_of(repeat: bool, front: &Front, body: &Body) -> Message
     Message::Request(Request {
         repeat,
         function: values::function(function),
+        account: values::account(body.account),
         transaction: transaction_of(front, body),
     })
 }
@@ -77,6 +78,7 @@ fn advice_of(repeat: bool, front: &Front, body: &Body) -> Message
         repeat,
         function: values::function(function),
         action: values::action(action),
+        account: values::account(body.account),
         transaction: transaction_of(front, body),
     })
 }

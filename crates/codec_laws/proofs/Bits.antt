@@ -1,6 +1,6 @@
 -- A bitmap without a fault is that of the elements which it says are there.
 use Rattle.std.proofs.Common.{◌≡◌, ℕ, suc, ◌+◌, ◌-◌, ◌*◌, ◌^◌, ◌<◌, ◌≤◌, Bool, true, false, cond, eqb, leb, ltb, List, [], ◌∷◌, Option, Some, None, Result, Ok, Err, refl, sym, ap, ◌∙◌, arith, inl, inr}
-use Rattle.std.specs.Prelude.{not, ◌||◌, ◌&&◌}
+use Rattle.std.specs.Prelude.{not, ◌||◌, ◌&&◌, map, filter}
 use Rattle.std.specs.List.{list_any}
 use Rattle.std.specs.Int.{bit_at}
 use Rattle.std.proofs.lemmas.Bool.{eqb-true, leb-true, ltb-true, cases_lt}
@@ -43,7 +43,7 @@ present_rises bitmap low (p ∷ ps) h =
     let parts = all_three_true (ltb low (element_number p.1)) (leb (element_number p.1) 128) (is_rising (element_number p.1) ps) h in
     rises_here (p.0 || is_set bitmap (element_number p.1)) low p.1 (present bitmap ps) (ltb-true _ _ parts.0) (leb-true _ _ parts.1) (present_rises bitmap (element_number p.1) ps parts.2)
 
-powers : (i j : ℕ) → i ≤ j → 2 ^ i ≤ 2 ^ j
+pub powers : (i j : ℕ) → i ≤ j → 2 ^ i ≤ 2 ^ j
 powers i j h = let positive : 0 < 2 = omega arith in pow-le-pow_right positive h
 
 -- bits of rising elements stay below the next higher one
@@ -60,14 +60,14 @@ bits_below low (e ∷ es) h r =
 abbrev pub has_number : ℕ → List Element → Bool
 has_number n es = list_any (λ e. eqb (element_number e) n) es
 
-set_at : (bitmap n b : ℕ) → bit_at bitmap (128 - n) ≡ b → is_set bitmap n ≡ eqb b 1
+pub set_at : (bitmap n b : ℕ) → bit_at bitmap (128 - n) ≡ b → is_set bitmap n ≡ eqb b 1
 set_at bitmap n b h = ap (λ x. eqb x 1) h
 
 eqb-above : (m n : ℕ) → m < n → (eqb m n ≡ false) × (eqb n m ≡ false)
 eqb-above m n h = (grind arith, grind arith)
 
 -- the highest bit, or one of the others
-top_bit : (k r : ℕ) → r < 2 ^ k → bit_at (2 ^ k + r) k ≡ 1
+pub top_bit : (k r : ℕ) → r < 2 ^ k → bit_at (2 ^ k + r) k ≡ 1
 top_bit k r h =
     let sum : 2 ^ k + r ≡ 1 * 2 ^ k + r = omega arith in
     let none : k - k ≡ 0 = omega arith in
@@ -217,3 +217,39 @@ bitmap_is parts bitmap rising fits h =
     let bit : is_set bitmap (128 - i) ≡ is_set (bits_of (present bitmap parts)) (128 - i) =
     bit_is parts bitmap (128 - i) fits rises sound (omega arith) (omega arith) ∙ sym (is_set-bits_of 1 (128 - i) (present bitmap parts) (omega arith) rises (omega arith) (omega arith)) in
     same_bit (bit_at bitmap i) (bit_at (bits_of (present bitmap parts)) i) (bit_at-lt bitmap i) (bit_at-lt (bits_of (present bitmap parts)) i) (rw place at bit))
+
+-- ---- the bits of a type
+
+all_rise : (low : ℕ) (ps : List Part) → is_rising low ps ≡ true → Rises low (map (λ p. p.1) ps)
+all_rise low [] h = tt
+all_rise low (p ∷ ps) h =
+    let parts = all_three_true (ltb low (element_number p.1)) (leb (element_number p.1) 128) (is_rising (element_number p.1) ps) h in
+    (ltb-true _ _ parts.0, leb-true _ _ parts.1, all_rise (element_number p.1) ps parts.2)
+
+required_rise : (low : ℕ) (ps : List Part) → is_rising low ps ≡ true → Rises low (map (λ p. p.1) (filter (λ p. p.0) ps))
+required_rise low [] h = tt
+required_rise low ((true, e, r) ∷ ps) h =
+    let parts = all_three_true (ltb low (element_number e)) (leb (element_number e) 128) (is_rising (element_number e) ps) h in
+    (ltb-true _ _ parts.0, leb-true _ _ parts.1, required_rise (element_number e) ps parts.2)
+required_rise low ((false, e, r) ∷ ps) h =
+    let parts = all_three_true (ltb low (element_number e)) (leb (element_number e) 128) (is_rising (element_number e) ps) h in
+    let above : low < element_number e = ltb-true _ _ parts.0 in
+    rises_from low (element_number e) (map (λ p. p.1) (filter (λ p. p.0) ps)) (omega arith) (required_rise (element_number e) ps parts.2)
+
+all_listed : (n : ℕ) (ps : List Part) → has_number n (map (λ p. p.1) ps) ≡ is_listed ps n
+all_listed n [] = refl
+all_listed n (p ∷ ps) = ap (λ (b : Bool). eqb (element_number p.1) n || b) (all_listed n ps)
+
+all_required : (n : ℕ) (ps : List Part) → has_number n (map (λ p. p.1) (filter (λ p. p.0) ps)) ≡ is_required ps n
+all_required n [] = refl
+all_required n ((true, e, r) ∷ ps) = ap (λ (b : Bool). eqb (element_number e) n || b) (all_required n ps)
+all_required n ((false, e, r) ∷ ps) = all_required n ps
+
+pub listed_below : (ps : List Part) → is_rising 1 ps ≡ true → bits_of (map (λ p. p.1) ps) < 2 ^ 127
+listed_below ps rising = bits_below 1 (map (λ p. p.1) ps) (omega arith) (all_rise 1 ps rising)
+
+pub is_set-listed : (ps : List Part) (n : ℕ) → is_rising 1 ps ≡ true → 1 ≤ n → n ≤ 128 → is_set (bits_of (map (λ p. p.1) ps)) n ≡ is_listed ps n
+is_set-listed ps n rising low high = is_set-bits_of 1 n (map (λ p. p.1) ps) (omega arith) (all_rise 1 ps rising) low high ∙ all_listed n ps
+
+pub is_set-required : (ps : List Part) (n : ℕ) → is_rising 1 ps ≡ true → 1 ≤ n → n ≤ 128 → is_set (bits_of (map (λ p. p.1) (filter (λ p. p.0) ps))) n ≡ is_required ps n
+is_set-required ps n rising low high = is_set-bits_of 1 n (map (λ p. p.1) (filter (λ p. p.0) ps)) (omega arith) (required_rise 1 ps rising) low high ∙ all_required n ps
