@@ -72,7 +72,48 @@ pub(crate) fn element_at(element: Element, bytes: &[u8]) -> Result<(&[u8], &[u8]
     Ok((text, rest))
 }
 
+/// The text of an element of `N` characters, and the bytes after it.
+#[tactic(auto, unfolding(codec_laws::specs::Reading::element_at, codec_laws::specs::Reading::shaped_at))]
+pub(crate) fn fixed_at<const N: usize>(
+    element: Element,
+    bytes: &[u8],
+) -> Result<(&[u8; N], &[u8]), CodecFault>
+    requires { shape_of element ≡ Shape.Fixed N }
+    ensures gives { Gives (λ x. (x.0.now, x.1.now)) result (element_at element bytes.now) }
+    ensures text { IfOk result (λ x. IsText element x.0.now) }
+{
+    let Some((text, rest)) = bytes.split_first_chunk::<N>() else {
+        return Err(CodecFault::Short(element.number()));
+    };
+    if !is_of_class(element.class(), text) {
+        return Err(CodecFault::BadCharacter(element.number()));
+    }
+    if !has_value(element, text) {
+        return Err(CodecFault::BadValue(element.number()));
+    }
+    Ok((text, rest))
+}
+
 /// The same for an element that may be absent.
+#[tactic(auto, unfolding(codec_laws::specs::Reading::optional_at))]
+pub(crate) fn optional_fixed_at<const N: usize>(
+    present: bool,
+    element: Element,
+    bytes: &[u8],
+) -> Result<(Option<&[u8; N]>, &[u8]), CodecFault>
+    requires { shape_of element ≡ Shape.Fixed N }
+    ensures gives { Gives (λ x. (option_map (λ t. t.now) x.0, x.1.now)) result (optional_at present element bytes.now) }
+    ensures text { IfOk result (λ x. IfSome x.0 (λ t. IsText element t.now)) }
+    ensures there { IfOk result (λ x. is_some x.0 ≡ present) }
+{
+    if !present {
+        return Ok((None, bytes));
+    }
+    let (text, rest) = fixed_at(element, bytes)?;
+    Ok((Some(text), rest))
+}
+
+/// The same for an element whose length may vary.
 #[tactic(auto, unfolding(codec_laws::specs::Reading::optional_at))]
 pub(crate) fn optional_at(
     present: bool,
@@ -130,7 +171,11 @@ fn verdict_at(approval: bool, text: &[u8]) -> Result<(), CodecFault>
 }
 
 /// What the rule finds in the text of an element, if it is there.
-pub(crate) fn rule_at(rule: Rule, bitmap: u128, text: Option<&[u8]>) -> Result<(), CodecFault>
+pub(crate) fn rule_at(
+    rule: Rule,
+    bitmap: u128,
+    text: Option<&[u8; 3]>,
+) -> Result<(), CodecFault>
     ensures { Gives (λ _. tt) result (rule_at rule bitmap (option_map (λ t. t.now) text.entry)) }
 {
     let Some(text) = text else {

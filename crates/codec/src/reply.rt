@@ -17,7 +17,7 @@ use iso8583::{Answer, DeclineCode, Reply, Verdict};
 
 /// The answer that elements 38 and 39 say.
 #[tactic(auto, using(crate::proofs::Scopes::approved_action, crate::proofs::Scopes::declined_action))]
-fn verdict_of(approval: Option<&[u8]>, action: &[u8]) -> Verdict
+fn verdict_of(approval: Option<&[u8; 6]>, action: &[u8; 3]) -> Verdict
     requires approval { IfSome approval (λ t. IsText Element.Approval t.now) }
     requires action { IsText Element.Action action.now }
     requires verdict { verdict_at (is_some approval) action.now ≡ Ok tt }

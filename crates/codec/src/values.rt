@@ -79,7 +79,7 @@ pub(crate) fn acquirer(text: &[u8]) -> Acquirer
 }
 
 /// Element 37, if it is there.
-pub(crate) fn retrieval(text: Option<&[u8]>) -> Option<Retrieval>
+pub(crate) fn retrieval(text: Option<&[u8; 12]>) -> Option<Retrieval>
     requires { IfSome text (λ t. IsText Element.Retrieval t.now) }
     ensures value { option_map (λ r. r.0) result ≡ option_map (λ t. t.now) text.entry }
     ensures text { IfSome result (λ r. IsText Element.Retrieval r.0) }

@@ -14,14 +14,23 @@ const APPROVAL: &[u8] = b"1110\xF2\x30\x00\x01\x06\x80\x80\x00\x00\x00\x00\x00\x
 /// A form's text where the bitmap has bit 1 and these eight bytes behind it.
 fn extended(alloc: Global, form: &Form, second: [u8; 8]) -> Result<Vec<u8>, Fail> {
     let plain = form.text(alloc, false)?;
-    let (front, behind) = plain.as_slice().split_at(12);
+    let front = plain.as_slice().get(..12).ok_or("no bitmap")?;
     let mut text = Vec::from_slice(alloc, front)?;
     if let Some(byte) = text.get_mut(4) {
         *byte |= 0x80;
     }
     text.extend_from_slice(&second)?;
-    text.extend_from_slice(behind)?;
+    text.extend_from_slice(plain.as_slice().get(12..).ok_or("no bitmap")?)?;
     Ok(text)
+}
+
+/// Element 102 of a message.
+fn account_of(message: &Message) -> Option<AccountId> {
+    match message {
+        Message::Request(request) => request.account,
+        Message::Advice(advice) => advice.account,
+        Message::Reversal(_) => None,
+    }
 }
 
 #[test]
@@ -29,11 +38,10 @@ fn the_spelled_request(rt: HostRuntime) -> Result<(), Fail> {
     assert_eq!(rt; REQUEST.len(), 124);
     let form = FORMS.get(12).ok_or("no form")?;
     assert_eq!(rt; form.text(rt.alloc(), false)?.as_slice(), REQUEST);
-    let message = decode(REQUEST)?;
-    let Message::Request(request) = &message else {
-        return Err("no request".into());
+    let Ok(message) = decode(REQUEST) else {
+        return Err("no message".into());
     };
-    assert_eq!(rt; request.account, AccountId::new(b"4111110000000005"));
+    assert_eq!(rt; account_of(&message), AccountId::new(b"4111110000000005"));
     let mut out = Vec::new(rt.alloc());
     encode(&message, &mut out)?;
     assert_eq!(rt; out.as_slice(), REQUEST);

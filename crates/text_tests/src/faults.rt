@@ -224,9 +224,9 @@ fn is_optional(form: &Form, number: u8) -> bool {
 /// The text of a form with one bit of its bitmap changed, and the fault of it.
 fn changed(alloc: Global, form: &Form, number: u8) -> Result<(Vec<u8>, CodecFault), Fail> {
     let mut text = form.text(alloc, true)?;
-    let place = 4 + usize::from((number - 1) / 8);
-    if let Some(byte) = text.get_mut(place) {
-        *byte ^= 0x80 >> ((number - 1) % 8);
+    let bit = number.saturating_sub(1);
+    if let Some(byte) = text.get_mut(4 + usize::from(bit / 8)) {
+        *byte ^= 0x80 >> (bit % 8);
     }
     let fault = if form.has(number) {
         CodecFault::Missing(number)
