@@ -95,6 +95,7 @@ pub(crate) fn fixed_at<const N: usize>(
 }
 
 /// The same for an element that may be absent.
+#[inline(always)]
 #[tactic(auto, unfolding(codec_laws::specs::Reading::optional_at))]
 pub(crate) fn optional_fixed_at<const N: usize>(
     present: bool,
@@ -114,6 +115,7 @@ pub(crate) fn optional_fixed_at<const N: usize>(
 }
 
 /// The same for an element whose length may vary.
+#[inline(always)]
 #[tactic(auto, unfolding(codec_laws::specs::Reading::optional_at))]
 pub(crate) fn optional_at(
     present: bool,
