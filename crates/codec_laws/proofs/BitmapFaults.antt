@@ -28,11 +28,11 @@ bind_twice (Ok x) f g = refl
 bind_twice (Err d) f g = refl
 
 -- the elements behind the bitmap
-abbrev behind : Mti → ℕ → List ℕ → Whole
+abbrev pub behind : Mti → ℕ → List ℕ → Whole
 behind t bitmap rest = whole_at bitmap (parts_of t) rest >>= λ fields. let r : Whole = Ok (t, fields) in r
 
 module _ (types : List Mti) (t : Mti) (bitmap : ℕ) (rest : List ℕ) (among : is_among types t ≡ true) (fits : bitmap < 2 ^ 127) where
-  reading_known : reading types (begins t bitmap rest) ≡ (presence_at (parts_of t) bitmap >>= λ _. behind t bitmap rest)
+  pub reading_known : reading types (begins t bitmap rest) ≡ (presence_at (parts_of t) bitmap >>= λ _. behind t bitmap rest)
   unfolding reading
   reading_known =
       rw (header_known types t bitmap rest among fits) (bind_twice (presence_at (parts_of t) bitmap) (λ _. let r : Result Header CodecFault = Ok (t, bitmap, rest) in r)
@@ -61,11 +61,11 @@ both_parts true true h = absurd cc
 both_parts true false h = (refl, refl)
 both_parts false b h = absurd cc
 
-none_from : (a b : Bool) → (a ≡ true → b ≡ true) → (a && not b) ≡ false
+pub none_from : (a b : Bool) → (a ≡ true → b ≡ true) → (a && not b) ≡ false
 none_from true b h = rw (h refl) refl
 none_from false b h = refl
 
-none_then : (a b : Bool) → (a && not b) ≡ false → a ≡ true → b ≡ true
+pub none_then : (a b : Bool) → (a && not b) ≡ false → a ≡ true → b ≡ true
 none_then true true h k = refl
 none_then true false h k = absurd cc
 none_then false b h k = absurd cc
@@ -91,7 +91,7 @@ unfolding presence_at
 presence_is ps bitmap = refl
 
 -- the numbers of the elements that a type requires
-required_number : (low : ℕ) (ps : List Part) (n : ℕ) → is_rising low ps ≡ true → is_required ps n ≡ true → (low < n) × (n ≤ 128)
+pub required_number : (low : ℕ) (ps : List Part) (n : ℕ) → is_rising low ps ≡ true → is_required ps n ≡ true → (low < n) × (n ≤ 128)
 required_number low [] n h k = absurd cc
 required_number low (p ∷ ps) n h k =
     let parts = all_three_true (ltb low (element_number p.1)) (leb (element_number p.1) 128) (is_rising (element_number p.1) ps) h in

@@ -66,7 +66,7 @@ bits_named : (types : List Mti) (t : Mti) (rest : List ℕ) (d : CodecFault) →
 unfolding reading header_at
 bits_named types t rest d among h = rw (bytes_again 0 4 (mti_text t) rest (length-mti_text t), mti_again types t among, h) refl
 
-few_bytes : (n size : ℕ) (bytes : List ℕ) (d : CodecFault) → bytes_at n size bytes ≡ Err d → (length bytes < size) × (Short n ≡ d)
+pub few_bytes : (n size : ℕ) (bytes : List ℕ) (d : CodecFault) → bytes_at n size bytes ≡ Err d → (length bytes < size) × (Short n ≡ d)
 few_bytes n size bytes d h =
     elim (cases_lt (length bytes) size) [
       | inl lt ↦ (let short : ltb (length bytes) size ≡ true = lt-ltb (length bytes) size lt in let same = rw short at h in (lt, cc))

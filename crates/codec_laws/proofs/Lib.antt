@@ -7,6 +7,7 @@ pub mod Conjunctions
 pub mod Contents
 pub mod Elements
 pub mod EndFaults
+pub mod FirstWrong
 pub mod Formed
 pub mod HeaderFaults
 pub mod Headers
@@ -17,5 +18,6 @@ pub mod NoMemory
 pub mod Originals
 pub mod Present
 pub mod Replies
+pub mod Rules
 pub mod TypeFaults
 pub mod Whole

@@ -3,7 +3,8 @@
 -- 24 and 39 name them too, further on.
 use Rattle.std.specs.Prelude.{◌≡◌, ◌≢◌, ◌↔◌, ◌⊎◌, ℕ, ◌<◌, ◌≤◌, ◌^◌, List, ◌∷◌, ◌++◌, length, take, Err, IsOk, IsTrue, IsFalse, slice_index}
 use Rattle.std.specs.Int.{w64, to_be_bytes, from_be_bytes}
-use Rattle.iso8583.specs.declared.codec_fault.CodecFault.TheVariants.{Short, BadMti, SecondaryBitmap, Unexpected, Missing, Trailing}
+use Rattle.iso8583.specs.declared.codec_fault.CodecFault.{CodecFault}
+use Rattle.iso8583.specs.declared.codec_fault.CodecFault.TheVariants.{Short, BadMti, SecondaryBitmap, Unexpected, Missing, BadLength, BadCharacter, Trailing, BadValue}
 use Rattle.iso8583.specs.declared.message.Message.{Message}
 use Rattle.iso8583.specs.declared.reply.Reply.{Reply}
 use Rattle.codec_laws.specs.declared.mti.Mti.{Mti}
@@ -11,6 +12,7 @@ use Rattle.codec_laws.specs.Types.{mti_text, parts_of, is_among, taken_in, given
 use Rattle.codec_laws.specs.Spelling.{is_set, bitmap_bytes}
 use Rattle.codec_laws.specs.Messages.{Spells}
 use Rattle.codec_laws.specs.Replies.{SpellsReply}
+use Rattle.codec_laws.specs.FirstWrong.{those_there, IsFirstWrong}
 use Rattle.codec_laws.specs.Reading.{is_listed, is_required, reading}
 
 -- a bitmap of elements 2 to 128 says that element n is there
@@ -70,6 +72,28 @@ IsShortBitmap bytes = (length bytes < 8) ⊎ ((length bytes < 16) × (2 ^ 63 ≤
 abbrev pub NamesAShortHeader : List Mti → Type 0
 NamesAShortHeader types = (bytes : List ℕ) → (reading types bytes ≡ Err (Short 0))
     ↔ ((length bytes < 4) ⊎ ((t : Mti) × (rest : List ℕ) × IsTrue (is_among types t) × (bytes ≡ mti_text t ++ rest) × IsShortBitmap rest))
+
+-- a bitmap of a message of the type: the type may have each element that is there, and each that it must have is there
+abbrev pub IsBitmapOf : Mti → ℕ → Type 0
+IsBitmapOf t bitmap = ((m : ℕ) → 2 ≤ m → m ≤ 128 → IsPresent bitmap m → MayHave t m) × ((m : ℕ) → MustHave t m → IsPresent bitmap m)
+
+-- behind a type and its bitmap, any fault but a byte too many: named exactly where the elements in front of one are right, and it has that fault
+abbrev pub NamesTheFirstWrongElement : List Mti → Type 0
+NamesTheFirstWrongElement types = (t : Mti) (bitmap : ℕ) (rest : List ℕ) (d : CodecFault) → IsTrue (is_among types t) → bitmap < 2 ^ 127 → IsBitmapOf t bitmap → d ≢ Trailing
+    → (reading types (begins t bitmap rest) ≡ Err d) ↔ IsFirstWrong bitmap (those_there bitmap (parts_of t)) rest d
+
+-- too few bytes for an element, a wrong length, byte or value: named nowhere else than behind a type of the list and its bitmap
+abbrev pub IsOfElement : CodecFault → Type 0
+IsOfElement (Short n) = n ≢ 0
+IsOfElement (BadLength n) = Unit {0}
+IsOfElement (BadCharacter n) = Unit {0}
+IsOfElement (BadValue n) = Unit {0}
+IsOfElement _ = ⊥
+
+-- so an element is named behind a type of the list and its bitmap alone
+abbrev pub NamesAnElementBehindItsBitmap : List Mti → Type 0
+NamesAnElementBehindItsBitmap types = (bytes : List ℕ) (d : CodecFault) → ((i : ℕ) → slice_index bytes i < 256) → IsOfElement d → reading types bytes ≡ Err d
+    → (t : Mti) × (bitmap : ℕ) × (rest : List ℕ) × IsTrue (is_among types t) × (bitmap < 2 ^ 127) × (bytes ≡ begins t bitmap rest) × IsBitmapOf t bitmap
 
 -- at least one byte too many: named exactly where a part of the text, from its first byte on, is read whole
 abbrev pub NamesATrailingByte : List Mti → Type 0

@@ -6,7 +6,7 @@ ghost use Rattle.iso8583.specs.declared.reply.Reply.{Reply};
 ghost use Rattle.codec_laws.specs.Messages.{IsMessage, message_spelling};
 ghost use Rattle.codec_laws.specs.Replies.{IsReply, reply_spelling};
 ghost use Rattle.codec_laws.specs.declared.mti.Mti.{Mti};
-ghost use Rattle.codec_laws.specs.Faults.{NamesTheLeastUnexpected, NamesTheLeastMissing, NamesASecondaryBitmap, NamesAnUnknownType, NamesAShortHeader, NamesATrailingByte, NamesAByteBehindAMessage, NamesAByteBehindAReply};
+ghost use Rattle.codec_laws.specs.Faults.{NamesTheLeastUnexpected, NamesTheLeastMissing, NamesTheFirstWrongElement, NamesAnElementBehindItsBitmap, NamesASecondaryBitmap, NamesAnUnknownType, NamesAShortHeader, NamesATrailingByte, NamesAByteBehindAMessage, NamesAByteBehindAReply};
 
 /// No spelling of a message begins another's, so a text spells at most one message.
 pub fn no_message_begins_another()
@@ -40,6 +40,14 @@ pub fn names_a_secondary_bitmap()
 pub fn names_an_unknown_type()
     ensures unknown { (types : List Mti) → NamesAnUnknownType types }
     ensures short { (types : List Mti) → NamesAShortHeader types }
+{}
+
+/// Where type and bitmap are right, reading names the first element, from the left, that has a fault of its own:
+/// it ends too soon, its length, a byte or its value is wrong, or it breaks the rule of element 24 of a reversal or of
+/// element 39 of an 1110.
+pub fn names_the_first_wrong_element()
+    ensures first { (types : List Mti) → NamesTheFirstWrongElement types }
+    ensures behind { (types : List Mti) → NamesAnElementBehindItsBitmap types }
 {}
 
 /// Reading names a trailing byte where a whole text stands before it, as the spelling of a message or of a reply.
