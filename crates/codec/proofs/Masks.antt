@@ -1,5 +1,5 @@
 -- The least element of some bits, and what the bits of a type say of a bitmap.
-use Rattle.std.proofs.Common.{◌≡◌, ℕ, suc, ◌+◌, ◌-◌, ◌*◌, ◌^◌, ◌<◌, ◌≤◌, min, Bool, true, false, eqb, Option, Some, None, Err, refl, sym, ap, ◌∙◌, arith, inl, inr}
+use Rattle.std.proofs.Common.{◌≡◌, ℕ, suc, ◌+◌, ◌-◌, ◌*◌, ◌^◌, ◌<◌, ◌≤◌, min, Bool, eqb, Option, Some, None, Err, refl, sym, ap, ◌∙◌, arith, inl, inr}
 use Rattle.std.specs.Prelude.{not, ◌&&◌, bit_and}
 use Rattle.std.specs.Int.{w128, bit_at, bit_not, leading_zeros}
 use Rattle.std.proofs.lemmas.Bool.{cases_lt}

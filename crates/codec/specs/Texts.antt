@@ -1,17 +1,26 @@
 -- Texts of elements as they were cut out of the bytes, before they are values.
-use Rattle.std.specs.Prelude.{◌≡◌, ℕ, false, List, [], ◌∷◌, None, IfSome, IsSome, is_some, option_map, Ok}
+use Rattle.std.specs.Prelude.{◌≡◌, ℕ, false, not, List, [], ◌∷◌, None, IfSome, IsSome, is_some, option_map, Result, Ok, Err, if◌then◌else◌}
 use Rattle.codec.specs.declared.front.Front.{Front}
 use Rattle.codec.specs.declared.body.Body.{Body}
+use Rattle.iso8583.specs.declared.codec_fault.CodecFault.{CodecFault}
+use Rattle.iso8583.specs.declared.codec_fault.CodecFault.TheVariants.{BadCharacter, BadValue}
+use Rattle.codec_laws.specs.declared.element.Element.{Element}
 use Rattle.codec_laws.specs.declared.element.Element.TheVariants as element
 use Rattle.codec_laws.specs.declared.mti.Mti.{Mti}
 use Rattle.codec_laws.specs.declared.mti.Mti.TheVariants as mti
 use Rattle.codec_laws.specs.declared.rule.Rule.{Rule}
 use Rattle.codec_laws.specs.declared.rule.Rule.TheVariants.{Free, Scope, Verdict}
-use Rattle.codec_laws.specs.Elements.{IsText}
+use Rattle.codec_laws.specs.Elements.{element_number, class_of, is_of_class, has_value, IsText}
 use Rattle.codec_laws.specs.Types.{Part, required, optional}
 use Rattle.codec_laws.specs.Spelling.{Field, with_field, is_set}
 use Rattle.codec_laws.specs.Contents.{Content}
 use Rattle.codec_laws.specs.Reading.{rule_at, scope_at, verdict_at}
+
+-- the test of a text that is as long as its element's: its class, then its value
+abbrev pub test_of : Element → List ℕ → Result (Unit {0}) CodecFault
+test_of e text =
+    if not (is_of_class (class_of e) text) then Err (BadCharacter (element_number e))
+    else (if has_value e text then Ok tt else Err (BadValue (element_number e)))
 
 -- the elements of a front and their texts, in rising number
 abbrev pub front_fields : Front → List Field

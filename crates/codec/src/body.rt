@@ -54,7 +54,11 @@ pub(crate) fn body_at(mti: Mti, bitmap: u128, bytes: &[u8]) -> Result<Body<'_>, 
 {
     let (function, rest) = optional_fixed_at(is_set(bitmap, 24), Element::Function, bytes)?;
     rule_at(function_rule(mti), bitmap, function)?;
-    let (original_amount, rest) = optional_fixed_at(is_set(bitmap, 30), Element::OriginalAmount, rest)?;
+    let (original_amount, rest) = optional_fixed_at(
+        is_set(bitmap, 30),
+        Element::OriginalAmount,
+        rest,
+    )?;
     let (acquirer, rest) = element_at(Element::Acquirer, rest)?;
     let (retrieval, rest) = optional_fixed_at(is_set(bitmap, 37), Element::Retrieval, rest)?;
     let (approval, rest) = optional_fixed_at(is_set(bitmap, 38), Element::Approval, rest)?;

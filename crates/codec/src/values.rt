@@ -7,9 +7,9 @@ ghost use Rattle.codec_laws.specs.Messages.{IsOriginal, IsAccount, account_text}
 
 use codec_laws::Element;
 use iso8583::{
-    AccountId, Acquirer, Action, Alphanumeric, Amount, Approval, Currency, Digits, DigitsUpTo, FunctionCode,
-    Identity, LocalStamp, OriginalKind, OriginalRef, Pan, Printable, PrintableUpTo, Processing, Retrieval, Stan,
-    Terminal, Transmission,
+    AccountId, Acquirer, Action, Alphanumeric, Amount, Approval, Currency, Digits, DigitsUpTo,
+    FunctionCode, Identity, LocalStamp, OriginalKind, OriginalRef, Pan, Printable, PrintableUpTo,
+    Processing, Retrieval, Stan, Terminal, Transmission,
 };
 
 /// Element 2.

@@ -93,9 +93,9 @@ bits_fault bytes d h =
       | inl e ↦ inl e
       | inr x ↦ elim (leb (2 ^ 63) (from_be_bytes w64 x.0.0)) as (λ b. leb (2 ^ 63) (from_be_bytes w64 x.0.0) ≡ b
           → (let r : BitmapRead = cond b (secondary_at (from_be_bytes w64 x.0.0) x.0.1) (Ok (from_be_bytes w64 x.0.0 * 2 ^ 64, x.0.1)) in r) ≡ Err d → IsBitsFault bytes d) [
-        | true ↦ λ e k. inr (x.0, x.1, leb-true (2 ^ 63) (from_be_bytes w64 x.0.0) e, k)
-        | false ↦ λ e k. absurd cc
-      ] refl x.2
+            | true ↦ λ e k. inr (x.0, x.1, leb-true (2 ^ 63) (from_be_bytes w64 x.0.0) e, k)
+            | false ↦ λ e k. absurd cc
+          ] refl x.2
     ]
 
 short_bits : (bytes : List ℕ) → bitmap_at bytes ≡ Err (Short 0) → IsShortBitmap bytes

@@ -1,5 +1,5 @@
 -- Which element's fault reading names, and when.
-use Rattle.std.proofs.Common.{◌≡◌, ◌≢◌, ◌⊎◌, ℕ, ◌^◌, ◌<◌, ◌≤◌, Bool, true, false, cond, eqb, ltb, List, [], ◌∷◌, ◌++◌, length, take, drop, Option, Some, None, Result, Ok, Err, refl, sym, ap, subst, ◌∙◌, append_assoc, arith, inl, inr}
+use Rattle.std.proofs.Common.{◌≡◌, ◌≢◌, ◌⊎◌, ℕ, ◌≤◌, Bool, true, false, cond, eqb, ltb, List, [], ◌∷◌, ◌++◌, length, take, drop, Option, Some, None, Result, Ok, Err, refl, sym, ap, subst, ◌∙◌, append_assoc, arith, inl, inr}
 use Rattle.std.specs.Prelude.{not, ◌||◌, ◌&&◌, IfErr}
 use Rattle.std.specs.List.{flat_map}
 use Rattle.std.proofs.lemmas.Bool.{ltb-false, lt-ltb, le-ltb, or_right}
@@ -15,7 +15,7 @@ use Rattle.codec_laws.specs.Types.{Part, parts_of}
 use Rattle.codec_laws.specs.Spelling.{Field, field, is_set}
 use Rattle.codec_laws.specs.FirstWrong.{EndsTooSoon, HasWrongLength, IsRuled, IsWrongText, IsFaultOf, those_there, AreRight, IsFirstWrong}
 use Rattle.codec_laws.specs.Faults.{IsBitmapOf, IsOfElement, NamesTheFirstWrongElement, NamesAnElementBehindItsBitmap}
-use Rattle.codec_laws.specs.Reading.{◌>>=◌, bytes_at, is_length, shaped_at, element_at, optional_at, rule_at, with_first, fields_at, whole_at, least, is_listed, is_required, is_unexpected, is_missing, first_wrong, presence_at, header_at, reading}
+use Rattle.codec_laws.specs.Reading.{◌>>=◌, bytes_at, is_length, shaped_at, element_at, optional_at, rule_at, with_first, fields_at, whole_at, least, is_listed, is_required, is_unexpected, is_missing, presence_at, header_at, reading}
 use Rattle.codec_laws.proofs.Bits.{is_sound}
 use Rattle.codec_laws.proofs.BitmapFaults.{none_from, none_then, behind, reading_known, required_number}
 use Rattle.codec_laws.proofs.BitsFaults.{few_bytes}
@@ -73,7 +73,7 @@ text_fault : (bitmap : ℕ) (p : Part) (x : List ℕ × List ℕ) (d : CodecFaul
     → IsWrongText bitmap p x.0 d
 text_fault bitmap p x d h =
     elim (is_of_class (class_of p.1) x.0) as (λ b. is_of_class (class_of p.1) x.0 ≡ b
-        → (let r : Cut = cond (not b) (Err (BadCharacter (element_number p.1))) (cond (has_value p.1 x.0) (Ok x) (Err (BadValue (element_number p.1)))) in r) ≡ Err d → IsWrongText bitmap p x.0 d) [
+    → (let r : Cut = cond (not b) (Err (BadCharacter (element_number p.1))) (cond (has_value p.1 x.0) (Ok x) (Err (BadValue (element_number p.1)))) in r) ≡ Err d → IsWrongText bitmap p x.0 d) [
       | false ↦ λ e k. (let fault : d ≡ BadCharacter (element_number p.1) = cc in inl (e, fault))
       | true ↦ λ e k. elim (has_value p.1 x.0) as (λ b. has_value p.1 x.0 ≡ b → (let r : Cut = cond b (Ok x) (Err (BadValue (element_number p.1))) in r) ≡ Err d → IsWrongText bitmap p x.0 d) [
         | true ↦ λ v q. absurd cc
@@ -133,7 +133,11 @@ here bitmap p qs bytes d h = ([], p, qs, [], bytes, refl, tt, refl, h)
 further : (bitmap : ℕ) (p : Part) (qs : List Part) (bytes text mid : List ℕ) (d : CodecFault) → (bytes ≡ field (p.1, text) ++ mid) × IsText p.1 text → IsRuled p.2 bitmap text
     → IsFirstWrong bitmap qs mid d → IsFirstWrong bitmap (p ∷ qs) bytes d
 further bitmap p qs bytes text mid d one ruled (before, q, after, fields, behind, split, right, spelled, fault) = (
-  p ∷ before, q, after, (p.1, text) ∷ fields, behind,
+  p ∷ before,
+  q,
+  after,
+  (p.1, text) ∷ fields,
+  behind,
   ap (λ (z : List Part). p ∷ z) split,
   (refl, one.1, ruled, right),
   one.0 ∙ (ap (λ (z : List ℕ). field (p.1, text) ++ z) spelled ∙ sym (append_assoc (field (p.1, text)) (flat_map field fields) behind)),

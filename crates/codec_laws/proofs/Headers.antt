@@ -1,5 +1,5 @@
 -- The message type and the bitmap, both ways.
-use Rattle.std.proofs.Common.{◌≡◌, ℕ, ◌+◌, ◌-◌, ◌*◌, ◌/◌, ◌%◌, ◌^◌, ◌<◌, ◌≤◌, Bool, true, false, cond, eqb, leb, List, [], ◌∷◌, ◌++◌, length, get_or, Result, Ok, Err, refl, sym, ap, subst, ◌∙◌, append_assoc, arith, inl, inr}
+use Rattle.std.proofs.Common.{◌≡◌, ℕ, ◌+◌, ◌-◌, ◌*◌, ◌/◌, ◌%◌, ◌^◌, ◌<◌, ◌≤◌, true, false, cond, eqb, leb, List, [], ◌∷◌, ◌++◌, length, get_or, Result, Ok, Err, refl, sym, ap, subst, ◌∙◌, append_assoc, arith, inl, inr}
 use Rattle.std.specs.Prelude.{◌||◌, codes}
 use Rattle.std.specs.Str.{bytes_eq}
 use Rattle.std.specs.Int.{w64, from_be_bytes, to_be_bytes}
@@ -169,7 +169,7 @@ bitmap_taken bytes x fits h =
     let word = word_taken bytes a.0.0 a.0.1 fits a.1 in
     let primary = from_be_bytes w64 a.0.0 in
     elim (leb (2 ^ 63) (from_be_bytes w64 a.0.0)) as (λ b. leb (2 ^ 63) (from_be_bytes w64 a.0.0) ≡ b
-        → (let r : BitmapRead = cond b (secondary_at (from_be_bytes w64 a.0.0) a.0.1) (Ok (from_be_bytes w64 a.0.0 * 2 ^ 64, a.0.1)) in r) ≡ Ok x → IsBitmap bytes x.0 x.1) [
+    → (let r : BitmapRead = cond b (secondary_at (from_be_bytes w64 a.0.0) a.0.1) (Ok (from_be_bytes w64 a.0.0 * 2 ^ 64, a.0.1)) in r) ≡ Ok x → IsBitmap bytes x.0 x.1) [
       | true ↦ λ e k. secondary_taken bytes a.0.1 (from_be_bytes w64 a.0.0) x word.0 (leb-true (2 ^ 63) (from_be_bytes w64 a.0.0) e) word.1 word.2 k
       | false ↦ λ e k.
           (let same : (from_be_bytes w64 a.0.0 * 2 ^ 64, a.0.1) ≡ x = ok_is (let r : BitmapRead = Ok x in r) (sym k) refl in
@@ -202,7 +202,7 @@ pub bitmap_again : (bitmap : ℕ) (rest : List ℕ) → bitmap < 2 ^ 127 → bit
 unfolding bitmap_bytes
 bitmap_again bitmap rest fits =
     elim (eqb (bitmap % 2 ^ 64) 0) as (λ b. eqb (bitmap % 2 ^ 64) 0 ≡ b
-        → bitmap_at (cond b (to_be_bytes w64 (bitmap / 2 ^ 64)) (to_be_bytes w64 (2 ^ 63 + bitmap / 2 ^ 64) ++ to_be_bytes w64 (bitmap % 2 ^ 64)) ++ rest) ≡ Ok (bitmap, rest)) [
+    → bitmap_at (cond b (to_be_bytes w64 (bitmap / 2 ^ 64)) (to_be_bytes w64 (2 ^ 63 + bitmap / 2 ^ 64) ++ to_be_bytes w64 (bitmap % 2 ^ 64)) ++ rest) ≡ Ok (bitmap, rest)) [
       | true ↦ λ e.
           (let none : bitmap % 2 ^ 64 ≡ 0 = eqb-true (bitmap % 2 ^ 64) 0 e in
           let same : bitmap / 2 ^ 64 * 2 ^ 64 ≡ bitmap = omega arith in
@@ -228,6 +228,12 @@ Header = Mti × ℕ × List ℕ
 headed_along : (types : List Mti) (bytes : List ℕ) (x y : Header) → x ≡ y → Headed types bytes x.0 x.1 x.2 → Headed types bytes y.0 y.1 y.2
 headed_along types bytes x y e h = subst (λ (z : Header). Headed types bytes z.0 z.1 z.2) e h
 
+headed : (types : List Mti) (bytes text behind : List ℕ) (t : Mti) (bitmap : ℕ) (rest : List ℕ) → bytes ≡ text ++ behind → text ≡ mti_text t → is_among types t ≡ true
+    → IsBitmap behind bitmap rest → presence_at (parts_of t) bitmap ≡ Ok tt → Headed types bytes t bitmap rest
+headed types bytes text behind t bitmap rest front named among back sound =
+    let texts : text ++ behind ≡ mti_text t ++ (bitmap_bytes bitmap ++ rest) = ap (λ (z : List ℕ). z ++ behind) named ∙ ap (λ (z : List ℕ). mti_text t ++ z) back.spelled in
+    record { spelled = front ∙ (texts ∙ sym (append_assoc (mti_text t) (bitmap_bytes bitmap) rest)); among = among; fits = back.fits; sound = sound }
+
 pub header_taken : (types : List Mti) (bytes : List ℕ) (x : Header) → IsBytes bytes → header_at types bytes ≡ Ok x → Headed types bytes x.0 x.1 x.2
 unfolding header_at
 header_taken types bytes x fits h =
@@ -245,9 +251,7 @@ header_taken types bytes x fits h =
     let inside : IsBytes behind = bytes_back text behind (subst IsBytes front.0 fits) in
     let back = bitmap_taken behind c.0 inside c.1 in
     let type = mti_taken types text t b.1 in
-    let whole : bytes ≡ (mti_text t ++ bitmap_bytes bitmap) ++ rest =
-    front.0 ∙ (ap (λ (z : List ℕ). z ++ behind) type.0 ∙ (ap (λ (z : List ℕ). mti_text t ++ z) back.spelled ∙ sym (append_assoc (mti_text t) (bitmap_bytes bitmap) rest))) in
-    headed_along types bytes (t, bitmap, rest) x same (record { spelled = whole; among = type.1; fits = back.fits; sound = d.1 })
+    headed_along types bytes (t, bitmap, rest) x same (headed types bytes text behind t bitmap rest front.0 type.0 type.1 back d.1)
 
 -- what is read of a type of the list and a bitmap
 pub header_known : (types : List Mti) (t : Mti) (bitmap : ℕ) (rest : List ℕ) → is_among types t ≡ true → bitmap < 2 ^ 127

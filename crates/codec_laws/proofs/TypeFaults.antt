@@ -10,7 +10,7 @@ use Rattle.iso8583.specs.declared.codec_fault.CodecFault.TheVariants.{Short, Bad
 use Rattle.codec_laws.specs.declared.mti.Mti.{Mti}
 use Rattle.codec_laws.specs.Types.{mti_text, parts_of, is_among}
 use Rattle.codec_laws.specs.Spelling.{Field}
-use Rattle.codec_laws.specs.Reading.{◌>>=◌, mti_at, header_at, whole_at, reading}
+use Rattle.codec_laws.specs.Reading.{mti_at, header_at, whole_at, reading}
 use Rattle.codec_laws.specs.Faults.{NamesAnUnknownType}
 use Rattle.codec_laws.proofs.Elements.{bytes_again}
 use Rattle.codec_laws.proofs.Headers.{length-mti_text, mti_again}

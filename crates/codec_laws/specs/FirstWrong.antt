@@ -4,7 +4,6 @@ use Rattle.std.specs.List.{flat_map}
 use Rattle.iso8583.specs.Number.{number_of}
 use Rattle.iso8583.specs.declared.codec_fault.CodecFault.{CodecFault}
 use Rattle.iso8583.specs.declared.codec_fault.CodecFault.TheVariants.{Short, Unexpected, Missing, BadLength, BadCharacter, BadValue}
-use Rattle.codec_laws.specs.declared.element.Element.{Element}
 use Rattle.codec_laws.specs.declared.shape.Shape.{Shape}
 use Rattle.codec_laws.specs.declared.shape.Shape.TheVariants.{Fixed, UpTo}
 use Rattle.codec_laws.specs.declared.rule.Rule.{Rule}

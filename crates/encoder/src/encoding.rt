@@ -15,7 +15,8 @@ use crate::values::{message_in_range, reply_in_range};
 use crate::writer::{put, put_field};
 use codec_laws::{COMMON, Element, Mti};
 use iso8583::{
-    AccountId, Amount, Approval, CodecFault, Digits, Message, OriginalKind, OriginalRef, Reply, Transaction,
+    AccountId, Amount, Approval, CodecFault, Digits, Message, OriginalKind, OriginalRef, Reply,
+    Transaction,
 };
 
 /// Bytes of room in which every message and every reply can be written without memory. The longest has 179.

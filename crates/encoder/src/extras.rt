@@ -7,8 +7,8 @@ ghost use Rattle.codec_laws.specs.Replies.{answer_mti, reply_mti, reply_content}
 
 use codec_laws::Mti;
 use iso8583::{
-    AccountId, Amount, Answer, Approval, Digits, Message, OriginalRef, Reply, ReversalScope, Transaction,
-    Verdict,
+    AccountId, Amount, Answer, Approval, Digits, Message, OriginalRef, Reply, ReversalScope,
+    Transaction, Verdict,
 };
 
 /// Elements 24, 30, 38, 39, 56 and 102, where they are there.

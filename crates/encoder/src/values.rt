@@ -5,7 +5,9 @@ ghost use Rattle.codec_laws.specs.Contents.{IsTransaction};
 ghost use Rattle.codec_laws.specs.Messages.{IsMessage, IsOriginal, IsScope, IsAccount};
 ghost use Rattle.codec_laws.specs.Replies.{IsAnswer, IsReply};
 
-use iso8583::{AccountId, Answer, Message, OriginalRef, Reply, ReversalScope, Transaction, Verdict};
+use iso8583::{
+    AccountId, Answer, Message, OriginalRef, Reply, ReversalScope, Transaction, Verdict,
+};
 
 fn transaction_in_range(transaction: &Transaction)
     ensures { IsTransaction transaction.now }

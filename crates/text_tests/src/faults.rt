@@ -290,7 +290,10 @@ fn each_rule_between_elements(rt: HostRuntime) -> Result<(), Fail> {
     for (form, number, spelled, fault) in &TOGETHER {
         let spelled_by = FORMS.get(*form).ok_or("no form")?;
         let text = spelled_by.text_with(rt.alloc(), *number, spelled)?;
-        assert!(rt; is_refused(spelled_by, &text, *fault), "form {form}, {fault}");
+        assert!(rt;
+            is_refused(spelled_by, &text, *fault),
+            "form {form}, {fault}"
+        );
     }
     Ok(())
 }

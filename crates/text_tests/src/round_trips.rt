@@ -3,10 +3,10 @@
 use crate::forms::{FORMS, Form, Kind};
 use codec::{decode, decode_reply, encode, encode_reply};
 use iso8583::{
-    AccountId, Acquirer, Action, Advice, Amount, Answer, Approval, CodecFault, Currency, DeclineCode,
-    FunctionCode, Identity, LocalStamp, Message, OriginalKind, OriginalRef, Pan, Processing, Reply,
-    Request, Retrieval, Reversal, ReversalScope, Stan, Terminal, Transaction, Transmission,
-    Verdict,
+    AccountId, Acquirer, Action, Advice, Amount, Answer, Approval, CodecFault, Currency,
+    DeclineCode, FunctionCode, Identity, LocalStamp, Message, OriginalKind, OriginalRef, Pan,
+    Processing, Reply, Request, Retrieval, Reversal, ReversalScope, Stan, Terminal, Transaction,
+    Transmission, Verdict,
 };
 use std::alloc::Global;
 use std::test::Fail;
@@ -86,9 +86,7 @@ fn account(form: &Form) -> Option<AccountId> {
 fn reply(form: &Form, transaction: Transaction) -> Option<Reply> {
     let account = account(form);
     let answer = match form.kind {
-        Kind::Approved => {
-            Answer::Request(Verdict::Approved(Approval::new(b"000001")?), account)
-        }
+        Kind::Approved => { Answer::Request(Verdict::Approved(Approval::new(b"000001")?), account) }
         Kind::Declined => {
             let code = DeclineCode::new(Action::new(116)?)?;
             Answer::Request(Verdict::Declined(code), account)
@@ -108,9 +106,11 @@ fn is_message(alloc: Global, form: &Form, text: &[u8], retrieval: bool) -> Resul
     let message = message(form, transaction).ok_or("no message")?;
     let mut out = Vec::from_slice(alloc, b"before")?;
     encode(&message, &mut out)?;
-    Ok(decode(text) == Ok(message)
-        && decode_reply(text) == Err(CodecFault::BadMti)
-        && out.as_slice().get(6..) == Some(text))
+    Ok(
+        decode(text) == Ok(message)
+            && decode_reply(text) == Err(CodecFault::BadMti)
+            && out.as_slice().get(6..) == Some(text),
+    )
 }
 
 /// The same of a reply.
@@ -119,9 +119,11 @@ fn is_reply(alloc: Global, form: &Form, text: &[u8], retrieval: bool) -> Result<
     let reply = reply(form, transaction).ok_or("no reply")?;
     let mut out = Vec::from_slice(alloc, b"before")?;
     encode_reply(&reply, &mut out)?;
-    Ok(decode_reply(text) == Ok(reply)
-        && decode(text) == Err(CodecFault::BadMti)
-        && out.as_slice().get(6..) == Some(text))
+    Ok(
+        decode_reply(text) == Ok(reply)
+            && decode(text) == Err(CodecFault::BadMti)
+            && out.as_slice().get(6..) == Some(text),
+    )
 }
 
 #[test]
@@ -154,7 +156,11 @@ fn each_reply_is_read_and_written(rt: HostRuntime) -> Result<(), Fail> {
 fn each_form_has_its_size(rt: HostRuntime) -> Result<(), Fail> {
     for (i, form) in FORMS.iter().enumerate() {
         assert_eq!(rt; form.text(rt.alloc(), false)?.len(), form.size, "form {i}");
-        assert_eq!(rt; form.text(rt.alloc(), true)?.len(), form.size + 12, "form {i}");
+        assert_eq!(rt;
+            form.text(rt.alloc(), true)?.len(),
+            form.size + 12,
+            "form {i}"
+        );
     }
     Ok(())
 }

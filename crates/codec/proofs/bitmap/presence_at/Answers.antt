@@ -1,4 +1,4 @@
-use Rattle.std.proofs.Common.{Some, refl, ◌∙◌}
+use Rattle.std.proofs.Common.{refl, ◌∙◌}
 use Rattle.codec.proofs.Masks.{presence_from, stranger_from}
 use Rattle.codec.proofs.bitmap.presence_at.Goals as goal
 

@@ -1,4 +1,3 @@
-use Rattle.std.proofs.Common.{sym}
 use Rattle.encoder.specs.Writing.{whole_content}
 use Rattle.encoder.proofs.Joining.{spelling_written}
 use Rattle.encoder.proofs.encoding.put_spelling.Goals as goal
