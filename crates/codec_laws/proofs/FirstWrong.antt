@@ -248,7 +248,7 @@ bitmap_sound t bitmap h =
     least_none (is_missing (parts_of t) bitmap) 2 127 (λ m low high. none_from (is_required (parts_of t) m) (is_set bitmap m) (h.1 m)) in
     rw (stranger, gap) refl
 
-sound_bitmap : (t : Mti) (bitmap : ℕ) → presence_at (parts_of t) bitmap ≡ Ok tt → IsBitmapOf t bitmap
+pub sound_bitmap : (t : Mti) (bitmap : ℕ) → presence_at (parts_of t) bitmap ≡ Ok tt → IsBitmapOf t bitmap
 sound_bitmap t bitmap h =
     let sound = is_sound (parts_of t) bitmap h in (
       λ m low high. none_then (is_set bitmap m) (is_listed (parts_of t) m) (sound.unexpected m low high),

@@ -14,6 +14,7 @@ pub mod Headers
 pub mod Joined
 pub mod Least
 pub mod Messages
+pub mod NamedElements
 pub mod NoMemory
 pub mod Originals
 pub mod Present

@@ -1,6 +1,4 @@
 -- Which fault a text is answered that is no message of these types, by what is there and what its type asks for.
--- Elements 30 and 38 of the types that may have them are left out where elements are named: the rules of elements
--- 24 and 39 name them too, further on.
 use Rattle.std.specs.Prelude.{◌≡◌, ◌≢◌, ◌↔◌, ◌⊎◌, ℕ, ◌<◌, ◌≤◌, ◌^◌, List, ◌∷◌, ◌++◌, length, take, Err, IsOk, IsTrue, IsFalse, slice_index}
 use Rattle.std.specs.Int.{w64, to_be_bytes, from_be_bytes}
 use Rattle.iso8583.specs.declared.codec_fault.CodecFault.{CodecFault}
@@ -43,16 +41,31 @@ begins t bitmap rest = mti_text t ++ bitmap_bytes bitmap ++ rest
 abbrev pub begins_extended : Mti → ℕ → ℕ → List ℕ → List ℕ
 begins_extended t primary secondary rest = mti_text t ++ to_be_bytes w64 primary ++ to_be_bytes w64 secondary ++ rest
 
--- an element that its type never has: named exactly where it is the least of these that is there
-abbrev pub NamesTheLeastUnexpected : List Mti → Type 0
-NamesTheLeastUnexpected types = (t : Mti) (bitmap n : ℕ) (rest : List ℕ) → IsTrue (is_among types t) → bitmap < 2 ^ 127 → 2 ≤ n → n ≤ 128 → NeverHas t n
-    → (reading types (begins t bitmap rest) ≡ Err (Unexpected n)) ↔ (IsPresent bitmap n × ((m : ℕ) → 2 ≤ m → m < n → IsPresent bitmap m → MayHave t m))
+-- the least element that is there and that its type never has
+abbrev pub IsLeastUnexpected : Mti → ℕ → ℕ → Type 0
+IsLeastUnexpected t bitmap n =
+    (2 ≤ n) × (n ≤ 128) × IsPresent bitmap n × NeverHas t n × ((m : ℕ) → 2 ≤ m → m < n → IsPresent bitmap m → MayHave t m)
 
--- an element that its type must have: named exactly where the type may have each that is there, and it is the least of these that is absent
+-- the type may have each element that is there, and this is the least that it must have and that is absent
+abbrev pub IsLeastMissing : Mti → ℕ → ℕ → Type 0
+IsLeastMissing t bitmap n =
+    ((m : ℕ) → 2 ≤ m → m ≤ 128 → IsPresent bitmap m → MayHave t m) × MustHave t n × IsAbsent bitmap n × ((m : ℕ) → m < n → MustHave t m → IsPresent bitmap m)
+
+-- a bitmap of a message of the type: the type may have each element that is there, and each that it must have is there
+abbrev pub IsBitmapOf : Mti → ℕ → Type 0
+IsBitmapOf t bitmap = ((m : ℕ) → 2 ≤ m → m ≤ 128 → IsPresent bitmap m → MayHave t m) × ((m : ℕ) → MustHave t m → IsPresent bitmap m)
+
+-- an unexpected element: named exactly where it is the least by the bitmap, or where the first wrong element is one whose rule forbids it
+abbrev pub NamesTheLeastUnexpected : List Mti → Type 0
+NamesTheLeastUnexpected types = (t : Mti) (bitmap n : ℕ) (rest : List ℕ) → IsTrue (is_among types t) → bitmap < 2 ^ 127
+    → (reading types (begins t bitmap rest) ≡ Err (Unexpected n))
+    ↔ (IsLeastUnexpected t bitmap n ⊎ (IsBitmapOf t bitmap × IsFirstWrong bitmap (those_there bitmap (parts_of t)) rest (Unexpected n)))
+
+-- a missing element: named exactly where it is the least by the bitmap, or where the first wrong element is one whose rule asks for it
 abbrev pub NamesTheLeastMissing : List Mti → Type 0
-NamesTheLeastMissing types = (t : Mti) (bitmap n : ℕ) (rest : List ℕ) → IsTrue (is_among types t) → bitmap < 2 ^ 127 → MustHave t n
+NamesTheLeastMissing types = (t : Mti) (bitmap n : ℕ) (rest : List ℕ) → IsTrue (is_among types t) → bitmap < 2 ^ 127
     → (reading types (begins t bitmap rest) ≡ Err (Missing n))
-    ↔ (((m : ℕ) → 2 ≤ m → m ≤ 128 → IsPresent bitmap m → MayHave t m) × IsAbsent bitmap n × ((m : ℕ) → m < n → MustHave t m → IsPresent bitmap m))
+    ↔ (IsLeastMissing t bitmap n ⊎ (IsBitmapOf t bitmap × IsFirstWrong bitmap (those_there bitmap (parts_of t)) rest (Missing n)))
 
 -- a second bitmap without an element: named exactly where bit 1 is set behind a type of the list, and the second eight bytes are zeros
 abbrev pub NamesASecondaryBitmap : List Mti → Type 0
@@ -72,10 +85,6 @@ IsShortBitmap bytes = (length bytes < 8) ⊎ ((length bytes < 16) × (2 ^ 63 ≤
 abbrev pub NamesAShortHeader : List Mti → Type 0
 NamesAShortHeader types = (bytes : List ℕ) → (reading types bytes ≡ Err (Short 0))
     ↔ ((length bytes < 4) ⊎ ((t : Mti) × (rest : List ℕ) × IsTrue (is_among types t) × (bytes ≡ mti_text t ++ rest) × IsShortBitmap rest))
-
--- a bitmap of a message of the type: the type may have each element that is there, and each that it must have is there
-abbrev pub IsBitmapOf : Mti → ℕ → Type 0
-IsBitmapOf t bitmap = ((m : ℕ) → 2 ≤ m → m ≤ 128 → IsPresent bitmap m → MayHave t m) × ((m : ℕ) → MustHave t m → IsPresent bitmap m)
 
 -- behind a type and its bitmap, any fault but a byte too many: named exactly where the elements in front of one are right, and it has that fault
 abbrev pub NamesTheFirstWrongElement : List Mti → Type 0

@@ -20,12 +20,14 @@ pub fn no_reply_begins_another()
         → reply_spelling r ++ x ≡ reply_spelling s ++ y → (r ≡ s) × (x ≡ y) }
 {}
 
-/// Reading names the least element that is there and that the type never has.
+/// Reading names the least element that is there and that the type never has; else, as unexpected, only one that
+/// the rule of element 24 of a reversal or of element 39 of an 1110 forbids.
 pub fn names_the_least_unexpected()
     ensures { (types : List Mti) → NamesTheLeastUnexpected types }
 {}
 
-/// Where the type may have each element that is there, reading names the least that it must have and that is absent.
+/// Where the type may have each element that is there, reading names the least that it must have and that is absent;
+/// else, as missing, only one that such a rule asks for.
 pub fn names_the_least_missing()
     ensures { (types : List Mti) → NamesTheLeastMissing types }
 {}
