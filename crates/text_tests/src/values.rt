@@ -1,4 +1,10 @@
-use super::*;
+//! Values: each public function once, and what they print.
+
+use iso8583::{
+    AccountId, Acquirer, Action, Amount, Approval, CodecFault, Currency, Day, DeclineCode, Digits,
+    FunctionCode, LocalStamp, Pan, PanPrefix, Processing, Retrieval, Stan, Terminal, Transmission,
+    luhn,
+};
 use std::test::Fail;
 
 #[test]
@@ -70,6 +76,7 @@ fn texts_of_their_classes(rt: HostRuntime) {
         ("retrieval", Retrieval::new(b"RRN 00000001").is_some()),
         ("terminal", Terminal::new(b"TERM0001").is_some()),
         ("approval", Approval::new(b"ab 001").is_some()),
+        ("account", AccountId::new(b"4111110000000005").is_some()),
     ] {
         assert!(rt; is_taken, "{name}");
     }

@@ -1,21 +1,22 @@
 //! Each fault that each element of each type can have.
 
-use super::forms::FORMS;
-use crate::*;
+use crate::forms::{FORMS, Form};
+use codec::{decode, decode_reply};
 use iso8583::CodecFault;
+use std::alloc::Global;
 use std::test::Fail;
 
-/// Whether a text is refused so, as a message, or as a reply for the forms from 8 on.
-fn is_refused(form: usize, text: &[u8], fault: CodecFault) -> bool {
-    if form < 8 {
-        decode(text) == Err(fault)
-    } else {
+/// Whether a text is refused so, as a message or as a reply.
+pub(crate) fn is_refused(form: &Form, text: &[u8], fault: CodecFault) -> bool {
+    if form.is_reply() {
         decode_reply(text) == Err(fault)
+    } else {
+        decode(text) == Err(fault)
     }
 }
 
 /// Wrong spellings of each element, in every form that has it, and the fault of each.
-const SPELLINGS: [(u8, &[u8], CodecFault); 53] = [
+const SPELLINGS: [(u8, &[u8], CodecFault); 57] = [
     (2, b"114111110000000", CodecFault::BadLength(2)),
     (2, b"2041111100000000000005", CodecFault::BadLength(2)),
     (2, b"1x4111110000000005", CodecFault::BadLength(2)),
@@ -141,6 +142,14 @@ const SPELLINGS: [(u8, &[u8], CodecFault); 53] = [
         CodecFault::BadValue(56),
     ),
     (56, b"25110000000126011012000000", CodecFault::Short(56)),
+    (102, b"00", CodecFault::BadLength(102)),
+    (
+        102,
+        b"2912345678901234567890123456789",
+        CodecFault::BadLength(102),
+    ),
+    (102, b"x1A", CodecFault::BadLength(102)),
+    (102, b"02A\x1F", CodecFault::BadCharacter(102)),
 ];
 
 #[test]
@@ -149,7 +158,7 @@ fn each_wrong_spelling(rt: HostRuntime) -> Result<(), Fail> {
         for (number, spelled, fault) in &SPELLINGS {
             if form.has(*number) {
                 let text = form.text_with(rt.alloc(), *number, spelled)?;
-                assert!(rt; is_refused(i, &text, *fault), "form {i}, {fault}");
+                assert!(rt; is_refused(form, &text, *fault), "form {i}, {fault}");
             }
         }
     }
@@ -157,7 +166,7 @@ fn each_wrong_spelling(rt: HostRuntime) -> Result<(), Fail> {
 }
 
 /// Texts of each element that end too soon, in every form that has it.
-const SHORT: [(u8, &[u8]); 23] = [
+const SHORT: [(u8, &[u8]); 26] = [
     (2, b""),
     (2, b"1"),
     (2, b"16"),
@@ -181,6 +190,9 @@ const SHORT: [(u8, &[u8]); 23] = [
     (56, b""),
     (56, b"3"),
     (56, b"3011000000012601101200000612345"),
+    (102, b""),
+    (102, b"1"),
+    (102, b"16411111000000000"),
 ];
 
 #[test]
@@ -190,7 +202,7 @@ fn each_element_that_ends_too_soon(rt: HostRuntime) -> Result<(), Fail> {
             if form.has(*number) {
                 let text = form.text_ending(rt.alloc(), *number, spelled)?;
                 assert!(rt;
-                    is_refused(i, &text, CodecFault::Short(*number)),
+                    is_refused(form, &text, CodecFault::Short(*number)),
                     "form {i}, element {number}"
                 );
             }
@@ -199,41 +211,47 @@ fn each_element_that_ends_too_soon(rt: HostRuntime) -> Result<(), Fail> {
     Ok(())
 }
 
-/// Elements that forms have or not by another rule than the bitmap's.
-fn is_optional(form: usize, number: u8) -> bool {
+/// Elements that forms have or not by another rule than the bitmap's: 102 is there with its eight bytes.
+fn is_optional(form: &Form, number: u8) -> bool {
     match number {
-        37 => true,
-        30 => 4 <= form && form < 8,
-        38 => form == 8 || form == 9,
+        37 | 102 => true,
+        30 => form.has(56),
+        38 => form.is_request_reply(),
         _ => false,
     }
+}
+
+/// The text of a form with one bit of its bitmap changed, and the fault of it.
+fn changed(alloc: Global, form: &Form, number: u8) -> Result<(Vec<u8>, CodecFault), Fail> {
+    let mut text = form.text(alloc, true)?;
+    let bit = number.saturating_sub(1);
+    if let Some(byte) = text.get_mut(4 + usize::from(bit / 8)) {
+        *byte ^= 0x80 >> (bit % 8);
+    }
+    let fault = if form.has(number) {
+        CodecFault::Missing(number)
+    } else {
+        CodecFault::Unexpected(number)
+    };
+    Ok((text, fault))
 }
 
 #[test]
 fn each_bit_changed(rt: HostRuntime) -> Result<(), Fail> {
     for (i, form) in FORMS.iter().enumerate() {
-        for number in 2..65u8 {
-            let mut text = form.text(rt.alloc(), true)?;
-            let place = 4 + usize::from((number - 1) / 8);
-            if let Some(byte) = text.get_mut(place) {
-                *byte ^= 0x80 >> ((number - 1) % 8);
+        let end = if form.has(102) { 129 } else { 65 };
+        for number in 2..end {
+            if !is_optional(form, number) {
+                let (text, fault) = changed(rt.alloc(), form, number)?;
+                assert!(rt; is_refused(form, &text, fault), "form {i}, {fault}");
             }
-            let fault = if form.has(number) {
-                CodecFault::Missing(number)
-            } else {
-                CodecFault::Unexpected(number)
-            };
-            assert!(rt;
-                is_optional(i, number) || is_refused(i, &text, fault),
-                "form {i}, {fault}"
-            );
         }
     }
     Ok(())
 }
 
 /// A form, one of its elements spelled otherwise, and the fault that comes of the other elements.
-const TOGETHER: [(usize, u8, &[u8], CodecFault); 18] = [
+const TOGETHER: [(usize, u8, &[u8], CodecFault); 20] = [
     (4, 24, b"401", CodecFault::Missing(30)),
     (5, 24, b"401", CodecFault::Missing(30)),
     (6, 24, b"400", CodecFault::Unexpected(30)),
@@ -263,26 +281,35 @@ const TOGETHER: [(usize, u8, &[u8], CodecFault); 18] = [
     (8, 49, b"9780", CodecFault::Trailing),
     (10, 49, b"9780", CodecFault::Trailing),
     (11, 49, b"9780", CodecFault::Trailing),
+    (12, 102, b"1641111100000000050", CodecFault::Trailing),
+    (16, 102, b"1641111100000000050", CodecFault::Trailing),
 ];
 
 #[test]
 fn each_rule_between_elements(rt: HostRuntime) -> Result<(), Fail> {
     for (form, number, spelled, fault) in &TOGETHER {
-        let text = FORMS
-            .get(*form)
-            .ok_or("no form")?
-            .text_with(rt.alloc(), *number, spelled)?;
-        assert!(rt; is_refused(*form, &text, *fault), "form {form}, {fault}");
+        let spelled_by = FORMS.get(*form).ok_or("no form")?;
+        let text = spelled_by.text_with(rt.alloc(), *number, spelled)?;
+        assert!(rt;
+            is_refused(spelled_by, &text, *fault),
+            "form {form}, {fault}"
+        );
     }
     Ok(())
 }
 
 /// Bytes of a request from a place on, and the fault that comes first.
-const ORDER: [(u8, &[u8], CodecFault); 8] = [
+const ORDER: [(u8, &[u8], CodecFault); 9] = [
     (0, b"1102", CodecFault::BadMti),
     (0, b"1110\xF2", CodecFault::BadMti),
-    // Bit 1, before element 5, which is not of the type.
-    (4, b"\xFA", CodecFault::SecondaryBitmap),
+    // Bit 1 before eight zeros, before element 5, which is not of the type.
+    (
+        4,
+        b"\xFA\x30\x01\x01\x08\x80\x80\0\0\0\0\0\0\0\0\0",
+        CodecFault::SecondaryBitmap,
+    ),
+    // Element 5, before element 67 of what is then read as a second bitmap.
+    (4, b"\xFA", CodecFault::Unexpected(5)),
     // Element 5, before element 2, which is not there.
     (4, b"\x3A", CodecFault::Unexpected(5)),
     // Elements 5 and 64.
@@ -311,7 +338,7 @@ fn the_first_of_two_faults(rt: HostRuntime) -> Result<(), Fail> {
                 *old = *byte;
             }
         }
-        assert!(rt; is_refused(0, &text, *fault), "{fault}");
+        assert_eq!(rt; decode(&text), Err(*fault));
     }
     Ok(())
 }
@@ -323,16 +350,15 @@ fn each_header_that_ends_too_soon(rt: HostRuntime) -> Result<(), Fail> {
         for size in 0..header.len() {
             let front = header.as_slice().get(..size).ok_or("no front")?;
             assert!(rt;
-                is_refused(i, front, CodecFault::Short(0)),
+                is_refused(form, front, CodecFault::Short(0)),
                 "form {i}, {size} bytes"
             );
         }
-        let mut changed = form.text(rt.alloc(), true)?;
-        if let Some(byte) = changed.get_mut(4) {
-            *byte |= 0x80;
-        }
-        assert!(rt; is_refused(i, &changed, CodecFault::SecondaryBitmap));
     }
-    assert_eq!(rt; decode(b"1641111100000000050000"), Err(CodecFault::BadMti));
     Ok(())
+}
+
+#[test]
+fn an_element_in_place_of_the_type(rt: HostRuntime) {
+    assert_eq!(rt; decode(b"1641111100000000050000"), Err(CodecFault::BadMti));
 }
