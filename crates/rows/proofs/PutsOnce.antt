@@ -37,12 +37,12 @@ use Rattle.rows.specs.declared.row_val.RowVal.{RowVal}
 use Rattle.rows.specs.declared.velocity_row.VelocityRow.{VelocityRow}
 
 -- no row of this kind is put
-abbrev IsFresh : ℕ → Writes → Type 0
+abbrev pub IsFresh : ℕ → Writes → Type 0
 IsFresh kind [] = Unit {0}
 IsFresh kind (w ∷ ws) = IsTrue (not (kind == kind_of w.0)) × IsFresh kind ws
 
 -- the rows that are put are of different kinds
-abbrev AreApart : Writes → Type 0
+abbrev pub AreApart : Writes → Type 0
 AreApart [] = Unit {0}
 AreApart (w ∷ ws) = IsFresh (kind_of w.0) ws × AreApart ws
 
@@ -57,15 +57,16 @@ head_or_behind w ws put h = place_of w ws put h.0 h.1 h.2
 nothing_stands : (put : RowKey × RowVal) → Contains [] put → ⊥
 nothing_stands put h = omega (arith, h.1)
 
-same_number : (n : ℕ) → IsTrue (not (n == n)) → ⊥
-same_number n h = grind (arith, nat_tests)
+-- a number is no other than itself
+pub not_another : (n : ℕ) → IsTrue (not (n == n)) → ⊥
+not_another n h = grind (arith, nat_tests)
 
 -- a row that is put is of another kind
 of_other_kind : (kind : ℕ) (ws : Writes) (put : RowKey × RowVal) → IsFresh kind ws → Contains ws put → kind ≡ kind_of put.0 → ⊥
 of_other_kind kind [] put fresh h e = nothing_stands put h
 of_other_kind kind (w ∷ ws) put fresh h e =
     elim (head_or_behind w ws put h) [
-      | inl is ↦ same_number kind (subst (λ n. IsTrue (not (kind == n))) (ap (λ (p : RowKey × RowVal). kind_of p.0) is ∙ sym e) fresh.0)
+      | inl is ↦ not_another kind (subst (λ n. IsTrue (not (kind == n))) (ap (λ (p : RowKey × RowVal). kind_of p.0) is ∙ sym e) fresh.0)
       | inr behind ↦ of_other_kind kind ws put fresh.1 behind e
     ]
 
@@ -208,8 +209,12 @@ message_apart (message.Request r) look = on_original_apart r (original_in (look 
 message_apart (message.Advice a) look = advice_on_original_apart a (original_in (look _)) look
 message_apart (message.Reversal r) look = on_reversed_apart r (original_in (look _)) look
 
--- what a decision puts
-pub puts_once : (look : Lookup) (frame : Frame) → PutsOnce (decision look frame).writes
+-- what a decision puts is of different kinds
+pub kinds_apart : (look : Lookup) (frame : Frame) → AreApart (decision look frame).writes
 unfolding decision
-puts_once look (Good m) = once_apart _ (message_apart m look)
-puts_once look (Bad fault) = once_apart [] tt
+kinds_apart look (Good m) = message_apart m look
+kinds_apart look (Bad fault) = tt
+
+-- so no row is put with two values
+pub puts_once : (look : Lookup) (frame : Frame) → PutsOnce (decision look frame).writes
+puts_once look frame = once_apart _ (kinds_apart look frame)

@@ -10,7 +10,7 @@ use Rattle.rows.specs.CardAccounts.{account_of}
 use Rattle.rows.specs.Facts.{identity_of, prefix_of, is_same_currency, is_marked, is_of_same}
 use Rattle.rows.specs.Funds.{balance_of, with_balance, key_of_funds, row_of_funds, paid_by}
 use Rattle.rows.specs.Kept.{action_of_outcome}
-use Rattle.rows.specs.Plan.{Plan, Answer, Look}
+use Rattle.rows.specs.Plan.{Plan, Writes, Answer, Look}
 use Rattle.rows.specs.Typed.{card_in, budget_in, original_in, account_in}
 use Rattle.rows.specs.declared.account_row.AccountRow.{AccountRow}
 use Rattle.rows.specs.declared.budget_mode.BudgetMode.{BudgetMode}
@@ -54,13 +54,16 @@ marked_advice a mark =
     Answer (reply_to_advice a 900)
     ((key.Original (identity_of a.transaction), kept_of_advice a (outcome.Acknowledged 900 (Some mark.reversal))) ∷ [])
 
--- 901, accepted with liability: the original is kept, and the amount is taken from what pays
-abbrev pub accepted : Advice → Funds → Plan
-accepted a f =
-    Answer (reply_to_advice a 901)
-    ((key.Original (identity_of a.transaction), kept_of_advice a (outcome.Accepted (paid_by f)))
+-- The original is kept, and the amount is taken from what pays.
+abbrev pub accepted_writes : Advice → Funds → Writes
+accepted_writes a f =
+    (key.Original (identity_of a.transaction), kept_of_advice a (outcome.Accepted (paid_by f)))
     ∷ (key_of_funds f, row_of_funds (with_balance f (balance_of f - a.transaction.amount)))
-    ∷ [])
+    ∷ []
+
+-- 901, accepted with liability, with those rows
+abbrev pub accepted : Advice → Funds → Plan
+accepted a f = Answer (reply_to_advice a 901) (accepted_writes a f)
 
 -- a row stands at the identity
 abbrev pub advice_again : Advice → OriginalRow → Plan

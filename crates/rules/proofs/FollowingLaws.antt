@@ -1,7 +1,9 @@
 -- How a decision follows its plan from one row to the next, and what it has come to at its end.
-use Rattle.std.proofs.Common.{◌≡◌, ℕ, suc, Bool, true, false, not, ◌&&◌, ◌==◌, if◌then◌else◌, List, [], ◌∷◌, ◌++◌, map, length, take, Option, Some, None, IsTrue, refl, sym, ap, subst, ◌∙◌, rules, arith, append_assoc, cond}
+use Rattle.std.proofs.Common.{◌≡◌, ℕ, Bool, true, false, not, ◌&&◌, ◌==◌, if◌then◌else◌, List, [], ◌∷◌, ◌++◌, length, take, Option, Some, None, refl, sym, ap, subst, ◌∙◌, rules, arith, cond, Contains}
 use Rattle.std.proofs.lemmas.Bool.{false≢true}
-use Rattle.std.specs.List.{AllByRecursion, list_all}
+use Rattle.std.proofs.lemmas.Bool.Decides.{nat_tests}
+use Rattle.std.proofs.lemmas.List.Elements.{recursion_from_All, All-contains_itself}
+use Rattle.std.specs.List.{list_all}
 use Rattle.rows.specs.Agreement.{Reads, Agrees, keys_read, IsLocal, ComesTo, AreRead}
 use Rattle.rows.specs.Decision.{decision, plan_of}
 use Rattle.rows.specs.Plan.{Plan, Answer, Look, Writes, Lookup, Decided, after_look, carried_out}
@@ -23,6 +25,13 @@ not_true false h = refl
 pub not_false : (b : Bool) → not b ≡ false → b ≡ true
 not_false true h = refl
 not_false false h = sym h
+
+-- the test whether two numbers are the same
+pub same_number : (m n : ℕ) → m ≡ n → (m == n) ≡ true
+same_number m n e = grind (arith, nat_tests)
+
+pub other_number : (m n : ℕ) → (m ≡ n → ⊥) → (m == n) ≡ false
+other_number m n e = grind (arith, nat_tests)
 
 -- ---- rows that were not read yet
 
@@ -72,7 +81,7 @@ pub begins : (frame : Frame) (reads : Reads) (writes : Writes) → reads ≡ [] 
 unfolding decision
 begins frame reads writes none unput =
     let from_start : (look : Lookup) → Agrees reads look → decision look frame ≡ after_looks (keys_read reads) (carried_out (plan_of frame) look) =
-        λ look _. sym (ap (λ (rs : Reads). after_looks (keys_read rs) (carried_out (plan_of frame) look)) none) in
+    λ look _. sym (ap (λ (rs : Reads). after_looks (keys_read rs) (carried_out (plan_of frame) look)) none) in
     record { unput = unput; left = from_start }
 
 agrees_before : (reads : Reads) (key : RowKey) (row : Option RowVal) (look : Lookup) → Agrees (logged reads key row) look → Agrees reads look × (look key ≡ row)
@@ -88,11 +97,11 @@ pub looked : (frame : Frame) (reads now : Reads) (writes puts : Writes) (key : R
     → Follows frame reads writes (Look key next) → now ≡ logged reads key row → puts ≡ writes → Follows frame now puts (next row)
 looked frame reads now writes puts key next row follows is same =
     let left : (look : Lookup) → Agrees (logged reads key row) look → decision look frame ≡ after_looks (keys_read (logged reads key row)) (carried_out (next row) look) =
-        λ look agrees.
-          let before = agrees_before reads key row look agrees in
-          follows.left look before.0
-          ∙ ap (λ (r : Option RowVal). after_looks (keys_read reads) (after_look key (carried_out (next r) look))) before.1
-          ∙ sym (keys_logged reads key row (carried_out (next row) look)) in
+    λ look agrees.
+    let before = agrees_before reads key row look agrees in
+    follows.left look before.0
+    ∙ ap (λ (r : Option RowVal). after_looks (keys_read reads) (after_look key (carried_out (next r) look))) before.1
+    ∙ sym (keys_logged reads key row (carried_out (next row) look)) in
     subst (λ (rs : Reads). Follows frame rs puts (next row)) (sym is) (record { unput = same ∙ follows.unput; left = left })
 
 -- the same, where the key and what is left are said in other words
@@ -146,6 +155,14 @@ concluded_all frame reads writes reply done look agrees = sym (ap (λ (d : Decid
 
 pub concluded_needs : (frame : Frame) (reads : Reads) (writes : Writes) (reply : ReplyBody) → Concludes frame reads writes reply → ReadsNeeds frame reads
 concluded_needs frame reads writes reply done look agrees = all_of reads ∙ ap (λ (ks : List RowKey). take (length reads) ks) (concluded_all frame reads writes reply done look agrees)
+
+read_is_among : (reads : Reads) → AreRead (keys_read reads) reads
+read_is_among reads = recursion_from_All (Contains (keys_read reads)) (keys_read reads) (All-contains_itself (keys_read reads))
+
+-- a decision that has come to its end is what it comes to on all rows that agree with what it read
+pub concluded_local : (frame : Frame) (reads : Reads) (writes : Writes) (reply : ReplyBody) → Concludes frame reads writes reply → IsLocal frame reads writes reply
+concluded_local frame reads writes reply done look agrees =
+    subst (λ (d : Decided). ComesTo d reads writes reply) (sym (done look agrees)) (refl, refl, read_is_among reads)
 
 -- ---- with one row put
 

@@ -1,2 +1,3 @@
 pub mod FollowingLaws
 pub mod PutLaws
+pub mod RefundLaws

@@ -15,7 +15,7 @@ use rows::{AccountRow, ReplyBody, RowKey};
 use view::{Recorder, RowSource, Stop};
 
 // Decides an authorization advice.
-pub fn decide_advice<S: RowSource>(
+pub(crate) fn decide_advice<S: RowSource>(
     advice: &Advice,
     rows: &mut Recorder<S>,
 ) -> Result<ReplyBody, Stop>
@@ -35,10 +35,7 @@ pub fn decide_advice<S: RowSource>(
 }
 
 // Decides an advice whose identity wasn't seen before: nothing else is looked at where the acquirer didn't approve.
-fn decide_fresh<S: RowSource>(
-    advice: &Advice,
-    rows: &mut Recorder<S>,
-) -> Result<ReplyBody, Stop>
+fn decide_fresh<S: RowSource>(advice: &Advice, rows: &mut Recorder<S>) -> Result<ReplyBody, Stop>
     requires follows { Follows (Good (message.Advice advice.now)) rows.old.reads rows.old.writes (table.fresh_advice advice.now) }
     requires kinds { kinds_read rows.old.reads ≡ 3 ∷ [] }
     ensures done { IfOk result (λ reply. Concludes (Good (message.Advice advice.now)) rows.new.reads rows.new.writes reply) }

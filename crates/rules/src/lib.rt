@@ -9,9 +9,11 @@ mod look_up;
 mod request;
 mod request_answers;
 mod request_facts;
+mod reversal;
+mod reversal_answers;
+mod reversal_facts;
+mod reversal_refunds;
 mod shipped;
 mod typed;
 
-pub use advice::decide_advice;
-pub use shipped::Shipped;
-pub use request::decide_request;
+pub use shipped::{Shipped, decide};

@@ -15,7 +15,7 @@ use rows::{AccountRow, CardRow, ReplyBody, RowKey, VelocityRow};
 use view::{Recorder, RowSource, Stop};
 
 // Decides an authorization request.
-pub fn decide_request<S: RowSource>(
+pub(crate) fn decide_request<S: RowSource>(
     request: &Request,
     rows: &mut Recorder<S>,
 ) -> Result<ReplyBody, Stop>
@@ -35,10 +35,7 @@ pub fn decide_request<S: RowSource>(
 }
 
 // Decides a request whose identity wasn't seen before: what it is refused for before its card is known, then its card.
-fn decide_fresh<S: RowSource>(
-    request: &Request,
-    rows: &mut Recorder<S>,
-) -> Result<ReplyBody, Stop>
+fn decide_fresh<S: RowSource>(request: &Request, rows: &mut Recorder<S>) -> Result<ReplyBody, Stop>
     requires follows { Follows (Good (message.Request request.now)) rows.old.reads rows.old.writes (table.fresh_request request.now) }
     requires kinds { kinds_read rows.old.reads ≡ 3 ∷ [] }
     ensures done { IfOk result (λ reply. Concludes (Good (message.Request request.now)) rows.new.reads rows.new.writes reply) }

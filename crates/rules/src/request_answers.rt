@@ -12,7 +12,10 @@ ghost use Rattle.view.specs.Recording.{IsStopOf};
 use crate::facts::{is_marked, is_of_same, kept_of};
 use crate::request_facts::kept_verdict;
 use iso8583::{Answer, Approval, DeclineCode, OriginalKind, Reply, Request, Verdict};
-use rows::{CardRow, Funds, Kept, Mark, OriginalRow, Outcome, Payment, ReplyBody, RowKey, RowVal, VelocityRow};
+use rows::{
+    CardRow, Funds, Kept, Mark, OriginalRow, Outcome, Payment, ReplyBody, RowKey, RowVal,
+    VelocityRow,
+};
 use view::{Recorder, RowSource, Stop};
 
 // The reply to a request: it repeats the request's elements beside its verdict.

@@ -1,7 +1,7 @@
 use Rattle.std.proofs.Common.{refl, sym, ap, ◌∙◌}
 use Rattle.rows.specs.declared.row_key.RowKey.TheVariants as key
 use Rattle.rows.specs.RequestTable as table
-use Rattle.rules.proofs.FollowingLaws.{unread, looked_as, follows_as, follows_then, follows_else, follows_needs, not_true, not_false}
+use Rattle.rules.proofs.FollowingLaws.{unread, looked_as, follows_then, follows_else, follows_needs, not_true, not_false}
 use Rattle.rows.specs.Facts.{is_same_currency}
 use Rattle.rules.proofs.request.decide_on_account.Goals as goal
 

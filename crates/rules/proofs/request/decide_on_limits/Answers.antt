@@ -26,11 +26,11 @@ decline-requires-in-Err g c =
     let r = c.args.request.now in
     record {
       follows =
-    looked_as _ _ _ _ _ _ _ _ _ _
-    (follows_as _ _ _ _ (table.looked_for_funds r c.args.card.now c.args.id c.args.account.now c.args.day.now)
-    (ap (λ o. table.unless_refused r o (table.looked_for_funds r c.args.card.now c.args.id c.args.account.now c.args.day.now)) (sym c.refused_by_limits.ensures.refused ∙ c.in_default.is))
-    c.requires.follows)
-    c.in_ok-look_up.ensures.logged c.in_ok-look_up.ensures.writes (λ i. key.Budget (c.prefix.ensures i))
-    (ap (table.on_funds r c.args.card.now c.args.day.now)
-    (ap (table.request_funds r.transaction c.args.id c.args.account.now) (sym c.budget_in-budget.ensures) ∙ sym c.request_funds.ensures.funds ∙ c.in-Err.is));
+          looked_as _ _ _ _ _ _ _ _ _ _
+          (follows_as _ _ _ _ (table.looked_for_funds r c.args.card.now c.args.id c.args.account.now c.args.day.now)
+          (ap (λ o. table.unless_refused r o (table.looked_for_funds r c.args.card.now c.args.id c.args.account.now c.args.day.now)) (sym c.refused_by_limits.ensures.refused ∙ c.in_default.is))
+          c.requires.follows)
+          c.in_ok-look_up.ensures.logged c.in_ok-look_up.ensures.writes (λ i. key.Budget (c.prefix.ensures i))
+          (ap (table.on_funds r c.args.card.now c.args.day.now)
+          (ap (table.request_funds r.transaction c.args.id c.args.account.now) (sym c.budget_in-budget.ensures) ∙ sym c.request_funds.ensures.funds ∙ c.in-Err.is));
     }

@@ -1,0 +1,2 @@
+pub mod Conserved
+pub mod Undone

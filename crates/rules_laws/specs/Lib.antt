@@ -1,0 +1,3 @@
+pub mod Duplicate
+pub mod Messages
+pub mod Repeated
