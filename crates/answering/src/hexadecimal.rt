@@ -1,4 +1,4 @@
-ghost use Rattle.std.specs.Prelude.{◌≡◌, IfOk, IfSome, IfNone, string_bytes};
+ghost use Rattle.std.specs.Prelude.{◌≡◌, ℕ, List, IfOk, IfSome, IfNone, string_bytes};
 ghost use Rattle.answering.specs.Answers.{IsBodyInDigits, IsAnswerInDigits};
 ghost use Rattle.answering.specs.SampleBook.{sample_rows};
 

@@ -1,6 +1,6 @@
 ghost use Rattle.std.specs.Prelude.{◌≡◌, IfOk, ◌≤◌, ◌^◌};
 ghost use Rattle.answering.specs.SampleBook.{sample_rows, with_card, card_row, account_row, card_key, account_key};
-ghost use Rattle.iso8583.specs.Padded.{HasDigits};
+ghost use Rattle.iso8583.specs.Padded.{HasDigits, HasPrintable};
 
 use iso8583::{AccountId, Currency, Pan};
 use rows::{
@@ -20,14 +20,16 @@ pub fn sample_book(alloc: Global) -> Result<Book, AllocError>
 // The book with a card and its account put over it.
 fn with_card(book: Book, number: &[u8], available: u64) -> Result<Book, AllocError>
     requires number { HasDigits 12 19 number.now }
+    requires account { HasPrintable 1 28 number.now }
     requires bound { available ≤ 10 ^ 15 }
     ensures { IfOk result (λ after. after ≡ with_card book number.now available) }
 {
     let (Some(pan), Some(id)) = (Pan::new(number), AccountId::new(number)) else {
         unreachable!()
     };
+    let first = id;
     let mut after = book;
-    after.put(RowKey::Card(pan), card_row(id))?;
+    after.put(RowKey::Card(pan), card_row(first))?;
     after.put(RowKey::Account(id), account_row(available))?;
     Ok(after)
 }
