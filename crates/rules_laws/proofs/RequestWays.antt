@@ -93,7 +93,6 @@ unless : (r : Request) (look : Lookup) (refused : Option ℕ) (next : Plan) → 
 unless r look (Some action) next positive h = declining r look action positive
 unless r look None next positive h = h
 
-
 ways_on_funds : (r : Request) (look : Lookup) (card : CardRow) (found : Result Funds ℕ) → IsSource look r.transaction found → IsDecidedFresh r look (carried_out (on_funds r card (spent_in (velocity_in (look (key.Velocity r.transaction.pan (day_of r.transaction.stamp))))) found) look)
 ways_on_funds r look card (Err action) positive = declining r look action positive
 ways_on_funds r look card (Ok paying) pays = inr (record { card = card; paying = paying; pays = pays; reply = refl; writes = refl })
