@@ -1,9 +1,8 @@
 pub mod Amounts
 pub mod Cuts
 pub mod Found
-pub mod Least
+pub mod Masks
 pub mod Others
 pub mod Parts
 pub mod Scopes
 pub mod Uniform
-pub mod WholeBitmaps

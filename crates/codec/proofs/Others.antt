@@ -9,12 +9,12 @@ use Rattle.codec.specs.Texts.{texts_of}
 
 -- a transaction has these texts, whatever the other ones are
 abbrev pub HasTexts : Transaction → Front → Body → Type 0
-HasTexts t x y = (f m c a o : Option (List ℕ)) → content t f m c a o ≡ record (texts_of x y) { function = f; original_amount = m; approval = c; action = a; original = o }
+HasTexts t x y = (f m c a o i : Option (List ℕ)) → content t f m c a o i ≡ record (texts_of x y) { function = f; original_amount = m; approval = c; action = a; original = o; account = i }
 
-pub all_texts : (t : Transaction) (x : Front) (y : Body) (f m c a o : Option (List ℕ)) → HasTexts t x y
+pub all_texts : (t : Transaction) (x : Front) (y : Body) (f m c a o i : Option (List ℕ)) → HasTexts t x y
     → f ≡ option_map (λ b. b.now) y.function → m ≡ option_map (λ b. b.now) y.original_amount → c ≡ option_map (λ b. b.now) y.approval
-    → a ≡ option_map (λ b. b.now) y.action → o ≡ option_map (λ b. b.now) y.original → content t f m c a o ≡ texts_of x y
-all_texts t x y f m c a o texts h24 h30 h38 h39 h56 = rw (h24, h30, h38, h39, h56) (texts _ _ _ _ _)
+    → a ≡ option_map (λ b. b.now) y.action → o ≡ option_map (λ b. b.now) y.original → i ≡ option_map (λ b. b.now) y.account → content t f m c a o i ≡ texts_of x y
+all_texts t x y f m c a o i texts h24 h30 h38 h39 h56 h102 = rw (h24, h30, h38, h39, h56, h102) (texts _ _ _ _ _ _)
 
 -- a text that is there, and one that is not
 pub some_here : (o : Option (Bor (List ℕ))) (b : Bor (List ℕ)) (t : List ℕ) → o ≡ Some b → t ≡ b.now → Some t ≡ option_map (λ x. x.now) o

@@ -26,11 +26,11 @@ is_needed false true h k = absurd cc
 is_needed false false h k = absurd cc
 
 module _ (parts : List Part) (bitmap : ℕ) (sound : IsSound parts bitmap) where
-  unset : (n : ℕ) → leb 2 n ≡ true → leb n 64 ≡ true → is_listed parts n ≡ false → is_set bitmap n ≡ false
-  unset n low high h = not_listed (is_set bitmap n) (is_listed parts n) (sound.unexpected n (leb-true 2 n low) (leb-true n 64 high)) h
+  unset : (n : ℕ) → leb 2 n ≡ true → leb n 128 ≡ true → is_listed parts n ≡ false → is_set bitmap n ≡ false
+  unset n low high h = not_listed (is_set bitmap n) (is_listed parts n) (sound.unexpected n (leb-true 2 n low) (leb-true n 128 high)) h
 
-  set : (n : ℕ) → leb 2 n ≡ true → leb n 64 ≡ true → is_required parts n ≡ true → is_set bitmap n ≡ true
-  set n low high h = is_needed (is_set bitmap n) (is_required parts n) (sound.missing n (leb-true 2 n low) (leb-true n 64 high)) h
+  set : (n : ℕ) → leb 2 n ≡ true → leb n 128 ≡ true → is_required parts n ≡ true → is_set bitmap n ≡ true
+  set n low high h = is_needed (is_set bitmap n) (is_required parts n) (sound.missing n (leb-true 2 n low) (leb-true n 128 high)) h
 
 without_first : (e : Element) (read : Result (List Field × List ℕ) CodecFault) → with_first e None read ≡ read
 without_first e (Ok x) = refl
@@ -52,7 +52,7 @@ reversal_tail : (bitmap : ℕ) (bytes : List ℕ) → IsSound (parts_of mti.Reve
 unfolding fields_at optional_at
 reversal_tail bitmap bytes s =
     let ps = parts_of mti.Reversal in
-    rw (set ps bitmap s 24 refl refl refl, unset ps bitmap s 38 refl refl refl, unset ps bitmap s 39 refl refl refl, set ps bitmap s 56 refl refl refl) (simp without_first)
+    rw (set ps bitmap s 24 refl refl refl, unset ps bitmap s 38 refl refl refl, unset ps bitmap s 39 refl refl refl, set ps bitmap s 56 refl refl refl, unset ps bitmap s 102 refl refl refl) (simp without_first)
 
 verdict_tail : (bitmap : ℕ) (bytes : List ℕ) → IsSound (parts_of mti.RequestReply) bitmap → fields_at bitmap (body_parts mti.RequestReply) bytes ≡ fields_at bitmap (tail_parts mti.RequestReply) bytes
 unfolding fields_at optional_at
@@ -60,11 +60,17 @@ verdict_tail bitmap bytes s =
     let ps = parts_of mti.RequestReply in
     rw (unset ps bitmap s 24 refl refl refl, unset ps bitmap s 30 refl refl refl, set ps bitmap s 39 refl refl refl, unset ps bitmap s 56 refl refl refl) (simp without_first)
 
-action_tail : (bitmap : ℕ) (bytes : List ℕ) → IsSound (parts_of mti.AdviceReply) bitmap → fields_at bitmap (body_parts mti.AdviceReply) bytes ≡ fields_at bitmap (tail_parts mti.AdviceReply) bytes
+advice_reply_tail : (bitmap : ℕ) (bytes : List ℕ) → IsSound (parts_of mti.AdviceReply) bitmap → fields_at bitmap (body_parts mti.AdviceReply) bytes ≡ fields_at bitmap (tail_parts mti.AdviceReply) bytes
 unfolding fields_at optional_at
-action_tail bitmap bytes s =
+advice_reply_tail bitmap bytes s =
     let ps = parts_of mti.AdviceReply in
     rw (unset ps bitmap s 24 refl refl refl, unset ps bitmap s 30 refl refl refl, unset ps bitmap s 38 refl refl refl, set ps bitmap s 39 refl refl refl, unset ps bitmap s 56 refl refl refl) (simp without_first)
+
+reversal_reply_tail : (bitmap : ℕ) (bytes : List ℕ) → IsSound (parts_of mti.ReversalReply) bitmap → fields_at bitmap (body_parts mti.ReversalReply) bytes ≡ fields_at bitmap (tail_parts mti.ReversalReply) bytes
+unfolding fields_at optional_at
+reversal_reply_tail bitmap bytes s =
+    let ps = parts_of mti.ReversalReply in
+    rw (unset ps bitmap s 24 refl refl refl, unset ps bitmap s 30 refl refl refl, unset ps bitmap s 38 refl refl refl, set ps bitmap s 39 refl refl refl, unset ps bitmap s 56 refl refl refl, unset ps bitmap s 102 refl refl refl) (simp without_first)
 
 pub tail_is : (t : Mti) (bitmap : ℕ) (bytes : List ℕ) → presence_at (parts_of t) bitmap ≡ Ok tt → fields_at bitmap (body_parts t) bytes ≡ fields_at bitmap (tail_parts t) bytes
 tail_is mti.Request bitmap bytes h = request_tail bitmap bytes (is_sound (parts_of mti.Request) bitmap h)
@@ -72,10 +78,10 @@ tail_is mti.RequestRepeat bitmap bytes h = request_tail bitmap bytes (is_sound (
 tail_is mti.RequestReply bitmap bytes h = verdict_tail bitmap bytes (is_sound (parts_of mti.RequestReply) bitmap h)
 tail_is mti.Advice bitmap bytes h = advice_tail bitmap bytes (is_sound (parts_of mti.Advice) bitmap h)
 tail_is mti.AdviceRepeat bitmap bytes h = advice_tail bitmap bytes (is_sound (parts_of mti.Advice) bitmap h)
-tail_is mti.AdviceReply bitmap bytes h = action_tail bitmap bytes (is_sound (parts_of mti.AdviceReply) bitmap h)
+tail_is mti.AdviceReply bitmap bytes h = advice_reply_tail bitmap bytes (is_sound (parts_of mti.AdviceReply) bitmap h)
 tail_is mti.Reversal bitmap bytes h = reversal_tail bitmap bytes (is_sound (parts_of mti.Reversal) bitmap h)
 tail_is mti.ReversalRepeat bitmap bytes h = reversal_tail bitmap bytes (is_sound (parts_of mti.Reversal) bitmap h)
-tail_is mti.ReversalReply bitmap bytes h = action_tail bitmap bytes (is_sound (parts_of mti.AdviceReply) bitmap h)
+tail_is mti.ReversalReply bitmap bytes h = reversal_reply_tail bitmap bytes (is_sound (parts_of mti.ReversalReply) bitmap h)
 
 -- ---- which elements a body of the type has
 
@@ -109,9 +115,20 @@ advice_body t bitmap x s h =
       original = none_is x.original _ h.original (unset ps bitmap s 56 refl refl refl);
     }
 
-action_body : (t : Mti) (bitmap : ℕ) (x : Body) → IsSound (parts_of mti.AdviceReply) bitmap → IsThere t bitmap x → IsActionBody x
-action_body t bitmap x s h =
+advice_reply_body : (bitmap : ℕ) (x : Body) → IsSound (parts_of mti.AdviceReply) bitmap → IsThere mti.AdviceReply bitmap x → IsActionBody x
+advice_reply_body bitmap x s h =
     let ps = parts_of mti.AdviceReply in
+    record {
+      function = none_is x.function _ h.function (unset ps bitmap s 24 refl refl refl);
+      original_amount = none_is x.original_amount _ h.original_amount (unset ps bitmap s 30 refl refl refl);
+      approval = none_is x.approval _ h.approval (unset ps bitmap s 38 refl refl refl);
+      action = some_is x.action _ h.action (set ps bitmap s 39 refl refl refl);
+      original = none_is x.original _ h.original (unset ps bitmap s 56 refl refl refl);
+    }
+
+reversal_reply_body : (bitmap : ℕ) (x : Body) → IsSound (parts_of mti.ReversalReply) bitmap → IsThere mti.ReversalReply bitmap x → IsActionBody x
+reversal_reply_body bitmap x s h =
+    let ps = parts_of mti.ReversalReply in
     record {
       function = none_is x.function _ h.function (unset ps bitmap s 24 refl refl refl);
       original_amount = none_is x.original_amount _ h.original_amount (unset ps bitmap s 30 refl refl refl);
@@ -145,6 +162,7 @@ reversal_body t bitmap x same s h =
       approval = none_is x.approval _ h.approval (unset ps bitmap s 38 refl refl refl);
       action = none_is x.action _ h.action (unset ps bitmap s 39 refl refl refl);
       original = some_is x.original _ h.original (set ps bitmap s 56 refl refl refl);
+      account = none_is x.account _ h.account (unset ps bitmap s 102 refl refl refl);
     }
 
 verdict_body : (bitmap : ℕ) (x : Body) → IsSound (parts_of mti.RequestReply) bitmap → IsThere mti.RequestReply bitmap x → IsVerdictBody x
@@ -164,7 +182,9 @@ is_body_of mti.RequestRepeat bitmap x p h = request_body mti.RequestRepeat bitma
 is_body_of mti.RequestReply bitmap x p h = verdict_body bitmap x (is_sound (parts_of mti.RequestReply) bitmap p) h
 is_body_of mti.Advice bitmap x p h = advice_body mti.Advice bitmap x (is_sound (parts_of mti.Advice) bitmap p) h
 is_body_of mti.AdviceRepeat bitmap x p h = advice_body mti.AdviceRepeat bitmap x (is_sound (parts_of mti.Advice) bitmap p) h
-is_body_of mti.AdviceReply bitmap x p h = action_body mti.AdviceReply bitmap x (is_sound (parts_of mti.AdviceReply) bitmap p) h
+is_body_of mti.AdviceReply bitmap x p h = advice_reply_body bitmap x (is_sound (parts_of mti.AdviceReply) bitmap p) h
 is_body_of mti.Reversal bitmap x p h = reversal_body mti.Reversal bitmap x refl (is_sound (parts_of mti.Reversal) bitmap p) h
 is_body_of mti.ReversalRepeat bitmap x p h = reversal_body mti.ReversalRepeat bitmap x refl (is_sound (parts_of mti.Reversal) bitmap p) h
-is_body_of mti.ReversalReply bitmap x p h = action_body mti.ReversalReply bitmap x (is_sound (parts_of mti.AdviceReply) bitmap p) h
+is_body_of mti.ReversalReply bitmap x p h =
+    let sound = is_sound (parts_of mti.ReversalReply) bitmap p in
+    (reversal_reply_body bitmap x sound h, none_is x.account _ h.account (unset (parts_of mti.ReversalReply) bitmap sound 102 refl refl refl))

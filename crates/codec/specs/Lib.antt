@@ -1,3 +1,2 @@
-pub mod Bitmaps
 pub mod Sides
 pub mod Texts

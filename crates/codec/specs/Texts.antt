@@ -1,17 +1,26 @@
 -- Texts of elements as they were cut out of the bytes, before they are values.
-use Rattle.std.specs.Prelude.{◌≡◌, ℕ, false, List, [], ◌∷◌, None, IfSome, IsSome, is_some, option_map, Ok}
+use Rattle.std.specs.Prelude.{◌≡◌, ℕ, false, not, List, [], ◌∷◌, None, IfSome, IsSome, is_some, option_map, Result, Ok, Err, if◌then◌else◌}
 use Rattle.codec.specs.declared.front.Front.{Front}
 use Rattle.codec.specs.declared.body.Body.{Body}
+use Rattle.iso8583.specs.declared.codec_fault.CodecFault.{CodecFault}
+use Rattle.iso8583.specs.declared.codec_fault.CodecFault.TheVariants.{BadCharacter, BadValue}
+use Rattle.codec_laws.specs.declared.element.Element.{Element}
 use Rattle.codec_laws.specs.declared.element.Element.TheVariants as element
 use Rattle.codec_laws.specs.declared.mti.Mti.{Mti}
 use Rattle.codec_laws.specs.declared.mti.Mti.TheVariants as mti
 use Rattle.codec_laws.specs.declared.rule.Rule.{Rule}
 use Rattle.codec_laws.specs.declared.rule.Rule.TheVariants.{Free, Scope, Verdict}
-use Rattle.codec_laws.specs.Elements.{IsText}
+use Rattle.codec_laws.specs.Elements.{element_number, class_of, is_of_class, has_value, IsText}
 use Rattle.codec_laws.specs.Types.{Part, required, optional}
 use Rattle.codec_laws.specs.Spelling.{Field, with_field, is_set}
 use Rattle.codec_laws.specs.Contents.{Content}
 use Rattle.codec_laws.specs.Reading.{rule_at, scope_at, verdict_at}
+
+-- the test of a text that is as long as its element's: its class, then its value
+abbrev pub test_of : Element → List ℕ → Result (Unit {0}) CodecFault
+test_of e text =
+    if not (is_of_class (class_of e) text) then Err (BadCharacter (element_number e))
+    else (if has_value e text then Ok tt else Err (BadValue (element_number e)))
 
 -- the elements of a front and their texts, in rising number
 abbrev pub front_fields : Front → List Field
@@ -34,7 +43,7 @@ body_fields x =
     with_field element.Function (option_map (λ t. t.now) x.function) (with_field element.OriginalAmount (option_map (λ t. t.now) x.original_amount)
     ((element.Acquirer, x.acquirer.now) ∷ with_field element.Retrieval (option_map (λ t. t.now) x.retrieval)
     (with_field element.Approval (option_map (λ t. t.now) x.approval) (with_field element.Action (option_map (λ t. t.now) x.action)
-    ((element.Terminal, x.terminal.now) ∷ (element.Currency, x.currency.now) ∷ with_field element.Original (option_map (λ t. t.now) x.original) [])))))
+    ((element.Terminal, x.terminal.now) ∷ (element.Currency, x.currency.now) ∷ with_field element.Original (option_map (λ t. t.now) x.original) (with_field element.Account (option_map (λ t. t.now) x.account) []))))))
 
 -- each text of a body that is there is one that its element can have
 pub record HasBodyTexts (x : Body) : Type 0 where
@@ -47,6 +56,7 @@ pub record HasBodyTexts (x : Body) : Type 0 where
   pub terminal : IsText element.Terminal x.terminal.now
   pub currency : IsText element.Currency x.currency.now
   pub original : IfSome x.original (λ t. IsText element.Original t.now)
+  pub account : IfSome x.account (λ t. IsText element.Account t.now)
 
 -- the texts of a front and of a body together
 abbrev pub texts_of : Front → Body → Content
@@ -66,6 +76,7 @@ texts_of x y = record {
   terminal = y.terminal.now;
   currency = y.currency.now;
   original = option_map (λ t. t.now) y.original;
+  account = option_map (λ t. t.now) y.account;
 }
 
 -- ---- one reader for the bodies of all types: what a bitmap without fault says is there, is there
@@ -86,15 +97,16 @@ abbrev pub body_parts : Mti → List Part
 body_parts t =
     (false, element.Function, function_rule t) ∷ optional element.OriginalAmount
     ∷ required element.Acquirer ∷ optional element.Retrieval ∷ optional element.Approval ∷ (false, element.Action, action_rule t)
-    ∷ required element.Terminal ∷ required element.Currency ∷ optional element.Original ∷ []
+    ∷ required element.Terminal ∷ required element.Currency ∷ optional element.Original ∷ optional element.Account ∷ []
 
--- elements 24, 30, 38, 39 and 56 are there exactly where the bitmap says so, and the rules of 24 and 39 find no fault
+-- elements 24, 30, 38, 39, 56 and 102 are there exactly where the bitmap says so, and the rules of 24 and 39 find no fault
 pub record IsThere (t : Mti) (bitmap : ℕ) (x : Body) : Type 0 where
   pub function : is_some x.function ≡ is_set bitmap 24
   pub original_amount : is_some x.original_amount ≡ is_set bitmap 30
   pub approval : is_some x.approval ≡ is_set bitmap 38
   pub action : is_some x.action ≡ is_set bitmap 39
   pub original : is_some x.original ≡ is_set bitmap 56
+  pub account : is_some x.account ≡ is_set bitmap 102
   pub scope : rule_at (function_rule t) bitmap (option_map (λ t. t.now) x.function) ≡ Ok tt
   pub verdict : rule_at (action_rule t) bitmap (option_map (λ t. t.now) x.action) ≡ Ok tt
 
@@ -116,13 +128,14 @@ pub record IsAdviceBody (x : Body) : Type 0 where
   pub action : IsSome x.action
   pub original : x.original ≡ None
 
--- elements 24 and 56, where 24 is 400 without element 30 or 401 with it, and neither 38 nor 39
+-- elements 24 and 56, where 24 is 400 without element 30 or 401 with it, and none of 38, 39 and 102
 pub record IsReversalBody (x : Body) : Type 0 where
   pub function : IsSome x.function
   pub scope : IfSome x.function (λ t. scope_at (is_some x.original_amount) t.now ≡ Ok tt)
   pub approval : x.approval ≡ None
   pub action : x.action ≡ None
   pub original : IsSome x.original
+  pub account : x.account ≡ None
 
 -- element 39, which is 000 with element 38 or another without it, and none of 24, 30 and 56
 pub record IsVerdictBody (x : Body) : Type 0 where
@@ -150,4 +163,4 @@ IsBodyOf mti.AdviceRepeat x = IsAdviceBody x
 IsBodyOf mti.AdviceReply x = IsActionBody x
 IsBodyOf mti.Reversal x = IsReversalBody x
 IsBodyOf mti.ReversalRepeat x = IsReversalBody x
-IsBodyOf mti.ReversalReply x = IsActionBody x
+IsBodyOf mti.ReversalReply x = IsActionBody x × (x.account ≡ None)

@@ -1,107 +1,89 @@
 //! Which elements a bitmap announces.
 
-ghost use Rattle.std.specs.Prelude.{◌≡◌, ℕ, ◌≤◌, ◌<◌, ◌^◌};
-ghost use Rattle.codec.specs.Bitmaps.{is_form, is_whole};
+ghost use Rattle.std.specs.Prelude.{◌≡◌, ℕ, ◌≤◌, ◌<◌, ◌^◌, length, IfOk};
+ghost use Rattle.std.specs.Int.{w64, from_be_bytes};
 ghost use Rattle.codec_laws.specs.Spelling.{is_set};
 ghost use Rattle.codec_laws.specs.Types.{parts_of};
-ghost use Rattle.codec_laws.specs.Reading.{Gives, least, is_unexpected, is_missing, presence_at};
+ghost use Rattle.codec_laws.specs.Reading.{Gives, least, secondary_at, bitmap_at, presence_at};
 
-use crate::types::{demands, lists};
+use crate::fields::bytes_at;
 use codec_laws::Mti;
 use iso8583::CodecFault;
 
 /// Whether element `n` is there. Bit 1 is the highest.
-pub(crate) fn is_set(bitmap: u64, n: u8) -> bool
+pub(crate) fn is_set(bitmap: u128, n: u8) -> bool
     requires low { 1 ≤ n }
-    requires high { n ≤ 64 }
+    requires high { n ≤ 128 }
     ensures { result ≡ is_set bitmap n }
 {
-    (bitmap >> (64 - n)) & 1 == 1
+    (bitmap >> (128 - n)) & 1 == 1
 }
 
-/// Whether element `n` is there and not of the type.
-fn is_unexpected(mti: Mti, bitmap: u64, n: u8) -> bool
-    requires low { 1 ≤ n }
-    requires high { n ≤ 64 }
-    ensures { result ≡ is_unexpected (parts_of mti) bitmap n }
+/// The number of eight bytes, the highest first.
+fn word_of(bytes: &[u8]) -> u64
+    requires { length bytes.now ≡ 8 }
+    ensures { result ≡ from_be_bytes w64 bytes.now }
 {
-    is_set(bitmap, n) && !lists(mti, n)
+    u64::from_be_bytes([
+        bytes[0], bytes[1], bytes[2], bytes[3], bytes[4], bytes[5], bytes[6], bytes[7],
+    ])
 }
 
-/// Whether the type requires element `n` and it is not there.
-fn is_missing(mti: Mti, bitmap: u64, n: u8) -> bool
-    requires low { 1 ≤ n }
-    requires high { n ≤ 64 }
-    ensures { result ≡ is_missing (parts_of mti) bitmap n }
-{
-    demands(mti, n) && !is_set(bitmap, n)
-}
+/// Bit 1 of the first eight bytes: eight more follow.
+const BIT_1: u64 = 1 << 63;
 
-fn least_unexpected(mti: Mti, bitmap: u64) -> Option<u8>
-    ensures { result ≡ least (is_unexpected (parts_of mti) bitmap) 2 63 }
+/// The whole bitmap, where eight more bytes follow.
+#[tactic(auto, unfolding(codec_laws::specs::Reading::secondary_at))]
+fn secondary_at(primary: u64, bytes: &[u8]) -> Result<(u128, &[u8]), CodecFault>
+    requires { 2 ^ 63 ≤ primary }
+    ensures gives { Gives (λ x. (x.0, x.1.now)) result (secondary_at primary bytes.now) }
+    ensures fits { IfOk result (λ x. x.0 < 2 ^ 127) }
 {
-    for n in 2..65 {
-        if is_unexpected(mti, bitmap, n) {
-            return Some(n);
-        }
+    let (bits, rest) = bytes_at(0, 8, bytes)?;
+    let secondary = word_of(bits);
+    if secondary == 0 {
+        return Err(CodecFault::SecondaryBitmap);
     }
-    None
+    let high = u128::from(primary - BIT_1) << 64;
+    Ok((high + u128::from(secondary), rest))
 }
 
-fn least_missing(mti: Mti, bitmap: u64) -> Option<u8>
-    ensures { result ≡ least (is_missing (parts_of mti) bitmap) 2 63 }
+/// The bitmap of elements 2 to 128, and the bytes after it.
+#[tactic(auto, unfolding(codec_laws::specs::Reading::bitmap_at))]
+pub(crate) fn bitmap_at(bytes: &[u8]) -> Result<(u128, &[u8]), CodecFault>
+    ensures gives { Gives (λ x. (x.0, x.1.now)) result (bitmap_at bytes.now) }
+    ensures fits { IfOk result (λ x. x.0 < 2 ^ 127) }
 {
-    for n in 2..65 {
-        if is_missing(mti, bitmap, n) {
-            return Some(n);
-        }
+    let (bits, rest) = bytes_at(0, 8, bytes)?;
+    let primary = word_of(bits);
+    if primary >= BIT_1 {
+        return secondary_at(primary, rest);
     }
-    None
+    Ok((u128::from(primary) << 64, rest))
 }
 
-/// Element 37 in a bitmap.
-const RETRIEVAL: u64 = 0x0800_0000;
-
-/// Whether the bitmap is this one, without element 37 or with it.
-fn is_form(form: u64, bitmap: u64) -> bool
-    requires { form < 2 ^ 63 }
-    ensures { result ≡ is_form form bitmap }
+/// The least element that the bits announce.
+#[tactic(auto, using(crate::proofs::Masks::least_bit, crate::proofs::Masks::no_bit))]
+fn least_of(bits: u128) -> Option<u8>
+    requires { bits < 2 ^ 127 }
+    ensures { result ≡ least (is_set bits) 2 127 }
 {
-    bitmap == form || bitmap == form + RETRIEVAL
-}
-
-/// Whether the bitmap is one that messages of the type have. Most texts need no more than this look.
-fn is_whole(mti: Mti, bitmap: u64) -> bool
-    ensures { result ≡ is_whole mti bitmap }
-{
-    match mti {
-        Mti::Request | Mti::RequestRepeat => is_form(0x7230_0101_0080_8000, bitmap),
-        Mti::RequestReply => {
-            is_form(0x7230_0001_0680_8000, bitmap) || is_form(0x7230_0001_0280_8000, bitmap)
-        }
-        Mti::Advice | Mti::AdviceRepeat => is_form(0x7230_0101_0280_8000, bitmap),
-        Mti::Reversal | Mti::ReversalRepeat => {
-            is_form(0x7230_0101_0080_8100, bitmap) || is_form(0x7230_0105_0080_8100, bitmap)
-        }
-        Mti::AdviceReply | Mti::ReversalReply => is_form(0x7230_0001_0280_8000, bitmap),
+    if bits == 0 {
+        return None;
     }
+    Some(bits.leading_zeros() as u8 + 1)
 }
 
 /// Whether a bitmap can be that of a message of the type, else the first fault.
-#[tactic(auto, unfolding(codec_laws::specs::Reading::presence_at), using(crate::proofs::WholeBitmaps::whole_sound))]
-pub(crate) fn presence_at(mti: Mti, bitmap: u64) -> Result<(), CodecFault>
+#[tactic(auto, unfolding(codec_laws::specs::Reading::presence_at))]
+pub(crate) fn presence_at(mti: Mti, bitmap: u128) -> Result<(), CodecFault>
+    requires { bitmap < 2 ^ 127 }
     ensures { Gives (λ _. tt) result (presence_at (parts_of mti) bitmap) }
 {
-    if is_whole(mti, bitmap) {
-        return Ok(());
-    }
-    if is_set(bitmap, 1) {
-        return Err(CodecFault::SecondaryBitmap);
-    }
-    if let Some(n) = least_unexpected(mti, bitmap) {
+    if let Some(n) = least_of(bitmap & !mti.may_have()) {
         return Err(CodecFault::Unexpected(n));
     }
-    if let Some(n) = least_missing(mti, bitmap) {
+    if let Some(n) = least_of(mti.must_have() & !bitmap) {
         return Err(CodecFault::Missing(n));
     }
     Ok(())

@@ -5,22 +5,23 @@ ghost use Rattle.codec.specs.Texts.{function_rule, action_rule, body_parts, body
 ghost use Rattle.codec_laws.specs.Reading.{Gives, fields_at};
 
 use crate::bitmap::is_set;
-use crate::fields::{element_at, optional_at, rule_at};
+use crate::fields::{element_at, fixed_at, optional_at, optional_fixed_at, rule_at};
 use codec_laws::{Element, Mti, Rule};
 use iso8583::CodecFault;
 
 /// The texts of the elements from 24 on, and the bytes after them.
 #[derive(Clone, Copy)]
 pub(crate) struct Body<'a> {
-    pub(crate) function: Option<&'a [u8]>,
-    pub(crate) original_amount: Option<&'a [u8]>,
+    pub(crate) function: Option<&'a [u8; 3]>,
+    pub(crate) original_amount: Option<&'a [u8; 24]>,
     pub(crate) acquirer: &'a [u8],
-    pub(crate) retrieval: Option<&'a [u8]>,
-    pub(crate) approval: Option<&'a [u8]>,
-    pub(crate) action: Option<&'a [u8]>,
-    pub(crate) terminal: &'a [u8],
-    pub(crate) currency: &'a [u8],
+    pub(crate) retrieval: Option<&'a [u8; 12]>,
+    pub(crate) approval: Option<&'a [u8; 6]>,
+    pub(crate) action: Option<&'a [u8; 3]>,
+    pub(crate) terminal: &'a [u8; 8],
+    pub(crate) currency: &'a [u8; 3],
     pub(crate) original: Option<&'a [u8]>,
+    pub(crate) account: Option<&'a [u8]>,
     pub(crate) rest: &'a [u8],
 }
 
@@ -46,22 +47,27 @@ fn action_rule(mti: Mti) -> Rule
 
 /// Reads the elements that the bitmap says are there.
 #[tactic(auto, unfolding(codec_laws::specs::Reading::optional_at, codec_laws::specs::Reading::fields_at))]
-pub(crate) fn body_at(mti: Mti, bitmap: u64, bytes: &[u8]) -> Result<Body<'_>, CodecFault>
+pub(crate) fn body_at(mti: Mti, bitmap: u128, bytes: &[u8]) -> Result<Body<'_>, CodecFault>
     ensures gives { Gives (λ x. (body_fields x, x.rest.now)) result (fields_at bitmap (body_parts mti) bytes.now) }
     ensures texts { IfOk result HasBodyTexts }
     ensures there { IfOk result (IsThere mti bitmap) }
 {
-    let (function, rest) = optional_at(is_set(bitmap, 24), Element::Function, bytes)?;
+    let (function, rest) = optional_fixed_at(is_set(bitmap, 24), Element::Function, bytes)?;
     rule_at(function_rule(mti), bitmap, function)?;
-    let (original_amount, rest) = optional_at(is_set(bitmap, 30), Element::OriginalAmount, rest)?;
+    let (original_amount, rest) = optional_fixed_at(
+        is_set(bitmap, 30),
+        Element::OriginalAmount,
+        rest,
+    )?;
     let (acquirer, rest) = element_at(Element::Acquirer, rest)?;
-    let (retrieval, rest) = optional_at(is_set(bitmap, 37), Element::Retrieval, rest)?;
-    let (approval, rest) = optional_at(is_set(bitmap, 38), Element::Approval, rest)?;
-    let (action, rest) = optional_at(is_set(bitmap, 39), Element::Action, rest)?;
+    let (retrieval, rest) = optional_fixed_at(is_set(bitmap, 37), Element::Retrieval, rest)?;
+    let (approval, rest) = optional_fixed_at(is_set(bitmap, 38), Element::Approval, rest)?;
+    let (action, rest) = optional_fixed_at(is_set(bitmap, 39), Element::Action, rest)?;
     rule_at(action_rule(mti), bitmap, action)?;
-    let (terminal, rest) = element_at(Element::Terminal, rest)?;
-    let (currency, rest) = element_at(Element::Currency, rest)?;
+    let (terminal, rest) = fixed_at(Element::Terminal, rest)?;
+    let (currency, rest) = fixed_at(Element::Currency, rest)?;
     let (original, rest) = optional_at(is_set(bitmap, 56), Element::Original, rest)?;
+    let (account, rest) = optional_at(is_set(bitmap, 102), Element::Account, rest)?;
     Ok(Body {
         function,
         original_amount,
@@ -72,6 +78,7 @@ pub(crate) fn body_at(mti: Mti, bitmap: u64, bytes: &[u8]) -> Result<Body<'_>, C
         terminal,
         currency,
         original,
+        account,
         rest,
     })
 }

@@ -2,7 +2,8 @@
 
 ghost use Rattle.std.specs.Prelude.{◌≡◌, ℕ, ◌≤◌, length, Some, None, IfSome, IfOk, IsTrue, option_map, is_some, if◌then◌else◌};
 ghost use Rattle.iso8583.specs.Number.{number_of};
-ghost use Rattle.codec_laws.specs.Elements.{element_number, shape_of, HasShape, IsText};
+ghost use Rattle.codec.specs.Texts.{test_of};
+ghost use Rattle.codec_laws.specs.Elements.{shape_of, HasShape, IsText};
 ghost use Rattle.codec_laws.specs.Spelling.{is_set};
 ghost use Rattle.codec_laws.specs.Reading.{Gives, bytes_at, is_length, shaped_at, element_at, optional_at, scope_at, verdict_at, rule_at};
 
@@ -56,6 +57,21 @@ fn shaped_at(number: u8, shape: Shape, bytes: &[u8]) -> Result<(&[u8], &[u8]), C
     }
 }
 
+/// The test of a text that is as long as the element's: its class, then its value.
+#[inline(always)]
+fn text_test(element: Element, text: &[u8]) -> Result<(), CodecFault>
+    requires { HasShape (shape_of element) text.now }
+    ensures { Gives (λ _. tt) result (test_of element text.now) }
+{
+    if !is_of_class(element.class(), text) {
+        return Err(CodecFault::BadCharacter(element.number()));
+    }
+    if !has_value(element, text) {
+        return Err(CodecFault::BadValue(element.number()));
+    }
+    Ok(())
+}
+
 /// The text of the element, and the bytes after it.
 #[tactic(auto, unfolding(codec_laws::specs::Reading::element_at))]
 pub(crate) fn element_at(element: Element, bytes: &[u8]) -> Result<(&[u8], &[u8]), CodecFault>
@@ -63,16 +79,60 @@ pub(crate) fn element_at(element: Element, bytes: &[u8]) -> Result<(&[u8], &[u8]
     ensures text { IfOk result (λ x. IsText element x.0.now) }
 {
     let (text, rest) = shaped_at(element.number(), element.shape(), bytes)?;
-    if !is_of_class(element.class(), text) {
-        return Err(CodecFault::BadCharacter(element.number()));
-    }
-    if !has_value(element, text) {
-        return Err(CodecFault::BadValue(element.number()));
-    }
+    text_test(element, text)?;
+    Ok((text, rest))
+}
+
+/// The next `N` bytes, for the element of this number, and those after them.
+#[inline(always)]
+#[tactic(auto, unfolding(codec_laws::specs::Reading::shaped_at))]
+fn chunk_at<const N: usize>(number: u8, bytes: &[u8]) -> Result<(&[u8; N], &[u8]), CodecFault>
+    ensures gives { Gives (λ x. (x.0.now, x.1.now)) result (shaped_at number (Shape.Fixed N) bytes.now) }
+    ensures size { IfOk result (λ x. length x.0.now ≡ N) }
+{
+    let Some((text, rest)) = bytes.split_first_chunk::<N>() else {
+        return Err(CodecFault::Short(number));
+    };
+    Ok((text, rest))
+}
+
+/// The text of an element of `N` characters, and the bytes after it.
+#[tactic(auto, unfolding(codec_laws::specs::Reading::element_at))]
+pub(crate) fn fixed_at<const N: usize>(
+    element: Element,
+    bytes: &[u8],
+) -> Result<(&[u8; N], &[u8]), CodecFault>
+    requires { shape_of element ≡ Shape.Fixed N }
+    ensures gives { Gives (λ x. (x.0.now, x.1.now)) result (element_at element bytes.now) }
+    ensures text { IfOk result (λ x. IsText element x.0.now) }
+{
+    let (text, rest) = chunk_at(element.number(), bytes)?;
+    text_test(element, text)?;
     Ok((text, rest))
 }
 
 /// The same for an element that may be absent.
+#[inline(always)]
+#[tactic(auto, unfolding(codec_laws::specs::Reading::optional_at))]
+pub(crate) fn optional_fixed_at<const N: usize>(
+    present: bool,
+    element: Element,
+    bytes: &[u8],
+) -> Result<(Option<&[u8; N]>, &[u8]), CodecFault>
+    requires { shape_of element ≡ Shape.Fixed N }
+    ensures gives { Gives (λ x. (option_map (λ t. t.now) x.0, x.1.now)) result (optional_at present element bytes.now) }
+    ensures text { IfOk result (λ x. IfSome x.0 (λ t. IsText element t.now)) }
+    ensures there { IfOk result (λ x. is_some x.0 ≡ present) }
+{
+    if !present {
+        return Ok((None, bytes));
+    }
+    let (text, rest) = fixed_at(element, bytes)?;
+    Ok((Some(text), rest))
+}
+
+/// The same for an element whose length may vary.
+#[inline(always)]
 #[tactic(auto, unfolding(codec_laws::specs::Reading::optional_at))]
 pub(crate) fn optional_at(
     present: bool,
@@ -130,7 +190,7 @@ fn verdict_at(approval: bool, text: &[u8]) -> Result<(), CodecFault>
 }
 
 /// What the rule finds in the text of an element, if it is there.
-pub(crate) fn rule_at(rule: Rule, bitmap: u64, text: Option<&[u8]>) -> Result<(), CodecFault>
+pub(crate) fn rule_at(rule: Rule, bitmap: u128, text: Option<&[u8; 3]>) -> Result<(), CodecFault>
     ensures { Gives (λ _. tt) result (rule_at rule bitmap (option_map (λ t. t.now) text.entry)) }
 {
     let Some(text) = text else {

@@ -5,7 +5,7 @@ ghost use Rattle.codec.specs.Texts.{front_fields, HasFrontTexts};
 ghost use Rattle.codec_laws.specs.Types.{front_parts};
 ghost use Rattle.codec_laws.specs.Reading.{Gives, fields_at};
 
-use crate::fields::element_at;
+use crate::fields::{element_at, fixed_at};
 use codec_laws::Element;
 use iso8583::CodecFault;
 
@@ -13,11 +13,11 @@ use iso8583::CodecFault;
 #[derive(Clone, Copy)]
 pub(crate) struct Front<'a> {
     pub(crate) pan: &'a [u8],
-    pub(crate) processing: &'a [u8],
-    pub(crate) amount: &'a [u8],
-    pub(crate) transmission: &'a [u8],
-    pub(crate) stan: &'a [u8],
-    pub(crate) stamp: &'a [u8],
+    pub(crate) processing: &'a [u8; 6],
+    pub(crate) amount: &'a [u8; 12],
+    pub(crate) transmission: &'a [u8; 10],
+    pub(crate) stan: &'a [u8; 6],
+    pub(crate) stamp: &'a [u8; 12],
     pub(crate) rest: &'a [u8],
 }
 
@@ -28,11 +28,11 @@ pub(crate) fn front_at(bytes: &[u8]) -> Result<Front<'_>, CodecFault>
     ensures texts { IfOk result HasFrontTexts }
 {
     let (pan, rest) = element_at(Element::Pan, bytes)?;
-    let (processing, rest) = element_at(Element::Processing, rest)?;
-    let (amount, rest) = element_at(Element::Amount, rest)?;
-    let (transmission, rest) = element_at(Element::Transmission, rest)?;
-    let (stan, rest) = element_at(Element::Stan, rest)?;
-    let (stamp, rest) = element_at(Element::Stamp, rest)?;
+    let (processing, rest) = fixed_at(Element::Processing, rest)?;
+    let (amount, rest) = fixed_at(Element::Amount, rest)?;
+    let (transmission, rest) = fixed_at(Element::Transmission, rest)?;
+    let (stan, rest) = fixed_at(Element::Stan, rest)?;
+    let (stamp, rest) = fixed_at(Element::Stamp, rest)?;
     Ok(Front {
         pan,
         processing,

@@ -17,6 +17,3 @@ mod values;
 
 pub use decoding::{decode, decode_reply};
 pub use encoder::{ROOM, encode, encode_reply};
-
-#[cfg(test)]
-mod tests;

@@ -21,21 +21,24 @@ pub(crate) fn transaction_of(front: &Front, body: &Body) -> Transaction
     requires front { HasFrontTexts front.now }
     requires body { HasBodyTexts body.now }
     // Whatever the other elements are.
-    ensures texts { (f m c a o : Option (List ℕ)) → content result f m c a o
-        ≡ record (texts_of front.now body.now) { function = f; original_amount = m; approval = c; action = a; original = o } }
+    ensures texts { (f m c a o i : Option (List ℕ)) → content result f m c a o i
+        ≡ record (texts_of front.now body.now) { function = f; original_amount = m; approval = c; action = a; original = o; account = i } }
     ensures values { IsTransaction result }
 {
+    let (pan, processing, amount) = (front.pan, front.processing, front.amount);
+    let (transmission, stan, stamp) = (front.transmission, front.stan, front.stamp);
+    let (acquirer, terminal, currency) = (body.acquirer, body.terminal, body.currency);
     Transaction {
-        pan: values::pan(front.pan),
-        processing: values::processing(front.processing),
-        amount: values::amount(front.amount),
-        transmission: values::transmission(front.transmission),
-        stan: values::stan(front.stan),
-        stamp: values::stamp(front.stamp),
-        acquirer: values::acquirer(body.acquirer),
+        pan: values::pan(pan),
+        processing: values::processing(processing),
+        amount: values::amount(amount),
+        transmission: values::transmission(transmission),
+        stan: values::stan(stan),
+        stamp: values::stamp(stamp),
+        acquirer: values::acquirer(acquirer),
         retrieval: values::retrieval(body.retrieval),
-        terminal: values::terminal(body.terminal),
-        currency: values::currency(body.currency),
+        terminal: values::terminal(terminal),
+        currency: values::currency(currency),
     }
 }
 
@@ -54,6 +57,7 @@ fn request_of(repeat: bool, front: &Front, body: &Body) -> Message
     Message::Request(Request {
         repeat,
         function: values::function(function),
+        account: values::account(body.account),
         transaction: transaction_of(front, body),
     })
 }
@@ -77,13 +81,14 @@ fn advice_of(repeat: bool, front: &Front, body: &Body) -> Message
         repeat,
         function: values::function(function),
         action: values::action(action),
+        account: values::account(body.account),
         transaction: transaction_of(front, body),
     })
 }
 
 /// The scope that elements 24 and 30 say.
 #[tactic(auto, using(crate::proofs::Scopes::full_function, crate::proofs::Scopes::partial_function))]
-fn scope_of(function: &[u8], amount: Option<&[u8]>) -> ReversalScope
+fn scope_of(function: &[u8; 3], amount: Option<&[u8; 24]>) -> ReversalScope
     requires amount { IfSome amount (λ t. IsText Element.OriginalAmount t.now) }
     requires scope { scope_at (is_some amount) function.now ≡ Ok tt }
     ensures function { scope_function result ≡ function.now }

@@ -1,6 +1,6 @@
 //! Replies from the texts of their elements.
 
-ghost use Rattle.std.specs.Prelude.{◌≡◌, Ok, IfSome, IsTrue, is_some, option_map};
+ghost use Rattle.std.specs.Prelude.{◌≡◌, None, Ok, IfSome, IsTrue, is_some, option_map};
 ghost use Rattle.codec.specs.Texts.{texts_of, HasFrontTexts, HasBodyTexts, IsVerdictBody, IsActionBody, IsBodyOf};
 ghost use Rattle.codec_laws.specs.Elements.{IsText};
 ghost use Rattle.codec_laws.specs.Types.{given_out, is_among};
@@ -17,7 +17,7 @@ use iso8583::{Answer, DeclineCode, Reply, Verdict};
 
 /// The answer that elements 38 and 39 say.
 #[tactic(auto, using(crate::proofs::Scopes::approved_action, crate::proofs::Scopes::declined_action))]
-fn verdict_of(approval: Option<&[u8]>, action: &[u8]) -> Verdict
+fn verdict_of(approval: Option<&[u8; 6]>, action: &[u8; 3]) -> Verdict
     requires approval { IfSome approval (λ t. IsText Element.Approval t.now) }
     requires action { IsText Element.Action action.now }
     requires verdict { verdict_at (is_some approval) action.now ≡ Ok tt }
@@ -48,7 +48,10 @@ fn request_reply_of(front: &Front, body: &Body) -> Reply
     };
     Reply {
         transaction: transaction_of(front, body),
-        answer: Answer::Request(verdict_of(body.approval, action)),
+        answer: Answer::Request(
+            verdict_of(body.approval, action),
+            values::account(body.account),
+        ),
     }
 }
 
@@ -66,7 +69,7 @@ fn advice_reply_of(front: &Front, body: &Body) -> Reply
     };
     Reply {
         transaction: transaction_of(front, body),
-        answer: Answer::Advice(values::action(action)),
+        answer: Answer::Advice(values::action(action), values::account(body.account)),
     }
 }
 
@@ -75,6 +78,7 @@ fn reversal_reply_of(front: &Front, body: &Body) -> Reply
     requires front { HasFrontTexts front.now }
     requires body { HasBodyTexts body.now }
     requires form { IsActionBody body.now }
+    requires account { body.now.account ≡ None }
     ensures mti { reply_mti result ≡ Mti.ReversalReply }
     ensures texts { reply_content result ≡ texts_of front.now body.now }
     ensures values { IsReply result }

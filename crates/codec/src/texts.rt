@@ -22,7 +22,7 @@ pub(crate) struct Texts<'a> {
 }
 
 /// The elements that all of the bytes are, behind the type and a bitmap without fault.
-fn elements_at(mti: Mti, bitmap: u64, bytes: &[u8]) -> Result<Texts<'_>, CodecFault>
+fn elements_at(mti: Mti, bitmap: u128, bytes: &[u8]) -> Result<Texts<'_>, CodecFault>
     requires { presence_at (parts_of mti) bitmap ≡ Ok tt }
     ensures gives { Gives (λ x. content_fields (texts_of x.front x.body)) result (whole_at bitmap (parts_of mti) bytes.now) }
     ensures front { IfOk result (λ x. HasFrontTexts x.front) }

@@ -1,9 +1,9 @@
-//! Message types (ISO 8583:1993) and the elements of each.
+//! Message types (ISO 8583:1993).
 
 ghost use Rattle.std.specs.Prelude.{◌≡◌, IfOk, IsTrue};
 ghost use Rattle.codec.specs.Sides.{types_of};
-ghost use Rattle.codec_laws.specs.Types.{taken_in, given_out, is_among, parts_of};
-ghost use Rattle.codec_laws.specs.Reading.{Gives, mti_at, is_listed, is_required};
+ghost use Rattle.codec_laws.specs.Types.{taken_in, given_out, is_among};
+ghost use Rattle.codec_laws.specs.Reading.{Gives, mti_at};
 
 use crate::side::Side;
 use codec_laws::Mti;
@@ -57,49 +57,5 @@ pub(crate) fn mti_at(side: Side, text: &[u8]) -> Result<Mti, CodecFault>
     match side {
         Side::TakenIn => taken_in(text),
         Side::GivenOut => given_out(text),
-    }
-}
-
-/// Whether messages of the type may have element `n`.
-pub(crate) fn lists(mti: Mti, n: u8) -> bool
-    ensures { result ≡ is_listed (parts_of mti) n }
-{
-    match mti {
-        Mti::Request | Mti::RequestRepeat => {
-            matches!(n, 2 | 3 | 4 | 7 | 11 | 12 | 24 | 32 | 37 | 41 | 49)
-        }
-        Mti::RequestReply => matches!(n, 2 | 3 | 4 | 7 | 11 | 12 | 32 | 37 | 38 | 39 | 41 | 49),
-        Mti::Advice | Mti::AdviceRepeat => {
-            matches!(n, 2 | 3 | 4 | 7 | 11 | 12 | 24 | 32 | 37 | 39 | 41 | 49)
-        }
-        Mti::Reversal | Mti::ReversalRepeat => {
-            matches!(
-                n,
-                2 | 3 | 4 | 7 | 11 | 12 | 24 | 30 | 32 | 37 | 41 | 49 | 56
-            )
-        }
-        Mti::AdviceReply | Mti::ReversalReply => {
-            matches!(n, 2 | 3 | 4 | 7 | 11 | 12 | 32 | 37 | 39 | 41 | 49)
-        }
-    }
-}
-
-/// Whether each message of the type has element `n`.
-pub(crate) fn demands(mti: Mti, n: u8) -> bool
-    ensures { result ≡ is_required (parts_of mti) n }
-{
-    match mti {
-        Mti::Request | Mti::RequestRepeat => {
-            matches!(n, 2 | 3 | 4 | 7 | 11 | 12 | 24 | 32 | 41 | 49)
-        }
-        Mti::Advice | Mti::AdviceRepeat => {
-            matches!(n, 2 | 3 | 4 | 7 | 11 | 12 | 24 | 32 | 39 | 41 | 49)
-        }
-        Mti::Reversal | Mti::ReversalRepeat => {
-            matches!(n, 2 | 3 | 4 | 7 | 11 | 12 | 24 | 32 | 41 | 49 | 56)
-        }
-        Mti::RequestReply | Mti::AdviceReply | Mti::ReversalReply => {
-            matches!(n, 2 | 3 | 4 | 7 | 11 | 12 | 32 | 39 | 41 | 49)
-        }
     }
 }

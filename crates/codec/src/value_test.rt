@@ -53,6 +53,7 @@ fn is_original(text: &[u8]) -> bool
 }
 
 /// Whether a text of its shape and class passes the element's value test.
+#[inline(always)]
 pub(crate) fn has_value(element: Element, text: &[u8]) -> bool
     requires shape { HasShape (shape_of element) text.now }
     requires class { IsTrue (is_of_class (class_of element) text.now) }

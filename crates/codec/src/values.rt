@@ -3,13 +3,13 @@
 ghost use Rattle.std.specs.Prelude.{◌≡◌, ℕ, ◌<◌, ◌^◌, ◌++◌, IfSome, IsTrue, option_map};
 ghost use Rattle.iso8583.specs.Number.{fixed_digits};
 ghost use Rattle.codec_laws.specs.Elements.{IsText, original_type, is_original_type, original_text, twelve_zeros};
-ghost use Rattle.codec_laws.specs.Messages.{IsOriginal};
+ghost use Rattle.codec_laws.specs.Messages.{IsOriginal, IsAccount, account_text};
 
 use codec_laws::Element;
 use iso8583::{
-    Acquirer, Action, Alphanumeric, Amount, Approval, Currency, Digits, DigitsUpTo, FunctionCode,
-    Identity, LocalStamp, OriginalKind, OriginalRef, Pan, Printable, Processing, Retrieval, Stan,
-    Terminal, Transmission,
+    AccountId, Acquirer, Action, Alphanumeric, Amount, Approval, Currency, Digits, DigitsUpTo,
+    FunctionCode, Identity, LocalStamp, OriginalKind, OriginalRef, Pan, Printable, PrintableUpTo,
+    Processing, Retrieval, Stan, Terminal, Transmission,
 };
 
 /// Element 2.
@@ -79,7 +79,7 @@ pub(crate) fn acquirer(text: &[u8]) -> Acquirer
 }
 
 /// Element 37, if it is there.
-pub(crate) fn retrieval(text: Option<&[u8]>) -> Option<Retrieval>
+pub(crate) fn retrieval(text: Option<&[u8; 12]>) -> Option<Retrieval>
     requires { IfSome text (λ t. IsText Element.Retrieval t.now) }
     ensures value { option_map (λ r. r.0) result ≡ option_map (λ t. t.now) text.entry }
     ensures text { IfSome result (λ r. IsText Element.Retrieval r.0) }
@@ -93,6 +93,15 @@ pub(crate) fn terminal(text: &[u8]) -> Terminal
     ensures { result.0 ≡ text.now }
 {
     Terminal(Printable::of_text(text))
+}
+
+/// Element 102, if it is there.
+pub(crate) fn account(text: Option<&[u8]>) -> Option<AccountId>
+    requires { IfSome text (λ t. IsText Element.Account t.now) }
+    ensures value { account_text result ≡ option_map (λ t. t.now) text.entry }
+    ensures text { IsAccount result }
+{
+    Some(AccountId(PrintableUpTo::of_text(text?)))
 }
 
 /// Element 49.

@@ -1,22 +1,18 @@
 -- Which fault of a bitmap reading names, and when.
-use Rattle.std.proofs.Common.{◌≡◌, ◌≢◌, ◌⊎◌, ℕ, ◌^◌, ◌<◌, ◌≤◌, Bool, true, false, ltb, eqb, leb, List, [], ◌∷◌, Option, Some, None, Result, Ok, Err, refl, sym, ap, subst, ◌∙◌, arith, inl, inr}
-use Rattle.std.specs.Prelude.{not, ◌&&◌, ◌||◌, IfErr}
+use Rattle.std.proofs.Common.{◌≡◌, ℕ, ◌^◌, ◌<◌, ◌≤◌, Bool, true, false, ltb, eqb, leb, List, [], ◌∷◌, Option, Some, None, Result, Ok, Err, refl, ap, ◌∙◌, arith}
+use Rattle.std.specs.Prelude.{not, ◌&&◌, ◌||◌}
 use Rattle.std.proofs.lemmas.Bool.{and_parts, eqb-true, ltb-true, leb-true}
 use Rattle.iso8583.specs.declared.codec_fault.CodecFault.{CodecFault}
-use Rattle.iso8583.specs.declared.codec_fault.CodecFault.TheVariants.{SecondaryBitmap, Unexpected, Missing}
+use Rattle.iso8583.specs.declared.codec_fault.CodecFault.TheVariants.{Unexpected, Missing}
 use Rattle.codec_laws.specs.declared.mti.Mti.{Mti}
 use Rattle.codec_laws.specs.Elements.{element_number}
 use Rattle.codec_laws.specs.Types.{Part, parts_of, is_among}
-use Rattle.codec_laws.specs.Spelling.{Field, is_set}
-use Rattle.codec_laws.specs.Reading.{◌>>=◌, least, is_listed, is_required, is_unexpected, is_missing, first_wrong, presence_at, whole_at, reading}
-use Rattle.codec_laws.specs.Faults.{begins, NamesTheLeastUnexpected, NamesTheLeastMissing, NamesASecondaryBitmap}
+use Rattle.codec_laws.specs.Spelling.{Field}
+use Rattle.codec_laws.specs.Reading.{◌>>=◌, least, is_required, is_unexpected, is_missing, first_wrong, presence_at, whole_at, reading}
+use Rattle.codec_laws.specs.Faults.{begins}
 use Rattle.codec_laws.proofs.Conjunctions.{all_three_true}
-use Rattle.codec_laws.proofs.Elements.{bind_err}
 use Rattle.codec_laws.proofs.Bits.{is_rising}
-use Rattle.codec_laws.proofs.Least.{least_is, least_where, least_none, all_fail}
 use Rattle.codec_laws.proofs.Headers.{Header, header_known}
-use Rattle.codec_laws.proofs.BodyFaults.{then_holds, is_body_fault, is_named, named_listed, whole_faults}
-use Rattle.codec_laws.proofs.Whole.{rising}
 
 abbrev Whole : Type 0
 Whole = Result (Mti × List Field) CodecFault
@@ -28,93 +24,66 @@ bind_twice (Ok x) f g = refl
 bind_twice (Err d) f g = refl
 
 -- the elements behind the bitmap
-abbrev behind : Mti → ℕ → List ℕ → Whole
+abbrev pub behind : Mti → ℕ → List ℕ → Whole
 behind t bitmap rest = whole_at bitmap (parts_of t) rest >>= λ fields. let r : Whole = Ok (t, fields) in r
 
-module _ (types : List Mti) (t : Mti) (bitmap : ℕ) (rest : List ℕ) (among : is_among types t ≡ true) (fits : bitmap < 2 ^ 64) where
-  reading_known : reading types (begins t bitmap rest) ≡ (presence_at (parts_of t) bitmap >>= λ _. behind t bitmap rest)
+module _ (types : List Mti) (t : Mti) (bitmap : ℕ) (rest : List ℕ) (among : is_among types t ≡ true) (fits : bitmap < 2 ^ 127) where
+  pub reading_known : reading types (begins t bitmap rest) ≡ (presence_at (parts_of t) bitmap >>= λ _. behind t bitmap rest)
   unfolding reading
   reading_known =
       rw (header_known types t bitmap rest among fits) (bind_twice (presence_at (parts_of t) bitmap) (λ _. let r : Result Header CodecFault = Ok (t, bitmap, rest) in r)
       (λ head. whole_at head.1 (parts_of head.0) head.2 >>= λ fields. let r : Whole = Ok (head.0, fields) in r))
 
-  fault_named : (d : CodecFault) → presence_at (parts_of t) bitmap ≡ Err d → reading types (begins t bitmap rest) ≡ Err d
+  pub fault_named : (d : CodecFault) → presence_at (parts_of t) bitmap ≡ Err d → reading types (begins t bitmap rest) ≡ Err d
   fault_named d h = reading_known ∙ rw h refl
-
-  behind_faults : IfErr (behind t bitmap rest) (λ d. is_body_fault true (is_named (parts_of t)) d ≡ true)
-  behind_faults = then_holds (λ d. is_body_fault true (is_named (parts_of t)) d ≡ true) (whole_at bitmap (parts_of t) rest) _ (whole_faults bitmap (parts_of t) rest) (λ fields. tt)
-
-  named_fault : (d : CodecFault) → reading types (begins t bitmap rest) ≡ Err d → (presence_at (parts_of t) bitmap ≡ Err d) ⊎ (is_body_fault true (is_named (parts_of t)) d ≡ true)
-  named_fault d h =
-      elim (bind_err (presence_at (parts_of t) bitmap) (λ _. behind t bitmap rest) d (sym reading_known ∙ h)) [
-        | inl e ↦ inl e
-        | inr x ↦ inr (subst (λ (r : Whole). IfErr r (λ d. is_body_fault true (is_named (parts_of t)) d ≡ true)) x.2 behind_faults)
-      ]
 
 -- ---- its bitmap
 
-both_from : (a b : Bool) → a ≡ true → b ≡ false → (a && not b) ≡ true
+pub both_from : (a b : Bool) → a ≡ true → b ≡ false → (a && not b) ≡ true
 both_from a b h k = rw (h, k) refl
 
-both_parts : (a b : Bool) → (a && not b) ≡ true → (a ≡ true) × (b ≡ false)
+pub both_parts : (a b : Bool) → (a && not b) ≡ true → (a ≡ true) × (b ≡ false)
 both_parts true true h = absurd cc
 both_parts true false h = (refl, refl)
 both_parts false b h = absurd cc
 
-none_from : (a b : Bool) → (a ≡ true → b ≡ true) → (a && not b) ≡ false
+pub none_from : (a b : Bool) → (a ≡ true → b ≡ true) → (a && not b) ≡ false
 none_from true b h = rw (h refl) refl
 none_from false b h = refl
 
-none_then : (a b : Bool) → (a && not b) ≡ false → a ≡ true → b ≡ true
+pub none_then : (a b : Bool) → (a && not b) ≡ false → a ≡ true → b ≡ true
 none_then true true h k = refl
 none_then true false h k = absurd cc
 none_then false b h k = absurd cc
 
-wrong_unexpected : (a b : Option ℕ) (n : ℕ) → first_wrong a b ≡ Err (Unexpected n) → a ≡ Some n
+pub wrong_unexpected : (a b : Option ℕ) (n : ℕ) → first_wrong a b ≡ Err (Unexpected n) → a ≡ Some n
 wrong_unexpected (Some m) b n h = (let same : m ≡ n = cc in ap (λ (k : ℕ). Some k) same)
 wrong_unexpected None (Some m) n h = absurd cc
 wrong_unexpected None None n h = absurd cc
 
-wrong_missing : (a b : Option ℕ) (n : ℕ) → first_wrong a b ≡ Err (Missing n) → (a ≡ None) × (b ≡ Some n)
+pub wrong_missing : (a b : Option ℕ) (n : ℕ) → first_wrong a b ≡ Err (Missing n) → (a ≡ None) × (b ≡ Some n)
 wrong_missing (Some m) b n h = absurd cc
 wrong_missing None (Some m) n h = (refl, (let same : m ≡ n = cc in ap (λ (k : ℕ). Some k) same))
 wrong_missing None None n h = absurd cc
 
-wrong_first : (a b : Option ℕ) → first_wrong a b ≢ Err SecondaryBitmap
-wrong_first (Some m) b h = cc
-wrong_first None (Some m) h = cc
-wrong_first None None h = cc
+abbrev pub stranger : List Part → ℕ → Option ℕ
+stranger ps bitmap = least (is_unexpected ps bitmap) 2 127
 
-module _ (ps : List Part) (bitmap : ℕ) where
-  abbrev stranger : Option ℕ
-  stranger = least (is_unexpected ps bitmap) 2 63
+abbrev pub gap : List Part → ℕ → Option ℕ
+gap ps bitmap = least (is_missing ps bitmap) 2 127
 
-  abbrev gap : Option ℕ
-  gap = least (is_missing ps bitmap) 2 63
-
-  presence_past : is_set bitmap 1 ≡ false → presence_at ps bitmap ≡ first_wrong stranger gap
-  unfolding presence_at
-  presence_past first = rw first refl
-
-  presence_first : is_set bitmap 1 ≡ true → presence_at ps bitmap ≡ Err SecondaryBitmap
-  unfolding presence_at
-  presence_first first = rw first refl
-
-  first_set : presence_at ps bitmap ≡ Err SecondaryBitmap → is_set bitmap 1 ≡ true
-  first_set h =
-      elim (is_set bitmap 1) as (λ b. is_set bitmap 1 ≡ b → b ≡ true) [
-        | true ↦ λ e. refl
-        | false ↦ λ e. absurd (wrong_first stranger gap (sym (presence_past e) ∙ h))
-      ] refl
+pub presence_is : (ps : List Part) (bitmap : ℕ) → presence_at ps bitmap ≡ first_wrong (stranger ps bitmap) (gap ps bitmap)
+unfolding presence_at
+presence_is ps bitmap = refl
 
 -- the numbers of the elements that a type requires
-required_number : (low : ℕ) (ps : List Part) (n : ℕ) → is_rising low ps ≡ true → is_required ps n ≡ true → (low < n) × (n ≤ 64)
+pub required_number : (low : ℕ) (ps : List Part) (n : ℕ) → is_rising low ps ≡ true → is_required ps n ≡ true → (low < n) × (n ≤ 128)
 required_number low [] n h k = absurd cc
 required_number low (p ∷ ps) n h k =
-    let parts = all_three_true (ltb low (element_number p.1)) (leb (element_number p.1) 64) (is_rising (element_number p.1) ps) h in
+    let parts = all_three_true (ltb low (element_number p.1)) (leb (element_number p.1) 128) (is_rising (element_number p.1) ps) h in
     let above : low < element_number p.1 = ltb-true _ _ parts.0 in
-    let within : element_number p.1 ≤ 64 = leb-true _ _ parts.1 in
-    elim (p.0 && eqb (element_number p.1) n) as (λ b. (p.0 && eqb (element_number p.1) n) ≡ b → (b || is_required ps n) ≡ true → (low < n) × (n ≤ 64)) [
+    let within : element_number p.1 ≤ 128 = leb-true _ _ parts.1 in
+    elim (p.0 && eqb (element_number p.1) n) as (λ b. (p.0 && eqb (element_number p.1) n) ≡ b → (b || is_required ps n) ≡ true → (low < n) × (n ≤ 128)) [
       | true ↦ λ e _.
           (let same : element_number p.1 ≡ n = eqb-true (element_number p.1) n (and_parts p.0 (eqb (element_number p.1) n) e).1 in
           (omega arith, omega arith))
@@ -122,62 +91,3 @@ required_number low (p ∷ ps) n h k =
           (let rest = required_number (element_number p.1) ps n parts.2 e in
           (omega (arith, rest.0), rest.1))
     ] refl k
-
--- ---- the laws
-
-pub least_unexpected : (types : List Mti) → NamesTheLeastUnexpected types
-least_unexpected types t bitmap n rest among fits first low high never =
-    let test = is_unexpected (parts_of t) bitmap in
-    let past = presence_past (parts_of t) bitmap first in (
-      λ h. elim (named_fault types t bitmap rest among fits (Unexpected n) h) [
-        | inl e ↦
-            (let place = least_where (is_unexpected (parts_of t) bitmap) 2 63 n (wrong_unexpected (stranger (parts_of t) bitmap) (gap (parts_of t) bitmap) n (sym past ∙ e)) in
-            ((both_parts (is_set bitmap n) (is_listed (parts_of t) n) place.passes).0, λ m least less. none_then (is_set bitmap m) (is_listed (parts_of t) m) (place.below m least less)))
-        | inr e ↦ (let listed = (named_listed t n e).0 in absurd cc)
-      ],
-      λ h.
-          let found : stranger (parts_of t) bitmap ≡ Some n =
-          least_is (is_unexpected (parts_of t) bitmap) 2 63 n (record {
-            low = low;
-            high = omega arith;
-            passes = both_from (is_set bitmap n) (is_listed (parts_of t) n) h.0 never;
-            below = λ m least less. none_from (is_set bitmap m) (is_listed (parts_of t) m) (h.1 m least less);
-          }) in
-          fault_named types t bitmap rest among fits (Unexpected n) (past ∙ rw found refl),
-    )
-
-pub least_missing : (types : List Mti) → NamesTheLeastMissing types
-least_missing types t bitmap n rest among fits first must =
-    let past = presence_past (parts_of t) bitmap first in
-    let number = required_number 1 (parts_of t) n (rising t) must in (
-      λ h. elim (named_fault types t bitmap rest among fits (Missing n) h) [
-        | inl e ↦
-            (let wrong = wrong_missing (stranger (parts_of t) bitmap) (gap (parts_of t) bitmap) n (sym past ∙ e) in
-            let place = least_where (is_missing (parts_of t) bitmap) 2 63 n wrong.1 in (
-              λ m least most. none_then (is_set bitmap m) (is_listed (parts_of t) m) (all_fail (is_unexpected (parts_of t) bitmap) 2 63 m wrong.0 least (omega arith)),
-              (both_parts (is_required (parts_of t) n) (is_set bitmap n) place.passes).1,
-              λ m less needed. none_then (is_required (parts_of t) m) (is_set bitmap m) (place.below m (required_number 1 (parts_of t) m (rising t) needed).0 less) needed,
-            ))
-        | inr e ↦ (let free = (named_listed t n e).1 in absurd cc)
-      ],
-      λ h.
-          let none : stranger (parts_of t) bitmap ≡ None =
-          least_none (is_unexpected (parts_of t) bitmap) 2 63 (λ m least less. none_from (is_set bitmap m) (is_listed (parts_of t) m) (h.0 m least (omega arith))) in
-          let found : gap (parts_of t) bitmap ≡ Some n =
-          least_is (is_missing (parts_of t) bitmap) 2 63 n (record {
-            low = number.0;
-            high = omega (arith, number.1);
-            passes = both_from (is_required (parts_of t) n) (is_set bitmap n) must h.1;
-            below = λ m least less. none_from (is_required (parts_of t) m) (is_set bitmap m) (h.2 m less);
-          }) in
-          fault_named types t bitmap rest among fits (Missing n) (past ∙ rw (none, found) refl),
-    )
-
-pub secondary_bitmap : (types : List Mti) → NamesASecondaryBitmap types
-secondary_bitmap types t bitmap rest among fits = (
-  λ h. elim (named_fault types t bitmap rest among fits SecondaryBitmap h) [
-    | inl e ↦ first_set (parts_of t) bitmap e
-    | inr e ↦ absurd cc
-  ],
-  λ h. fault_named types t bitmap rest among fits SecondaryBitmap (presence_first (parts_of t) bitmap h),
-)

@@ -1,9 +1,9 @@
 -- The faults that reading the elements can have: the others are those of the type and the bitmap.
-use Rattle.std.proofs.Common.{◌≡◌, ◌≢◌, ap, ℕ, Bool, true, false, cond, List, [], ◌∷◌, length, eqb, ltb, Option, Some, None, Result, Ok, Err, refl, sym, subst, ◌∙◌}
+use Rattle.std.proofs.Common.{◌≡◌, ◌≢◌, ap, ℕ, Bool, true, false, cond, List, [], ◌∷◌, length, eqb, ltb, Option, Some, None, Result, Ok, Err, refl, sym, ◌∙◌}
 use Rattle.std.specs.Prelude.{◌||◌, not, IfErr, codes}
 use Rattle.std.specs.List.{list_any}
 use Rattle.std.specs.Str.{bytes_eq}
-use Rattle.std.proofs.lemmas.Bool.{eqb-true, or_left, or_right, not_from_false}
+use Rattle.std.proofs.lemmas.Bool.{or_left, or_right, not_from_false}
 use Rattle.iso8583.specs.Number.{number_of}
 use Rattle.iso8583.specs.declared.codec_fault.CodecFault.{CodecFault}
 use Rattle.iso8583.specs.declared.codec_fault.CodecFault.TheVariants.{Short, BadMti, SecondaryBitmap, Unexpected, Missing, BadLength, BadCharacter, Trailing, BadValue, OutOfMemory}
@@ -13,12 +13,10 @@ use Rattle.codec_laws.specs.declared.shape.Shape.{Shape}
 use Rattle.codec_laws.specs.declared.shape.Shape.TheVariants.{Fixed, UpTo}
 use Rattle.codec_laws.specs.declared.rule.Rule.{Rule}
 use Rattle.codec_laws.specs.declared.rule.Rule.TheVariants.{Free, Scope, Verdict}
-use Rattle.codec_laws.specs.declared.mti.Mti.{Mti}
-use Rattle.codec_laws.specs.declared.mti.Mti.TheVariants as mti
 use Rattle.codec_laws.specs.Elements.{element_number, shape_of, class_of, is_of_class, has_value}
-use Rattle.codec_laws.specs.Types.{Part, parts_of}
+use Rattle.codec_laws.specs.Types.{Part}
 use Rattle.codec_laws.specs.Spelling.{Field, is_set}
-use Rattle.codec_laws.specs.Reading.{◌>>=◌, bytes_at, is_length, shaped_at, element_at, optional_at, scope_at, verdict_at, rule_at, with_first, fields_at, whole_at, is_listed, is_required}
+use Rattle.codec_laws.specs.Reading.{◌>>=◌, bytes_at, is_length, shaped_at, element_at, optional_at, scope_at, verdict_at, rule_at, with_first, fields_at, whole_at}
 
 -- ---- a fault that is one of some
 
@@ -65,6 +63,7 @@ numbered element.Action = refl
 numbered element.Terminal = refl
 numbered element.Currency = refl
 numbered element.Original = refl
+numbered element.Account = refl
 
 -- element 30 or 38
 abbrev names : Rule → ℕ → Bool
@@ -140,24 +139,3 @@ whole_never bitmap ps bytes f never =
     other_holds (IsBody true (is_named ps)) (λ d. d ≢ f) (whole_at bitmap ps bytes) (λ d h e.
     let body : is_body_fault true (is_named ps) f ≡ true = ap (is_body_fault true (is_named ps)) (sym e) ∙ h in
     absurd cc) (whole_faults bitmap ps bytes)
-
--- ---- what the rules name, a type may have and need not have
-
-or_false : (b : Bool) → (b || false) ≡ b
-or_false true = refl
-or_false false = refl
-
--- the one number that a type's rules name
-one_named : (k n : ℕ) → (eqb k n || false) ≡ true → k ≡ n
-one_named k n h = eqb-true k n (sym (or_false (eqb k n)) ∙ h)
-
-pub named_listed : (t : Mti) (n : ℕ) → is_named (parts_of t) n ≡ true → (is_listed (parts_of t) n ≡ true) × (is_required (parts_of t) n ≡ false)
-named_listed mti.Request n h = absurd cc
-named_listed mti.RequestRepeat n h = absurd cc
-named_listed mti.RequestReply n h = subst (λ (k : ℕ). (is_listed (parts_of mti.RequestReply) k ≡ true) × (is_required (parts_of mti.RequestReply) k ≡ false)) (one_named 38 n h) (refl, refl)
-named_listed mti.Advice n h = absurd cc
-named_listed mti.AdviceRepeat n h = absurd cc
-named_listed mti.AdviceReply n h = absurd cc
-named_listed mti.Reversal n h = subst (λ (k : ℕ). (is_listed (parts_of mti.Reversal) k ≡ true) × (is_required (parts_of mti.Reversal) k ≡ false)) (one_named 30 n h) (refl, refl)
-named_listed mti.ReversalRepeat n h = subst (λ (k : ℕ). (is_listed (parts_of mti.ReversalRepeat) k ≡ true) × (is_required (parts_of mti.ReversalRepeat) k ≡ false)) (one_named 30 n h) (refl, refl)
-named_listed mti.ReversalReply n h = absurd cc

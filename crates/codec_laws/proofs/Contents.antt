@@ -55,6 +55,7 @@ content_from fs = record {
   terminal = text_or_none (text_in 41 fs);
   currency = text_or_none (text_in 49 fs);
   original = text_in 56 fs;
+  account = text_in 102 fs;
 }
 
 content_again : (x : Content) → content_from (content_fields x) ≡ x
@@ -86,18 +87,19 @@ retrieval_again : (r : Option Retrieval) → retrieval_from (option_map (λ t. t
 retrieval_again None = refl
 retrieval_again (Some r) = refl
 
-pub transaction_again : (t : Transaction) (function original_amount approval action original : Option (List ℕ)) → IsTransaction t → transaction_from (content t function original_amount approval action original) ≡ t
-transaction_again t function original_amount approval action original h =
+pub transaction_again : (t : Transaction) (function original_amount approval action original account : Option (List ℕ)) → IsTransaction t → transaction_from (content t function original_amount approval action original account) ≡ t
+transaction_again t function original_amount approval action original account h =
     rw (number_of-fixed_digits 12 t.amount h.amount, retrieval_again t.retrieval) refl
 
 -- ---- the fields have texts of their kinds
 
-pub record AreKnown (t24 t30 t38 t39 t56 : Option (List ℕ)) : Type 0 where
+pub record AreKnown (t24 t30 t38 t39 t56 t102 : Option (List ℕ)) : Type 0 where
   pub function : IfSome t24 (IsText element.Function)
   pub original_amount : IfSome t30 (IsText element.OriginalAmount)
   pub approval : IfSome t38 (IsText element.Approval)
   pub action : IfSome t39 (IsText element.Action)
   pub original : IfSome t56 (IsText element.Original)
+  pub account : IfSome t102 (IsText element.Account)
 
 texts-with : (e : Element) (text : Option (List ℕ)) (fs : List Field) → IfSome text (IsText e) → AreTexts fs → AreTexts (with_field e text fs)
 texts-with e None fs h k = k
@@ -107,16 +109,16 @@ retrieval_text : (r : Option Retrieval) → IfSome r (λ t. IsText element.Retri
 retrieval_text None h = tt
 retrieval_text (Some r) h = h
 
-pub content_texts : (t : Transaction) (function original_amount approval action original : Option (List ℕ)) → IsTransaction t → AreKnown function original_amount approval action original
-    → AreTexts (content_fields (content t function original_amount approval action original))
-content_texts t function original_amount approval action original h k =
+pub content_texts : (t : Transaction) (function original_amount approval action original account : Option (List ℕ)) → IsTransaction t → AreKnown function original_amount approval action original account
+    → AreTexts (content_fields (content t function original_amount approval action original account))
+content_texts t function original_amount approval action original account h k =
     let retrieval = option_map (λ r. r.0) t.retrieval in
-    let last : AreTexts (with_field element.Original original []) = texts-with element.Original original [] k.original tt in
-    let ends : AreTexts ((element.Terminal, t.terminal.0) ∷ (element.Currency, t.currency.0) ∷ with_field element.Original original []) = (h.terminal, (h.currency, last)) in
+    let last : AreTexts (with_field element.Original original (with_field element.Account account [])) = texts-with element.Original original _ k.original (texts-with element.Account account [] k.account tt) in
+    let ends : AreTexts ((element.Terminal, t.terminal.0) ∷ (element.Currency, t.currency.0) ∷ with_field element.Original original (with_field element.Account account [])) = (h.terminal, (h.currency, last)) in
     let references = texts-with element.Retrieval retrieval _ (retrieval_text t.retrieval h.retrieval) (texts-with element.Approval approval _ k.approval (texts-with element.Action action _ k.action ends)) in
     let tail = texts-with element.Function function _ k.function (texts-with element.OriginalAmount original_amount _ k.original_amount
     (let more : AreTexts ((element.Acquirer, t.acquirer.0) ∷ with_field element.Retrieval retrieval (with_field element.Approval approval (with_field element.Action action
-    ((element.Terminal, t.terminal.0) ∷ (element.Currency, t.currency.0) ∷ with_field element.Original original [])))) = (h.acquirer, references) in more)) in (
+    ((element.Terminal, t.terminal.0) ∷ (element.Currency, t.currency.0) ∷ with_field element.Original original (with_field element.Account account []))))) = (h.acquirer, references) in more)) in (
       h.pan,
       (h.processing, ((length-fixed_digits 12 t.amount, is_digits-fixed_digits 12 t.amount, refl), (h.transmission, (h.stan, (h.stamp, tail))))),
     )
@@ -126,7 +128,7 @@ content_texts t function original_amount approval action original h k =
 pub record AreFormed (parts : List Part) (fields : List Field) : Type 0 where
   pub elements : elements_of fields ≡ present (bitmap_of fields) parts
   pub rules : are_ruled (bitmap_of fields) (present_parts (bitmap_of fields) parts) fields ≡ true
-  pub fits : bitmap_of fields < 2 ^ 64
+  pub fits : bitmap_of fields < 2 ^ 127
   pub sound : presence_at parts (bitmap_of fields) ≡ Ok tt
 
 pub fields_are : (t : Mti) (fields : List Field) → AreTexts fields → AreFormed (parts_of t) fields → AreFields t fields

@@ -94,6 +94,7 @@ is_short element.Action = tt
 is_short element.Terminal = tt
 is_short element.Currency = tt
 is_short element.Original = lit< tt
+is_short element.Account = lit< tt
 
 all_true : (a b c : Bool) → a ≡ true → b ≡ true → c ≡ true → (a && b && c) ≡ true
 all_true true true true h k l = refl

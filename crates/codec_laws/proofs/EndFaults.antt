@@ -2,12 +2,11 @@
 use Rattle.std.proofs.Common.{◌≡◌, ◌≢◌, ℕ, true, false, cond, eqb, List, [], ◌∷◌, ◌++◌, length, Result, Ok, Err, refl, sym, ap, subst, ◌∙◌, append_assoc, inl, inr}
 use Rattle.std.specs.Prelude.{IfErr, IsOk}
 use Rattle.std.specs.List.{flat_map}
-use Rattle.std.specs.Int.{w64, to_be_bytes}
 use Rattle.iso8583.specs.declared.codec_fault.CodecFault.{CodecFault}
 use Rattle.iso8583.specs.declared.codec_fault.CodecFault.TheVariants.{Trailing}
 use Rattle.codec_laws.specs.declared.mti.Mti.{Mti}
 use Rattle.codec_laws.specs.Types.{Part, mti_text, parts_of, taken_in, given_out}
-use Rattle.codec_laws.specs.Spelling.{Field, field}
+use Rattle.codec_laws.specs.Spelling.{Field, field, bitmap_bytes}
 use Rattle.codec_laws.specs.Messages.{mti_of, fields_of}
 use Rattle.codec_laws.specs.Replies.{reply_mti, reply_fields}
 use Rattle.codec_laws.specs.Reading.{◌>>=◌, header_at, fields_at, whole_at, reading}
@@ -61,10 +60,10 @@ whole_front : (types : List Mti) (bytes : List ℕ) (t : Mti) (bitmap : ℕ) (be
     → Headed types bytes t bitmap behind → Taken bitmap (parts_of t) behind fields (byte ∷ rest) → HasWholeFront types bytes
 unfolding reading
 whole_front types bytes t bitmap behind fields byte rest head body =
-    let front = (mti_text t ++ to_be_bytes w64 bitmap) ++ flat_map field fields in
-    let spelled : bytes ≡ ((mti_text t ++ to_be_bytes w64 bitmap) ++ flat_map field fields) ++ (byte ∷ rest) =
-    head.spelled ∙ (ap (λ (x : List ℕ). (mti_text t ++ to_be_bytes w64 bitmap) ++ x) body.spelled ∙ sym (append_assoc (mti_text t ++ to_be_bytes w64 bitmap) (flat_map field fields) (byte ∷ rest))) in
-    let read : reading types ((mti_text t ++ to_be_bytes w64 bitmap) ++ flat_map field fields) ≡ Ok (t, fields) =
+    let front = (mti_text t ++ bitmap_bytes bitmap) ++ flat_map field fields in
+    let spelled : bytes ≡ ((mti_text t ++ bitmap_bytes bitmap) ++ flat_map field fields) ++ (byte ∷ rest) =
+    head.spelled ∙ (ap (λ (x : List ℕ). (mti_text t ++ bitmap_bytes bitmap) ++ x) body.spelled ∙ sym (append_assoc (mti_text t ++ bitmap_bytes bitmap) (flat_map field fields) (byte ∷ rest))) in
+    let read : reading types ((mti_text t ++ bitmap_bytes bitmap) ++ flat_map field fields) ≡ Ok (t, fields) =
     rw (header_again types t bitmap (flat_map field fields) head.among head.fits head.sound, whole_again bitmap (parts_of t) fields body.elements body.texts body.rules) refl in
     (front, byte, rest, spelled, subst (λ (r : Whole). IsOk r) (sym read) refl)
 
@@ -72,7 +71,7 @@ front_whole : (types : List Mti) (bytes : List ℕ) → IsBytes bytes → readin
 unfolding reading
 front_whole types bytes fits h =
     elim (bind_err (header_at types bytes) (λ head. whole_at head.1 (parts_of head.0) head.2 >>= λ fields. let r : Whole = Ok (head.0, fields) in r) Trailing h) [
-      | inl e ↦ absurd (subst (λ (r : Result Header CodecFault). IfErr r IsOther) e (header_holds IsOther types bytes (λ k. cc) (λ k. cc) (record { first = λ k. cc; unexpected = λ n k. cc; missing = λ n k. cc })) refl)
+      | inl e ↦ absurd (subst (λ (r : Result Header CodecFault). IfErr r IsOther) e (header_holds IsOther types bytes (λ k. cc) (λ k. cc) (λ k. cc) (record { unexpected = λ n k. cc; missing = λ n k. cc })) refl)
       | inr x ↦ elim (bind_err (whole_at x.0.1 (parts_of x.0.0) x.0.2) (λ fields. let r : Whole = Ok (x.0.0, fields) in r) Trailing x.2) [
         | inl e ↦
             (let rest = left x.0.1 (parts_of x.0.0) x.0.2 e in

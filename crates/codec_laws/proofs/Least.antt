@@ -65,3 +65,11 @@ all_fail test from (suc count) n h low high =
         | inr le ↦ (let same : n ≡ from = omega arith in rw same e)
       ]
     ] refl h
+
+-- two tests that agree on these numbers
+pub least_same : (f g : ℕ → Bool) (from count : ℕ) → ((n : ℕ) → from ≤ n → n < from + count → f n ≡ g n) → least f from count ≡ least g from count
+unfolding least
+least_same f g from zero h = refl
+least_same f g from (suc count) h =
+    let here : f from ≡ g from = h from (omega arith) (omega arith) in
+    rw (here, least_same f g (from + 1) count (λ n low high. h n (omega arith) (omega arith))) refl

@@ -15,5 +15,5 @@ IsOther d = d ≢ OutOfMemory
 pub reading_none : (types : List Mti) (bytes : List ℕ) → IfErr (reading types bytes) (λ e. e ≢ OutOfMemory)
 unfolding reading
 reading_none types bytes =
-    then_holds IsOther (header_at types bytes) _ (header_holds IsOther types bytes (λ e. cc) (λ e. cc) (record { first = λ e. cc; unexpected = λ n e. cc; missing = λ n e. cc })) (λ head.
+    then_holds IsOther (header_at types bytes) _ (header_holds IsOther types bytes (λ e. cc) (λ e. cc) (λ e. cc) (record { unexpected = λ n e. cc; missing = λ n e. cc })) (λ head.
     then_holds IsOther (whole_at head.1 (parts_of head.0) head.2) _ (whole_never head.1 (parts_of head.0) head.2 OutOfMemory refl) (λ _. tt))

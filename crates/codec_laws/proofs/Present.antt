@@ -68,7 +68,7 @@ abbrev OptionalRead : Type 0
 OptionalRead = Result (Option (List ℕ) × List ℕ) CodecFault
 
 -- the text of an element that is there
-some_read : (e : Element) (bytes : List ℕ) (x : Option (List ℕ) × List ℕ) → optional_at true e bytes ≡ Ok x → (y : List ℕ × List ℕ) × (element_at e bytes ≡ Ok y) × ((Some y.0, y.1) ≡ x)
+pub some_read : (e : Element) (bytes : List ℕ) (x : Option (List ℕ) × List ℕ) → optional_at true e bytes ≡ Ok x → (y : List ℕ × List ℕ) × (element_at e bytes ≡ Ok y) × ((Some y.0, y.1) ≡ x)
 unfolding optional_at
 some_read e bytes x h =
     let b = bind_ok (element_at e bytes) (λ y. let r : OptionalRead = Ok (Some y.0, y.1) in r) x h in
@@ -122,16 +122,16 @@ fields_taken bitmap (p ∷ ps) bytes y h =
 head_is : (e d : Element) (es ds : List Element) → (e ∷ es) ≡ (d ∷ ds) → (e ≡ d) × (es ≡ ds)
 head_is e d es ds h = (cc, cc)
 
-some_again : (e : Element) (text rest : List ℕ) → IsText e text → optional_at true e (field (e, text) ++ rest) ≡ Ok (Some text, rest)
+pub some_again : (e : Element) (text rest : List ℕ) → IsText e text → optional_at true e (field (e, text) ++ rest) ≡ Ok (Some text, rest)
 unfolding optional_at
 some_again e text rest h = rw (element_again e text rest h) refl
 
-none_again : (e : Element) (rest : List ℕ) → optional_at false e rest ≡ Ok (None, rest)
+pub none_again : (e : Element) (rest : List ℕ) → optional_at false e rest ≡ Ok (None, rest)
 unfolding optional_at
 none_again e rest = refl
 
 -- a rule finds nothing in an element that is not there
-no_rule : (rule : Rule) (bitmap : ℕ) → rule_at rule bitmap None ≡ Ok tt
+pub no_rule : (rule : Rule) (bitmap : ℕ) → rule_at rule bitmap None ≡ Ok tt
 no_rule Free bitmap = refl
 no_rule Scope bitmap = refl
 no_rule Verdict bitmap = refl

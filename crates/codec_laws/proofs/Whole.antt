@@ -2,7 +2,6 @@
 use Rattle.std.proofs.Common.{◌≡◌, ℕ, ◌^◌, ◌<◌, Bool, true, false, cond, eqb, List, [], ◌∷◌, ◌++◌, length, Result, Ok, Err, refl, sym, ap, subst, ◌∙◌, append_assoc, arith}
 use Rattle.std.specs.Prelude.{◌||◌}
 use Rattle.std.specs.List.{flat_map}
-use Rattle.std.specs.Int.{w64, to_be_bytes}
 use Rattle.std.specs.Str.{bytes_eq}
 use Rattle.std.proofs.lemmas.Bool.{eqb-true, ne_eqb}
 use Rattle.std.proofs.lemmas.List.{append-nil, nil_from_length}
@@ -11,12 +10,12 @@ use Rattle.iso8583.specs.declared.codec_fault.CodecFault.{CodecFault}
 use Rattle.iso8583.specs.declared.codec_fault.CodecFault.TheVariants.{Trailing}
 use Rattle.codec_laws.specs.declared.mti.Mti.{Mti}
 use Rattle.codec_laws.specs.declared.mti.Mti.TheVariants as mti
-use Rattle.codec_laws.specs.Types.{Part, mti_text, parts_of, is_among}
-use Rattle.codec_laws.specs.Spelling.{Field, field, bitmap_of, spelling}
+use Rattle.codec_laws.specs.Types.{Part, mti_text, parts_of, is_among, bits_of}
+use Rattle.codec_laws.specs.Spelling.{Field, field, bitmap_of, bitmap_bytes, spelling}
 use Rattle.codec_laws.specs.Reading.{◌>>=◌, fields_at, whole_at, presence_at, header_at, reading}
 use Rattle.codec_laws.proofs.Elements.{bind_ok}
 use Rattle.codec_laws.proofs.Present.{present, present_parts, are_ruled, elements_of, AreTexts, Taken, fields_taken, fields_again}
-use Rattle.codec_laws.proofs.Bits.{bits_of, bitmap_of-elements, is_rising, bitmap_is}
+use Rattle.codec_laws.proofs.Bits.{bitmap_of-elements, is_rising, bitmap_is}
 use Rattle.codec_laws.proofs.Headers.{IsBytes, Header, Headed, header_taken, header_again}
 
 -- fields that a message of the type has
@@ -24,7 +23,7 @@ pub record AreFields (t : Mti) (fields : List Field) : Type 0 where
   pub texts : AreTexts fields
   pub elements : elements_of fields ≡ present (bitmap_of fields) (parts_of t)
   pub rules : are_ruled (bitmap_of fields) (present_parts (bitmap_of fields) (parts_of t)) fields ≡ true
-  pub fits : bitmap_of fields < 2 ^ 64
+  pub fits : bitmap_of fields < 2 ^ 127
   pub sound : presence_at (parts_of t) (bitmap_of fields) ≡ Ok tt
 
 pub rising : (t : Mti) → is_rising 1 (parts_of t) ≡ true
@@ -71,11 +70,11 @@ found types bytes t bitmap rest fields head body =
         texts = body.texts;
         elements = subst (λ (b : ℕ). elements_of fields ≡ present b (parts_of t)) bits body.elements;
         rules = subst (λ (b : ℕ). are_ruled b (present_parts b (parts_of t)) fields ≡ true) bits body.rules;
-        fits = subst (λ (b : ℕ). b < 2 ^ 64) bits head.fits;
+        fits = subst (λ (b : ℕ). b < 2 ^ 127) bits head.fits;
         sound = subst (λ (b : ℕ). presence_at (parts_of t) b ≡ Ok tt) bits head.sound;
       };
       among = head.among;
-      spelled = head.spelled ∙ (ap (λ (b : ℕ). (mti_text t ++ to_be_bytes w64 b) ++ rest) bits ∙ ap (λ (x : List ℕ). (mti_text t ++ to_be_bytes w64 (bitmap_of fields)) ++ x) behind);
+      spelled = head.spelled ∙ (ap (λ (b : ℕ). (mti_text t ++ bitmap_bytes b) ++ rest) bits ∙ ap (λ (x : List ℕ). (mti_text t ++ bitmap_bytes (bitmap_of fields)) ++ x) behind);
     }
 
 abbrev pub Message : Type 0
@@ -110,7 +109,7 @@ second_among t u = rw (same_here u) (elim (bytes_eq (mti_text t) (mti_text u)) a
 -- what a text that begins with the spelling is read as
 front_read : (types : List Mti) (t : Mti) (fields : List Field) (rest : List ℕ) → AreFields t fields → is_among types t ≡ true → header_at types (spelling t fields ++ rest) ≡ Ok (t, bitmap_of fields, flat_map field fields ++ rest)
 front_read types t fields rest are among =
-    subst (λ (x : List ℕ). header_at types x ≡ Ok (t, bitmap_of fields, flat_map field fields ++ rest)) (sym (append_assoc (mti_text t ++ to_be_bytes w64 (bitmap_of fields)) (flat_map field fields) rest))
+    subst (λ (x : List ℕ). header_at types x ≡ Ok (t, bitmap_of fields, flat_map field fields ++ rest)) (sym (append_assoc (mti_text t ++ bitmap_bytes (bitmap_of fields)) (flat_map field fields) rest))
     (header_again types t (bitmap_of fields) (flat_map field fields ++ rest) among are.fits are.sound)
 
 -- with a byte behind it

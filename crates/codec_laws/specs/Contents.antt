@@ -23,6 +23,7 @@ pub record Content : Type 0 where
   pub terminal : List ℕ
   pub currency : List ℕ
   pub original : Option (List ℕ)
+  pub account : Option (List ℕ)
 
 -- the elements from 24 on
 abbrev pub tail_fields : Content → List Field
@@ -30,7 +31,7 @@ tail_fields x =
     with_field element.Function x.function (with_field element.OriginalAmount x.original_amount
     ((element.Acquirer, x.acquirer) ∷ with_field element.Retrieval x.retrieval
     (with_field element.Approval x.approval (with_field element.Action x.action
-    ((element.Terminal, x.terminal) ∷ (element.Currency, x.currency) ∷ with_field element.Original x.original [])))))
+    ((element.Terminal, x.terminal) ∷ (element.Currency, x.currency) ∷ with_field element.Original x.original (with_field element.Account x.account []))))))
 
 -- the elements, in rising number
 abbrev pub content_fields : Content → List Field
@@ -38,9 +39,9 @@ content_fields x =
     (element.Pan, x.pan) ∷ (element.Processing, x.processing) ∷ (element.Amount, x.amount)
     ∷ (element.Transmission, x.transmission) ∷ (element.Stan, x.stan) ∷ (element.Stamp, x.stamp) ∷ tail_fields x
 
--- The elements of a transaction, and those that depend on the type: 24, 30, 38, 39 and 56.
-abbrev pub content : Transaction → Option (List ℕ) → Option (List ℕ) → Option (List ℕ) → Option (List ℕ) → Option (List ℕ) → Content
-content t function original_amount approval action original = record {
+-- The elements of a transaction, and those that depend on the type: 24, 30, 38, 39, 56 and 102.
+abbrev pub content : Transaction → Option (List ℕ) → Option (List ℕ) → Option (List ℕ) → Option (List ℕ) → Option (List ℕ) → Option (List ℕ) → Content
+content t function original_amount approval action original account = record {
   pan = t.pan.0;
   processing = t.processing.0;
   amount = fixed_digits 12 t.amount;
@@ -56,6 +57,7 @@ content t function original_amount approval action original = record {
   terminal = t.terminal.0;
   currency = t.currency.0;
   original = original;
+  account = account;
 }
 
 -- every transaction that there is: the ranges of the values' types

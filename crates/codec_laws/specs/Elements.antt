@@ -32,6 +32,7 @@ element_number element.Action = 39
 element_number element.Terminal = 41
 element_number element.Currency = 49
 element_number element.Original = 56
+element_number element.Account = 102
 
 -- so many characters, or from so many to so many of them behind two digits of length (LLVAR)
 abbrev pub shape_of : Element → Shape
@@ -50,6 +51,7 @@ shape_of element.Action = Fixed 3
 shape_of element.Terminal = Fixed 8
 shape_of element.Currency = Fixed 3
 shape_of element.Original = UpTo 25 35
+shape_of element.Account = UpTo 1 28
 
 -- which characters the text of an element is made of
 abbrev pub class_of : Element → Class
@@ -68,6 +70,7 @@ class_of element.Action = class.Digits
 class_of element.Terminal = class.Printable
 class_of element.Currency = class.Digits
 class_of element.Original = class.Digits
+class_of element.Account = class.Printable
 
 -- digits alone (n), letters, digits and spaces alone (anp), printable characters alone (ans)
 abbrev pub is_of_class : Class → List ℕ → Bool

@@ -1,6 +1,7 @@
 pub mod Contents
 pub mod Elements
 pub mod Faults
+pub mod FirstWrong
 pub mod Messages
 pub mod Reading
 pub mod Replies

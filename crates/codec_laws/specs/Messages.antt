@@ -1,6 +1,7 @@
 -- The messages that are taken in, and how each is spelled.
-use Rattle.std.specs.Prelude.{◌≡◌, ℕ, ◌<◌, ◌^◌, List, ◌++◌, Option, Some, None, if◌then◌else◌, codes}
+use Rattle.std.specs.Prelude.{◌≡◌, ℕ, ◌<◌, ◌^◌, List, ◌++◌, Option, Some, None, IfSome, option_map, if◌then◌else◌, codes}
 use Rattle.iso8583.specs.Number.{fixed_digits}
+use Rattle.iso8583.specs.declared.account_id.AccountId.{AccountId}
 use Rattle.iso8583.specs.declared.message.Message.{Message}
 use Rattle.iso8583.specs.declared.message.Message.TheVariants as message
 use Rattle.iso8583.specs.declared.original_ref.OriginalRef.{OriginalRef}
@@ -36,12 +37,17 @@ abbrev pub scope_amount : ReversalScope → Option (List ℕ)
 scope_amount Full = None
 scope_amount (Partial amount) = Some (fixed_digits 12 amount ++ twelve_zeros)
 
--- the texts of a message: beside its transaction those of elements 24, 30, 38, 39 and 56
+-- element 102, if it is there
+abbrev pub account_text : Option AccountId → Option (List ℕ)
+account_text account = option_map (λ a. a.0) account
+
+-- the texts of a message: beside its transaction those of elements 24, 30, 38, 39, 56 and 102
 abbrev pub content_of : Message → Content
-content_of (message.Request m) = content m.transaction (Some m.function.0) None None None None
-content_of (message.Advice m) = content m.transaction (Some m.function.0) None None (Some (fixed_digits 3 m.action)) None
+content_of (message.Request m) = content m.transaction (Some m.function.0) None None None None (account_text m.account)
+content_of (message.Advice m) =
+    content m.transaction (Some m.function.0) None None (Some (fixed_digits 3 m.action)) None (account_text m.account)
 content_of (message.Reversal m) =
-    content m.transaction (Some (scope_function m.scope)) (scope_amount m.scope) None None (Some (original_text m.original))
+    content m.transaction (Some (scope_function m.scope)) (scope_amount m.scope) None None (Some (original_text m.original)) None
 
 -- the elements of a message, in rising number
 abbrev pub fields_of : Message → List Field
@@ -62,10 +68,14 @@ pub record IsOriginal (o : OriginalRef) : Type 0 where
   pub stamp : IsText element.Stamp o.identity.stamp
   pub acquirer : IsText element.Acquirer o.identity.acquirer.0
 
+-- the account is such a text, if it is there
+abbrev pub IsAccount : Option AccountId → Type 0
+IsAccount account = IfSome account (λ a. IsText element.Account a.0)
+
 -- every message that there is: the ranges of the values' types
 abbrev pub IsMessage : Message → Type 0
-IsMessage (message.Request m) = IsTransaction m.transaction × IsText element.Function m.function.0
-IsMessage (message.Advice m) = IsTransaction m.transaction × IsText element.Function m.function.0 × (m.action < 10 ^ 3)
+IsMessage (message.Request m) = IsTransaction m.transaction × IsText element.Function m.function.0 × IsAccount m.account
+IsMessage (message.Advice m) = IsTransaction m.transaction × IsText element.Function m.function.0 × (m.action < 10 ^ 3) × IsAccount m.account
 IsMessage (message.Reversal m) = IsTransaction m.transaction × IsScope m.scope × IsOriginal m.original
 
 -- the bytes are the spelling of a message

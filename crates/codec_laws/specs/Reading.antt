@@ -1,5 +1,5 @@
 -- Reading a message from left to right, with the first fault that is met.
-use Rattle.std.specs.Prelude.{◌≡◌, ℕ, zero, suc, ◌+◌, Bool, true, false, ◌&&◌, ◌||◌, not, List, [], ◌∷◌, length, take, drop, Option, Some, None, Result, Ok, Err, nat_lt, nat_le, ◌==◌, if◌then◌else◌, codes}
+use Rattle.std.specs.Prelude.{◌≡◌, ℕ, zero, suc, ◌+◌, ◌-◌, ◌*◌, ◌^◌, Bool, true, false, ◌&&◌, ◌||◌, not, List, [], ◌∷◌, length, take, drop, Option, Some, None, Result, Ok, Err, nat_lt, nat_le, ◌==◌, if◌then◌else◌, codes}
 use Rattle.std.specs.Int.{w64, from_be_bytes}
 use Rattle.std.specs.List.{list_any}
 use Rattle.std.specs.Str.{bytes_eq}
@@ -125,9 +125,25 @@ first_wrong None None = Ok tt
 
 -- whether a bitmap can be that of a message with these elements
 unfoldable pub presence_at : List Part → ℕ → Result (Unit {0}) CodecFault
-presence_at parts bitmap =
-    if is_set bitmap 1 then Err SecondaryBitmap
-    else first_wrong (least (is_unexpected parts bitmap) 2 63) (least (is_missing parts bitmap) 2 63)
+presence_at parts bitmap = first_wrong (least (is_unexpected parts bitmap) 2 127) (least (is_missing parts bitmap) 2 127)
+
+-- bit 1, the highest of eight bytes, is set: eight more follow
+abbrev pub is_extended : ℕ → Bool
+is_extended primary = nat_le (2 ^ 63) primary
+
+-- the whole bitmap, where eight more bytes follow; they say that an element from 65 on is there
+unfoldable pub secondary_at : ℕ → List ℕ → Result (ℕ × List ℕ) CodecFault
+secondary_at primary bytes = do
+  second ← bytes_at 0 8 bytes
+  if from_be_bytes w64 second.0 == 0 then Err SecondaryBitmap
+      else Ok ((primary - 2 ^ 63) * 2 ^ 64 + from_be_bytes w64 second.0, second.1)
+
+-- the bitmap of elements 2 to 128, and the bytes after it
+unfoldable pub bitmap_at : List ℕ → Result (ℕ × List ℕ) CodecFault
+bitmap_at bytes = do
+  first ← bytes_at 0 8 bytes
+  if is_extended (from_be_bytes w64 first.0) then secondary_at (from_be_bytes w64 first.0) first.1
+      else Ok (from_be_bytes w64 first.0 * 2 ^ 64, first.1)
 
 -- the type among these that the text names
 unfoldable pub mti_at : List Mti → List ℕ → Result Mti CodecFault
@@ -139,9 +155,9 @@ unfoldable pub header_at : List Mti → List ℕ → Result (Mti × ℕ × List 
 header_at types bytes = do
   front ← bytes_at 0 4 bytes
   mti ← mti_at types front.0
-  bits ← bytes_at 0 8 front.1
-  _ ← presence_at (parts_of mti) (from_be_bytes w64 bits.0)
-  Ok (mti, from_be_bytes w64 bits.0, bits.1)
+  bits ← bitmap_at front.1
+  _ ← presence_at (parts_of mti) bits.0
+  Ok (mti, bits.0, bits.1)
 
 -- the type and the elements of a text that is a message of one of these types, else the first fault
 unfoldable pub reading : List Mti → List ℕ → Result (Mti × List Field) CodecFault

@@ -1,9 +1,10 @@
 -- The message types of ISO 8583:1993 that this profile uses, and the elements of each.
-use Rattle.std.specs.Prelude.{ℕ, Bool, true, false, List, [], ◌∷◌, ◌++◌, codes}
+use Rattle.std.specs.Prelude.{ℕ, ◌+◌, ◌-◌, ◌^◌, Bool, true, false, List, [], ◌∷◌, ◌++◌, map, filter, codes}
 use Rattle.std.specs.List.{list_any}
 use Rattle.std.specs.Str.{bytes_eq}
 use Rattle.codec_laws.specs.declared.element.Element.{Element}
-use Rattle.codec_laws.specs.declared.element.Element.TheVariants.{Pan, Processing, Amount, Transmission, Stan, Stamp, Function, OriginalAmount, Acquirer, Retrieval, Approval, Action, Terminal, Currency, Original}
+use Rattle.codec_laws.specs.declared.element.Element.TheVariants.{Pan, Processing, Amount, Transmission, Stan, Stamp, Function, OriginalAmount, Acquirer, Retrieval, Approval, Action, Terminal, Currency, Original, Account}
+use Rattle.codec_laws.specs.Elements.{element_number}
 use Rattle.codec_laws.specs.declared.rule.Rule.{Rule}
 use Rattle.codec_laws.specs.declared.rule.Rule.TheVariants.{Free, Scope, Verdict}
 use Rattle.codec_laws.specs.declared.mti.Mti.{Mti}
@@ -52,15 +53,15 @@ front_parts =
 
 -- the elements of each type from 24 on, in rising number
 abbrev pub tail_parts : Mti → List Part
-tail_parts mti.Request = required Function ∷ required Acquirer ∷ optional Retrieval ∷ required Terminal ∷ required Currency ∷ []
-tail_parts mti.RequestRepeat = required Function ∷ required Acquirer ∷ optional Retrieval ∷ required Terminal ∷ required Currency ∷ []
+tail_parts mti.Request = required Function ∷ required Acquirer ∷ optional Retrieval ∷ required Terminal ∷ required Currency ∷ optional Account ∷ []
+tail_parts mti.RequestRepeat = required Function ∷ required Acquirer ∷ optional Retrieval ∷ required Terminal ∷ required Currency ∷ optional Account ∷ []
 tail_parts mti.RequestReply =
-    required Acquirer ∷ optional Retrieval ∷ optional Approval ∷ (true, Action, Verdict) ∷ required Terminal ∷ required Currency ∷ []
+    required Acquirer ∷ optional Retrieval ∷ optional Approval ∷ (true, Action, Verdict) ∷ required Terminal ∷ required Currency ∷ optional Account ∷ []
 tail_parts mti.Advice =
-    required Function ∷ required Acquirer ∷ optional Retrieval ∷ required Action ∷ required Terminal ∷ required Currency ∷ []
+    required Function ∷ required Acquirer ∷ optional Retrieval ∷ required Action ∷ required Terminal ∷ required Currency ∷ optional Account ∷ []
 tail_parts mti.AdviceRepeat =
-    required Function ∷ required Acquirer ∷ optional Retrieval ∷ required Action ∷ required Terminal ∷ required Currency ∷ []
-tail_parts mti.AdviceReply = required Acquirer ∷ optional Retrieval ∷ required Action ∷ required Terminal ∷ required Currency ∷ []
+    required Function ∷ required Acquirer ∷ optional Retrieval ∷ required Action ∷ required Terminal ∷ required Currency ∷ optional Account ∷ []
+tail_parts mti.AdviceReply = required Acquirer ∷ optional Retrieval ∷ required Action ∷ required Terminal ∷ required Currency ∷ optional Account ∷ []
 tail_parts mti.Reversal =
     (true, Function, Scope) ∷ optional OriginalAmount ∷ required Acquirer ∷ optional Retrieval ∷ required Terminal ∷ required Currency ∷ required Original ∷ []
 tail_parts mti.ReversalRepeat =
@@ -70,3 +71,16 @@ tail_parts mti.ReversalReply = required Acquirer ∷ optional Retrieval ∷ requ
 -- the elements of each type, in rising number
 abbrev pub parts_of : Mti → List Part
 parts_of t = front_parts ++ tail_parts t
+
+-- the bits of elements, each that of its number in a bitmap of 128, of which bit 1 is the highest
+abbrev pub bits_of : List Element → ℕ
+bits_of [] = 0
+bits_of (e ∷ es) = 2 ^ (128 - element_number e) + bits_of es
+
+-- the elements that a message of the type may have, as bits
+abbrev pub may_have : Mti → ℕ
+may_have t = bits_of (map (λ p. p.1) (parts_of t))
+
+-- the elements that each message of the type has, as bits
+abbrev pub must_have : Mti → ℕ
+must_have t = bits_of (map (λ p. p.1) (filter (λ p. p.0) (parts_of t)))

@@ -1,4 +1,4 @@
-ghost use Rattle.std.specs.Prelude.{◌≡◌};
+ghost use Rattle.std.specs.Prelude.{◌≡◌, ◌-◌, ◌^◌};
 ghost use Rattle.codec_laws.specs.Elements.{element_number, shape_of, class_of};
 
 use crate::class::Class;
@@ -37,6 +37,8 @@ pub enum Element {
     Currency,
     /// 56, original data elements: type, trace number, local date and time, acquirer.
     Original,
+    /// 102, account identification 1.
+    Account,
 }
 
 impl Element {
@@ -60,7 +62,15 @@ impl Element {
             Element::Terminal => 41,
             Element::Currency => 49,
             Element::Original => 56,
+            Element::Account => 102,
         }
+    }
+
+    /// Its bit in a bitmap of 128, of which bit 1 is the highest.
+    pub fn bit(self) -> u128
+        ensures { result ≡ 2 ^ (128 - element_number self) }
+    {
+        1 << (128 - self.number())
     }
 
     /// How long its text is.
@@ -77,6 +87,7 @@ impl Element {
             Element::Function | Element::Action | Element::Currency => Shape::Fixed(3),
             Element::Terminal => Shape::Fixed(8),
             Element::Original => Shape::UpTo(25, 35),
+            Element::Account => Shape::UpTo(1, 28),
         }
     }
 
@@ -86,7 +97,7 @@ impl Element {
     {
         match self {
             Element::Retrieval | Element::Approval => Class::Alphanumeric,
-            Element::Terminal => Class::Printable,
+            Element::Terminal | Element::Account => Class::Printable,
             _ => Class::Digits,
         }
     }

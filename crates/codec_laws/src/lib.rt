@@ -12,9 +12,9 @@ pub use class::Class;
 pub use element::Element;
 pub use laws::{
     names_a_secondary_bitmap, names_a_trailing_byte, names_an_unknown_type,
-    names_the_least_missing, names_the_least_unexpected, no_message_begins_another,
-    no_reply_begins_another,
+    names_the_first_wrong_element, names_the_least_missing, names_the_least_unexpected,
+    no_message_begins_another, no_reply_begins_another,
 };
-pub use mti::Mti;
+pub use mti::{COMMON, Mti};
 pub use rule::Rule;
 pub use shape::Shape;

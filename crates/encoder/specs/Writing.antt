@@ -7,12 +7,13 @@ use Rattle.codec_laws.specs.declared.element.Element.TheVariants as element
 use Rattle.codec_laws.specs.Elements.{original_text, twelve_zeros}
 use Rattle.codec_laws.specs.Spelling.{Field, with_field}
 use Rattle.codec_laws.specs.Contents.{Content, content}
+use Rattle.codec_laws.specs.Messages.{account_text}
 
 -- the texts of all elements: those of a transaction, and those beside it that are there
 abbrev pub whole_content : Transaction → Extras → Content
 whole_content t x =
     content t x.function (option_map (λ n. fixed_digits 12 n ++ twelve_zeros) x.original_amount)
-    (option_map (λ c. c.0) x.approval) x.action (option_map (λ o. original_text o) x.original)
+    (option_map (λ c. c.0) x.approval) x.action (option_map (λ o. original_text o) x.original) (account_text x.account)
 
 -- the fields of a content, piece by piece: at first elements 2, 3, 4, 7, 11 and 12
 abbrev pub front_list : Content → List Field
@@ -36,9 +37,9 @@ answer_list x = with_field element.Approval x.approval (with_field element.Actio
 abbrev pub end_list : Content → List Field
 end_list x = (element.Terminal, x.terminal) ∷ (element.Currency, x.currency) ∷ []
 
--- element 56, if it is there
-abbrev pub original_list : Content → List Field
-original_list x = with_field element.Original x.original []
+-- elements 56 and 102, each if it is there
+abbrev pub last_list : Content → List Field
+last_list x = with_field element.Original x.original (with_field element.Account x.account [])
 
 -- the bit of an element, if it is there
 abbrev pub bit_if : Bool → ℕ → ℕ

@@ -1,25 +1,26 @@
-ghost use Rattle.std.specs.Prelude.{◌≡◌, ℕ, ◌+◌, ◌≤◌, [], ◌++◌, length, vec_len, vec_capacity, OnOk, OnErr, IfErr, IsOk, option_map};
+ghost use Rattle.std.specs.Prelude.{◌≡◌, ℕ, ◌+◌, ◌-◌, ◌^◌, ◌≤◌, ◌<◌, [], ◌++◌, length, vec_len, vec_capacity, OnOk, OnErr, IfErr, IsOk, option_map};
 ghost use Rattle.std.specs.List.{flat_map};
 ghost use Rattle.iso8583.specs.Number.{fixed_digits};
 ghost use Rattle.encoder.specs.declared.extras.Extras.{Extras};
-ghost use Rattle.encoder.specs.Writing.{bit_if, whole_content, front_list, scope_list, reference_list, answer_list, end_list, original_list};
-ghost use Rattle.codec_laws.specs.Elements.{original_text, original_type, twelve_zeros};
+ghost use Rattle.encoder.specs.Writing.{bit_if, whole_content, front_list, scope_list, reference_list, answer_list, end_list, last_list};
+ghost use Rattle.codec_laws.specs.Elements.{element_number, original_text, original_type, twelve_zeros};
 ghost use Rattle.codec_laws.specs.Types.{mti_text};
-ghost use Rattle.codec_laws.specs.Spelling.{Field, field, with_field, bitmap_of, spelling};
+ghost use Rattle.codec_laws.specs.Spelling.{Field, field, with_field, bitmap_of, bitmap_bytes, spelling};
 ghost use Rattle.codec_laws.specs.Contents.{content_fields};
-ghost use Rattle.codec_laws.specs.Messages.{Spells, message_spelling};
+ghost use Rattle.codec_laws.specs.Messages.{Spells, account_text, message_spelling};
 ghost use Rattle.codec_laws.specs.Replies.{SpellsReply, reply_spelling};
 
 use crate::extras::{Extras, extras_of, mti_of, reply_extras, reply_mti, transaction_of};
 use crate::values::{message_in_range, reply_in_range};
 use crate::writer::{put, put_field};
-use codec_laws::{Element, Mti};
+use codec_laws::{COMMON, Element, Mti};
 use iso8583::{
-    Amount, Approval, CodecFault, Digits, Message, OriginalKind, OriginalRef, Reply, Transaction,
+    AccountId, Amount, Approval, CodecFault, Digits, Message, OriginalKind, OriginalRef, Reply,
+    Transaction,
 };
 
 /// Bytes of room in which every message and every reply can be written without memory. The longest has 179.
-pub const ROOM: usize = 240;
+pub const ROOM: usize = 256;
 
 /// The text of a type.
 fn mti_text(mti: Mti) -> &'static [u8]
@@ -40,25 +41,49 @@ fn mti_text(mti: Mti) -> &'static [u8]
 }
 
 /// The bit of an element, if it is there.
-fn bit(there: bool, bit: u64) -> u64
-    ensures value { result ≡ bit_if there bit }
-    ensures bound { result ≤ bit }
+fn bit(there: bool, element: Element) -> u128
+    ensures value { result ≡ bit_if there (2 ^ (128 - element_number element)) }
+    ensures bound { result ≤ 2 ^ (128 - element_number element) }
 {
-    if there { bit } else { 0 }
+    if there { element.bit() } else { 0 }
 }
 
 /// The bitmap: the elements of every message and reply, and those that are there.
-fn bitmap_of(transaction: &Transaction, extras: &Extras) -> u64
-    ensures { result ≡ bitmap_of (content_fields (whole_content transaction.now extras.now)) }
+fn bitmap_of(transaction: &Transaction, extras: &Extras) -> u128
+    ensures value { result ≡ bitmap_of (content_fields (whole_content transaction.now extras.now)) }
+    ensures fits { result < 2 ^ 127 }
 {
-    0x7230_0001_0080_8000
-        + bit(extras.function.is_some(), 0x0100_0000_0000)
-        + bit(extras.original_amount.is_some(), 0x0004_0000_0000)
-        + bit(transaction.retrieval.is_some(), 0x0800_0000)
-        + bit(extras.approval.is_some(), 0x0400_0000)
-        + bit(extras.action.is_some(), 0x0200_0000)
-        + bit(extras.original.is_some(), 0x0100)
+    COMMON
+        + bit(extras.function.is_some(), Element::Function)
+        + bit(extras.original_amount.is_some(), Element::OriginalAmount)
+        + bit(transaction.retrieval.is_some(), Element::Retrieval)
+        + bit(extras.approval.is_some(), Element::Approval)
+        + bit(extras.action.is_some(), Element::Action)
+        + bit(extras.original.is_some(), Element::Original)
+        + bit(extras.account.is_some(), Element::Account)
 }
+
+/// Appends the bytes of the bitmap: eight, or sixteen with bit 1 set where an element from 65 on is there.
+#[tactic(auto, unfolding(codec_laws::specs::Spelling::bitmap_bytes))]
+fn put_bitmap(out: &mut Vec<u8>, bitmap: u128)
+    requires fits { bitmap < 2 ^ 127 }
+    requires room { vec_len out.old + 16 ≤ vec_capacity out.old }
+    ensures items { out.new.items ≡ out.old.items ++ bitmap_bytes bitmap }
+    ensures len { vec_len out.new ≤ vec_len out.old + 16 }
+    ensures capacity { vec_capacity out.old ≤ vec_capacity out.new }
+{
+    let primary = (bitmap >> 64) as u64;
+    let secondary = (bitmap % (1 << 64)) as u64;
+    if secondary == 0 {
+        put(out, &primary.to_be_bytes());
+    } else {
+        put(out, &(BIT_1 + primary).to_be_bytes());
+        put(out, &secondary.to_be_bytes());
+    }
+}
+
+/// Bit 1 of the primary bitmap: the secondary one follows.
+const BIT_1: u64 = 1 << 63;
 
 /// Appends the elements that all begin with.
 fn put_front(out: &mut Vec<u8>, transaction: &Transaction)
@@ -202,11 +227,30 @@ fn put_original(out: &mut Vec<u8>, original: &Option<OriginalRef>)
     }
 }
 
+/// Appends element 102, if it is there.
+fn put_account(out: &mut Vec<u8>, account: &Option<AccountId>)
+    requires { vec_len out.old + 30 ≤ vec_capacity out.old }
+    ensures { out.new.items ≡ out.old.items ++ flat_map field (with_field Element.Account (account_text account.now) []) }
+{
+    if let Some(account) = account {
+        put_field(out, Element::Account, account.as_slice());
+    }
+}
+
+/// Appends elements 56 and 102, each if it is there.
+fn put_last(out: &mut Vec<u8>, transaction: &Transaction, extras: &Extras)
+    requires { vec_len out.old + 67 ≤ vec_capacity out.old }
+    ensures { out.new.items ≡ out.old.items ++ flat_map field (last_list (whole_content transaction.now extras.now)) }
+{
+    put_original(out, &extras.original);
+    put_account(out, &extras.account);
+}
+
 /// Appends the elements from 24 on.
 fn put_tail(out: &mut Vec<u8>, transaction: &Transaction, extras: &Extras)
-    requires { vec_len out.old + 123 ≤ vec_capacity out.old }
+    requires { vec_len out.old + 153 ≤ vec_capacity out.old }
     ensures { let x = whole_content transaction.now extras.now in out.new.items ≡ out.old.items
-        ++ (flat_map field (scope_list x) ++ (flat_map field (reference_list x) ++ (flat_map field (answer_list x) ++ (flat_map field (end_list x) ++ flat_map field (original_list x))))) }
+        ++ (flat_map field (scope_list x) ++ (flat_map field (reference_list x) ++ (flat_map field (answer_list x) ++ (flat_map field (end_list x) ++ flat_map field (last_list x))))) }
 {
     put_code(out, Element::Function, &extras.function);
     put_original_amount(out, &extras.original_amount);
@@ -214,7 +258,7 @@ fn put_tail(out: &mut Vec<u8>, transaction: &Transaction, extras: &Extras)
     put_approval(out, &extras.approval);
     put_code(out, Element::Action, &extras.action);
     put_ends(out, transaction);
-    put_original(out, &extras.original);
+    put_last(out, transaction, extras);
 }
 
 /// Appends the spelling.
@@ -223,7 +267,7 @@ fn put_spelling(out: &mut Vec<u8>, mti: Mti, transaction: &Transaction, extras: 
     ensures { out.new.items ≡ out.old.items ++ spelling mti (content_fields (whole_content transaction.now extras.now)) }
 {
     put(out, mti_text(mti));
-    put(out, &bitmap_of(transaction, extras).to_be_bytes());
+    put_bitmap(out, bitmap_of(transaction, extras));
     put_front(out, transaction);
     put_tail(out, transaction, extras);
 }

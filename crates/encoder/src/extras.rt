@@ -7,11 +7,11 @@ ghost use Rattle.codec_laws.specs.Replies.{answer_mti, reply_mti, reply_content}
 
 use codec_laws::Mti;
 use iso8583::{
-    Amount, Answer, Approval, Digits, Message, OriginalRef, Reply, ReversalScope, Transaction,
-    Verdict,
+    AccountId, Amount, Answer, Approval, Digits, Message, OriginalRef, Reply, ReversalScope,
+    Transaction, Verdict,
 };
 
-/// Elements 24, 30, 38, 39 and 56, where they are there.
+/// Elements 24, 30, 38, 39, 56 and 102, where they are there.
 #[derive(Clone, Copy)]
 pub(crate) struct Extras {
     pub(crate) function: Option<Digits<3>>,
@@ -19,6 +19,7 @@ pub(crate) struct Extras {
     pub(crate) approval: Option<Approval>,
     pub(crate) action: Option<Digits<3>>,
     pub(crate) original: Option<OriginalRef>,
+    pub(crate) account: Option<AccountId>,
 }
 
 /// The message's type.
@@ -55,8 +56,8 @@ pub(crate) fn reply_mti(reply: &Reply) -> Mti
     ensures { result ≡ reply_mti reply.now }
 {
     match &reply.answer {
-        Answer::Request(_) => Mti::RequestReply,
-        Answer::Advice(_) => Mti::AdviceReply,
+        Answer::Request(..) => Mti::RequestReply,
+        Answer::Advice(..) => Mti::AdviceReply,
         Answer::Reversal(_) => Mti::ReversalReply,
     }
 }
@@ -72,15 +73,18 @@ pub(crate) fn extras_of(message: &Message) -> Extras
         approval: None,
         action: None,
         original: None,
+        account: None,
     };
     match message {
         Message::Request(request) => Extras {
             function: Some(request.function.0),
+            account: request.account,
             ..none
         },
         Message::Advice(advice) => Extras {
             function: Some(advice.function.0),
             action: Some(advice.action.digits()),
+            account: advice.account,
             ..none
         },
         Message::Reversal(reversal) => match &reversal.scope {
@@ -110,18 +114,26 @@ pub(crate) fn reply_extras(reply: &Reply) -> Extras
         approval: None,
         action: None,
         original: None,
+        account: None,
     };
     match &reply.answer {
-        Answer::Request(Verdict::Approved(code)) => Extras {
+        Answer::Request(Verdict::Approved(code), account) => Extras {
             approval: Some(*code),
             action: Some(Digits::of_number(0)),
+            account: *account,
             ..none
         },
-        Answer::Request(Verdict::Declined(code)) => Extras {
+        Answer::Request(Verdict::Declined(code), account) => Extras {
             action: Some(code.action().digits()),
+            account: *account,
             ..none
         },
-        Answer::Advice(action) | Answer::Reversal(action) => Extras {
+        Answer::Advice(action, account) => Extras {
+            action: Some(action.digits()),
+            account: *account,
+            ..none
+        },
+        Answer::Reversal(action) => Extras {
             action: Some(action.digits()),
             ..none
         },

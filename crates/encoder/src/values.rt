@@ -2,10 +2,12 @@
 //! them says so. Nothing is done with what is seen.
 
 ghost use Rattle.codec_laws.specs.Contents.{IsTransaction};
-ghost use Rattle.codec_laws.specs.Messages.{IsMessage, IsOriginal, IsScope};
+ghost use Rattle.codec_laws.specs.Messages.{IsMessage, IsOriginal, IsScope, IsAccount};
 ghost use Rattle.codec_laws.specs.Replies.{IsAnswer, IsReply};
 
-use iso8583::{Answer, Message, OriginalRef, Reply, ReversalScope, Transaction, Verdict};
+use iso8583::{
+    AccountId, Answer, Message, OriginalRef, Reply, ReversalScope, Transaction, Verdict,
+};
 
 fn transaction_in_range(transaction: &Transaction)
     ensures { IsTransaction transaction.now }
@@ -40,17 +42,31 @@ fn original_in_range(original: &OriginalRef)
     let _ = original.identity.acquirer.0.as_slice();
 }
 
+fn account_in_range(account: &Option<AccountId>)
+    ensures { IsAccount account.now }
+{
+    if let Some(account) = account {
+        let _ = account.0.as_slice();
+    }
+}
+
 fn answer_in_range(answer: &Answer)
     ensures { IsAnswer answer.now }
 {
     match answer {
-        Answer::Request(Verdict::Approved(code)) => {
+        Answer::Request(Verdict::Approved(code), account) => {
             let _ = code.0.as_slice();
+            account_in_range(account);
         }
-        Answer::Request(Verdict::Declined(code)) => {
+        Answer::Request(Verdict::Declined(code), account) => {
             let _ = code.action().code();
+            account_in_range(account);
         }
-        Answer::Advice(action) | Answer::Reversal(action) => {
+        Answer::Advice(action, account) => {
+            let _ = action.code();
+            account_in_range(account);
+        }
+        Answer::Reversal(action) => {
             let _ = action.code();
         }
     }
@@ -64,11 +80,13 @@ pub(crate) fn message_in_range(message: &Message)
         Message::Request(request) => {
             transaction_in_range(&request.transaction);
             let _ = request.function.0.as_slice();
+            account_in_range(&request.account);
         }
         Message::Advice(advice) => {
             transaction_in_range(&advice.transaction);
             let _ = advice.function.0.as_slice();
             let _ = advice.action.code();
+            account_in_range(&advice.account);
         }
         Message::Reversal(reversal) => {
             transaction_in_range(&reversal.transaction);

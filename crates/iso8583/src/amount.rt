@@ -1,4 +1,4 @@
-ghost use Rattle.std.specs.Prelude.{◌≡◌, ℕ, ◌≤◌, ◌<◌, ◌^◌, length};
+ghost use Rattle.std.specs.Prelude.{◌≡◌, ℕ, ◌≤◌, ◌<◌, ◌-◌, ◌^◌, length};
 ghost use Rattle.std.specs.Option.{SomeIff};
 ghost use Rattle.iso8583.specs.Number.{number_of, fixed_digits};
 
@@ -61,5 +61,14 @@ impl Amount {
         ensures { result ≡ fixed_digits 12 self.now }
     {
         Digits::of_number(self.minor)
+    }
+
+    /// The amount less another, and nothing where that is more.
+    pub fn saturating_sub(&self, other: Amount) -> Amount
+        ensures { result ≡ self.now - other }
+    {
+        Amount {
+            minor: self.minor.saturating_sub(other.minor),
+        }
     }
 }

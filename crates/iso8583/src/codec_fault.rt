@@ -10,7 +10,7 @@ pub enum CodecFault {
     Short(u8),
     /// The first four bytes are no message type that is taken in.
     BadMti,
-    /// Bit 1 announces a secondary bitmap, which no message has.
+    /// Bit 1 announces a secondary bitmap, and its eight bytes are zeros.
     SecondaryBitmap,
     /// The element is present and not of this message type.
     Unexpected(u8),

@@ -78,6 +78,3 @@ pub use terminal::Terminal;
 pub use transaction::Transaction;
 pub use transmission::Transmission;
 pub use verdict::Verdict;
-
-#[cfg(test)]
-mod tests;

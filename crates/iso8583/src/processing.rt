@@ -1,4 +1,4 @@
-ghost use Rattle.std.specs.Prelude.{◌≡◌, length};
+ghost use Rattle.std.specs.Prelude.{◌≡◌, length, take};
 ghost use Rattle.std.specs.Option.{SomeIff};
 ghost use Rattle.iso8583.specs.Class.{IsDigits};
 
@@ -21,5 +21,12 @@ impl Processing {
         ensures { result.now ≡ self.now.0 }
     {
         self.0.as_slice()
+    }
+
+    /// The first two digits: the type of transaction.
+    pub fn transaction_type(&self) -> &[u8]
+        ensures { result.now ≡ take 2 self.now.0 }
+    {
+        &self.0.as_slice()[..2]
     }
 }

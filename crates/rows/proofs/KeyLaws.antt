@@ -1,10 +1,9 @@
 -- Keys that compare as equal are equal, and the test of equality decides it.
-use Rattle.std.proofs.Common.{◌≡◌, ℕ, zero, suc, Bool, true, false, ◌&&◌, ◌==◌, List, [], refl, sym, ap, ◌∙◌, Ordering, Less, Equal, Greater, rules}
+use Rattle.std.proofs.Common.{◌≡◌, ℕ, zero, suc, Bool, true, false, ◌&&◌, ◌==◌, List, refl, sym, ap, ◌∙◌, Ordering, Less, Equal, Greater, rules}
 use Rattle.std.proofs.lemmas.Bool.{false≢true}
 use Rattle.std.specs.Bool.{Decides}
 use Rattle.std.specs.Cmp.{IsTotalOrder}
 use Rattle.std.specs.Cmp.Derive.{both_true}
-use Rattle.std.specs.Cmp.Lexicographic.{pointwise, slice_cmp}
 use Rattle.std.specs.Cmp.Rules.{comparing}
 use Rattle.std.specs.FinMap as map
 use Rattle.std.specs.Ordering.{ordering_then, nat_cmp}
@@ -57,7 +56,8 @@ split : (a b : Bool) → (a && b) ≡ true → (a ≡ true) × (b ≡ true)
 split true b h = (refl, h)
 split false b h = absurd (false≢true h)
 
-text_eq_decides : (s t : List ℕ) → Decides (text_eq s t) (s ≡ t)
+-- the test of texts decides whether they are the same
+pub text_eq_decides : (s t : List ℕ) → Decides (text_eq s t) (s ≡ t)
 text_eq_decides s t = search rules
 
 number_eq_decides : (m n : ℕ) → Decides (m == n) (m ≡ n)

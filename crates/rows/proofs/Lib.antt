@@ -1,3 +1,4 @@
+pub mod BackingLaws
 pub mod BookLaws
 pub mod KeyLaws
 pub mod PutsOnce

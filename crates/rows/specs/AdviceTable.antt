@@ -1,17 +1,16 @@
 -- The decision table of an authorization advice, 1120 and 1121. The first rule that applies decides; a row is looked at
 -- where the first rule that needs it is reached.
-use Rattle.std.specs.Prelude.{ℕ, ◌-◌, ◌==◌, ◌&&◌, nat_le, if◌then◌else◌, List, [], ◌∷◌, Option, Some, None}
+use Rattle.std.specs.Prelude.{ℕ, ◌-◌, ◌==◌, ◌&&◌, nat_le, if◌then◌else◌, [], ◌∷◌, Option, Some, None}
 use Rattle.iso8583.specs.declared.account_id.AccountId.{AccountId}
 use Rattle.iso8583.specs.declared.advice.Advice.{Advice}
 use Rattle.iso8583.specs.declared.answer.Answer.TheVariants as answer
 use Rattle.iso8583.specs.declared.original_kind.OriginalKind.TheVariants as kind
-use Rattle.iso8583.specs.declared.reply.Reply.{Reply}
 use Rattle.iso8583.specs.declared.transaction.Transaction.{Transaction}
 use Rattle.rows.specs.CardAccounts.{account_of}
 use Rattle.rows.specs.Facts.{identity_of, prefix_of, is_same_currency, is_marked, is_of_same}
 use Rattle.rows.specs.Funds.{balance_of, with_balance, key_of_funds, row_of_funds, paid_by}
 use Rattle.rows.specs.Kept.{action_of_outcome}
-use Rattle.rows.specs.Plan.{Plan, Answer, Look}
+use Rattle.rows.specs.Plan.{Plan, Writes, Answer, Look}
 use Rattle.rows.specs.Typed.{card_in, budget_in, original_in, account_in}
 use Rattle.rows.specs.declared.account_row.AccountRow.{AccountRow}
 use Rattle.rows.specs.declared.budget_mode.BudgetMode.{BudgetMode}
@@ -55,13 +54,16 @@ marked_advice a mark =
     Answer (reply_to_advice a 900)
     ((key.Original (identity_of a.transaction), kept_of_advice a (outcome.Acknowledged 900 (Some mark.reversal))) ∷ [])
 
--- 901, accepted with liability: the original is kept, and the amount is taken from what pays
+-- The original is kept, and the amount is taken from what pays.
+abbrev pub accepted_writes : Advice → Funds → Writes
+accepted_writes a f =
+    (key.Original (identity_of a.transaction), kept_of_advice a (outcome.Accepted (paid_by f)))
+    ∷ (key_of_funds f, row_of_funds (with_balance f (balance_of f - a.transaction.amount)))
+    ∷ []
+
+-- 901, accepted with liability, with those rows
 abbrev pub accepted : Advice → Funds → Plan
-accepted a paying =
-    Answer (reply_to_advice a 901)
-    ((key.Original (identity_of a.transaction), kept_of_advice a (outcome.Accepted (paid_by paying)))
-    ∷ (key_of_funds paying, row_of_funds (with_balance paying (balance_of paying - a.transaction.amount)))
-    ∷ [])
+accepted a f = Answer (reply_to_advice a 901) (accepted_writes a f)
 
 -- a row stands at the identity
 abbrev pub advice_again : Advice → OriginalRow → Plan
@@ -89,15 +91,18 @@ advice_funds t id account (Some budget) = budget_by_mode budget.mode t budget (a
 -- what pays was looked for
 abbrev pub advice_on_funds : Advice → Option Funds → Plan
 advice_on_funds a None = acknowledged a
-advice_on_funds a (Some paying) = accepted a paying
+advice_on_funds a (Some f) = accepted a f
+
+-- what may pay is looked at: the budget of the card's prefix
+abbrev pub looked_for_funds : Advice → AccountId → AccountRow → Plan
+looked_for_funds a id account =
+    Look (key.Budget (prefix_of a.transaction.pan)) (λ row. advice_on_funds a (advice_funds a.transaction id account (budget_in row)))
 
 -- the account's row was looked at: 900 where there is none, or its currency is another
 abbrev pub advice_on_account : Advice → AccountId → Option AccountRow → Plan
 advice_on_account a id None = acknowledged a
 advice_on_account a id (Some account) =
-    if is_same_currency a.transaction.currency account.currency then
-    Look (key.Budget (prefix_of a.transaction.pan)) (λ row. advice_on_funds a (advice_funds a.transaction id account (budget_in row)))
-    else acknowledged a
+    if is_same_currency a.transaction.currency account.currency then looked_for_funds a id account else acknowledged a
 
 -- the account that pays is known: 900 where the advice names one that is not the card's
 abbrev pub advice_on_named : Advice → Option AccountId → Plan
@@ -109,10 +114,13 @@ abbrev pub advice_on_card : Advice → Option CardRow → Plan
 advice_on_card a None = acknowledged a
 advice_on_card a (Some card) = advice_on_named a (account_of card.accounts a.account)
 
+-- the card is looked at
+abbrev pub looked_for_card : Advice → Plan
+looked_for_card a = Look (key.Card a.transaction.pan) (λ row. advice_on_card a (card_in row))
+
 -- an advice whose identity wasn't seen before: 900 where the acquirer didn't approve, and nothing else is looked at
 abbrev pub fresh_advice : Advice → Plan
-fresh_advice a =
-    if a.action == 0 then Look (key.Card a.transaction.pan) (λ row. advice_on_card a (card_in row)) else acknowledged a
+fresh_advice a = if a.action == 0 then looked_for_card a else acknowledged a
 
 -- the row of its identity was looked at
 abbrev pub advice_on_original : Advice → Option OriginalRow → Plan

@@ -1,12 +1,11 @@
 -- What the tables ask of messages and rows.
-use Rattle.std.specs.Prelude.{ℕ, Bool, true, false, ◌&&◌, ◌||◌, ◌==◌, List, take}
+use Rattle.std.specs.Prelude.{ℕ, Bool, true, false, ◌&&◌, ◌==◌, List, take}
 use Rattle.iso8583.specs.declared.currency.Currency.{Currency}
 use Rattle.iso8583.specs.declared.identity.Identity.{Identity}
 use Rattle.iso8583.specs.declared.original_kind.OriginalKind.{OriginalKind}
 use Rattle.iso8583.specs.declared.original_kind.OriginalKind.TheVariants as kind
 use Rattle.iso8583.specs.declared.pan.Pan.{Pan}
 use Rattle.iso8583.specs.declared.pan_prefix.PanPrefix.{PanPrefix}
-use Rattle.iso8583.specs.declared.processing.Processing.{Processing}
 use Rattle.iso8583.specs.declared.transaction.Transaction.{Transaction}
 use Rattle.rows.specs.Kept.{KeptOriginal, kind_of_outcome}
 use Rattle.rows.specs.RowKey.{text_eq}

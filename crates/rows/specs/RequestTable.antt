@@ -16,7 +16,7 @@ use Rattle.rows.specs.CardAccounts.{account_of}
 use Rattle.rows.specs.Facts.{identity_of, day_of, month_of, prefix_of, is_same_currency, is_marked, is_of_same}
 use Rattle.rows.specs.Funds.{balance_of, with_balance, key_of_funds, row_of_funds, paid_by}
 use Rattle.rows.specs.Kept.{KeptOriginal, action_of_outcome, approval_of_outcome}
-use Rattle.rows.specs.Plan.{Plan, Answer, Look}
+use Rattle.rows.specs.Plan.{Plan, Writes, Answer, Look}
 use Rattle.rows.specs.RowKey.{text_eq}
 use Rattle.rows.specs.Typed.{card_in, velocity_in, budget_in, original_in, account_in, spent_in}
 use Rattle.rows.specs.declared.account_row.AccountRow.{AccountRow}
@@ -155,14 +155,17 @@ abbrev pub spent_more : VelocityRow → ℕ → VelocityRow
 spent_more day amount = record { count = day.count + 1; sum = day.sum + amount }
 
 -- The original is kept, the card's approvals and its day rise, and the amount is taken from what pays.
-abbrev pub approved : Request → CardRow → VelocityRow → Funds → Plan
-approved r card day paying =
-    Answer (reply_to_request r (verdict.Approved (approval_code card)))
-    ((key.Original (identity_of r.transaction), kept_of_request r (outcome.Approved (approval_code card) (paid_by paying)))
+abbrev pub approved_writes : Request → CardRow → VelocityRow → Funds → Writes
+approved_writes r card day f =
+    (key.Original (identity_of r.transaction), kept_of_request r (outcome.Approved (approval_code card) (paid_by f)))
     ∷ (key.Card r.transaction.pan, val.Card (approved_card card))
     ∷ (key.Velocity r.transaction.pan (day_of r.transaction.stamp), val.Velocity (spent_more day r.transaction.amount))
-    ∷ (key_of_funds paying, row_of_funds (with_balance paying (balance_of paying - r.transaction.amount)))
-    ∷ [])
+    ∷ (key_of_funds f, row_of_funds (with_balance f (balance_of f - r.transaction.amount)))
+    ∷ []
+
+-- 000, with those rows
+abbrev pub approved : Request → CardRow → VelocityRow → Funds → Plan
+approved r card day f = Answer (reply_to_request r (verdict.Approved (approval_code card))) (approved_writes r card day f)
 
 -- refused where there is an action, and else this
 abbrev pub unless_refused : Request → Option ℕ → Plan → Plan
@@ -172,21 +175,27 @@ unless_refused r None next = next
 -- what pays was looked for
 abbrev pub on_funds : Request → CardRow → VelocityRow → Result Funds ℕ → Plan
 on_funds r card day (Err action) = declined_request r action
-on_funds r card day (Ok paying) = approved r card day paying
+on_funds r card day (Ok f) = approved r card day f
+
+-- what may pay is looked at: the budget of the card's prefix
+abbrev pub looked_for_funds : Request → CardRow → AccountId → AccountRow → VelocityRow → Plan
+looked_for_funds r card id account day =
+    Look (key.Budget (prefix_of r.transaction.pan)) (λ row. on_funds r card day (request_funds r.transaction id account (budget_in row)))
 
 -- what was spent on the day is known
 abbrev pub on_day : Request → CardRow → AccountId → AccountRow → VelocityRow → Plan
-on_day r card id account day =
-    unless_refused r (refused_by_limits r card day)
-    (Look (key.Budget (prefix_of r.transaction.pan)) (λ row. on_funds r card day (request_funds r.transaction id account (budget_in row))))
+on_day r card id account day = unless_refused r (refused_by_limits r card day) (looked_for_funds r card id account day)
+
+-- the account is in the request's currency: its day is looked at
+abbrev pub looked_for_day : Request → CardRow → AccountId → AccountRow → Plan
+looked_for_day r card id account =
+    Look (key.Velocity r.transaction.pan (day_of r.transaction.stamp)) (λ row. on_day r card id account (spent_in (velocity_in row)))
 
 -- the account's row was looked at: 909 where there is none, 100 where its currency is another
 abbrev pub on_account : Request → CardRow → AccountId → Option AccountRow → Plan
 on_account r card id None = declined_request r 909
 on_account r card id (Some account) =
-    if is_same_currency r.transaction.currency account.currency then
-    Look (key.Velocity r.transaction.pan (day_of r.transaction.stamp)) (λ row. on_day r card id account (spent_in (velocity_in row)))
-    else declined_request r 100
+    if is_same_currency r.transaction.currency account.currency then looked_for_day r card id account else declined_request r 100
 
 -- the account that pays is known, or what the card refuses the request for
 abbrev pub on_usable : Request → CardRow → Result AccountId ℕ → Plan
@@ -198,9 +207,13 @@ abbrev pub on_card : Request → Option CardRow → Plan
 on_card r None = declined_request r 118
 on_card r (Some card) = on_usable r card (usable_account r card)
 
+-- the card is looked at
+abbrev pub looked_for_card : Request → Plan
+looked_for_card r = Look (key.Card r.transaction.pan) (λ row. on_card r (card_in row))
+
 -- a request whose identity wasn't seen before
 abbrev pub fresh_request : Request → Plan
-fresh_request r = unless_refused r (refused_unseen r) (Look (key.Card r.transaction.pan) (λ row. on_card r (card_in row)))
+fresh_request r = unless_refused r (refused_unseen r) (looked_for_card r)
 
 -- the row of its identity was looked at
 abbrev pub on_original : Request → Option OriginalRow → Plan

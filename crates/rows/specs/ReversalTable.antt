@@ -1,22 +1,20 @@
 -- The decision table of a reversal advice, 1420 and 1421. The first rule that applies decides; a row is looked at where the
 -- first rule that needs it is reached.
-use Rattle.std.specs.Prelude.{ℕ, ◌+◌, ◌-◌, ◌^◌, Bool, true, false, ◌==◌, ◌&&◌, ◌||◌, not, nat_le, nat_lt, if◌then◌else◌, List, [], ◌∷◌, ◌++◌, Option, Some, None, option_map}
+use Rattle.std.specs.Prelude.{ℕ, ◌+◌, ◌-◌, Bool, true, false, ◌==◌, ◌&&◌, ◌||◌, not, nat_lt, if◌then◌else◌, [], ◌∷◌, Option, Some, None, option_map}
 use Rattle.iso8583.specs.declared.answer.Answer.TheVariants as answer
 use Rattle.iso8583.specs.declared.identity.Identity.{Identity}
 use Rattle.iso8583.specs.declared.original_kind.OriginalKind.{OriginalKind}
 use Rattle.iso8583.specs.declared.original_kind.OriginalKind.TheVariants as kind
-use Rattle.iso8583.specs.declared.reply.Reply.{Reply}
 use Rattle.iso8583.specs.declared.reversal.Reversal.{Reversal}
 use Rattle.iso8583.specs.declared.reversal_scope.ReversalScope.{ReversalScope}
 use Rattle.iso8583.specs.declared.reversal_scope.ReversalScope.TheVariants as scope
 use Rattle.rows.specs.Facts.{identity_of, day_of, prefix_of, is_same_card, is_same_identity, is_same_kind}
 use Rattle.rows.specs.Funds.{balance_of, with_balance, key_of_funds, row_of_funds}
 use Rattle.rows.specs.Kept.{KeptOriginal, kind_of_outcome, payment_of_outcome, reversal_of_outcome, settled}
-use Rattle.rows.specs.Plan.{Plan, Writes, Answer, Look}
+use Rattle.rows.specs.Plan.{Plan, Answer, Look}
 use Rattle.rows.specs.Typed.{velocity_in, budget_in, original_in, account_in}
 use Rattle.rows.specs.declared.funds.Funds.{Funds}
 use Rattle.rows.specs.declared.funds.Funds.TheVariants as funds
-use Rattle.rows.specs.declared.mark.Mark.{Mark}
 use Rattle.rows.specs.declared.original_row.OriginalRow.{OriginalRow}
 use Rattle.rows.specs.declared.original_row.OriginalRow.TheVariants as original
 use Rattle.rows.specs.declared.payer.Payer.{Payer}
@@ -100,25 +98,33 @@ day_is_short r k day = (takes_approval r.scope && (day.count == 0)) || nat_lt da
 abbrev pub is_overfull : Reversal → KeptOriginal → Funds → Bool
 is_overfull r k paid = nat_lt greatest_balance (balance_of paid + given_back r k)
 
--- 400: the difference goes back to the row that paid, and out of what stays of the original
-abbrev pub reversed_advice : Reversal → KeptOriginal → Funds → Plan
-reversed_advice r k paid =
-    if is_overfull r k paid then unchanged r 909
-    else Answer (reply_to_reversal r 400) (reversed_original r k ∷ refunded r k paid ∷ [])
+-- The difference goes back to the row that paid, and out of what stays of the advice.
+abbrev pub advice_back : Reversal → KeptOriginal → Funds → Writes
+advice_back r k paid = reversed_original r k ∷ refunded r k paid ∷ []
 
--- the day's row was looked at. 914 where there is none; else 400: the difference goes back to the row that paid, out of what
--- stays of the original, and out of the day
+-- The difference goes back to the row that paid, out of what stays of the request, and out of its day.
+abbrev pub request_back : Reversal → KeptOriginal → Funds → VelocityRow → Writes
+request_back r k paid day = reversed_original r k ∷ (day_key r k, val.Velocity (spent_less r k day)) ∷ refunded r k paid ∷ []
+
+-- an advice: 909 where what paid would have more than it may, else 400
+abbrev pub reversed_advice : Reversal → KeptOriginal → Funds → Plan
+reversed_advice r k paid = if is_overfull r k paid then unchanged r 909 else Answer (reply_to_reversal r 400) (advice_back r k paid)
+
+-- the day's row was looked at: 914 where there is none, 909 where what paid would have more than it may or the day is short,
+-- else 400
 abbrev pub on_original_day : Reversal → KeptOriginal → Funds → Option VelocityRow → Plan
 on_original_day r k paid None = unchanged r 914
 on_original_day r k paid (Some day) =
     if is_overfull r k paid then unchanged r 909
-    else (if day_is_short r k day then unchanged r 909
-    else Answer (reply_to_reversal r 400)
-    (reversed_original r k ∷ (day_key r k, val.Velocity (spent_less r k day)) ∷ refunded r k paid ∷ []))
+    else (if day_is_short r k day then unchanged r 909 else Answer (reply_to_reversal r 400) (request_back r k paid day))
+
+-- the original's day is looked at
+abbrev pub looked_for_day : Reversal → KeptOriginal → Funds → Plan
+looked_for_day r k paid = Look (day_key r k) (λ row. on_original_day r k paid (velocity_in row))
 
 -- what is done by the kind of the original: a request was spent on a day
 abbrev pub by_kind : OriginalKind → Reversal → KeptOriginal → Funds → Plan
-by_kind kind.Request r k paid = Look (day_key r k) (λ row. on_original_day r k paid (velocity_in row))
+by_kind kind.Request r k paid = looked_for_day r k paid
 by_kind kind.Advice r k paid = reversed_advice r k paid
 
 -- the row that paid was looked at: 914 where there is none
@@ -149,11 +155,15 @@ on_reversal r k None = on_payment r k (payment_of_outcome k.outcome)
 abbrev pub is_named : Reversal → KeptOriginal → Bool
 is_named r k = is_same_card k.card r.transaction.pan && is_same_kind (kind_of_outcome k.outcome) r.original.kind
 
--- the original's row was looked at. None: 914 and a mark; a mark, another card or another kind: 914
+-- the original is kept: 914 where its card or its kind is another
+abbrev pub on_kept : Reversal → KeptOriginal → Plan
+on_kept r k = if is_named r k then on_reversal r k (reversal_of_outcome k.outcome) else unchanged r 914
+
+-- the original's row was looked at. None: 914 and a mark; a mark: 914
 abbrev pub on_reversed : Reversal → Option OriginalRow → Plan
 on_reversed r None = marked_ahead r
 on_reversed r (Some (original.Ahead mark)) = unchanged r 914
-on_reversed r (Some (original.Kept k)) = if is_named r k then on_reversal r k (reversal_of_outcome k.outcome) else unchanged r 914
+on_reversed r (Some (original.Kept k)) = on_kept r k
 
 -- a reversal: the row of the original that it names is looked at
 abbrev pub reversal_plan : Reversal → Plan

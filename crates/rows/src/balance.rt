@@ -60,4 +60,13 @@ impl Balance {
     {
         Balance::new(self.minor + amount.minor())
     }
+
+    /// The balance less the amount, and nothing where that is more.
+    pub fn saturating_sub(&self, amount: Amount) -> Balance
+        ensures { result ≡ self.now - amount }
+    {
+        Balance {
+            minor: self.minor.saturating_sub(amount.minor()),
+        }
+    }
 }

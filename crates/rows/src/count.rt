@@ -51,12 +51,12 @@ impl Count {
         Count::new(self.number + 1)
     }
 
-    /// One less, unless the count is 0.
-    pub fn checked_previous(&self) -> Option<Count>
-        ensures { SomeIff result (0 < self.now) (self.now - 1) }
+    /// One less; none where there is none.
+    pub fn saturating_previous(&self) -> Count
+        ensures { result ≡ self.now - 1 }
     {
-        Some(Count {
-            number: self.number.checked_sub(1)?,
-        })
+        Count {
+            number: self.number.saturating_sub(1),
+        }
     }
 }

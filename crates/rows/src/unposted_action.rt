@@ -23,6 +23,11 @@ impl Model for UnpostedAction {
 }
 
 impl UnpostedAction {
+    /// 900: advice acknowledged, no financial liability accepted.
+    pub const ACKNOWLEDGED: UnpostedAction = UnpostedAction {
+        action: Action::ACKNOWLEDGED,
+    };
+
     /// The code, if it is not 901.
     pub fn new(action: Action) -> Option<UnpostedAction>
         ensures { SomeIff result (action ≢ 901) action }

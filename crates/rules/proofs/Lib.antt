@@ -1,1 +1,3 @@
-pub mod RequestLaws
+pub mod FollowingLaws
+pub mod PutLaws
+pub mod RefundLaws

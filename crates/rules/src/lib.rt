@@ -1,13 +1,19 @@
 //! The shipped decision: what a message is answered, and which rows it puts.
 #![tactic(auto)]
 
-mod action;
-mod reply;
+mod advice;
+mod advice_answers;
+mod advice_facts;
+mod facts;
+mod look_up;
 mod request;
+mod request_answers;
+mod request_facts;
+mod reversal;
+mod reversal_answers;
+mod reversal_facts;
+mod reversal_refunds;
 mod shipped;
 mod typed;
 
 pub use shipped::{Shipped, decide};
-
-#[cfg(test)]
-mod tests;

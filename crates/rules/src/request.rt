@@ -1,14 +1,17 @@
-ghost use Rattle.std.specs.Prelude.{◌≡◌, ◌⊎◌, IfOk, IfErr, IfSome};
-ghost use Rattle.rows.specs.Agreement.{IsLocal};
+ghost use Rattle.std.specs.Prelude.{◌≡◌, ◌⊎◌, ◌∷◌, [], Ok, IfOk, IfErr, IfSome};
+ghost use Rattle.iso8583.specs.declared.message.Message.TheVariants as message;
+ghost use Rattle.rows.specs.RequestTable as table;
 ghost use Rattle.rows.specs.declared.frame.Frame.TheVariants.{Good};
-ghost use Rattle.rules.specs.Needs.{ReadsNeeds, ReadsAllNeeds};
-ghost use Rattle.view.specs.Recording.{IsNew, IsStopOf};
+ghost use Rattle.rules.specs.Following.{Follows, Concludes, kinds_read};
+ghost use Rattle.rules.specs.Needs.{ReadsNeeds};
+ghost use Rattle.view.specs.Recording.{IsStopOf};
 
-use crate::action::{NO_CARD_RECORD, NOT_SUFFICIENT_FUNDS, SYSTEM_MALFUNCTION};
-use crate::reply::{approved, declined};
-use crate::typed::card_in;
-use iso8583::Request;
-use rows::{CardRow, ReplyBody, RowKey, RowVal};
+use crate::look_up::look_up;
+use crate::request_answers::{answer_again, approve, decline};
+use crate::request_facts::{refused_by_limits, refused_unseen, request_funds, usable_account};
+use crate::typed::{account_in, budget_in, card_in, original_in, spent_in, velocity_in};
+use iso8583::{AccountId, DeclineCode, Request};
+use rows::{AccountRow, CardRow, ReplyBody, RowKey, VelocityRow};
 use view::{Recorder, RowSource, Stop};
 
 // Decides an authorization request.
@@ -16,29 +19,114 @@ pub(crate) fn decide_request<S: RowSource>(
     request: &Request,
     rows: &mut Recorder<S>,
 ) -> Result<ReplyBody, Stop>
-    requires { IsNew rows.old }
-    ensures local { IfOk result (λ reply. IsLocal (Good request.now) rows.new.reads rows.new.writes reply) }
+    requires follows { Follows (Good (message.Request request.now)) rows.old.reads rows.old.writes (table.request_plan request.now) }
+    requires kinds { kinds_read rows.old.reads ≡ [] }
+    ensures done { IfOk result (λ reply. Concludes (Good (message.Request request.now)) rows.new.reads rows.new.writes reply) }
+    ensures so_far { ReadsNeeds (Good (message.Request request.now)) rows.new.reads }
     ensures stop { IfErr result (λ stop. (stop ≡ Stop.OutOfMemory) ⊎ IsStopOf S.answers rows.new.source stop) }
-    ensures needs { ReadsNeeds (Good request.now) rows.new.reads }
-    ensures all { IfOk result (λ _. ReadsAllNeeds (Good request.now) rows.new.reads) }
     ensures stops { IfSome (S.book rows.old.source) (λ _. IfErr result (λ stop. stop ≡ Stop.OutOfMemory)) }
     ensures book { S.book rows.new.source ≡ S.book rows.old.source }
 {
+    let key = RowKey::Original(request.transaction.identity());
+    match original_in(&look_up(rows, &key)?) {
+        Some(row) => answer_again(request, &row, rows),
+        None => decide_fresh(request, rows),
+    }
+}
+
+// Decides a request whose identity wasn't seen before: what it is refused for before its card is known, then its card.
+fn decide_fresh<S: RowSource>(request: &Request, rows: &mut Recorder<S>) -> Result<ReplyBody, Stop>
+    requires follows { Follows (Good (message.Request request.now)) rows.old.reads rows.old.writes (table.fresh_request request.now) }
+    requires kinds { kinds_read rows.old.reads ≡ 3 ∷ [] }
+    ensures done { IfOk result (λ reply. Concludes (Good (message.Request request.now)) rows.new.reads rows.new.writes reply) }
+    ensures so_far { ReadsNeeds (Good (message.Request request.now)) rows.new.reads }
+    ensures stop { IfErr result (λ stop. (stop ≡ Stop.OutOfMemory) ⊎ IsStopOf S.answers rows.new.source stop) }
+    ensures stops { IfSome (S.book rows.old.source) (λ _. IfErr result (λ stop. stop ≡ Stop.OutOfMemory)) }
+    ensures book { S.book rows.new.source ≡ S.book rows.old.source }
+{
+    if let Some(code) = refused_unseen(request) {
+        return decline(request, code, rows);
+    }
     let key = RowKey::Card(request.transaction.pan);
-    let Some(card) = card_in(rows.read(&key)?) else {
-        return Ok(declined(request, NO_CARD_RECORD));
+    let Some(card) = card_in(&look_up(rows, &key)?) else {
+        return decline(request, DeclineCode::NO_CARD_RECORD, rows);
     };
-    let Some(approvals) = card.approvals.checked_next() else {
-        return Ok(declined(request, SYSTEM_MALFUNCTION));
+    match usable_account(request, &card) {
+        Ok(id) => decide_on_account(request, &card, id, rows),
+        Err(code) => decline(request, code, rows),
+    }
+}
+
+// Decides a request that its card doesn't refuse: its account.
+fn decide_on_account<S: RowSource>(
+    request: &Request,
+    card: &CardRow,
+    id: AccountId,
+    rows: &mut Recorder<S>,
+) -> Result<ReplyBody, Stop>
+    requires follows { Follows (Good (message.Request request.now)) rows.old.reads rows.old.writes (table.on_usable request.now card.now (Ok id)) }
+    requires kinds { kinds_read rows.old.reads ≡ 3 ∷ 0 ∷ [] }
+    ensures done { IfOk result (λ reply. Concludes (Good (message.Request request.now)) rows.new.reads rows.new.writes reply) }
+    ensures so_far { ReadsNeeds (Good (message.Request request.now)) rows.new.reads }
+    ensures stop { IfErr result (λ stop. (stop ≡ Stop.OutOfMemory) ⊎ IsStopOf S.answers rows.new.source stop) }
+    ensures stops { IfSome (S.book rows.old.source) (λ _. IfErr result (λ stop. stop ≡ Stop.OutOfMemory)) }
+    ensures book { S.book rows.new.source ≡ S.book rows.old.source }
+{
+    let key = RowKey::Account(id);
+    let Some(account) = account_in(&look_up(rows, &key)?) else {
+        return decline(request, DeclineCode::SYSTEM_MALFUNCTION, rows);
     };
-    let Some(available) = card.available.checked_sub(request.transaction.amount) else {
-        return Ok(declined(request, NOT_SUFFICIENT_FUNDS));
-    };
-    let charged = CardRow {
-        available,
-        approvals,
-        ..card
-    };
-    rows.write(key, RowVal::Card(charged))?;
-    Ok(approved(request, approvals))
+    if request.transaction.currency != account.currency {
+        return decline(request, DeclineCode::DO_NOT_HONOUR, rows);
+    }
+    decide_on_day(request, card, id, &account, rows)
+}
+
+// Decides a request in its account's currency: what was spent on its day.
+fn decide_on_day<S: RowSource>(
+    request: &Request,
+    card: &CardRow,
+    id: AccountId,
+    account: &AccountRow,
+    rows: &mut Recorder<S>,
+) -> Result<ReplyBody, Stop>
+    requires follows { Follows (Good (message.Request request.now)) rows.old.reads rows.old.writes (table.looked_for_day request.now card.now id account.now) }
+    requires kinds { kinds_read rows.old.reads ≡ 3 ∷ 0 ∷ 4 ∷ [] }
+    ensures done { IfOk result (λ reply. Concludes (Good (message.Request request.now)) rows.new.reads rows.new.writes reply) }
+    ensures so_far { ReadsNeeds (Good (message.Request request.now)) rows.new.reads }
+    ensures stop { IfErr result (λ stop. (stop ≡ Stop.OutOfMemory) ⊎ IsStopOf S.answers rows.new.source stop) }
+    ensures stops { IfSome (S.book rows.old.source) (λ _. IfErr result (λ stop. stop ≡ Stop.OutOfMemory)) }
+    ensures book { S.book rows.new.source ≡ S.book rows.old.source }
+{
+    let key = RowKey::Velocity(request.transaction.pan, request.transaction.stamp.day());
+    let day = spent_in(velocity_in(&look_up(rows, &key)?));
+    decide_on_limits(request, card, id, account, &day, rows)
+}
+
+// Decides a request whose day is known: the limits of its card, then what pays.
+fn decide_on_limits<S: RowSource>(
+    request: &Request,
+    card: &CardRow,
+    id: AccountId,
+    account: &AccountRow,
+    day: &VelocityRow,
+    rows: &mut Recorder<S>,
+) -> Result<ReplyBody, Stop>
+    requires follows { Follows (Good (message.Request request.now)) rows.old.reads rows.old.writes (table.on_day request.now card.now id account.now day.now) }
+    requires kinds { kinds_read rows.old.reads ≡ 3 ∷ 0 ∷ 4 ∷ 1 ∷ [] }
+    ensures done { IfOk result (λ reply. Concludes (Good (message.Request request.now)) rows.new.reads rows.new.writes reply) }
+    ensures so_far { ReadsNeeds (Good (message.Request request.now)) rows.new.reads }
+    ensures stop { IfErr result (λ stop. (stop ≡ Stop.OutOfMemory) ⊎ IsStopOf S.answers rows.new.source stop) }
+    ensures stops { IfSome (S.book rows.old.source) (λ _. IfErr result (λ stop. stop ≡ Stop.OutOfMemory)) }
+    ensures book { S.book rows.new.source ≡ S.book rows.old.source }
+{
+    if let Some(code) = refused_by_limits(request, card, day) {
+        return decline(request, code, rows);
+    }
+    let key = RowKey::Budget(request.transaction.pan.prefix());
+    let budget = budget_in(&look_up(rows, &key)?);
+    match request_funds(&request.transaction, id, account, &budget) {
+        Ok(paying) => approve(request, card, day, &paying, rows),
+        Err(code) => decline(request, code, rows),
+    }
 }

@@ -23,8 +23,8 @@ pub(crate) fn kept_verdict(outcome: &Outcome) -> Verdict
 fn is_unpermitted(request: &Request) -> bool
     ensures { result ≡ table.is_unpermitted request.now }
 {
-    let kind = &request.transaction.processing.as_slice()[..2];
-    !(kind == b"00" || kind == b"01")
+    let kind = request.transaction.processing.transaction_type();
+    !(kind == b"00".as_slice() || kind == b"01".as_slice())
 }
 
 // What a request is refused for before its card is known.

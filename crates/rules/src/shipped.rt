@@ -1,35 +1,53 @@
 ghost use Rattle.std.specs.Prelude.{◌≡◌, ◌⊎◌, IfOk, IfErr, IfSome};
 ghost use Rattle.iso8583.specs.declared.codec_fault.CodecFault.{CodecFault};
 ghost use Rattle.rows.specs.Agreement.{IsLocal};
+ghost use Rattle.rules.specs.Following.{Concludes};
 ghost use Rattle.rules.specs.Needs.{ReadsNeeds, ReadsAllNeeds};
 ghost use Rattle.view.specs.Recording.{IsNew, IsStopOf};
 
+use crate::advice::decide_advice;
 use crate::request::decide_request;
+use crate::reversal::decide_reversal;
+use iso8583::Message;
 use rows::{Frame, ReplyBody};
 use view::{Decide, Recorder, RowSource, Stop};
 
 /// Decides one body by the decision table, over any source of rows. It reads the rows that the table needs, each where
 /// the table comes to it, and no other.
-#[tactic(auto, unfolding(rows::specs::Decision::decision))]
+#[tactic(auto, using(crate::proofs::FollowingLaws::concluded_all))]
 pub fn decide<S: RowSource>(frame: &Frame, rows: &mut Recorder<S>) -> Result<ReplyBody, Stop>
     requires { IsNew rows.old }
     ensures local { IfOk result (λ reply. IsLocal frame.now rows.new.reads rows.new.writes reply) }
-
     // A body that is no message is answered its fault, whatever the source and the memory.
     ensures bad { (fault : CodecFault) → frame.now ≡ Frame.Bad fault → result ≡ Ok (ReplyBody.Fault fault) }
-
     // It stops where the source does or memory runs out; the rows that were read are the first of those that are needed,
     // and all of them where it replies.
     ensures stop { IfErr result (λ stop. (stop ≡ Stop.OutOfMemory) ⊎ IsStopOf S.answers rows.new.source stop) }
     ensures needs { ReadsNeeds frame.now rows.new.reads }
     ensures all { IfOk result (λ _. ReadsAllNeeds frame.now rows.new.reads) }
-
     // A known book stays, and want of memory is all that stops it.
     ensures stops { IfSome (S.book rows.old.source) (λ _. IfErr result (λ stop. stop ≡ Stop.OutOfMemory)) }
     ensures book { S.book rows.new.source ≡ S.book rows.old.source }
 {
+    follow(frame, rows)
+}
+
+// Follows the plan of one body to its end.
+fn follow<S: RowSource>(frame: &Frame, rows: &mut Recorder<S>) -> Result<ReplyBody, Stop>
+    requires { IsNew rows.old }
+    ensures done { IfOk result (λ reply. Concludes frame.now rows.new.reads rows.new.writes reply) }
+    ensures bad { (fault : CodecFault) → frame.now ≡ Frame.Bad fault → result ≡ Ok (ReplyBody.Fault fault) }
+    ensures so_far { ReadsNeeds frame.now rows.new.reads }
+    ensures stop { IfErr result (λ stop. (stop ≡ Stop.OutOfMemory) ⊎ IsStopOf S.answers rows.new.source stop) }
+    ensures stops { IfSome (S.book rows.old.source) (λ _. IfErr result (λ stop. stop ≡ Stop.OutOfMemory)) }
+    ensures book { S.book rows.new.source ≡ S.book rows.old.source }
+{
     match frame {
-        Frame::Good(request) => decide_request(request, rows),
+        Frame::Good(message) => match message {
+            Message::Request(request) => decide_request(request, rows),
+            Message::Advice(advice) => decide_advice(advice, rows),
+            Message::Reversal(reversal) => decide_reversal(reversal, rows),
+        },
         Frame::Bad(fault) => Ok(ReplyBody::Fault(*fault)),
     }
 }
@@ -39,11 +57,16 @@ pub fn decide<S: RowSource>(frame: &Frame, rows: &mut Recorder<S>) -> Result<Rep
 pub struct Shipped;
 
 impl Decide for Shipped {
-    fn decide<S: RowSource>(
-        &self,
-        frame: &Frame,
-        rows: &mut Recorder<S>,
-    ) -> Result<ReplyBody, Stop> {
+    fn decide<S: RowSource>(&self, frame: &Frame, rows: &mut Recorder<S>) -> Result<ReplyBody, Stop>
+        requires { IsNew rows.old }
+        ensures local { IfOk result (λ reply. IsLocal frame.now rows.new.reads rows.new.writes reply) }
+        ensures bad { (fault : CodecFault) → frame.now ≡ Frame.Bad fault → result ≡ Ok (ReplyBody.Fault fault) }
+        ensures stop { IfErr result (λ stop. (stop ≡ Stop.OutOfMemory) ⊎ IsStopOf S.answers rows.new.source stop) }
+        ensures needs { ReadsNeeds frame.now rows.new.reads }
+        ensures all { IfOk result (λ _. ReadsAllNeeds frame.now rows.new.reads) }
+        ensures stops { IfSome (S.book rows.old.source) (λ _. IfErr result (λ stop. stop ≡ Stop.OutOfMemory)) }
+        ensures book { S.book rows.new.source ≡ S.book rows.old.source }
+    {
         decide(frame, rows)
     }
 }

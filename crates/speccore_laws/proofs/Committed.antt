@@ -15,7 +15,7 @@ use Rattle.speccore_laws.specs.Follows.{Follows}
 use Rattle.speccore_laws.specs.Holds.{Holds}
 use Rattle.speccore_laws.proofs.Follows.{Follows-push, put-Follows, unput-Follows}
 use Rattle.speccore_laws.specs.Kept.{IsSoundRead, version_at}
-use Rattle.speccore_laws.proofs.Keys.{key_eq-true}
+use Rattle.rows.proofs.KeyLaws.{key_eq_decides}
 use Rattle.speccore_laws.proofs.Members.{Contains-head, Contains-tail, Contains-nil}
 use Rattle.speccore_laws.proofs.Overlay.{Puts}
 use Rattle.speccore_laws.specs.Resolves.{Resolves, ResolvesAs, origin_of}
@@ -78,7 +78,7 @@ pub logged_in-Some : (log : List LoggedRead) (row : RowKey) (value : Option RowV
 logged_in-Some [] row value e = absurd (none-some value e)
 logged_in-Some (read ∷ reads) row value e =
     elim (found_first (key_eq read.row row) read (logged_in reads row) value e) [
-      | inl here ↦ (read, Contains-head read reads, key_eq-true read.row row here.0, here.1)
+      | inl here ↦ (read, Contains-head read reads, (key_eq_decides read.row row).0 here.0, here.1)
       | inr later ↦ let r = logged_in-Some reads row value later in (r.0, Contains-tail read reads r.0 r.1, r.2, r.3)
     ]
 

@@ -7,7 +7,7 @@ use Rattle.rows.specs.Plan.{Writes}
 use Rattle.rows.specs.RowKey.{key_cmp}
 use Rattle.rows.specs.declared.row_key.RowKey.{RowKey}
 use Rattle.rows.specs.declared.row_val.RowVal.{RowVal}
-use Rattle.rows.proofs.BookLaws.{key_cmp_total}
+use Rattle.rows.proofs.KeyLaws.{key_cmp_total}
 use Rattle.speccore_laws.proofs.Keys.{key_cases}
 use Rattle.speccore_laws.proofs.Members.{Contains-cons, Contains-head, Contains-tail, Contains-nil}
 use Rattle.rows.specs.PutsOnce.{PutsOnce}

@@ -16,4 +16,3 @@ pub use recorder::Recorder;
 pub use row_source::RowSource;
 pub use stop::Stop;
 pub use write_set::WriteSet;
-

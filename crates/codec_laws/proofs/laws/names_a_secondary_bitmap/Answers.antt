@@ -1,4 +1,4 @@
-use Rattle.codec_laws.proofs.BitmapFaults.{secondary_bitmap}
+use Rattle.codec_laws.proofs.BitsFaults.{secondary_bitmap}
 use Rattle.codec_laws.proofs.laws.names_a_secondary_bitmap.Goals as goal
 
 pub returns : goal.returns

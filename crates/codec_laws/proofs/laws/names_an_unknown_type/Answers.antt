@@ -1,4 +1,5 @@
-use Rattle.codec_laws.proofs.TypeFaults.{unknown_type, short_header}
+use Rattle.codec_laws.proofs.BitsFaults.{short_header}
+use Rattle.codec_laws.proofs.TypeFaults.{unknown_type}
 use Rattle.codec_laws.proofs.laws.names_an_unknown_type.Goals as goal
 
 pub returns-clause-unknown : goal.returns-clause-unknown

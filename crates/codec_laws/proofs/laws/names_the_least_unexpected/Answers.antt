@@ -1,4 +1,4 @@
-use Rattle.codec_laws.proofs.BitmapFaults.{least_unexpected}
+use Rattle.codec_laws.proofs.NamedElements.{least_unexpected}
 use Rattle.codec_laws.proofs.laws.names_the_least_unexpected.Goals as goal
 
 pub returns : goal.returns

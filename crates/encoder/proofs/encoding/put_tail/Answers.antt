@@ -4,6 +4,6 @@ use Rattle.encoder.proofs.encoding.put_tail.Goals as goal
 
 pub returns : goal.returns
 returns c =
-    tail_written c.args.out.now.items c.put_code.new.out.items c.put_original_amount.new.out.items c.put_references.new.out.items c.put_approval.new.out.items c.put_code-2.new.out.items c.put_ends.new.out.items c.put_original.new.out.items
+    tail_written c.args.out.now.items c.put_code.new.out.items c.put_original_amount.new.out.items c.put_references.new.out.items c.put_approval.new.out.items c.put_code-2.new.out.items c.put_ends.new.out.items c.put_last.new.out.items
     (whole_content c.args.transaction.now c.args.extras.now) c.put_code.ensures.items c.put_original_amount.ensures.items (c.put_references.ensures.items c.args.extras.now) c.put_approval.ensures.items c.put_code-2.ensures.items
-    (c.put_ends.ensures.items c.args.extras.now) c.put_original.ensures.items
+    (c.put_ends.ensures.items c.args.extras.now) c.put_last.ensures

@@ -1,7 +1,0 @@
-use Rattle.std.proofs.Common.{◌≡◌, ◌-◌}
-use Rattle.codec_laws.specs.Types.{parts_of}
-use Rattle.codec_laws.specs.Reading.{least, is_unexpected}
-use Rattle.codec.proofs.bitmap.least_unexpected.Given as goal
-
-abbrev pub invariant-loop-n : goal.invariant-loop-n
-invariant-loop-n l = least (is_unexpected (parts_of l.mti) l.bitmap) 2 63 ≡ least (is_unexpected (parts_of l.mti) l.bitmap) l.n (65 - l.n)

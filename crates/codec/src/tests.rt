@@ -1,3 +1,0 @@
-mod faults;
-mod forms;
-mod round_trips;

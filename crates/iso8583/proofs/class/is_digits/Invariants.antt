@@ -1,0 +1,7 @@
+use Rattle.std.proofs.Common.{◌≡◌, take}
+use Rattle.iso8583.specs.Class.{is_digits}
+use Rattle.iso8583.proofs.class.is_digits.Given as goal
+
+-- as far as the text was looked at
+abbrev pub invariant-loop-c : goal.invariant-loop-c
+invariant-loop-c l = l.only ≡ is_digits (take l.c-index l.text)

@@ -1,0 +1,5 @@
+//! Tests of rows, of one decision and of the serial answer: values from outside, printed texts, and calls that succeed.
+#![tactic(auto)]
+
+#[cfg(test)]
+mod checks;

@@ -1,0 +1,75 @@
+-- Rows that are put one after another.
+use Rattle.std.proofs.Common.{◌≡◌, ℕ, List, [], ◌∷◌, refl, ap, ◌∙◌}
+use Rattle.iso8583.specs.declared.identity.Identity.{Identity}
+use Rattle.iso8583.specs.declared.pan.Pan.{Pan}
+use Rattle.rows.specs.Funds.{key_of_funds, row_of_funds, with_balance}
+use Rattle.rows.specs.Plan.{Writes}
+use Rattle.rows.specs.RowVal.{IsOfKind}
+use Rattle.rows.specs.declared.funds.Funds.{Funds}
+use Rattle.rows.specs.declared.funds.Funds.TheVariants as funds
+use Rattle.rows.specs.declared.row_key.RowKey.{RowKey}
+use Rattle.rows.specs.declared.row_key.RowKey.TheVariants as key
+use Rattle.rows.specs.declared.row_val.RowVal.{RowVal}
+use Rattle.view.specs.Recording.{Recording}
+use Rattle.view.specs.RowSets.{put}
+
+-- one more row is put
+pub next_put : (writes now : Writes) (k : RowKey) (value : RowVal) (before after : Writes) → now ≡ put writes k value → writes ≡ before → put before k value ≡ after → now ≡ after
+next_put writes now k value before after is was computed = is ∙ ap (λ (ws : Writes). put ws k value) was ∙ computed
+
+-- what pays is put behind an original, a card and a day
+pub funds_put_last : (f : Funds) (identity : Identity) (pan other : Pan) (day : List ℕ) (a b c d : RowVal)
+    → put ((key.Original identity, a) ∷ (key.Card pan, b) ∷ (key.Velocity other day, c) ∷ []) (key_of_funds f) d
+    ≡ (key.Original identity, a) ∷ (key.Card pan, b) ∷ (key.Velocity other day, c) ∷ (key_of_funds f, d) ∷ []
+funds_put_last (funds.Account id row) identity pan other day a b c d = refl
+funds_put_last (funds.Budget prefix row) identity pan other day a b c d = refl
+
+-- behind an original and a day
+pub funds_put_third : (f : Funds) (identity : Identity) (pan : Pan) (day : List ℕ) (a b d : RowVal)
+    → put ((key.Original identity, a) ∷ (key.Velocity pan day, b) ∷ []) (key_of_funds f) d
+    ≡ (key.Original identity, a) ∷ (key.Velocity pan day, b) ∷ (key_of_funds f, d) ∷ []
+funds_put_third (funds.Account id row) identity pan day a b d = refl
+funds_put_third (funds.Budget prefix row) identity pan day a b d = refl
+
+-- behind an original
+pub funds_put_second : (f : Funds) (identity : Identity) (a d : RowVal)
+    → put ((key.Original identity, a) ∷ []) (key_of_funds f) d ≡ (key.Original identity, a) ∷ (key_of_funds f, d) ∷ []
+funds_put_second (funds.Account id row) identity a d = refl
+funds_put_second (funds.Budget prefix row) identity a d = refl
+
+-- the row of what pays is of its key's kind
+pub funds_of_kind : (f : Funds) (balance : ℕ) → IsOfKind (key_of_funds f) (row_of_funds (with_balance f balance))
+funds_of_kind (funds.Account id row) balance = refl
+funds_of_kind (funds.Budget prefix row) balance = refl
+
+-- four rows of an approval, put one after another over none
+module _ {S : Type 0} (old one two three four : Recording S) (identity : Identity) (pan other : Pan) (day : List ℕ) (a b c : RowVal) (f : Funds) (last : RowKey) (d : RowVal) where
+  pub four_puts : old.writes ≡ [] → one ≡ record old { writes = put old.writes (key.Original identity) a } → two ≡ record one { writes = put one.writes (key.Card pan) b }
+      → three ≡ record two { writes = put two.writes (key.Velocity other day) c } → four ≡ record three { writes = put three.writes last d } → last ≡ key_of_funds f
+      → (four.reads ≡ old.reads) × (four.writes ≡ (key.Original identity, a) ∷ (key.Card pan, b) ∷ (key.Velocity other day, c) ∷ (key_of_funds f, d) ∷ [])
+  four_puts none p q r s k =
+      let w1 = next_put old.writes one.writes (key.Original identity) a [] ((key.Original identity, a) ∷ []) (ap (λ (x : Recording S). x.writes) p) none refl in
+      let w2 = next_put one.writes two.writes (key.Card pan) b _ ((key.Original identity, a) ∷ (key.Card pan, b) ∷ []) (ap (λ (x : Recording S). x.writes) q) w1 refl in
+      let w3 = next_put two.writes three.writes (key.Velocity other day) c _ ((key.Original identity, a) ∷ (key.Card pan, b) ∷ (key.Velocity other day, c) ∷ []) (ap (λ (x : Recording S). x.writes) r) w2 refl in
+      let w4 = ap (λ (x : Recording S). x.writes) s ∙ (λ i. put (w3 i) (k i) d) ∙ funds_put_last f identity pan other day a b c d in
+      (ap (λ (x : Recording S). x.reads) s ∙ ap (λ (x : Recording S). x.reads) r ∙ ap (λ (x : Recording S). x.reads) q ∙ ap (λ (x : Recording S). x.reads) p, w4)
+
+-- two rows of an advice that is accepted, put one after another over none
+module _ {S : Type 0} (old one two : Recording S) (identity : Identity) (a : RowVal) (f : Funds) (last : RowKey) (d : RowVal) where
+  pub two_puts : old.writes ≡ [] → one ≡ record old { writes = put old.writes (key.Original identity) a } → two ≡ record one { writes = put one.writes last d } → last ≡ key_of_funds f
+      → (two.reads ≡ old.reads) × (two.writes ≡ (key.Original identity, a) ∷ (key_of_funds f, d) ∷ [])
+  two_puts none p q k =
+      let w1 = next_put old.writes one.writes (key.Original identity) a [] ((key.Original identity, a) ∷ []) (ap (λ (x : Recording S). x.writes) p) none refl in
+      let w2 = ap (λ (x : Recording S). x.writes) q ∙ (λ i. put (w1 i) (k i) d) ∙ funds_put_second f identity a d in
+      (ap (λ (x : Recording S). x.reads) q ∙ ap (λ (x : Recording S). x.reads) p, w2)
+
+-- three rows of a reversal of a request
+module _ {S : Type 0} (old one two three : Recording S) (identity : Identity) (pan : Pan) (day : List ℕ) (a b : RowVal) (f : Funds) (last : RowKey) (d : RowVal) where
+  pub three_puts : old.writes ≡ [] → one ≡ record old { writes = put old.writes (key.Original identity) a } → two ≡ record one { writes = put one.writes (key.Velocity pan day) b }
+      → three ≡ record two { writes = put two.writes last d } → last ≡ key_of_funds f
+      → (three.reads ≡ old.reads) × (three.writes ≡ (key.Original identity, a) ∷ (key.Velocity pan day, b) ∷ (key_of_funds f, d) ∷ [])
+  three_puts none p q r k =
+      let w1 = next_put old.writes one.writes (key.Original identity) a [] ((key.Original identity, a) ∷ []) (ap (λ (x : Recording S). x.writes) p) none refl in
+      let w2 = next_put one.writes two.writes (key.Velocity pan day) b _ ((key.Original identity, a) ∷ (key.Velocity pan day, b) ∷ []) (ap (λ (x : Recording S). x.writes) q) w1 refl in
+      let w3 = ap (λ (x : Recording S). x.writes) r ∙ (λ i. put (w2 i) (k i) d) ∙ funds_put_third f identity pan day a b d in
+      (ap (λ (x : Recording S). x.reads) r ∙ ap (λ (x : Recording S). x.reads) q ∙ ap (λ (x : Recording S). x.reads) p, w3)

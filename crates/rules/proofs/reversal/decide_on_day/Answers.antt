@@ -1,0 +1,28 @@
+use Rattle.std.proofs.Common.{refl, sym, ap, ◌∙◌}
+use Rattle.rows.specs.ReversalTable as table
+use Rattle.rows.specs.declared.row_key.RowKey.TheVariants as key
+use Rattle.rules.proofs.FollowingLaws.{unread, looked_as, follows_needs, concluded_with_none, concluded_needs}
+use Rattle.rules.proofs.reversal.decide_on_day.Goals as goal
+
+pub look_up-requires : goal.look_up-requires
+look_up-requires g c = unread c.args.rows.now _ _ _ (key.Velocity c.card.result c.day.result) c.requires.follows refl c.requires.days
+
+pub returns-in_err-look_up-clause-so_far : goal.returns-in_err-look_up-clause-so_far
+returns-in_err-look_up-clause-so_far g c = follows_needs _ _ _ _ _ c.requires.follows c.in_err-look_up.ensures.err
+
+pub reverse_request-requires : goal.reverse_request-requires
+reverse_request-requires g c = record {
+  follows =
+      looked_as _ _ _ _ _ _ _ _ _ _ c.requires.follows c.in_ok-look_up.ensures.logged c.in_ok-look_up.ensures.writes (λ i. key.Velocity (c.card.ensures.card i) (c.day.ensures i))
+      (ap (table.on_original_day c.args.reversal.now c.args.kept.now c.args.paid.now) (sym c.velocity_in.ensures ∙ c.in-Some.is));
+}
+
+pub returns-in-None-clause-done : goal.returns-in-None-clause-done
+returns-in-None-clause-done g c =
+    concluded_with_none _ c.look_up.new.rows _ _
+    (looked_as _ _ _ _ _ _ _ _ _ _ c.requires.follows c.in_ok-look_up.ensures.logged c.in_ok-look_up.ensures.writes (λ i. key.Velocity (c.card.ensures.card i) (c.day.ensures i))
+    (ap (table.on_original_day c.args.reversal.now c.args.kept.now c.args.paid.now) (sym c.velocity_in.ensures ∙ c.in-None.is)))
+    c.unchanged.ensures
+
+pub returns-in-None-clause-so_far : goal.returns-in-None-clause-so_far
+returns-in-None-clause-so_far g c = concluded_needs _ _ _ _ (returns-in-None-clause-done g c)

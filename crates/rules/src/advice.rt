@@ -1,0 +1,105 @@
+ghost use Rattle.std.specs.Prelude.{◌≡◌, ◌⊎◌, ◌∷◌, [], Some, IfOk, IfErr, IfSome};
+ghost use Rattle.iso8583.specs.declared.message.Message.TheVariants as message;
+ghost use Rattle.rows.specs.AdviceTable as table;
+ghost use Rattle.rows.specs.declared.frame.Frame.TheVariants.{Good};
+ghost use Rattle.rules.specs.Following.{Follows, Concludes, kinds_read};
+ghost use Rattle.rules.specs.Needs.{ReadsNeeds};
+ghost use Rattle.view.specs.Recording.{IsStopOf};
+
+use crate::advice_answers::{accept, acknowledge, answer_again};
+use crate::advice_facts::advice_funds;
+use crate::look_up::look_up;
+use crate::typed::{account_in, budget_in, card_in, original_in};
+use iso8583::{AccountId, Advice};
+use rows::{AccountRow, ReplyBody, RowKey};
+use view::{Recorder, RowSource, Stop};
+
+// Decides an authorization advice.
+pub(crate) fn decide_advice<S: RowSource>(
+    advice: &Advice,
+    rows: &mut Recorder<S>,
+) -> Result<ReplyBody, Stop>
+    requires follows { Follows (Good (message.Advice advice.now)) rows.old.reads rows.old.writes (table.advice_plan advice.now) }
+    requires kinds { kinds_read rows.old.reads ≡ [] }
+    ensures done { IfOk result (λ reply. Concludes (Good (message.Advice advice.now)) rows.new.reads rows.new.writes reply) }
+    ensures so_far { ReadsNeeds (Good (message.Advice advice.now)) rows.new.reads }
+    ensures stop { IfErr result (λ stop. (stop ≡ Stop.OutOfMemory) ⊎ IsStopOf S.answers rows.new.source stop) }
+    ensures stops { IfSome (S.book rows.old.source) (λ _. IfErr result (λ stop. stop ≡ Stop.OutOfMemory)) }
+    ensures book { S.book rows.new.source ≡ S.book rows.old.source }
+{
+    let key = RowKey::Original(advice.transaction.identity());
+    match original_in(&look_up(rows, &key)?) {
+        Some(row) => answer_again(advice, &row, rows),
+        None => decide_fresh(advice, rows),
+    }
+}
+
+// Decides an advice whose identity wasn't seen before: nothing else is looked at where the acquirer didn't approve.
+fn decide_fresh<S: RowSource>(advice: &Advice, rows: &mut Recorder<S>) -> Result<ReplyBody, Stop>
+    requires follows { Follows (Good (message.Advice advice.now)) rows.old.reads rows.old.writes (table.fresh_advice advice.now) }
+    requires kinds { kinds_read rows.old.reads ≡ 3 ∷ [] }
+    ensures done { IfOk result (λ reply. Concludes (Good (message.Advice advice.now)) rows.new.reads rows.new.writes reply) }
+    ensures so_far { ReadsNeeds (Good (message.Advice advice.now)) rows.new.reads }
+    ensures stop { IfErr result (λ stop. (stop ≡ Stop.OutOfMemory) ⊎ IsStopOf S.answers rows.new.source stop) }
+    ensures stops { IfSome (S.book rows.old.source) (λ _. IfErr result (λ stop. stop ≡ Stop.OutOfMemory)) }
+    ensures book { S.book rows.new.source ≡ S.book rows.old.source }
+{
+    if advice.action.code() != 0 {
+        return acknowledge(advice, rows);
+    }
+    let key = RowKey::Card(advice.transaction.pan);
+    let Some(card) = card_in(&look_up(rows, &key)?) else {
+        return acknowledge(advice, rows);
+    };
+    match card.accounts.account_of(&advice.account) {
+        Some(id) => decide_on_account(advice, id, rows),
+        None => acknowledge(advice, rows),
+    }
+}
+
+// Decides an advice whose account is known.
+fn decide_on_account<S: RowSource>(
+    advice: &Advice,
+    id: AccountId,
+    rows: &mut Recorder<S>,
+) -> Result<ReplyBody, Stop>
+    requires follows { Follows (Good (message.Advice advice.now)) rows.old.reads rows.old.writes (table.advice_on_named advice.now (Some id)) }
+    requires kinds { kinds_read rows.old.reads ≡ 3 ∷ 0 ∷ [] }
+    ensures done { IfOk result (λ reply. Concludes (Good (message.Advice advice.now)) rows.new.reads rows.new.writes reply) }
+    ensures so_far { ReadsNeeds (Good (message.Advice advice.now)) rows.new.reads }
+    ensures stop { IfErr result (λ stop. (stop ≡ Stop.OutOfMemory) ⊎ IsStopOf S.answers rows.new.source stop) }
+    ensures stops { IfSome (S.book rows.old.source) (λ _. IfErr result (λ stop. stop ≡ Stop.OutOfMemory)) }
+    ensures book { S.book rows.new.source ≡ S.book rows.old.source }
+{
+    let key = RowKey::Account(id);
+    let Some(account) = account_in(&look_up(rows, &key)?) else {
+        return acknowledge(advice, rows);
+    };
+    if advice.transaction.currency != account.currency {
+        return acknowledge(advice, rows);
+    }
+    decide_on_funds(advice, id, &account, rows)
+}
+
+// Decides an advice in its account's currency: what pays.
+fn decide_on_funds<S: RowSource>(
+    advice: &Advice,
+    id: AccountId,
+    account: &AccountRow,
+    rows: &mut Recorder<S>,
+) -> Result<ReplyBody, Stop>
+    requires follows { Follows (Good (message.Advice advice.now)) rows.old.reads rows.old.writes (table.looked_for_funds advice.now id account.now) }
+    requires kinds { kinds_read rows.old.reads ≡ 3 ∷ 0 ∷ 4 ∷ [] }
+    ensures done { IfOk result (λ reply. Concludes (Good (message.Advice advice.now)) rows.new.reads rows.new.writes reply) }
+    ensures so_far { ReadsNeeds (Good (message.Advice advice.now)) rows.new.reads }
+    ensures stop { IfErr result (λ stop. (stop ≡ Stop.OutOfMemory) ⊎ IsStopOf S.answers rows.new.source stop) }
+    ensures stops { IfSome (S.book rows.old.source) (λ _. IfErr result (λ stop. stop ≡ Stop.OutOfMemory)) }
+    ensures book { S.book rows.new.source ≡ S.book rows.old.source }
+{
+    let key = RowKey::Budget(advice.transaction.pan.prefix());
+    let budget = budget_in(&look_up(rows, &key)?);
+    match advice_funds(&advice.transaction, id, account, &budget) {
+        Some(paying) => accept(advice, &paying, rows),
+        None => acknowledge(advice, rows),
+    }
+}

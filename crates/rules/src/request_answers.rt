@@ -1,0 +1,158 @@
+ghost use Rattle.std.specs.Prelude.{◌≡◌, ◌⊎◌, ◌+◌, ◌^◌, ◌<◌, ◌≤◌, ◌&&◌, IfOk, IfErr, IfSome};
+ghost use Rattle.iso8583.specs.declared.message.Message.TheVariants as message;
+ghost use Rattle.iso8583.specs.declared.original_kind.OriginalKind.TheVariants as kind;
+ghost use Rattle.rows.specs.Facts.{is_of_same};
+ghost use Rattle.rows.specs.Funds.{balance_of};
+ghost use Rattle.rows.specs.RequestTable as table;
+ghost use Rattle.rows.specs.declared.frame.Frame.TheVariants.{Good};
+ghost use Rattle.rules.specs.Following.{Follows, Concludes};
+ghost use Rattle.rules.specs.Needs.{ReadsNeeds};
+ghost use Rattle.view.specs.Recording.{IsStopOf};
+
+use crate::facts::{is_marked, is_of_same, kept_of};
+use crate::request_facts::kept_verdict;
+use iso8583::{Answer, Approval, DeclineCode, OriginalKind, Reply, Request, Verdict};
+use rows::{
+    CardRow, Funds, Kept, Mark, OriginalRow, Outcome, Payment, ReplyBody, RowKey, RowVal,
+    VelocityRow,
+};
+use view::{Recorder, RowSource, Stop};
+
+// The reply to a request: it repeats the request's elements beside its verdict.
+fn reply_to(request: &Request, verdict: Verdict) -> ReplyBody
+    ensures { result ≡ table.reply_to_request request.now verdict }
+{
+    ReplyBody::Reply(Reply {
+        transaction: request.transaction,
+        answer: Answer::Request(verdict, request.account),
+    })
+}
+
+// Declines a request, and keeps that.
+pub(crate) fn decline<S: RowSource>(
+    request: &Request,
+    code: DeclineCode,
+    rows: &mut Recorder<S>,
+) -> Result<ReplyBody, Stop>
+    requires follows { Follows (Good (message.Request request.now)) rows.old.reads rows.old.writes (table.declined_request request.now code) }
+    ensures done { IfOk result (λ reply. Concludes (Good (message.Request request.now)) rows.new.reads rows.new.writes reply) }
+    ensures so_far { ReadsNeeds (Good (message.Request request.now)) rows.new.reads }
+    ensures stop { IfErr result (λ stop. (stop ≡ Stop.OutOfMemory) ⊎ IsStopOf S.answers rows.new.source stop) }
+    ensures stops { IfSome (S.book rows.old.source) (λ _. IfErr result (λ stop. stop ≡ Stop.OutOfMemory)) }
+    ensures book { S.book rows.new.source ≡ S.book rows.old.source }
+{
+    let key = RowKey::Original(request.transaction.identity());
+    let kept = kept_of(&request.transaction, Outcome::Declined(code, None));
+    rows.write(key, kept)?;
+    Ok(reply_to(request, Verdict::Declined(code)))
+}
+
+// Answers a request of an identity that was seen before.
+pub(crate) fn answer_again<S: RowSource>(
+    request: &Request,
+    row: &OriginalRow,
+    rows: &mut Recorder<S>,
+) -> Result<ReplyBody, Stop>
+    requires follows { Follows (Good (message.Request request.now)) rows.old.reads rows.old.writes (table.request_again request.now row.now) }
+    ensures done { IfOk result (λ reply. Concludes (Good (message.Request request.now)) rows.new.reads rows.new.writes reply) }
+    ensures so_far { ReadsNeeds (Good (message.Request request.now)) rows.new.reads }
+    ensures stop { IfErr result (λ stop. (stop ≡ Stop.OutOfMemory) ⊎ IsStopOf S.answers rows.new.source stop) }
+    ensures stops { IfSome (S.book rows.old.source) (λ _. IfErr result (λ stop. stop ≡ Stop.OutOfMemory)) }
+    ensures book { S.book rows.new.source ≡ S.book rows.old.source }
+{
+    match row {
+        OriginalRow::Ahead(mark) => answer_marked(request, mark, rows),
+        OriginalRow::Kept(kept) => Ok(answer_kept(request, kept, rows)),
+    }
+}
+
+// Answers a request of an identity that a mark stands at.
+fn answer_marked<S: RowSource>(
+    request: &Request,
+    mark: &Mark,
+    rows: &mut Recorder<S>,
+) -> Result<ReplyBody, Stop>
+    requires follows { Follows (Good (message.Request request.now)) rows.old.reads rows.old.writes (table.request_again request.now (OriginalRow.Ahead mark.now)) }
+    ensures done { IfOk result (λ reply. Concludes (Good (message.Request request.now)) rows.new.reads rows.new.writes reply) }
+    ensures so_far { ReadsNeeds (Good (message.Request request.now)) rows.new.reads }
+    ensures stop { IfErr result (λ stop. (stop ≡ Stop.OutOfMemory) ⊎ IsStopOf S.answers rows.new.source stop) }
+    ensures stops { IfSome (S.book rows.old.source) (λ _. IfErr result (λ stop. stop ≡ Stop.OutOfMemory)) }
+    ensures book { S.book rows.new.source ≡ S.book rows.old.source }
+{
+    if !is_marked(mark, &request.transaction, OriginalKind::Request) {
+        return Ok(reply_to(request, Verdict::Declined(DeclineCode::DUPLICATE)));
+    }
+    let key = RowKey::Original(request.transaction.identity());
+    let outcome = Outcome::Declined(DeclineCode::NOT_TRACED, Some(mark.reversal));
+    rows.write(key, kept_of(&request.transaction, outcome))?;
+    Ok(reply_to(request, Verdict::Declined(DeclineCode::NOT_TRACED)))
+}
+
+// Whether it is a repeat of the request that is kept.
+fn is_repeat_of(request: &Request, kept: &Kept) -> bool
+    ensures { result ≡ (request.now.repeat && is_of_same kept.now request.now.transaction kind.Request) }
+{
+    request.repeat && is_of_same(kept, &request.transaction, OriginalKind::Request)
+}
+
+// The answer to a request of an identity that was decided before.
+fn answer_kept<S: RowSource>(request: &Request, kept: &Kept, rows: &Recorder<S>) -> ReplyBody
+    requires { Follows (Good (message.Request request.now)) rows.now.reads rows.now.writes (table.request_again request.now (OriginalRow.Kept kept.now)) }
+    ensures { Concludes (Good (message.Request request.now)) rows.now.reads rows.now.writes result }
+{
+    let _ = rows;
+    if is_repeat_of(request, kept) {
+        return reply_to(request, kept_verdict(&kept.outcome()));
+    }
+    reply_to(request, Verdict::Declined(DeclineCode::DUPLICATE))
+}
+
+// Approves a request: it is kept, the card's approvals and its day rise, and the amount is taken from what pays.
+pub(crate) fn approve<S: RowSource>(
+    request: &Request,
+    card: &CardRow,
+    day: &VelocityRow,
+    paying: &Funds,
+    rows: &mut Recorder<S>,
+) -> Result<ReplyBody, Stop>
+    requires follows { Follows (Good (message.Request request.now)) rows.old.reads rows.old.writes (table.approved request.now card.now day.now paying.now) }
+    requires approvals { card.now.approvals < 999999 }
+    requires count { day.now.count < 999999 }
+    requires sum { day.now.sum + request.now.transaction.amount ≤ 10 ^ 15 }
+    requires covered { request.now.transaction.amount ≤ balance_of paying.now }
+    ensures done { IfOk result (λ reply. Concludes (Good (message.Request request.now)) rows.new.reads rows.new.writes reply) }
+    ensures so_far { ReadsNeeds (Good (message.Request request.now)) rows.new.reads }
+    ensures stop { IfErr result (λ stop. (stop ≡ Stop.OutOfMemory) ⊎ IsStopOf S.answers rows.new.source stop) }
+    ensures stops { IfSome (S.book rows.old.source) (λ _. IfErr result (λ stop. stop ≡ Stop.OutOfMemory)) }
+    ensures book { S.book rows.new.source ≡ S.book rows.old.source }
+{
+    let amount = request.transaction.amount;
+    let (Some(approvals), Some(count)) = (card.approvals.checked_next(), day.count.checked_next())
+    else {
+        unreachable!()
+    };
+    let (Some(sum), Some(balance)) = (
+        day.sum.checked_add(amount),
+        paying.balance().checked_sub(amount),
+    ) else {
+        unreachable!()
+    };
+    let code = Approval::of_count(approvals.number());
+    let answer_code = code;
+    let verdict = Verdict::Approved(answer_code);
+    let payment = Payment {
+        payer: paying.payer(),
+        settlement: None,
+    };
+    let kept = kept_of(&request.transaction, Outcome::Approved(code, payment));
+    let card_key = RowKey::Card(request.transaction.pan);
+    let day_key = RowKey::Velocity(request.transaction.pan, request.transaction.stamp.day());
+    let charged = CardRow { approvals, ..*card };
+    let spent = VelocityRow { count, sum };
+    let paid = paying.with_balance(balance);
+    rows.write(RowKey::Original(request.transaction.identity()), kept)?;
+    rows.write(card_key, RowVal::Card(charged))?;
+    rows.write(day_key, RowVal::Velocity(spent))?;
+    rows.write(paying.key(), paid.row())?;
+    Ok(reply_to(request, verdict))
+}

@@ -1,0 +1,78 @@
+ghost use Rattle.std.specs.Prelude.{◌≡◌, ◌⊎◌, ◌-◌, Some, IfOk, IfErr, IfSome};
+ghost use Rattle.rows.specs.Facts.{identity_of};
+ghost use Rattle.rows.specs.Kept.{settled};
+ghost use Rattle.iso8583.specs.declared.message.Message.TheVariants as message;
+ghost use Rattle.rows.specs.ReversalTable as table;
+ghost use Rattle.rows.specs.declared.frame.Frame.TheVariants.{Good};
+ghost use Rattle.rules.specs.Following.{Follows, Concludes};
+ghost use Rattle.rules.specs.Needs.{ReadsNeeds};
+ghost use Rattle.view.specs.Recording.{IsStopOf};
+
+use crate::reversal_answers::unchanged;
+use crate::reversal_facts::{day_is_short, given_back, spent_less};
+use iso8583::{Action, Reversal};
+use rows::{Funds, Kept, ReplyBody, RowKey, RowVal, VelocityRow};
+use view::{Recorder, RowSource, Stop};
+
+// The original, reversed by this message.
+fn reversed(reversal: &Reversal, kept: &Kept) -> Kept
+    ensures { result ≡ settled kept.now (identity_of reversal.now.transaction) (kept.now.amount - table.given_back reversal.now kept.now) }
+{
+    let stay = kept.amount().saturating_sub(given_back(reversal, kept));
+    kept.settled(reversal.transaction.identity(), stay)
+}
+
+// Reverses an advice: the difference goes back to the row that paid, and out of what stays of the original.
+pub(crate) fn reverse_advice<S: RowSource>(
+    reversal: &Reversal,
+    kept: &Kept,
+    paid: &Funds,
+    rows: &mut Recorder<S>,
+) -> Result<ReplyBody, Stop>
+    requires follows { Follows (Good (message.Reversal reversal.now)) rows.old.reads rows.old.writes (table.reversed_advice reversal.now kept.now paid.now) }
+    ensures done { IfOk result (λ reply. Concludes (Good (message.Reversal reversal.now)) rows.new.reads rows.new.writes reply) }
+    ensures so_far { ReadsNeeds (Good (message.Reversal reversal.now)) rows.new.reads }
+    ensures stop { IfErr result (λ stop. (stop ≡ Stop.OutOfMemory) ⊎ IsStopOf S.answers rows.new.source stop) }
+    ensures stops { IfSome (S.book rows.old.source) (λ _. IfErr result (λ stop. stop ≡ Stop.OutOfMemory)) }
+    ensures book { S.book rows.new.source ≡ S.book rows.old.source }
+{
+    let Some(balance) = paid.balance().checked_add(given_back(reversal, kept)) else {
+        return Ok(unchanged(reversal, Action::SYSTEM_MALFUNCTION));
+    };
+    let refunded = paid.with_balance(balance);
+    let original = RowVal::Kept(reversed(reversal, kept));
+    rows.write(RowKey::Original(reversal.original.identity), original)?;
+    rows.write(paid.key(), refunded.row())?;
+    Ok(unchanged(reversal, Action::REVERSED))
+}
+
+// Reverses a request: the difference goes back to the row that paid, out of what stays of the original, and out of its day.
+pub(crate) fn reverse_request<S: RowSource>(
+    reversal: &Reversal,
+    kept: &Kept,
+    paid: &Funds,
+    day: &VelocityRow,
+    rows: &mut Recorder<S>,
+) -> Result<ReplyBody, Stop>
+    requires follows { Follows (Good (message.Reversal reversal.now)) rows.old.reads rows.old.writes (table.on_original_day reversal.now kept.now paid.now (Some day.now)) }
+    ensures done { IfOk result (λ reply. Concludes (Good (message.Reversal reversal.now)) rows.new.reads rows.new.writes reply) }
+    ensures so_far { ReadsNeeds (Good (message.Reversal reversal.now)) rows.new.reads }
+    ensures stop { IfErr result (λ stop. (stop ≡ Stop.OutOfMemory) ⊎ IsStopOf S.answers rows.new.source stop) }
+    ensures stops { IfSome (S.book rows.old.source) (λ _. IfErr result (λ stop. stop ≡ Stop.OutOfMemory)) }
+    ensures book { S.book rows.new.source ≡ S.book rows.old.source }
+{
+    let Some(balance) = paid.balance().checked_add(given_back(reversal, kept)) else {
+        return Ok(unchanged(reversal, Action::SYSTEM_MALFUNCTION));
+    };
+    if day_is_short(reversal, kept, day) {
+        return Ok(unchanged(reversal, Action::SYSTEM_MALFUNCTION));
+    }
+    let refunded = paid.with_balance(balance);
+    let original = RowVal::Kept(reversed(reversal, kept));
+    let day_key = RowKey::Velocity(kept.card(), reversal.original.identity.stamp.day());
+    let spent = RowVal::Velocity(spent_less(reversal, kept, day));
+    rows.write(RowKey::Original(reversal.original.identity), original)?;
+    rows.write(day_key, spent)?;
+    rows.write(paid.key(), refunded.row())?;
+    Ok(unchanged(reversal, Action::REVERSED))
+}

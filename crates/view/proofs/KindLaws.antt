@@ -1,0 +1,30 @@
+-- What is found or put in a list of rows is of its key's kind, where all that stands there is.
+use Rattle.std.proofs.Common.{◌≡◌, Bool, true, false, List, [], ◌∷◌, Option, Some, None, IfSome, refl, sym, subst, if◌then◌else◌, cond}
+use Rattle.std.specs.List.{AllByRecursion}
+use Rattle.indexmap.specs.IndexMap.{insert_entry}
+use Rattle.rows.proofs.KeyLaws.{key_eq_decides}
+use Rattle.rows.specs.RowKey.{key_eq}
+use Rattle.rows.specs.declared.row_key.RowKey.{RowKey}
+use Rattle.view.specs.RowSets.{value_in}
+
+module _ {V : Type 0} (Suits : RowKey → V → Type 0) where
+  abbrev AllSuit : List (RowKey × V) → Type 0
+  AllSuit rows = AllByRecursion (λ row. Suits row.0 row.1) rows
+
+  -- a value that is found under a key
+  pub found_suits : (rows : List (RowKey × V)) (key : RowKey) → AllSuit rows → IfSome (value_in rows key) (Suits key)
+  found_suits [] key all = tt
+  found_suits (row ∷ rows) key all =
+      elim (key_eq key row.0) as (λ t. key_eq key row.0 ≡ t → IfSome (cond t (Some row.1) (value_in rows key)) (Suits key)) [
+        | true ↦ λ same. subst (λ (k : RowKey). Suits k row.1) (sym ((key_eq_decides key row.0).0 same)) all.0
+        | false ↦ λ _. found_suits rows key all.1
+      ] refl
+
+  -- one more value, put under its key
+  pub inserted_suits : (rows : List (RowKey × V)) (key : RowKey) (value : V) → AllSuit rows → Suits key value → AllSuit (insert_entry key_eq rows key value)
+  inserted_suits [] key value all suits = (suits, tt)
+  inserted_suits (row ∷ rows) key value all suits =
+      elim (key_eq key row.0) as (λ t. key_eq key row.0 ≡ t → AllSuit (if t then (row.0, value) ∷ rows else row ∷ insert_entry key_eq rows key value)) [
+        | true ↦ λ same. (subst (λ (k : RowKey). Suits k value) ((key_eq_decides key row.0).0 same) suits, all.1)
+        | false ↦ λ _. (all.0, inserted_suits rows key value all.1 suits)
+      ] refl
