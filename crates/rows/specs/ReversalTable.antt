@@ -11,7 +11,7 @@ use Rattle.iso8583.specs.declared.reversal_scope.ReversalScope.TheVariants as sc
 use Rattle.rows.specs.Facts.{identity_of, day_of, prefix_of, is_same_card, is_same_identity, is_same_kind}
 use Rattle.rows.specs.Funds.{balance_of, with_balance, key_of_funds, row_of_funds}
 use Rattle.rows.specs.Kept.{KeptOriginal, kind_of_outcome, payment_of_outcome, reversal_of_outcome, settled}
-use Rattle.rows.specs.Plan.{Plan, Answer, Look}
+use Rattle.rows.specs.Plan.{Plan, Writes, Answer, Look}
 use Rattle.rows.specs.Typed.{velocity_in, budget_in, original_in, account_in}
 use Rattle.rows.specs.declared.funds.Funds.{Funds}
 use Rattle.rows.specs.declared.funds.Funds.TheVariants as funds
