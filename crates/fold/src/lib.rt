@@ -5,11 +5,10 @@ mod outcome;
 mod plain_rows;
 mod prefix;
 mod serial;
+mod sets;
 
 pub use outcome::Outcome;
 pub use plain_rows::PlainRows;
 pub use prefix::{Prefix, put_all};
 pub use serial::{decide_all, decide_all_by};
 
-#[cfg(test)]
-mod tests;

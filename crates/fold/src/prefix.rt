@@ -1,10 +1,11 @@
 ghost use Rattle.std.specs.Prelude.{◌≡◌, ◌+◌, ◌<◌, ◌^◌, [], ◌∷◌, ◌++◌, IfOk};
-ghost use Rattle.rows.specs.Fold.{overlay, reply_of, rows_after_one};
+ghost use Rattle.rows.specs.Fold.{overlay, reply_of, writes_of, rows_after_one};
 
 use crate::plain_rows::PlainRows;
+use crate::sets::Sets;
 use rows::{Book, Frame, ReplyBody};
 use std::alloc::{AllocError, Global};
-use view::{Decide, Stop, WriteSet, execute};
+use view::{Decide, Recorder, Stop, WriteSet};
 
 /// The first bodies of a batch, decided: how many they are, the book after them, and their replies.
 #[derive(Drop)]
@@ -31,36 +32,54 @@ impl Prefix {
         }
     }
 
-    // Decides one more body.
+    // Decides one more body, over the memory of these sets.
     pub(crate) fn decide_next<F: Decide>(
         self,
-        alloc: Global,
         frame: &Frame,
         decision: &F,
-    ) -> Result<Prefix, AllocError>
+        sets: Sets,
+    ) -> Result<(Prefix, Sets), AllocError>
         requires { self.count + 1 < 2 ^ 32 }
-        ensures count { IfOk result (λ after. after.count ≡ self.count + 1) }
-        ensures book { IfOk result (λ after. after.book ≡ rows_after_one self.book frame.now) }
-        ensures replies { IfOk result (λ after. after.replies.items ≡ self.replies.items ++ reply_of self.book frame.now ∷ []) }
+        ensures count { IfOk result (λ after. after.0.count ≡ self.count + 1) }
+        ensures book { IfOk result (λ after. after.0.book ≡ rows_after_one self.book frame.now) }
+        ensures replies { IfOk result (λ after. after.0.replies.items ≡ self.replies.items ++ reply_of self.book frame.now ∷ []) }
     {
-        let execution = match execute(alloc, frame, PlainRows::new(&self.book), decision) {
-            Ok(execution) => execution,
-            Err(Stop::OutOfMemory) => return Err(AllocError),
-            Err(_) => unreachable!(),
-        };
+        let (reply, sets) = decide_on(&self.book, frame, decision, sets)?;
         let Prefix {
             count,
             book,
             mut replies,
         } = self;
-        let book = put_all(book, execution.writes())?;
-        replies.push(execution.reply())?;
-        Ok(Prefix {
+        let book = put_all(book, &sets.writes)?;
+        replies.push(reply)?;
+        let prefix = Prefix {
             count: count + 1,
             book,
             replies,
-        })
+        };
+        Ok((prefix, sets))
     }
+}
+
+// Decides one body on a book: its reply, and the sets with what it read and puts.
+fn decide_on<F: Decide>(
+    book: &Book,
+    frame: &Frame,
+    decision: &F,
+    sets: Sets,
+) -> Result<(ReplyBody, Sets), AllocError>
+    ensures reply { IfOk result (λ decided. decided.0 ≡ reply_of book.now frame.now) }
+    ensures writes { IfOk result (λ decided. decided.1.writes ≡ writes_of book.now frame.now) }
+{
+    let Sets { reads, writes } = sets;
+    let mut recorder = Recorder::over(PlainRows::new(book), reads, writes);
+    let reply = match decision.decide(frame, &mut recorder) {
+        Ok(reply) => reply,
+        Err(Stop::OutOfMemory) => return Err(AllocError),
+        Err(_) => unreachable!(),
+    };
+    let (_, reads, writes) = recorder.into_parts();
+    Ok((reply, Sets { reads, writes }))
 }
 
 /// The book with these rows put, one after another. It is gone after an error.

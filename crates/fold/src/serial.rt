@@ -2,6 +2,7 @@ ghost use Rattle.std.specs.Prelude.{◌≡◌, ◌≤◌, ◌++◌, drop, length
 ghost use Rattle.rows.specs.Fold.{rows_after, replies_to};
 
 use crate::prefix::Prefix;
+use crate::sets::Sets;
 use rows::Frame;
 use rules::Shipped;
 use std::alloc::{AllocError, Global};
@@ -34,9 +35,10 @@ pub fn decide_all_by<F: Decide>(
     ensures replies { IfOk result (λ after. after.replies.items ≡ prefix.replies.items ++ replies_to prefix.book (drop prefix.count frames.now)) }
 {
     let mut after = prefix;
+    let mut sets = Sets::new(alloc);
     let rest = &frames[after.count as usize..];
     for frame in rest {
-        after = after.decide_next(alloc, frame, decision)?;
+        (after, sets) = after.decide_next(frame, decision, sets)?;
     }
     Ok(after)
 }

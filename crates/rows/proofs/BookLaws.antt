@@ -1,5 +1,5 @@
 -- A tree map's entries, seen as a finite map.
-use Rattle.std.proofs.Common.{◌≡◌, Bool, true, false, List, [], ◌∷◌, Option, Some, None, if◌then◌else◌, Less, Equal, Greater, sym, ap, refl, ◌∙◌, length, arith}
+use Rattle.std.proofs.Common.{◌≡◌, Bool, true, false, List, [], ◌∷◌, Option, Some, None, IfSome, if◌then◌else◌, cond, Less, Equal, Greater, sym, ap, refl, ◌∙◌, length, arith}
 use Rattle.std.specs.List.{AllByRecursion}
 use Rattle.std.specs.List.Sorted.{IsStrictlySortedBy}
 use Rattle.std.specs.Map.{keys_of, remove_entry}
@@ -11,7 +11,7 @@ use Rattle.rows.specs.RowKey.{kind_of, key_cmp}
 use Rattle.rows.specs.RowVal.{IsOfKind}
 use Rattle.std.specs.BTreeMap as tree
 use Rattle.std.specs.FinMap as map
-use Rattle.std.specs.Ordering.{eq_by_cmp}
+use Rattle.std.specs.Ordering.{eq_by_cmp, is_eq}
 use Rattle.std.specs.Cmp.{eq_by_cmp_equiv}
 use Rattle.std.specs.Map.{lookup}
 use Rattle.rows.specs.declared.row_key.RowKey.{RowKey}
@@ -81,3 +81,13 @@ of_kind_remove (e ∷ es) p h = elim (p e.0) as (λ b. AllOfKind (if b then es e
 -- books are the same exactly where their rows are
 pub same_rows_same_book : (m n : Rows) → map.entries m ≡ map.entries n → m ≡ n
 same_rows_same_book m n e = map.same_entries_map m n e
+
+-- a value that is found under a key is of its kind
+pub found_of_kind : (es : List (RowKey × RowVal)) (q : RowKey) → AllOfKind es → IfSome (lookup (tree.is_at (key_cmp q)) es) (IsOfKind q)
+found_of_kind [] q h = tt
+found_of_kind (e ∷ es) q h =
+    elim (key_cmp q e.0) as (λ r. key_cmp q e.0 ≡ r → IfSome (cond (is_eq r) (Some e.1) (lookup (tree.is_at (key_cmp q)) es)) (IsOfKind q)) [
+      | Less ↦ λ _. found_of_kind es q h.1
+      | Equal ↦ λ tie. ap kind_of (key_cmp_antisymmetric q e.0 tie) ∙ h.0
+      | Greater ↦ λ _. found_of_kind es q h.1
+    ] refl

@@ -1,4 +1,4 @@
-ghost use Rattle.std.specs.Prelude.{◌≡◌, ◌↔◌, OnOk, OnErr, IfOk, IsTrue, None};
+ghost use Rattle.std.specs.Prelude.{◌≡◌, ◌↔◌, OnOk, OnErr, IfOk, IfSome, IsTrue, None};
 ghost use Rattle.std.specs.FinMap as map;
 ghost use Rattle.rows.specs.RowVal.{IsOfKind};
 ghost use Rattle.rows.specs.RowKey.{key_cmp};
@@ -47,6 +47,7 @@ impl Book {
     #[tactic(auto, using(crate::proofs::BookLaws::get_seen))]
     pub fn get(&self, key: &RowKey) -> Option<RowVal>
         ensures value { result ≡ map.get self.now key.now }
+        ensures kind { IfSome result (IsOfKind key.now) }
     {
         self.rows.get(key).copied()
     }
