@@ -1,2 +1,3 @@
+pub mod AsciiLaws
 pub mod NumberLaws
 pub mod PaddedLemmas

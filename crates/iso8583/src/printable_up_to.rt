@@ -75,6 +75,16 @@ impl<const MIN: usize, const MAX: usize> PrintableUpTo<MIN, MAX> {
     {
         &self.bytes[..usize::from(self.len)]
     }
+
+    /// The text as characters.
+    #[tactic(auto, using(crate::proofs::AsciiLaws::printable_utf8))]
+    pub fn as_str(&self) -> &str
+        ensures { result.now ≡ self.now }
+    {
+        let text = self.as_slice();
+        // Text of this class is ASCII, so it is UTF-8.
+        unsafe { str::from_utf8_unchecked(text) }
+    }
 }
 
 impl<const MIN: usize, const MAX: usize> PartialEq for PrintableUpTo<MIN, MAX> {
@@ -83,7 +93,7 @@ impl<const MIN: usize, const MAX: usize> PartialEq for PrintableUpTo<MIN, MAX> {
     ghost laws = { Prim.search (comparing, rules) };
 
     fn eq(&self, other: &Self) -> bool {
-        self.as_slice() == other.as_slice()
+        self.as_str() == other.as_str()
     }
 }
 
@@ -102,7 +112,7 @@ impl<const MIN: usize, const MAX: usize> Ord for PrintableUpTo<MIN, MAX> {
     ghost matches_eq = { Prim.search (comparing, rules) };
 
     fn cmp(&self, other: &Self) -> Ordering {
-        self.as_slice().cmp(other.as_slice())
+        self.as_str().cmp(other.as_str())
     }
 }
 

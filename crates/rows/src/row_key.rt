@@ -40,35 +40,35 @@ impl RowKey {
     }
 
     // The text that the order looks at first.
-    fn first(&self) -> &[u8]
+    fn first(&self) -> &str
         ensures { result.now ≡ first_text self.now }
     {
         match self {
-            RowKey::Card(pan) | RowKey::Velocity(pan, _) => pan.as_slice(),
-            RowKey::Budget(prefix) => prefix.as_slice(),
-            RowKey::Original(identity) => identity.acquirer.as_slice(),
-            RowKey::Account(id) => id.as_slice(),
+            RowKey::Card(pan) | RowKey::Velocity(pan, _) => pan.as_str(),
+            RowKey::Budget(prefix) => prefix.as_str(),
+            RowKey::Original(identity) => identity.acquirer.as_str(),
+            RowKey::Account(id) => id.as_str(),
         }
     }
 
     // The text that it looks at next, if the kind has one.
-    fn second(&self) -> &[u8]
+    fn second(&self) -> &str
         ensures { result.now ≡ second_text self.now }
     {
         match self {
-            RowKey::Velocity(_, day) => day.as_slice(),
-            RowKey::Original(identity) => identity.stan.as_slice(),
-            RowKey::Card(_) | RowKey::Budget(_) | RowKey::Account(_) => &[],
+            RowKey::Velocity(_, day) => day.as_str(),
+            RowKey::Original(identity) => identity.stan.as_str(),
+            RowKey::Card(_) | RowKey::Budget(_) | RowKey::Account(_) => "",
         }
     }
 
     // The text that it looks at last, if the kind has one.
-    fn third(&self) -> &[u8]
+    fn third(&self) -> &str
         ensures { result.now ≡ third_text self.now }
     {
         match self {
-            RowKey::Original(identity) => identity.stamp.as_slice(),
-            _ => &[],
+            RowKey::Original(identity) => identity.stamp.as_str(),
+            _ => "",
         }
     }
 }
@@ -91,7 +91,7 @@ impl Eq for RowKey {
 }
 
 impl Hash for RowKey {
-    ghost hash_input = { λ key. fed.u8 (kind_of key) ++ fed.slice fed.u8 (first_text key) ++ fed.slice fed.u8 (second_text key) ++ fed.slice fed.u8 (third_text key) };
+    ghost hash_input = { λ key. fed.u8 (kind_of key) ++ fed.str (first_text key) ++ fed.str (second_text key) ++ fed.str (third_text key) };
 
     ghost respects_eq = { Prim.search (hashing, rules) };
 
