@@ -4,7 +4,7 @@ ghost use Rattle.std.specs.Cmp.{partial_order_from_own_ties};
 ghost use Rattle.std.specs.Cmp.Rules.{comparing, hashing};
 ghost use Rattle.std.specs.Hash as fed;
 ghost use Rattle.std.specs.Ordering.{as_partial_cmp};
-ghost use Rattle.rows.specs.RowKey.{key_cmp, key_eq, kind_of, first_text, second_text, third_text};
+ghost use Rattle.rows.specs.RowKey.{key_cmp, texts_cmp, key_eq, kind_of, first_text, second_text, third_text};
 
 use iso8583::{AccountId, Day, Identity, Pan, PanPrefix};
 use std::cmp::Ordering;
@@ -27,6 +27,7 @@ pub enum RowKey {
 
 impl RowKey {
     // The place of the key's kind among the five.
+    #[inline(always)]
     fn kind(&self) -> u8
         ensures { result ≡ kind_of self.now }
     {
@@ -36,6 +37,19 @@ impl RowKey {
             RowKey::Budget(_) => 2,
             RowKey::Original(_) => 3,
             RowKey::Account(_) => 4,
+        }
+    }
+
+    // Which of two keys comes first by their texts.
+    fn cmp_texts(&self, other: &RowKey) -> Ordering
+        ensures { result ≡ texts_cmp self.now other.now }
+    {
+        match self.first().cmp(other.first()) {
+            Ordering::Equal => self
+                .second()
+                .cmp(other.second())
+                .then_with(|| self.third().cmp(other.third())),
+            unequal => unequal,
         }
     }
 
@@ -113,12 +127,12 @@ impl Ord for RowKey {
 
     ghost matches_eq = { Prim.search (comparing, rules) };
 
+    #[inline(always)]
     fn cmp(&self, other: &RowKey) -> Ordering {
-        self.kind()
-            .cmp(&other.kind())
-            .then_with(|| self.first().cmp(other.first()))
-            .then_with(|| self.second().cmp(other.second()))
-            .then_with(|| self.third().cmp(other.third()))
+        match self.kind().cmp(&other.kind()) {
+            Ordering::Equal => self.cmp_texts(other),
+            unequal => unequal,
+        }
     }
 }
 
