@@ -11,6 +11,7 @@ ghost use Rattle.iso8583.specs.Number.{fixed_digits};
 
 use crate::class::is_digits;
 use crate::number::fixed_digits;
+use crate::order::order;
 use std::cmp::Ordering;
 use std::hash::{Hash, Hasher};
 use std::marker::Model;
@@ -109,8 +110,9 @@ impl<const N: usize> Ord for Digits<N> {
 
     ghost matches_eq = { Prim.search (comparing, rules) };
 
+    #[inline(always)]
     fn cmp(&self, other: &Self) -> Ordering {
-        self.as_str().cmp(other.as_str())
+        order(&self.bytes, &other.bytes)
     }
 }
 

@@ -10,6 +10,7 @@ ghost use Rattle.iso8583.specs.Class.{IsDigits};
 ghost use Rattle.iso8583.specs.Padded.{HasDigits};
 
 use crate::class::is_digits;
+use crate::order::order;
 use std::cmp::Ordering;
 use std::hash::{Hash, Hasher};
 use std::marker::Model;
@@ -111,8 +112,9 @@ impl<const MIN: usize, const MAX: usize> Ord for DigitsUpTo<MIN, MAX> {
 
     ghost matches_eq = { Prim.search (comparing, rules) };
 
+    #[inline(always)]
     fn cmp(&self, other: &Self) -> Ordering {
-        self.as_str().cmp(other.as_str())
+        order(&self.bytes, &other.bytes)
     }
 }
 

@@ -10,6 +10,7 @@ ghost use Rattle.iso8583.specs.Class.{IsPrintable};
 ghost use Rattle.iso8583.specs.Padded.{HasPrintable};
 
 use crate::class::is_printable;
+use crate::order::order;
 use std::cmp::Ordering;
 use std::hash::{Hash, Hasher};
 use std::marker::Model;
@@ -111,8 +112,9 @@ impl<const MIN: usize, const MAX: usize> Ord for PrintableUpTo<MIN, MAX> {
 
     ghost matches_eq = { Prim.search (comparing, rules) };
 
+    #[inline(always)]
     fn cmp(&self, other: &Self) -> Ordering {
-        self.as_str().cmp(other.as_str())
+        order(&self.bytes, &other.bytes)
     }
 }
 

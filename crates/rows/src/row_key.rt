@@ -40,16 +40,26 @@ impl RowKey {
         }
     }
 
-    // Which of two keys comes first by their texts.
+    // Which of two keys of one kind comes first.
+    #[inline(always)]
+    #[tactic(auto, using(crate::proofs::KeyLaws::then_nothing))]
     fn cmp_texts(&self, other: &RowKey) -> Ordering
+        requires { kind_of self.now ≡ kind_of other.now }
         ensures { result ≡ texts_cmp self.now other.now }
     {
-        match self.first().cmp(other.first()) {
-            Ordering::Equal => self
-                .second()
-                .cmp(other.second())
-                .then_with(|| self.third().cmp(other.third())),
-            unequal => unequal,
+        match (self, other) {
+            (RowKey::Card(mine), RowKey::Card(theirs)) => mine.cmp(theirs),
+            (RowKey::Velocity(mine, day), RowKey::Velocity(theirs, other_day)) => {
+                mine.cmp(theirs).then_with(|| day.cmp(other_day))
+            }
+            (RowKey::Budget(mine), RowKey::Budget(theirs)) => mine.cmp(theirs),
+            (RowKey::Original(mine), RowKey::Original(theirs)) => mine
+                .acquirer
+                .cmp(&theirs.acquirer)
+                .then_with(|| mine.stan.cmp(&theirs.stan))
+                .then_with(|| mine.stamp.cmp(&theirs.stamp)),
+            (RowKey::Account(mine), RowKey::Account(theirs)) => mine.cmp(theirs),
+            _ => unreachable!(),
         }
     }
 
