@@ -17,6 +17,7 @@ pub struct CoreRows<'a> {
 impl<'a> CoreRows<'a> {
     /// The rows that this version sees.
     pub fn new(core: &'a mut Core, version: Version) -> CoreRows<'a>
+        ensures core { result.core.now ≡ core.old }
         ensures version { result.version ≡ version }
     {
         CoreRows { core, version }

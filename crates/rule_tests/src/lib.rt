@@ -2,4 +2,10 @@
 #![tactic(auto)]
 
 #[cfg(test)]
-mod checks;
+mod batches;
+#[cfg(test)]
+mod book_checks;
+#[cfg(test)]
+mod decisions;
+#[cfg(test)]
+mod serial;

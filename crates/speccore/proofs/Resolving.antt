@@ -11,8 +11,8 @@ use Rattle.rows.specs.Agreement.{Reads}
 use Rattle.rows.specs.Plan.{Writes}
 use Rattle.rows.specs.declared.row_val.RowVal.{RowVal}
 use Rattle.speccore_laws.specs.Step.{logged_in, entry_of, AreLogged}
-use Rattle.speccore_laws.specs.declared.logged_read.LoggedRead.{LoggedRead}
-use Rattle.speccore_laws.specs.declared.entry.Entry.{Entry}
+use Rattle.speccore_laws.specs.Entries.{LoggedRead}
+use Rattle.speccore_laws.specs.Entries.{Entry}
 use Rattle.speccore_laws.specs.declared.version.Version.{Version}
 use Rattle.speccore.specs.Nearer.{IsNearer}
 

@@ -13,8 +13,8 @@ use Rattle.speccore_laws.specs.Resolves.{Resolves, ResolvesAs, read_of}
 use Rattle.speccore_laws.specs.Run.{IsReached, reply_in, writes_in, rows_under, Claim, Read, Finish, Commit}
 use Rattle.speccore_laws.specs.State.{State, MessageState, message, with_message, fresh, start, IsAt, IsRunning, IsExecuted}
 use Rattle.speccore_laws.specs.Step.{ClaimStep, ReadStep, FinishStep, CommitStep, IsCurrent, AreLogged, logged_in, entry_of, entries_without, last_incarnation}
-use Rattle.speccore_laws.specs.declared.entry.Entry.{Entry}
-use Rattle.speccore_laws.specs.declared.logged_read.LoggedRead.{LoggedRead}
+use Rattle.speccore_laws.specs.Entries.{Entry}
+use Rattle.speccore_laws.specs.Entries.{LoggedRead}
 use Rattle.speccore_laws.specs.declared.status.Status.TheVariants as status
 use Rattle.speccore_laws.specs.declared.task.Task.TheVariants.{Execute}
 use Rattle.speccore_laws.specs.declared.version.Version.{Version}

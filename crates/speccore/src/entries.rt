@@ -1,4 +1,4 @@
-ghost use Rattle.std.specs.Prelude.{◌≡◌, ◌+◌, ◌<◌, ◌≤◌, ◌++◌, ◌↔◌, Some, map, All, Any, IsTrue, OnOk, OnErr};
+ghost use Rattle.std.specs.Prelude.{◌≡◌, ◌+◌, ◌<◌, ◌≤◌, ◌++◌, ◌↔◌, Some, map, All, Any, IsTrue, IfSome, OnOk, OnErr};
 ghost use Rattle.speccore.specs.Nearer.{IsNearer};
 ghost use Rattle.speccore_laws.specs.Resolves.{Resolves, ResolvesAs, read_of};
 ghost use Rattle.speccore_laws.specs.Step.{entry_of, entries_without};
@@ -25,29 +25,22 @@ pub(crate) fn resolve(entries: &[Entry], row: &RowKey, below: u32) -> Option<Ent
 fn is_nearer(entry: &Entry, row: &RowKey, below: u32, seen: &Option<Entry>) -> bool
     ensures { IsTrue result ↔ IsNearer entry.now row.now below seen.now }
 {
-    entry.row == *row
-        && entry.version.index < below
+    *entry.row() == *row
+        && entry.version().index < below
         && match seen {
-            Some(seen) => seen.version.index < entry.version.index,
+            Some(seen) => seen.version().index < entry.version().index,
             None => true,
         }
 }
 
 /// What is logged of the row, seen so.
 pub(crate) fn read_of(opening: &Book, row: &RowKey, seen: Option<Entry>) -> LoggedRead
+    requires { IfSome seen (λ entry. entry.row ≡ row.now) }
     ensures { result ≡ read_of opening.now row.now seen }
 {
     match seen {
-        Some(entry) => LoggedRead {
-            row: *row,
-            origin: Some(entry.version),
-            value: Some(entry.value),
-        },
-        None => LoggedRead {
-            row: *row,
-            origin: None,
-            value: opening.get(row),
-        },
+        Some(entry) => LoggedRead::new(*row, Some(entry.version()), Some(entry.value())),
+        None => LoggedRead::new(*row, None, opening.get(row)),
     }
 }
 
@@ -99,14 +92,14 @@ fn is_put(entries: &[Entry], row: &RowKey, version: Version) -> bool
 fn is_apart(entry: &Entry, row: &RowKey, from: u32, below: u32) -> bool
     ensures { IsTrue result ↔ (entry.now.row ≡ row.now → from ≤ entry.now.version.index → below ≤ entry.now.version.index) }
 {
-    entry.row != *row || entry.version.index < from || below <= entry.version.index
+    *entry.row() != *row || entry.version().index < from || below <= entry.version().index
 }
 
 // Whether the execution put the entry, for this row.
 fn is_put_by(entry: &Entry, row: &RowKey, version: Version) -> bool
     ensures { IsTrue result ↔ ((entry.now.row ≡ row.now) × (entry.now.version ≡ version)) }
 {
-    entry.row == *row && entry.version == version
+    *entry.row() == *row && entry.version() == version
 }
 
 /// Adds what the execution put. Without room nothing is added.
@@ -121,11 +114,7 @@ pub(crate) fn add_entries(
     entries.reserve(writes.len())?;
     for index in 0..writes.len() {
         let (row, value) = writes.at(index);
-        entries.push_reserved(Entry {
-            row,
-            version,
-            value,
-        });
+        entries.push_reserved(Entry::new(row, version, value));
     }
     Ok(())
 }
@@ -134,5 +123,5 @@ pub(crate) fn add_entries(
 pub(crate) fn remove_entries(entries: &mut Vec<Entry>, index: u32)
     ensures { entries.new.items ≡ entries_without index entries.old.items }
 {
-    entries.retain(|entry| entry.version.index != index);
+    entries.retain(|entry| entry.version().index != index);
 }

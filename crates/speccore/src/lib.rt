@@ -9,6 +9,3 @@ mod slots;
 mod speculative;
 
 pub use speculative::Core;
-
-#[cfg(test)]
-mod tests;

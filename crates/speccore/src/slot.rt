@@ -1,12 +1,13 @@
-ghost use Rattle.std.specs.Prelude.{◌≡◌, ◌+◌, ◌<◌, [], ◌∷◌, ◌++◌, ◌↔◌, Some, None, All, IsTrue, OnOk, OnErr};
+ghost use Rattle.std.specs.Prelude.{◌≡◌, ◌+◌, ◌<◌, [], ◌∷◌, ◌++◌, ◌↔◌, Some, None, All, IsTrue, IfSome, OnOk, OnErr};
 ghost use Rattle.rows.specs.Agreement.{IsTrueExecution};
+ghost use Rattle.rows.specs.RowVal.{IsOfKind};
 ghost use Rattle.speccore_laws.specs.Resolves.{ResolvesAs};
 ghost use Rattle.speccore_laws.specs.State.{fresh};
 ghost use Rattle.speccore_laws.specs.Step.{AreLogged, logged_in, last_incarnation};
 
 use crate::entries::resolves_as;
 use rows::{RowKey, RowVal};
-use speccore_laws::{Entry, LoggedRead, Status, Version};
+use speccore_laws::{Entry, LoggedRead, Status};
 use std::alloc::{AllocError, Global};
 use std::marker::Model;
 use view::{Execution, ReadSet};
@@ -94,28 +95,24 @@ impl Slot {
 
     /// What was logged of the row.
     pub(crate) fn logged(&self, row: &RowKey) -> Option<Option<RowVal>>
-        ensures { result ≡ logged_in self.now.log row.now }
+        ensures value { result ≡ logged_in self.now.log row.now }
+        ensures kind { IfSome result (λ value. IfSome value (IsOfKind row.now)) }
     {
         for read in &self.log {
-            if read.row == *row {
-                return Some(read.value);
+            if *read.row() == *row {
+                return Some(read.value());
             }
         }
         None
     }
 
-    /// Logs one more read: the row, which execution put it, and its value.
-    pub(crate) fn log_read(
-        &mut self,
-        row: RowKey,
-        origin: Option<Version>,
-        value: Option<RowVal>,
-    ) -> Result<(), AllocError>
-        ensures ok { OnOk result (self.new ≡ record (self.old) { log = self.old.log ++ record { row = row; origin = origin; value = value } ∷ [] }) }
+    /// Logs one more read.
+    pub(crate) fn log_read(&mut self, read: LoggedRead) -> Result<(), AllocError>
+        ensures ok { OnOk result (self.new ≡ record (self.old) { log = self.old.log ++ read ∷ [] }) }
         ensures err { OnErr result (self.new ≡ self.old) }
     {
         self.log.reserve(1)?;
-        self.log.push_reserved(LoggedRead { row, origin, value });
+        self.log.push_reserved(read);
         Ok(())
     }
 
@@ -136,9 +133,7 @@ impl Slot {
     pub(crate) fn is_current(&self, entries: &[Entry], index: u32) -> bool
         ensures { IsTrue result ↔ All (λ read. ResolvesAs entries.now read.row index read.origin) self.now.log }
     {
-        self.log
-            .iter()
-            .all(|read| resolves_as(entries, &read.row, index, read.origin))
+        self.log.iter().all(|read| resolves_as(entries, read.row(), index, read.origin()))
     }
 
     /// Keeps the execution that finished.

@@ -99,8 +99,9 @@ impl Core {
         let seen = resolve(&self.entries, row, version.index);
         let read = read_of(&self.opening, row, seen);
         let slot = &mut self.slots[version.index as usize];
-        slot.log_read(read.row, read.origin, read.value)?;
-        Ok(read.value)
+        let value = read.value();
+        slot.log_read(read)?;
+        Ok(value)
     }
 
     /// Keeps the execution of the version, whose rows then stand for the messages after it.

@@ -22,8 +22,8 @@ use Rattle.speccore_laws.specs.Resolves.{Resolves, ResolvesAs, origin_of}
 use Rattle.speccore_laws.specs.Run.{writes_in}
 use Rattle.speccore_laws.specs.State.{State, MessageState, message, fresh, IsExecuted}
 use Rattle.speccore_laws.specs.Step.{AreLogged, IsCurrent, logged_in, entry_of}
-use Rattle.speccore_laws.specs.declared.entry.Entry.{Entry}
-use Rattle.speccore_laws.specs.declared.logged_read.LoggedRead.{LoggedRead}
+use Rattle.speccore_laws.specs.Entries.{Entry}
+use Rattle.speccore_laws.specs.Entries.{LoggedRead}
 use Rattle.speccore_laws.specs.declared.status.Status.TheVariants as status
 
 -- the messages from the first up to below the committed count

@@ -10,8 +10,8 @@ use Rattle.speccore_laws.specs.Kept.{AreKept, HasTrueExecution, IsSoundRead, Was
 use Rattle.speccore_laws.specs.Run.{writes_in}
 use Rattle.speccore_laws.specs.State.{MessageState}
 use Rattle.speccore_laws.specs.Step.{entry_of, entries_without}
-use Rattle.speccore_laws.specs.declared.entry.Entry.{Entry}
-use Rattle.speccore_laws.specs.declared.logged_read.LoggedRead.{LoggedRead}
+use Rattle.speccore_laws.specs.Entries.{Entry}
+use Rattle.speccore_laws.specs.Entries.{LoggedRead}
 use Rattle.speccore_laws.specs.declared.status.Status.TheVariants as status
 use Rattle.speccore_laws.specs.declared.version.Version.{Version}
 

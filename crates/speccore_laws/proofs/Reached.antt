@@ -25,8 +25,8 @@ use Rattle.speccore_laws.specs.State.{State, MessageState, message, with_message
 use Rattle.speccore_laws.specs.Step.{ClaimStep, ReadStep, FinishStep, CommitStep, AreLogged, IsOfVersion, logged_in, entry_of, entries_without, claimed, with_read, finished, given_up}
 use Rattle.speccore_laws.specs.declared.core_fault.CoreFault.{CoreFault}
 use Rattle.speccore_laws.specs.declared.core_fault.CoreFault.TheVariants.{NotRunning, OtherReads, OutOfMemory, Worn}
-use Rattle.speccore_laws.specs.declared.entry.Entry.{Entry}
-use Rattle.speccore_laws.specs.declared.logged_read.LoggedRead.{LoggedRead}
+use Rattle.speccore_laws.specs.Entries.{Entry}
+use Rattle.speccore_laws.specs.Entries.{LoggedRead}
 use Rattle.speccore_laws.specs.declared.status.Status.{Status}
 use Rattle.speccore_laws.specs.declared.status.Status.TheVariants as status
 use Rattle.speccore_laws.specs.declared.task.Task.{Task}

@@ -10,8 +10,8 @@ use Rattle.rows.specs.declared.row_val.RowVal.{RowVal}
 use Rattle.speccore_laws.specs.Run.{writes_in}
 use Rattle.speccore_laws.specs.State.{MessageState, IsAt}
 use Rattle.speccore_laws.specs.Step.{AreLogged, entry_of}
-use Rattle.speccore_laws.specs.declared.entry.Entry.{Entry}
-use Rattle.speccore_laws.specs.declared.logged_read.LoggedRead.{LoggedRead}
+use Rattle.speccore_laws.specs.Entries.{Entry}
+use Rattle.speccore_laws.specs.Entries.{LoggedRead}
 use Rattle.speccore_laws.specs.declared.status.Status.TheVariants as status
 use Rattle.speccore_laws.specs.declared.version.Version.{Version}
 

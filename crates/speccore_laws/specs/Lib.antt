@@ -1,3 +1,4 @@
+pub mod Entries
 pub mod Follows
 pub mod Holds
 pub mod Kept

@@ -4,8 +4,8 @@ use Rattle.std.specs.FinMap as map
 use Rattle.rows.specs.Fold.{Rows}
 use Rattle.rows.specs.declared.row_key.RowKey.{RowKey}
 use Rattle.rows.specs.declared.row_val.RowVal.{RowVal}
-use Rattle.speccore_laws.specs.declared.entry.Entry.{Entry}
-use Rattle.speccore_laws.specs.declared.logged_read.LoggedRead.{LoggedRead}
+use Rattle.speccore_laws.specs.Entries.{Entry}
+use Rattle.speccore_laws.specs.Entries.{LoggedRead}
 use Rattle.speccore_laws.specs.declared.version.Version.{Version}
 
 -- what the message at j sees of the row

@@ -4,8 +4,8 @@ use Rattle.std.specs.Coded.{Coded, code_by, coded×, coded_list, coded_ℕ}
 use Rattle.rows.specs.Agreement.{Executed}
 use Rattle.rows.specs.Fold.{Rows}
 use Rattle.rows.specs.declared.frame.Frame.{Frame}
-use Rattle.speccore_laws.specs.declared.entry.Entry.{Entry}
-use Rattle.speccore_laws.specs.declared.logged_read.LoggedRead.{LoggedRead}
+use Rattle.speccore_laws.specs.Entries.{Entry}
+use Rattle.speccore_laws.specs.Entries.{LoggedRead}
 use Rattle.speccore_laws.specs.declared.status.Status.{Status}
 use Rattle.speccore_laws.specs.declared.status.Status.TheVariants as status
 use Rattle.speccore_laws.specs.declared.version.Version.{Version}

@@ -8,8 +8,8 @@ use Rattle.speccore_laws.specs.Resolves.{Resolves, ResolvesAs, read_of, value_of
 use Rattle.speccore_laws.specs.State.{State, message, with_message, IsAt, IsRunning, IsExecuted}
 use Rattle.speccore_laws.specs.declared.core_fault.CoreFault.{CoreFault}
 use Rattle.speccore_laws.specs.declared.core_fault.CoreFault.TheVariants.{NotRunning, OtherReads, OutOfMemory, Worn}
-use Rattle.speccore_laws.specs.declared.entry.Entry.{Entry}
-use Rattle.speccore_laws.specs.declared.logged_read.LoggedRead.{LoggedRead}
+use Rattle.speccore_laws.specs.Entries.{Entry}
+use Rattle.speccore_laws.specs.Entries.{LoggedRead}
 use Rattle.speccore_laws.specs.declared.status.Status.TheVariants as status
 use Rattle.speccore_laws.specs.declared.task.Task.{Task}
 use Rattle.speccore_laws.specs.declared.task.Task.TheVariants.{Execute, Idle, Done}

@@ -6,7 +6,7 @@ use Rattle.speccore.proofs.slot.Slot.has_logged.Goals as goal
 pub loop-index-preserved : goal.loop-index-preserved
 loop-index-preserved c =
     AreLogged-more c.args.self.now.log c.args.reads.now c.loop-index.index c.at-row.result c.at-row.ensures.entry c.loop-index.invariant
-    (sym c.logged.ensures ∙ c.is_answer.ensures.0 c.if-not-is_answer.false)
+    (sym c.logged.ensures.value ∙ c.is_answer.ensures.0 c.if-not-is_answer.false)
 
 pub returns : goal.returns
 returns c =

@@ -1,5 +1,5 @@
 ghost use Rattle.std.specs.Prelude.{◌≡◌};
-ghost use Rattle.switch.specs.declared.fault.Fault.TheVariants.{OutOfMemory};
+ghost use Rattle.commands.specs.declared.fault.Fault.TheVariants.{OutOfMemory};
 
 use std::alloc::{AllocError, AllocFailed, Global};
 use thiserror::Error;
@@ -16,7 +16,7 @@ pub enum Fault {
 }
 
 impl Fault {
-    ghost use Rattle.switch.specs.Fault.{status_of};
+    ghost use Rattle.commands.specs.Fault.{status_of};
 
     /// The exit status: 2 for words that are no command, else 1.
     pub fn status(&self) -> u8

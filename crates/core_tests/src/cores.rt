@@ -1,23 +1,21 @@
+//! The calls of a core: what it hands out, what it commits, and what it refuses.
 ghost use Rattle.std.specs.Prelude.{None};
 
-use crate::Core;
+use fixtures::{answer_text, body, first_book_with, has_row, pan};
 use fold::PlainRows;
-use iso8583::{
-    Acquirer, Amount, Answer, Approval, Currency, FunctionCode, LocalStamp, Pan, Processing,
-    Request, Stan, Terminal, Transaction, Transmission, Verdict,
-};
-use rows::{Balance, Book, CardRow, CardStatus, Count, Expiry, Frame, ReplyBody, RowKey, RowVal};
+use rows::{Book, Frame, RowKey, RowVal};
 use rules::Shipped;
+use speccore::Core;
 use speccore_laws::{CoreFault, Status, Task, Version};
 use std::alloc::Global;
 use std::process::Abort;
 use std::test::Fail;
 use view::{Execution, RowSource, Stop, execute};
 
-// The trace numbers of the two requests.
-const FIRST: &[u8] = b"000001";
+// Two requests of 100 on card A.
+const FIRST: &str = "1100 000001 A 100";
 
-const SECOND: &[u8] = b"000002";
+const SECOND: &str = "1100 000002 A 100";
 
 // The rows that one version sees.
 #[derive(Drop)]
@@ -41,61 +39,17 @@ impl RowSource for Seen<'_> {
 }
 
 fn card() -> Option<RowKey> {
-    Some(RowKey::Card(Pan::new(b"4111110000000005")?))
-}
-
-fn card_row(available: u64, approvals: u32) -> Option<RowVal> {
-    Some(RowVal::Card(CardRow {
-        available: Balance::new(available)?,
-        currency: Currency::new(b"978")?,
-        expiry: Expiry::new(b"2812")?,
-        status: CardStatus::Active,
-        approvals: Count::new(approvals)?,
-        day_count: Count::new(3)?,
-        day_amount: Balance::new(20000)?,
-    }))
-}
-
-// A book with the one card.
-fn book(alloc: Global, available: u64, approvals: u32) -> Result<Book, Fail> {
-    let mut book = Book::new(alloc);
-    let key = card().ok_or("card")?;
-    let row = card_row(available, approvals).ok_or("row")?;
-    if !row.suits(&key) {
-        return Err("a row of another kind".into());
-    }
-    book.put(key, row)?;
-    Ok(book)
+    Some(RowKey::Card(pan("A")?))
 }
 
 // The book before the first message.
 fn opening(alloc: Global) -> Result<Book, Fail> {
-    book(alloc, 10000, 0)
-}
-
-// A request of 100 on the card.
-fn request(trace: &[u8]) -> Option<Frame> {
-    Some(Frame::Good(Request {
-        repeat: false,
-        function: FunctionCode::new(b"100")?,
-        transaction: Transaction {
-            pan: Pan::new(b"4111110000000005")?,
-            processing: Processing::new(b"000000")?,
-            amount: Amount::new(100)?,
-            transmission: Transmission::new(b"0110120000")?,
-            stan: Stan::new(trace)?,
-            stamp: LocalStamp::new(b"260110120000")?,
-            acquirer: Acquirer::new(b"12345")?,
-            retrieval: None,
-            terminal: Terminal::new(b"TERM0001")?,
-            currency: Currency::new(b"978")?,
-        },
-    }))
+    first_book_with(alloc, &[])
 }
 
 fn two_requests() -> Result<[Frame; 2], Fail> {
-    let first = request(FIRST).ok_or("request")?;
-    let second = request(SECOND).ok_or("request")?;
+    let first = body(FIRST).ok_or("request")?;
+    let second = body(SECOND).ok_or("request")?;
     Ok([first, second])
 }
 
@@ -109,8 +63,8 @@ fn version(index: u32, incarnation: u32) -> Version {
 }
 
 // The request decided on the opening book itself, and not on what the core has.
-fn unread(alloc: Global, trace: &[u8]) -> Result<Execution, Fail> {
-    let frame = request(trace).ok_or("request")?;
+fn unread(alloc: Global, line: &str) -> Result<Execution, Fail> {
+    let frame = body(line).ok_or("request")?;
     let book = opening(alloc)?;
     Ok(execute(alloc, &frame, PlainRows::new(&book), &Shipped)?)
 }
@@ -121,9 +75,9 @@ fn assert_finishes(
     alloc: Global,
     core: &mut Core,
     version: Version,
-    trace: &[u8],
+    line: &str,
 ) -> Result<(), Fail> {
-    let frame = request(trace).ok_or("request")?;
+    let frame = body(line).ok_or("request")?;
     let execution = execute(alloc, &frame, Seen { core, version }, &Shipped)?;
     assert_eq!(rt; core.finish(version, execution), Ok(()));
     Ok(())
@@ -147,16 +101,6 @@ fn assert_stand(
         assert_eq!(rt; (core.status(index), core.incarnation(index)), stand);
     }
     Ok(())
-}
-
-fn is_approved(reply: &ReplyBody, code: &[u8]) -> bool {
-    match reply {
-        ReplyBody::Reply(reply) => {
-            Approval::new(code).map(|code| Answer::Request(Verdict::Approved(code)))
-                == Some(reply.answer)
-        }
-        ReplyBody::Fault(_) => false,
-    }
 }
 
 // A core where both messages were decided on the opening book, the second one first, and the first is committed. The
@@ -205,10 +149,16 @@ fn executes_again_what_read_an_old_row(rt: HostRuntime) -> Result<(), Fail> {
     assert_eq!(rt; core.committed(), 2);
     let prefix = core.into_prefix(alloc)?;
     assert_eq!(rt; (prefix.count, prefix.replies.len()), (2, 2));
-    assert!(rt; is_approved(&prefix.replies[0], b"000001"));
-    assert!(rt; is_approved(&prefix.replies[1], b"000002"));
-    assert!(rt; prefix.book.is_same(&book(alloc, 9800, 2)?));
+    for (reply, answer) in prefix.replies.iter().zip(["000/000001", "000/000002"]) {
+        assert_eq!(rt; answer_text(alloc, reply)?.as_str(), answer);
+    }
+    assert!(rt; has_row(&prefix.book, "account A 9800 978"));
     Ok(())
+}
+
+fn card_row() -> Option<RowVal> {
+    let (_, row) = fixtures::row("card A 2812 active 0 3 20000 A -")?;
+    Some(row)
 }
 
 // Versions that are not running can neither read nor finish, and logged nothing.
@@ -229,7 +179,7 @@ fn assert_none_runs(rt: &impl Abort, alloc: Global, core: &mut Core) -> Result<(
 // A row is logged when the running version reads it, and a second time it is answered the same.
 fn assert_logs(rt: &impl Abort, core: &mut Core) -> Result<(), Fail> {
     let key = card().ok_or("card")?;
-    let row = Some(card_row(10000, 0).ok_or("row")?);
+    let row = Some(card_row().ok_or("row")?);
     for _ in 0..2 {
         assert_eq!(rt; core.read(version(0, 0), &key), Ok(row));
     }
@@ -284,12 +234,23 @@ fn refuses_what_was_not_read_of_it(rt: HostRuntime) -> Result<(), Fail> {
     )
 }
 
+// The running version reads each row that the execution read, and is answered the same.
+fn assert_reads(rt: &impl Abort, core: &mut Core, version: Version, execution: &Execution) {
+    let reads = execution.reads();
+    for index in 0..reads.len() {
+        let (row, value) = reads.at(index);
+        assert_eq!(rt; core.read(version, &row), Ok(value));
+    }
+}
+
 #[test]
 fn takes_what_was_read_of_it_once(rt: HostRuntime) -> Result<(), Fail> {
     let alloc = rt.alloc();
     let mut core = refused_while_running(&rt, alloc)?;
     let first = version(0, 0);
-    assert_eq!(rt; core.finish(first, unread(alloc, FIRST)?), Ok(()));
+    let execution = unread(alloc, FIRST)?;
+    assert_reads(&rt, &mut core, first, &execution);
+    assert_eq!(rt; core.finish(first, execution), Ok(()));
     assert_eq!(rt;
         core.finish(first, unread(alloc, FIRST)?),
         Err(CoreFault::NotRunning)
@@ -303,7 +264,7 @@ fn opened_with_another_book_or_other_frames(rt: HostRuntime) -> Result<(), Fail>
     let alloc = rt.alloc();
     let core = opened(alloc)?;
     let frames = two_requests()?;
-    assert!(rt; !core.opened_with(&book(alloc, 9900, 1)?, &frames));
+    assert!(rt; !core.opened_with(&first_book_with(alloc, &["account A 9900 978"])?, &frames));
     assert!(rt; !core.opened_with(&opening(alloc)?, &frames[..1]));
     Ok(())
 }

@@ -1,7 +1,7 @@
 -- Exit statuses of faults.
 use Rattle.std.specs.Prelude.{ℕ}
-use Rattle.switch.specs.declared.fault.Fault.{Fault}
-use Rattle.switch.specs.declared.fault.Fault.TheVariants.{Usage, OutOfMemory}
+use Rattle.commands.specs.declared.fault.Fault.{Fault}
+use Rattle.commands.specs.declared.fault.Fault.TheVariants.{Usage, OutOfMemory}
 
 -- 2 for words that are no command, else 1
 abbrev pub status_of : Fault → ℕ

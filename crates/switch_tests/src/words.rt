@@ -1,4 +1,4 @@
-use crate::act;
+use commands::act;
 use std::alloc::Global;
 use std::process::Abort;
 use std::test::Fail;
@@ -79,7 +79,7 @@ fn a_body_that_is_no_message_is_answered_its_fault(rt: HostRuntime) -> Result<()
     let alloc = rt.alloc();
     for (start, digits, answer) in [
         (2, "32", "463032303030"),
-        (8, "F2", "463033303030"),
+        (8, "F2", "463034303637"),
         (8, "7A", "463034303035"),
         (20, "00", "463035303439"),
         (26, "31", "463036303032"),
@@ -109,33 +109,56 @@ fn words_that_are_no_command_are_a_usage_fault(rt: HostRuntime) -> Result<(), Fa
     assert_answer(&rt, alloc, most.as_str(), "463032303030")
 }
 
+// A reply without approval code: the reply to the request, of this type, with this amount and this action.
+fn reply(alloc: Global, kind: &str, amount: &str, action: &str) -> Result<String, Fail> {
+    let front = REPLY.get(24..72).ok_or("within the reply")?;
+    let middle = REPLY.get(96..168).ok_or("within the reply")?;
+    let back = REPLY.get(186..).ok_or("within the reply")?;
+    Ok(format!(in alloc; "{kind}7230000102808000{front}{amount}{middle}{action}{back}")?)
+}
+
+// An amount of 1.00, of 101.00 and of 201.00.
+const ONE: &str = "303030303030303030313030";
+
+const OVER_THE_ACCOUNT: &str = "303030303030303130313030";
+
+const OVER_THE_LIMIT: &str = "303030303030303230313030";
+
+// More than there is is 116, and more than the card may spend in a day 121; a repeat is answered like its first form.
 #[test]
-fn a_repeat_is_not_decided_yet(rt: HostRuntime) -> Result<(), Fail> {
+fn a_request_is_declined(rt: HostRuntime) -> Result<(), Fail> {
     let alloc = rt.alloc();
+    for (amount, action) in [(OVER_THE_ACCOUNT, "313136"), (OVER_THE_LIMIT, "313231")] {
+        let request = changed(alloc, 72, amount)?;
+        let declined = reply(alloc, "31313130", amount, action)?;
+        assert_answer(&rt, alloc, request.as_str(), declined.as_str())?;
+    }
     let repeat = changed(alloc, 0, "31313031")?;
-    assert_usage(&rt, alloc, &["one", repeat.as_str()])
+    assert_answer(&rt, alloc, repeat.as_str(), REPLY)
 }
 
 // The request as an advice, with its element 39.
 #[test]
-fn an_advice_is_not_decided_yet(rt: HostRuntime) -> Result<(), Fail> {
+fn an_advice_is_answered(rt: HostRuntime) -> Result<(), Fail> {
     let alloc = rt.alloc();
     let front = REQUEST.get(24..174).ok_or("within the request")?;
     let back = REQUEST.get(174..).ok_or("within the request")?;
     let advice = format!(in alloc; "313132307230010102808000{front}303030{back}")?;
-    assert_usage(&rt, alloc, &["one", advice.as_str()])
+    let accepted = reply(alloc, "31313330", ONE, "393031")?;
+    assert_answer(&rt, alloc, advice.as_str(), accepted.as_str())
 }
 
-// A full reversal of the request.
+// A full reversal of the request, which the sample book doesn't have.
 #[test]
-fn a_reversal_is_not_decided_yet(rt: HostRuntime) -> Result<(), Fail> {
+fn a_reversal_is_answered(rt: HostRuntime) -> Result<(), Fail> {
     let alloc = rt.alloc();
     let begin = REQUEST.get(24..152).ok_or("within the request")?;
     let end = REQUEST.get(158..).ok_or("within the request")?;
     let reversal = format!(in alloc;
         "313432307230010100808100{begin}343030{end}3330313130303030303030313236303131303132303030303036313233343536"
     )?;
-    assert_usage(&rt, alloc, &["one", reversal.as_str()])
+    let untraced = reply(alloc, "31343330", ONE, "393134")?;
+    assert_answer(&rt, alloc, reversal.as_str(), untraced.as_str())
 }
 
 #[test]

@@ -1,10 +1,7 @@
-ghost use Rattle.std.specs.Prelude.{◌≡◌, ◌≤◌, Ok, IfOk, length};
-ghost use Rattle.hex.specs.Hex.{decode_of};
-
 use crate::fault::{Fault, usage};
+use answering::body_of_digits;
 use clap::error::ErrorKind;
 use clap::{Arg, Error};
-use hex::FromHexError;
 use std::alloc::{AllocError, Global};
 
 /// What the words ask for.
@@ -28,7 +25,13 @@ pub fn read_words(alloc: Global, words: &[String]) -> Result<Command, Fault> {
     let Some(frame) = one.get_str("FRAME") else {
         return Err(usage(alloc, "expected FRAME; see --help"));
     };
-    Ok(Command::One(frame_bytes(alloc, frame)?))
+    match body_of_digits(alloc, frame)? {
+        Some(body) => Ok(Command::One(body)),
+        None => Err(usage(
+            alloc,
+            "FRAME: expected 1 to 512 pairs of hexadecimal digits; see --help",
+        )),
+    }
 }
 
 fn command_line<'a>(alloc: Global) -> Result<clap::Command<'a>, AllocError> {
@@ -52,20 +55,5 @@ fn help_of(alloc: Global, error: &Error) -> Result<Command, Fault> {
         ErrorKind::DisplayHelp => Ok(Command::Help(error.to_string(alloc)?)),
         ErrorKind::OutOfMemory => Err(Fault::OutOfMemory),
         _ => Err(Fault::Usage(error.to_string(alloc)?)),
-    }
-}
-
-/// The bytes that 1 to 512 pairs of hexadecimal digits stand for.
-fn frame_bytes(alloc: Global, frame: &str) -> Result<Vec<u8>, Fault>
-    ensures bytes { IfOk result (λ bytes. decode_of frame.now ≡ Ok bytes.items) }
-    ensures size { IfOk result (λ bytes. (1 ≤ length bytes.items) × (length bytes.items ≤ 512)) }
-{
-    match hex::decode(alloc, frame) {
-        Ok(bytes) if matches!(bytes.len(), 1..=512) => Ok(bytes),
-        Err(FromHexError::OutOfMemory) => Err(Fault::OutOfMemory),
-        _ => Err(usage(
-            alloc,
-            "FRAME: expected 1 to 512 pairs of hexadecimal digits; see --help",
-        )),
     }
 }

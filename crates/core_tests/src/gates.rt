@@ -1,0 +1,143 @@
+//! What passes the gate, and what is committed where a decision stops.
+ghost use Rattle.std.specs.Prelude.{◌≡◌};
+
+use engine::{Gate, OpenGate, Workers, run};
+use fixtures::{answer_text, body, first_book_with, has_row};
+use fold::Outcome;
+use iso8583::Message;
+use rows::{Frame, ReplyBody};
+use rules::Shipped;
+use std::alloc::Global;
+use std::process::Abort;
+use std::sync::atomic::{AtomicU64, Ordering};
+use std::test::Fail;
+use view::{Decide, Recorder, RowSource, Stop};
+
+// An approved request, a decline, a body that is no message, and a request on the other card.
+const BODIES: [&str; 4] = [
+    "1100 000001 A 9900",
+    "1100 000002 A 101",
+    "bad",
+    "1100 000003 B 100",
+];
+
+const ANSWERS: [&str; 4] = ["000/000001", "116", "F08000", "000/000001"];
+
+fn frames() -> Option<[Frame; 4]> {
+    Some([
+        body(BODIES[0])?,
+        body(BODIES[1])?,
+        body(BODIES[2])?,
+        body(BODIES[3])?,
+    ])
+}
+
+// Replies and accounts after the batch.
+fn assert_decided(rt: &impl Abort, alloc: Global, outcome: &Outcome) -> Result<(), Fail> {
+    assert_eq!(rt; outcome.replies.len(), 4);
+    for (reply, answer) in outcome.replies.iter().zip(ANSWERS) {
+        assert_eq!(rt; answer_text(alloc, reply)?.as_str(), answer);
+    }
+    assert!(rt; has_row(&outcome.book, "account A 100 978"));
+    assert!(rt; has_row(&outcome.book, "account B 400 978"));
+    Ok(())
+}
+
+// The calls so far, as digits: 1 before a decision, 2 after its record, each followed by the message's index.
+#[derive(Drop)]
+struct WritingGate {
+    calls: AtomicU64,
+}
+
+impl WritingGate {
+    fn note(&self, call: u64, index: u32) {
+        let calls = self.calls.load(Ordering::SeqCst);
+        let more = calls.wrapping_mul(100).wrapping_add(call.wrapping_mul(10));
+        let all = more.wrapping_add(u64::from(index));
+        self.calls.store(all, Ordering::SeqCst);
+    }
+}
+
+impl Gate for WritingGate {
+    fn before_decide(&self, index: u32, _incarnation: u32) {
+        self.note(1, index);
+    }
+
+    fn after_record(&self, index: u32, _incarnation: u32) {
+        self.note(2, index);
+    }
+}
+
+// The table, but at the second message memory runs out.
+#[derive(Clone, Copy)]
+struct WithoutMemory;
+
+impl Decide for WithoutMemory {
+    fn decide<S: RowSource>(
+        &self,
+        frame: &Frame,
+        rows: &mut Recorder<S>,
+    ) -> Result<ReplyBody, Stop> {
+        if is_decline(frame) {
+            return Err(Stop::OutOfMemory);
+        }
+        rules::decide(frame, rows)
+    }
+}
+
+// Whether it is the second of the bodies.
+fn is_decline(frame: &Frame) -> bool {
+    match frame {
+        Frame::Good(Message::Request(request)) => request.transaction.amount.minor() == 101,
+        _ => false,
+    }
+}
+
+// The bodies run with one decision and one gate.
+fn outcome_of<F: Decide + Sync>(
+    alloc: Global,
+    decision: &F,
+    gate: &WritingGate,
+) -> Result<Outcome, Fail> {
+    let book = first_book_with(alloc, &[])?;
+    let frames = frames().ok_or("bodies")?;
+    let workers = Workers::new(2).ok_or("two workers")?;
+    Ok(run(alloc, &book, &frames, workers, decision, gate)?)
+}
+
+fn gate() -> WritingGate {
+    WritingGate {
+        calls: AtomicU64::new(0),
+    }
+}
+
+// Every message goes through the core, the decline and the bad body too: the rest that is decided one after another is empty.
+#[test]
+fn the_core_commits_every_message(rt: HostRuntime) -> Result<(), Fail> {
+    let gate = gate();
+    let outcome = outcome_of(rt.alloc(), &Shipped, &gate)?;
+    assert_eq!(rt; (outcome.started, outcome.committed), (1, 4));
+    assert_eq!(rt; gate.calls.load(Ordering::SeqCst), 1020_1121_1222_1323);
+    assert_decided(&rt, rt.alloc(), &outcome)
+}
+
+// Where a decision finds no memory, the messages before it are committed and the rest is decided one after another.
+#[test]
+fn the_rest_is_decided_where_a_decision_stops(rt: HostRuntime) -> Result<(), Fail> {
+    let gate = gate();
+    let outcome = outcome_of(rt.alloc(), &WithoutMemory, &gate)?;
+    assert_eq!(rt; (outcome.started, outcome.committed), (1, 1));
+    assert_eq!(rt; gate.calls.load(Ordering::SeqCst), 10_2011);
+    assert_decided(&rt, rt.alloc(), &outcome)
+}
+
+// A gate that holds nothing is called too.
+#[test]
+fn an_open_gate_holds_nothing(rt: HostRuntime) -> Result<(), Fail> {
+    let book = first_book_with(rt.alloc(), &[])?;
+    let frames = frames().ok_or("bodies")?;
+    let workers = Workers::new(64).ok_or("64 workers")?;
+    let outcome = run(rt.alloc(), &book, &frames, workers, &Shipped, &OpenGate)?;
+    assert_eq!(rt; outcome.committed, 4);
+    assert_decided(&rt, rt.alloc(), &outcome)
+}

@@ -1,0 +1,10 @@
+//! Tests of the core and of a run: foolish calls, the order of the gate's calls, and batches that come out as one after
+//! another.
+#![tactic(auto)]
+
+#[cfg(test)]
+mod batches;
+#[cfg(test)]
+mod cores;
+#[cfg(test)]
+mod gates;

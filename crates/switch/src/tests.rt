@@ -1,2 +1,0 @@
-mod batches;
-mod words;
