@@ -1,2 +1,4 @@
+pub mod AsciiLaws
 pub mod NumberLaws
+pub mod OrderLaws
 pub mod PaddedLemmas

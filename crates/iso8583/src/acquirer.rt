@@ -23,4 +23,11 @@ impl Acquirer {
     {
         self.0.as_slice()
     }
+
+    /// The text as characters.
+    pub fn as_str(&self) -> &str
+        ensures { result.now ≡ self.now.0 }
+    {
+        self.0.as_str()
+    }
 }

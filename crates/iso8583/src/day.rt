@@ -56,4 +56,12 @@ impl Day {
         let _ = &self.digits;
         self.digits.as_slice()
     }
+
+    /// The text as characters.
+    pub fn as_str(&self) -> &str
+        ensures { result.now ≡ self.now }
+    {
+        let _ = &self.digits;
+        self.digits.as_str()
+    }
 }

@@ -1,14 +1,23 @@
-ghost use Rattle.std.specs.Prelude.{◌≡◌, ℕ, length};
+ghost use Rattle.std.specs.Prelude.{◌≡◌, ℕ, ◌==◌, length};
+ghost use Rattle.std.proofs.Common.{rules};
+ghost use Rattle.std.specs.Cmp.{partial_order_from_own_ties};
+ghost use Rattle.std.specs.Cmp.Lexicographic.{pointwise, slice_cmp};
+ghost use Rattle.std.specs.Cmp.Rules.{comparing, hashing};
+ghost use Rattle.std.specs.Hash as fed;
+ghost use Rattle.std.specs.Ordering.{nat_cmp, as_partial_cmp};
 ghost use Rattle.std.specs.Option.{SomeIff};
 ghost use Rattle.iso8583.specs.Class.{IsDigits};
 ghost use Rattle.iso8583.specs.Number.{fixed_digits};
 
 use crate::class::is_digits;
 use crate::number::fixed_digits;
+use crate::order::order;
+use std::cmp::Ordering;
+use std::hash::{Hash, Hasher};
 use std::marker::Model;
 
 /// A text of `N` digits.
-#[derive(Clone, Copy, Debug, PartialEq, Eq, PartialOrd, Ord, Hash)]
+#[derive(Clone, Copy, Debug)]
 pub struct Digits<const N: usize> {
     bytes: [u8; N],
 }
@@ -64,5 +73,65 @@ impl<const N: usize> Digits<N> {
         ensures digits { IsDigits result.now }
     {
         &self.bytes
+    }
+
+    /// The text as characters.
+    #[tactic(auto, using(crate::proofs::AsciiLaws::digits_utf8))]
+    pub fn as_str(&self) -> &str
+        ensures { result.now ≡ self.now }
+    {
+        let text = self.as_slice();
+        // Text of this class is ASCII, so it is UTF-8.
+        unsafe { str::from_utf8_unchecked(text) }
+    }
+}
+
+impl<const N: usize> PartialEq for Digits<N> {
+    ghost eq = { pointwise ◌==◌ };
+
+    ghost laws = { Prim.search (comparing, rules) };
+
+    fn eq(&self, other: &Self) -> bool {
+        self.as_str() == other.as_str()
+    }
+}
+
+impl<const N: usize> Eq for Digits<N> {
+    ghost laws = { Prim.search (comparing, rules) };
+}
+
+/// By the bytes of the digits.
+impl<const N: usize> Ord for Digits<N> {
+    ghost cmp = { slice_cmp nat_cmp };
+
+    ghost total = { Prim.search (comparing, rules) };
+
+    ghost matches_partial_cmp = { Prim.search (comparing, rules) };
+
+    ghost matches_eq = { Prim.search (comparing, rules) };
+
+    #[inline(always)]
+    fn cmp(&self, other: &Self) -> Ordering {
+        order(&self.bytes, &other.bytes)
+    }
+}
+
+impl<const N: usize> PartialOrd for Digits<N> {
+    ghost partial_cmp = { as_partial_cmp (slice_cmp nat_cmp) };
+
+    ghost laws = { partial_order_from_own_ties (Prim.search (comparing, rules)) (Prim.search (comparing, rules)) };
+
+    fn partial_cmp(&self, other: &Self) -> Option<Ordering> {
+        Some(self.cmp(other))
+    }
+}
+
+impl<const N: usize> Hash for Digits<N> {
+    ghost hash_input = { fed.slice fed.u8 };
+
+    ghost respects_eq = { Prim.search (hashing, rules) };
+
+    fn hash<H: Hasher>(&self, state: &mut H) {
+        self.as_slice().hash(state);
     }
 }

@@ -22,6 +22,7 @@ mod local_stamp;
 mod luhn_test;
 mod message;
 mod number;
+mod order;
 mod original_kind;
 mod original_ref;
 mod pan;

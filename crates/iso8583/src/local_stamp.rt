@@ -59,6 +59,14 @@ impl LocalStamp {
         self.digits.as_slice()
     }
 
+    /// The text as characters.
+    pub fn as_str(&self) -> &str
+        ensures { result.now ≡ self.now }
+    {
+        let _ = &self.digits;
+        self.digits.as_str()
+    }
+
     /// The month of the stamp, YYMM.
     pub fn month(&self) -> &[u8]
         ensures text { result.now ≡ take 4 self.now }

@@ -26,6 +26,13 @@ impl Pan {
         self.0.as_slice()
     }
 
+    /// The text as characters.
+    pub fn as_str(&self) -> &str
+        ensures { result.now ≡ self.now.0 }
+    {
+        self.0.as_str()
+    }
+
     /// The first six digits.
     pub fn prefix(&self) -> PanPrefix
         ensures { result ≡ record { 0 = take 6 self.now.0 } }

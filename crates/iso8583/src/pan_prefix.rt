@@ -22,4 +22,11 @@ impl PanPrefix {
     {
         self.0.as_slice()
     }
+
+    /// The text as characters.
+    pub fn as_str(&self) -> &str
+        ensures { result.now ≡ self.now.0 }
+    {
+        self.0.as_str()
+    }
 }

@@ -10,6 +10,7 @@ ghost use Rattle.iso8583.specs.Class.{IsPrintable};
 ghost use Rattle.iso8583.specs.Padded.{HasPrintable};
 
 use crate::class::is_printable;
+use crate::order::order;
 use std::cmp::Ordering;
 use std::hash::{Hash, Hasher};
 use std::marker::Model;
@@ -75,6 +76,16 @@ impl<const MIN: usize, const MAX: usize> PrintableUpTo<MIN, MAX> {
     {
         &self.bytes[..usize::from(self.len)]
     }
+
+    /// The text as characters.
+    #[tactic(auto, using(crate::proofs::AsciiLaws::printable_utf8))]
+    pub fn as_str(&self) -> &str
+        ensures { result.now ≡ self.now }
+    {
+        let text = self.as_slice();
+        // Text of this class is ASCII, so it is UTF-8.
+        unsafe { str::from_utf8_unchecked(text) }
+    }
 }
 
 impl<const MIN: usize, const MAX: usize> PartialEq for PrintableUpTo<MIN, MAX> {
@@ -83,7 +94,7 @@ impl<const MIN: usize, const MAX: usize> PartialEq for PrintableUpTo<MIN, MAX> {
     ghost laws = { Prim.search (comparing, rules) };
 
     fn eq(&self, other: &Self) -> bool {
-        self.as_slice() == other.as_slice()
+        self.as_str() == other.as_str()
     }
 }
 
@@ -101,8 +112,9 @@ impl<const MIN: usize, const MAX: usize> Ord for PrintableUpTo<MIN, MAX> {
 
     ghost matches_eq = { Prim.search (comparing, rules) };
 
+    #[inline(always)]
     fn cmp(&self, other: &Self) -> Ordering {
-        self.as_slice().cmp(other.as_slice())
+        order(&self.bytes, &other.bytes)
     }
 }
 

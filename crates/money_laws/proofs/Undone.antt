@@ -1,5 +1,5 @@
 -- An original and its full reversal leave the money as it was.
-use Rattle.std.proofs.Common.{◌≡◌, ◌≢◌, ℕ, ◌-◌, ◌≤◌, Bool, true, false, if◌then◌else◌, ◌==◌, not, nat_lt, List, [], ◌∷◌, Option, Some, None, option_map, IsTrue, ◌⊎◌, inl, inr, refl, sym, ap, ◌∙◌, subst, arith}
+use Rattle.std.proofs.Common.{◌≡◌, ◌≢◌, ℕ, ◌≤◌, Bool, true, false, if◌then◌else◌, ◌==◌, not, nat_lt, List, [], ◌∷◌, Option, Some, None, option_map, IsTrue, ◌⊎◌, inl, inr, refl, sym, ap, ◌∙◌, subst, arith}
 use Rattle.std.proofs.lemmas.Bool.Decides.{nat_tests}
 use Rattle.std.specs.FinMap as map
 use Rattle.iso8583.specs.declared.advice.Advice.{Advice}
@@ -7,14 +7,14 @@ use Rattle.iso8583.specs.declared.original_kind.OriginalKind.TheVariants as kind
 use Rattle.iso8583.specs.declared.pan.Pan.{Pan}
 use Rattle.iso8583.specs.declared.request.Request.{Request}
 use Rattle.iso8583.specs.declared.reversal.Reversal.{Reversal}
-use Rattle.rows.specs.AdviceTable.{kept_of_advice}
+use Rattle.rows.specs.AdviceTable.{accepted_writes}
 use Rattle.rows.specs.Backing.{available_in, left_in}
 use Rattle.rows.specs.Decision.{decision}
 use Rattle.rows.specs.Facts.{identity_of, day_of}
 use Rattle.rows.specs.Fold.{Rows, overlay, writes_of}
-use Rattle.rows.specs.Funds.{balance_of, with_balance, key_of_funds, row_of_funds, paid_by}
+use Rattle.rows.specs.Funds.{balance_of, key_of_funds, row_of_funds, paid_by}
 use Rattle.rows.specs.Plan.{Lookup, Writes}
-use Rattle.rows.specs.RequestTable.{kept_of_request, approval_code, approved_card, spent_more}
+use Rattle.rows.specs.RequestTable.{approval_code, approved_writes}
 use Rattle.rows.specs.ReversalTable.{reply_to_reversal, greatest_balance, reversed_original, reversal_plan}
 use Rattle.rows.specs.RowKey.{kind_of}
 use Rattle.rows.specs.Typed.{account_in, budget_in, velocity_in, spent_in}
@@ -105,18 +105,9 @@ not_refused v f ws d e h =
 rows_put : (v : Reversal) (f : Funds) (ws : Writes) (d : ReplyBody × Writes) → d ≡ put_back v f ws → nat_lt greatest_balance (balance_of f) ≡ false → d ≡ (reply_to_reversal v 400, ws)
 rows_put v f ws d e within = e ∙ ap (λ (b : Bool). if b then (reply_to_reversal v 909, []) else (reply_to_reversal v 400, ws)) within
 
--- the row that pays, with the amount taken from it
-abbrev charged : Funds → ℕ → RowKey × RowVal
-charged f n = (key_of_funds f, row_of_funds (with_balance f (balance_of f - n)))
-
 -- what an approved request puts
 abbrev approval : Rows → Request → CardRow → Funds → Writes
-approval rows r card f =
-    (key.Original (identity_of r.transaction), kept_of_request r (outcome.Approved (approval_code card) (paid_by f)))
-    ∷ (key.Card r.transaction.pan, val.Card (approved_card card))
-    ∷ (key.Velocity r.transaction.pan (day_of r.transaction.stamp), val.Velocity (spent_more (spent_on rows r.transaction.pan (day_of r.transaction.stamp)) r.transaction.amount))
-    ∷ charged f r.transaction.amount
-    ∷ []
+approval rows r card f = approved_writes r card (spent_on rows r.transaction.pan (day_of r.transaction.stamp)) f
 
 -- what its full reversal puts
 abbrev approval_back : Rows → Request → CardRow → Funds → Reversal → Writes
@@ -157,35 +148,31 @@ approval_money rows r card f v found = record {
       ];
 }
 
--- what an accepted advice puts
-abbrev acceptance : Advice → Funds → Writes
-acceptance a f = (key.Original (identity_of a.transaction), kept_of_advice a (outcome.Accepted (paid_by f))) ∷ charged f a.transaction.amount ∷ []
-
--- what its full reversal puts
+-- what the full reversal of an accepted advice puts
 abbrev acceptance_back : Advice → Funds → Reversal → Writes
 acceptance_back a f v =
     reversed_original (full v kind.Advice a.transaction) (kept_with a.transaction (outcome.Accepted (paid_by f))) ∷ (key_of_funds f, row_of_funds f) ∷ []
 
-acceptance_comes : (rows : Rows) (a : Advice) (f : Funds) (v : Reversal) → CanPay (map.get rows) a.transaction f → comes_to (reversal_plan (full v kind.Advice a.transaction)) (map.get (overlay rows (acceptance a f))) ≡ put_back (full v kind.Advice a.transaction) f (acceptance_back a f v)
+acceptance_comes : (rows : Rows) (a : Advice) (f : Funds) (v : Reversal) → CanPay (map.get rows) a.transaction f → comes_to (reversal_plan (full v kind.Advice a.transaction)) (map.get (overlay rows (accepted_writes a f))) ≡ put_back (full v kind.Advice a.transaction) f (acceptance_back a f v)
 acceptance_comes rows a f v pays =
     let t = a.transaction in
-    advice_put_back (map.get (overlay rows (acceptance a f))) v t f pays.covered pays.of_card
-    (original_stands rows (identity_of t) _ (acceptance a f) _ refl (funds_other f, tt))
+    advice_put_back (map.get (overlay rows (accepted_writes a f))) v t f pays.covered pays.of_card
+    (original_stands rows (identity_of t) _ (accepted_writes a f) _ refl (funds_other f, tt))
     (get-put _ (key_of_funds f) _)
 
-acceptance_money : (rows : Rows) (a : Advice) (f : Funds) (v : Reversal) → IsFound (map.get rows) f → IsMoneyAsBefore rows (overlay (overlay rows (acceptance a f)) (acceptance_back a f v))
+acceptance_money : (rows : Rows) (a : Advice) (f : Funds) (v : Reversal) → IsFound (map.get rows) f → IsMoneyAsBefore rows (overlay (overlay rows (accepted_writes a f)) (acceptance_back a f v))
 acceptance_money rows a f v found = record {
   accounts = λ id.
-      put_again rows (acceptance a f) (acceptance_back a f v) f (key.Account id) (found_row (map.get rows) f found)
-      (λ other. get-apart (acceptance_back a f v) _ (key.Account id) (other_key _ _ refl, (other, tt)) ∙ get-apart (acceptance a f) rows (key.Account id) (other_key _ _ refl, (other, tt)))
+      put_again rows (accepted_writes a f) (acceptance_back a f v) f (key.Account id) (found_row (map.get rows) f found)
+      (λ other. get-apart (acceptance_back a f v) _ (key.Account id) (other_key _ _ refl, (other, tt)) ∙ get-apart (accepted_writes a f) rows (key.Account id) (other_key _ _ refl, (other, tt)))
       (get-put _ (key_of_funds f) _);
   budgets = λ prefix.
-      put_again rows (acceptance a f) (acceptance_back a f v) f (key.Budget prefix) (found_row (map.get rows) f found)
-      (λ other. get-apart (acceptance_back a f v) _ (key.Budget prefix) (other_key _ _ refl, (other, tt)) ∙ get-apart (acceptance a f) rows (key.Budget prefix) (other_key _ _ refl, (other, tt)))
+      put_again rows (accepted_writes a f) (acceptance_back a f v) f (key.Budget prefix) (found_row (map.get rows) f found)
+      (λ other. get-apart (acceptance_back a f v) _ (key.Budget prefix) (other_key _ _ refl, (other, tt)) ∙ get-apart (accepted_writes a f) rows (key.Budget prefix) (other_key _ _ refl, (other, tt)))
       (get-put _ (key_of_funds f) _);
   days = λ pan day.
       ap (λ (row : Option RowVal). spent_in (velocity_in row))
-      (get-apart (acceptance_back a f v) _ (key.Velocity pan day) (other_key _ _ refl, (day_no_funds pan day f, tt)) ∙ get-apart (acceptance a f) rows (key.Velocity pan day) (other_key _ _ refl, (day_no_funds pan day f, tt)));
+      (get-apart (acceptance_back a f v) _ (key.Velocity pan day) (other_key _ _ refl, (day_no_funds pan day f, tt)) ∙ get-apart (accepted_writes a f) rows (key.Velocity pan day) (other_key _ _ refl, (day_no_funds pan day f, tt)));
 }
 
 -- what both put, on the rows before
@@ -229,7 +216,7 @@ unfolding decision
 advice_undone rows a v first whole reversed =
     let s = was_accepted a (map.get rows) _ _ (advice_unseen a (map.get rows) first.0) first.1 in
     let w = full v kind.Advice a.transaction in
-    let comes = comes_after rows (writes_of rows (advice_frame a)) (acceptance a s.paying) v w _ (is_full v kind.Advice a.transaction whole) s.writes (acceptance_comes rows a s.paying v s.pays) in
+    let comes = comes_after rows (writes_of rows (advice_frame a)) (accepted_writes a s.paying) v w _ (is_full v kind.Advice a.transaction whole) s.writes (acceptance_comes rows a s.paying v s.pays) in
     let put = rows_put w s.paying _ _ comes (not_refused w s.paying _ _ comes reversed) in
     money_after rows _ _ _ _ s.writes (ap (λ (o : ReplyBody × Writes). o.1) put) (acceptance_money rows a s.paying v s.pays.found)
 
@@ -238,6 +225,6 @@ unfolding decision
 advice_reversed rows a v first whole range =
     let s = was_accepted a (map.get rows) _ _ (advice_unseen a (map.get rows) first.0) first.1 in
     let w = full v kind.Advice a.transaction in
-    let comes = comes_after rows (writes_of rows (advice_frame a)) (acceptance a s.paying) v w _ (is_full v kind.Advice a.transaction whole) s.writes (acceptance_comes rows a s.paying v s.pays) in
+    let comes = comes_after rows (writes_of rows (advice_frame a)) (accepted_writes a s.paying) v w _ (is_full v kind.Advice a.transaction whole) s.writes (acceptance_comes rows a s.paying v s.pays) in
     let put = rows_put w s.paying _ _ comes (funds_within rows s.paying range s.pays.found) in
     subst (HasAction 400) (sym (ap (λ (o : ReplyBody × Writes). o.0) put)) refl

@@ -14,6 +14,12 @@ use Rattle.rows.specs.declared.row_key.RowKey.TheVariants as key
 pub key_cmp_total : IsTotalOrder key_cmp
 key_cmp_total = search (comparing, rules)
 
+-- two texts that aren't there decide nothing
+pub then_nothing : (o : Ordering) → o ≡ ordering_then o Equal
+then_nothing Less = refl
+then_nothing Equal = refl
+then_nothing Greater = refl
+
 -- a key from its kind's place and its texts
 of_texts : ℕ → List ℕ → List ℕ → List ℕ → RowKey
 of_texts zero first second third = key.Card (record { 0 = first })

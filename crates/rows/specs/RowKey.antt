@@ -46,9 +46,13 @@ text_cmp = slice_cmp nat_cmp
 abbrev pub text_eq : List ℕ → List ℕ → Bool
 text_eq = pointwise ◌==◌
 
+-- which of two keys comes first by their texts
+abbrev pub texts_cmp : RowKey → RowKey → Ordering
+texts_cmp = then_cmp (on first_text text_cmp) (then_cmp (on second_text text_cmp) (on third_text text_cmp))
+
 -- which of two keys comes first: Card, Velocity, Budget, Original, Account; inside a kind by their texts
 abbrev pub key_cmp : RowKey → RowKey → Ordering
-key_cmp = then_cmp (on kind_of nat_cmp) (then_cmp (on first_text text_cmp) (then_cmp (on second_text text_cmp) (on third_text text_cmp)))
+key_cmp = then_cmp (on kind_of nat_cmp) texts_cmp
 
 -- the test whether two keys name the same row
 abbrev pub key_eq : RowKey → RowKey → Bool

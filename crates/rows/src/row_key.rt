@@ -4,7 +4,7 @@ ghost use Rattle.std.specs.Cmp.{partial_order_from_own_ties};
 ghost use Rattle.std.specs.Cmp.Rules.{comparing, hashing};
 ghost use Rattle.std.specs.Hash as fed;
 ghost use Rattle.std.specs.Ordering.{as_partial_cmp};
-ghost use Rattle.rows.specs.RowKey.{key_cmp, key_eq, kind_of, first_text, second_text, third_text};
+ghost use Rattle.rows.specs.RowKey.{key_cmp, texts_cmp, key_eq, kind_of, first_text, second_text, third_text};
 
 use iso8583::{AccountId, Day, Identity, Pan, PanPrefix};
 use std::cmp::Ordering;
@@ -27,6 +27,7 @@ pub enum RowKey {
 
 impl RowKey {
     // The place of the key's kind among the five.
+    #[inline(always)]
     fn kind(&self) -> u8
         ensures { result ≡ kind_of self.now }
     {
@@ -39,36 +40,59 @@ impl RowKey {
         }
     }
 
+    // Which of two keys of one kind comes first.
+    #[inline(always)]
+    #[tactic(auto, using(crate::proofs::KeyLaws::then_nothing))]
+    fn cmp_texts(&self, other: &RowKey) -> Ordering
+        requires { kind_of self.now ≡ kind_of other.now }
+        ensures { result ≡ texts_cmp self.now other.now }
+    {
+        match (self, other) {
+            (RowKey::Card(mine), RowKey::Card(theirs)) => mine.cmp(theirs),
+            (RowKey::Velocity(mine, day), RowKey::Velocity(theirs, other_day)) => {
+                mine.cmp(theirs).then_with(|| day.cmp(other_day))
+            }
+            (RowKey::Budget(mine), RowKey::Budget(theirs)) => mine.cmp(theirs),
+            (RowKey::Original(mine), RowKey::Original(theirs)) => mine
+                .acquirer
+                .cmp(&theirs.acquirer)
+                .then_with(|| mine.stan.cmp(&theirs.stan))
+                .then_with(|| mine.stamp.cmp(&theirs.stamp)),
+            (RowKey::Account(mine), RowKey::Account(theirs)) => mine.cmp(theirs),
+            _ => unreachable!(),
+        }
+    }
+
     // The text that the order looks at first.
-    fn first(&self) -> &[u8]
+    fn first(&self) -> &str
         ensures { result.now ≡ first_text self.now }
     {
         match self {
-            RowKey::Card(pan) | RowKey::Velocity(pan, _) => pan.as_slice(),
-            RowKey::Budget(prefix) => prefix.as_slice(),
-            RowKey::Original(identity) => identity.acquirer.as_slice(),
-            RowKey::Account(id) => id.as_slice(),
+            RowKey::Card(pan) | RowKey::Velocity(pan, _) => pan.as_str(),
+            RowKey::Budget(prefix) => prefix.as_str(),
+            RowKey::Original(identity) => identity.acquirer.as_str(),
+            RowKey::Account(id) => id.as_str(),
         }
     }
 
     // The text that it looks at next, if the kind has one.
-    fn second(&self) -> &[u8]
+    fn second(&self) -> &str
         ensures { result.now ≡ second_text self.now }
     {
         match self {
-            RowKey::Velocity(_, day) => day.as_slice(),
-            RowKey::Original(identity) => identity.stan.as_slice(),
-            RowKey::Card(_) | RowKey::Budget(_) | RowKey::Account(_) => &[],
+            RowKey::Velocity(_, day) => day.as_str(),
+            RowKey::Original(identity) => identity.stan.as_str(),
+            RowKey::Card(_) | RowKey::Budget(_) | RowKey::Account(_) => "",
         }
     }
 
     // The text that it looks at last, if the kind has one.
-    fn third(&self) -> &[u8]
+    fn third(&self) -> &str
         ensures { result.now ≡ third_text self.now }
     {
         match self {
-            RowKey::Original(identity) => identity.stamp.as_slice(),
-            _ => &[],
+            RowKey::Original(identity) => identity.stamp.as_str(),
+            _ => "",
         }
     }
 }
@@ -91,7 +115,7 @@ impl Eq for RowKey {
 }
 
 impl Hash for RowKey {
-    ghost hash_input = { λ key. fed.u8 (kind_of key) ++ fed.slice fed.u8 (first_text key) ++ fed.slice fed.u8 (second_text key) ++ fed.slice fed.u8 (third_text key) };
+    ghost hash_input = { λ key. fed.u8 (kind_of key) ++ fed.str (first_text key) ++ fed.str (second_text key) ++ fed.str (third_text key) };
 
     ghost respects_eq = { Prim.search (hashing, rules) };
 
@@ -113,12 +137,12 @@ impl Ord for RowKey {
 
     ghost matches_eq = { Prim.search (comparing, rules) };
 
+    #[inline(always)]
     fn cmp(&self, other: &RowKey) -> Ordering {
-        self.kind()
-            .cmp(&other.kind())
-            .then_with(|| self.first().cmp(other.first()))
-            .then_with(|| self.second().cmp(other.second()))
-            .then_with(|| self.third().cmp(other.third()))
+        match self.kind().cmp(&other.kind()) {
+            Ordering::Equal => self.cmp_texts(other),
+            unequal => unequal,
+        }
     }
 }
 

@@ -1,11 +1,10 @@
 -- What becomes of an advice whose identity wasn't seen: it is acknowledged without liability, or accepted and paid.
-use Rattle.std.proofs.Common.{◌≡◌, Bool, true, false, if◌then◌else◌, ◌==◌, ◌-◌, [], ◌∷◌, Option, Some, None, ◌⊎◌, inl, inr, refl}
+use Rattle.std.proofs.Common.{◌≡◌, Bool, true, false, if◌then◌else◌, ◌==◌, [], ◌∷◌, Option, Some, None, ◌⊎◌, inl, inr, refl}
 use Rattle.iso8583.specs.declared.account_id.AccountId.{AccountId}
 use Rattle.iso8583.specs.declared.advice.Advice.{Advice}
-use Rattle.rows.specs.AdviceTable.{reply_to_advice, kept_of_advice, acknowledged, advice_funds, advice_on_funds, advice_on_account, advice_on_named, advice_on_card, fresh_advice}
+use Rattle.rows.specs.AdviceTable.{accepted_writes, reply_to_advice, kept_of_advice, acknowledged, advice_funds, advice_on_funds, advice_on_account, advice_on_named, advice_on_card, fresh_advice}
 use Rattle.rows.specs.CardAccounts.{account_of}
 use Rattle.rows.specs.Facts.{identity_of, is_same_currency}
-use Rattle.rows.specs.Funds.{balance_of, with_balance, key_of_funds, row_of_funds, paid_by}
 use Rattle.rows.specs.Plan.{Plan, Lookup, Writes, Decided, carried_out}
 use Rattle.rows.specs.Typed.{card_in, budget_in, account_in}
 use Rattle.rows.specs.declared.account_row.AccountRow.{AccountRow}
@@ -26,7 +25,7 @@ pub record Accepts (a : Advice) (look : Lookup) (reply_is : ReplyBody) (writes_a
   pub paying : Funds
   pub pays : CanPay look a.transaction paying
   pub reply : reply_is ≡ reply_to_advice a 901
-  pub writes : writes_are ≡ (key.Original (identity_of a.transaction), kept_of_advice a (outcome.Accepted (paid_by paying))) ∷ (key_of_funds paying, row_of_funds (with_balance paying (balance_of paying - a.transaction.amount))) ∷ []
+  pub writes : writes_are ≡ accepted_writes a paying
 
 -- the one or the other
 abbrev pub IsTakenFresh : Advice → Lookup → Decided → Type 0

@@ -42,7 +42,6 @@ pub advice_unseen : (a : Advice) (look : Lookup) → original_in (look (key.Orig
 unfolding decision
 advice_unseen a look e = subst (λ (o : Option OriginalRow). advice.IsTakenFresh a look (carried_out (advice_on_original a o) look)) (sym e) (advice.fresh_ways a look)
 
-
 -- what is kept of a message, with what became of it
 abbrev pub kept_with : Transaction → Outcome → KeptOriginal
 kept_with t o = record { card = t.pan; amount = t.amount; processing = t.processing; outcome = o }

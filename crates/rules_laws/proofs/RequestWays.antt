@@ -1,5 +1,5 @@
 -- What becomes of a request whose identity wasn't seen: it is declined and kept, or it is approved and paid.
-use Rattle.std.proofs.Common.{◌≡◌, ℕ, ◌<◌, Bool, true, false, if◌then◌else◌, nat_lt, nat_le, ◌==◌, ◌+◌, ◌-◌, [], ◌∷◌, Option, Some, None, Result, Ok, Err, ◌⊎◌, inl, inr, refl, arith}
+use Rattle.std.proofs.Common.{◌≡◌, ℕ, ◌<◌, Bool, true, false, if◌then◌else◌, nat_lt, nat_le, ◌==◌, ◌+◌, [], ◌∷◌, Option, Some, None, Result, Ok, Err, ◌⊎◌, inl, inr, refl, arith}
 use Rattle.iso8583.specs.Luhn.{passes_luhn}
 use Rattle.iso8583.specs.Number.{number_of}
 use Rattle.iso8583.specs.declared.account_id.AccountId.{AccountId}
@@ -7,9 +7,8 @@ use Rattle.iso8583.specs.declared.request.Request.{Request}
 use Rattle.iso8583.specs.declared.verdict.Verdict.TheVariants as verdict
 use Rattle.rows.specs.CardAccounts.{account_of}
 use Rattle.rows.specs.Facts.{identity_of, day_of, month_of, is_same_currency}
-use Rattle.rows.specs.Funds.{balance_of, with_balance, key_of_funds, row_of_funds, paid_by}
 use Rattle.rows.specs.Plan.{Plan, Lookup, Writes, Decided, carried_out}
-use Rattle.rows.specs.RequestTable.{reply_to_request, kept_of_request, declined_request, is_unpermitted, refused_unseen, refused_by_status, unless_status, or_not_permitted, usable_account, refused_by_limits, request_funds, approval_code, approved_card, spent_more, unless_refused, on_funds, on_account, on_usable, on_card, fresh_request}
+use Rattle.rows.specs.RequestTable.{approved_writes, reply_to_request, kept_of_request, declined_request, is_unpermitted, refused_unseen, refused_by_status, unless_status, or_not_permitted, usable_account, refused_by_limits, request_funds, approval_code, unless_refused, on_funds, on_account, on_usable, on_card, fresh_request}
 use Rattle.rows.specs.Typed.{card_in, velocity_in, budget_in, account_in, spent_in}
 use Rattle.rows.specs.declared.account_row.AccountRow.{AccountRow}
 use Rattle.rows.specs.declared.card_row.CardRow.{CardRow}
@@ -19,7 +18,6 @@ use Rattle.rows.specs.declared.funds.Funds.{Funds}
 use Rattle.rows.specs.declared.outcome.Outcome.TheVariants as outcome
 use Rattle.rows.specs.declared.reply_body.ReplyBody.{ReplyBody}
 use Rattle.rows.specs.declared.row_key.RowKey.TheVariants as key
-use Rattle.rows.specs.declared.row_val.RowVal.TheVariants as val
 use Rattle.rows.specs.declared.velocity_row.VelocityRow.{VelocityRow}
 use Rattle.rules_laws.proofs.Funding.{CanPay, IsSource, request_source}
 
@@ -36,7 +34,7 @@ pub record Approves (r : Request) (look : Lookup) (reply_is : ReplyBody) (writes
   pub paying : Funds
   pub pays : CanPay look r.transaction paying
   pub reply : reply_is ≡ reply_to_request r (verdict.Approved (approval_code card))
-  pub writes : writes_are ≡ (key.Original (identity_of r.transaction), kept_of_request r (outcome.Approved (approval_code card) (paid_by paying))) ∷ (key.Card r.transaction.pan, val.Card (approved_card card)) ∷ (key.Velocity r.transaction.pan (day_of r.transaction.stamp), val.Velocity (spent_more (spent_in (velocity_in (look (key.Velocity r.transaction.pan (day_of r.transaction.stamp))))) r.transaction.amount)) ∷ (key_of_funds paying, row_of_funds (with_balance paying (balance_of paying - r.transaction.amount))) ∷ []
+  pub writes : writes_are ≡ approved_writes r card (spent_in (velocity_in (look (key.Velocity r.transaction.pan (day_of r.transaction.stamp))))) paying
 
 -- the one or the other
 abbrev pub IsDecidedFresh : Request → Lookup → Decided → Type 0
@@ -92,7 +90,6 @@ card_usable r card =
 unless : (r : Request) (look : Lookup) (refused : Option ℕ) (next : Plan) → IsRefusal refused → IsDecidedFresh r look (carried_out next look) → IsDecidedFresh r look (carried_out (unless_refused r refused next) look)
 unless r look (Some action) next positive h = declining r look action positive
 unless r look None next positive h = h
-
 
 ways_on_funds : (r : Request) (look : Lookup) (card : CardRow) (found : Result Funds ℕ) → IsSource look r.transaction found → IsDecidedFresh r look (carried_out (on_funds r card (spent_in (velocity_in (look (key.Velocity r.transaction.pan (day_of r.transaction.stamp))))) found) look)
 ways_on_funds r look card (Err action) positive = declining r look action positive

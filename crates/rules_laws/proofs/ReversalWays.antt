@@ -69,7 +69,6 @@ pub record SettlesPosted (v : Reversal) (look : Lookup) (reply_is : ReplyBody) (
   pub names : Names v look kept None
   pub payment : Payment
   pub posted : payment_of_outcome kept.outcome ≡ Some payment
-  pub right_part : is_wrong_part v.scope v.transaction.amount kept.amount ≡ false
   pub paid : Funds
   pub found : IsFound look paid
   pub of_card : IsOfCard kept.card paid
@@ -102,14 +101,22 @@ record IsPaid (v : Reversal) (look : Lookup) (k : KeptOriginal) (paid : Funds) :
   names : Names v look k None
   payment : Payment
   posted : payment_of_outcome k.outcome ≡ Some payment
-  right_part : is_wrong_part v.scope v.transaction.amount k.amount ≡ false
   found : IsFound look paid
   of_card : IsOfCard k.card paid
   payer : payer_of paid ≡ payment.payer
 
 settling : (v : Reversal) (look : Lookup) (k : KeptOriginal) (paid : Funds) (day : Option VelocityRow) (reply : ReplyBody) → IsPaid v look k paid → IsReversalDecided v look reply (reversed_original v k ∷ (day_put v k day ++ refunded v k paid ∷ []))
 settling v look k paid day reply h = inr (inr (inr (inr (record {
-  kept = k; names = h.names; payment = h.payment; posted = h.posted; right_part = h.right_part; paid = paid; found = h.found; of_card = h.of_card; payer = h.payer; day = day; writes = refl
+  kept = k;
+  names = h.names;
+  payment = h.payment;
+  posted = h.posted;
+  paid = paid;
+  found = h.found;
+  of_card = h.of_card;
+  payer = h.payer;
+  day = day;
+  writes = refl;
 }))))
 
 ways_of_kind : (v : Reversal) (look : Lookup) (o : OriginalKind) (k : KeptOriginal) (paid : Funds) → IsPaid v look k paid → IsWay v look (by_kind o v k paid)
@@ -128,11 +135,10 @@ record IsPosted (v : Reversal) (look : Lookup) (k : KeptOriginal) (p : Payer) : 
   names : Names v look k None
   payment : Payment
   posted : payment_of_outcome k.outcome ≡ Some payment
-  right_part : is_wrong_part v.scope v.transaction.amount k.amount ≡ false
   payer : payment.payer ≡ p
 
 paid_by : (v : Reversal) (look : Lookup) (k : KeptOriginal) (paid : Funds) → IsPosted v look k (payer_of paid) → IsFound look paid → IsOfCard k.card paid → IsPaid v look k paid
-paid_by v look k paid h found of_card = record { names = h.names; payment = h.payment; posted = h.posted; right_part = h.right_part; found = found; of_card = of_card; payer = sym h.payer }
+paid_by v look k paid h found of_card = record { names = h.names; payment = h.payment; posted = h.posted; found = found; of_card = of_card; payer = sym h.payer }
 
 ways_of_payer : (v : Reversal) (look : Lookup) (k : KeptOriginal) (p : Payer) → IsPosted v look k p → IsWay v look (by_payer v k p)
 ways_of_payer v look k (payer.Account id) h =
@@ -150,7 +156,7 @@ ways_of_payment : (v : Reversal) (look : Lookup) (k : KeptOriginal) (payment : O
 ways_of_payment v look k None h e = inr (inr (inr (inl (record { kept = k; names = h; unposted = e; writes = refl }))))
 ways_of_payment v look k (Some payment) h e =
     either_way v look (is_wrong_part v.scope v.transaction.amount k.amount) _ _ (λ wrong. refusing v look 110 (λ e. absurd (omega arith)))
-    (λ right. ways_of_payer v look k payment.payer (record { names = h; payment = payment; posted = e; right_part = right; payer = refl }))
+    (λ right. ways_of_payer v look k payment.payer (record { names = h; payment = payment; posted = e; payer = refl }))
 
 ways_of_reversal : (v : Reversal) (look : Lookup) (k : KeptOriginal) (by : Option Identity) → Names v look k by → IsWay v look (on_reversal v k by)
 ways_of_reversal v look k None h = ways_of_payment v look k (payment_of_outcome k.outcome) h refl

@@ -1,2 +1,3 @@
+pub mod KindHasher
 pub mod Recording
 pub mod RowSets

@@ -6,16 +6,18 @@ ghost use Rattle.view.specs.RowSets.{value_in, logged, IsOnceEach};
 
 use crate::row_source::RowSource;
 use crate::stop::Stop;
+use crate::kind_hasher::KindHasher;
 use indexmap::IndexMap;
 use rows::{RowKey, RowVal};
 use std::alloc::Global;
+use std::hash::BuildHasherDefault;
 use std::marker::Model;
 
 /// The rows that a decision read, each once, in the order of reading: the value, or that the row was absent
 /// (Block-STM: read set).
 #[derive(Drop)]
 pub struct ReadSet {
-    rows: IndexMap<RowKey, Option<RowVal>>,
+    rows: IndexMap<RowKey, Option<RowVal>, BuildHasherDefault<KindHasher>>,
 }
 
 impl Model for ReadSet {
@@ -35,7 +37,7 @@ impl ReadSet {
         ensures { result ≡ [] }
     {
         ReadSet {
-            rows: IndexMap::new(alloc),
+            rows: IndexMap::with_hasher(alloc, BuildHasherDefault::new()),
         }
     }
 

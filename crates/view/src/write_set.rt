@@ -2,15 +2,17 @@ ghost use Rattle.std.specs.Prelude.{◌≡◌, ◌<◌, ◌↔◌, [], Some, len
 ghost use Rattle.rows.specs.RowVal.{IsOfKind};
 ghost use Rattle.view.specs.RowSets.{value_in, put, IsOnceEach};
 
+use crate::kind_hasher::KindHasher;
 use indexmap::IndexMap;
 use rows::{RowKey, RowVal};
 use std::alloc::{AllocError, Global};
+use std::hash::BuildHasherDefault;
 use std::marker::Model;
 
 /// The rows that a decision puts, each once, in the order of first touch (Block-STM: write set).
 #[derive(Drop)]
 pub struct WriteSet {
-    rows: IndexMap<RowKey, RowVal>,
+    rows: IndexMap<RowKey, RowVal, BuildHasherDefault<KindHasher>>,
 }
 
 impl Model for WriteSet {
@@ -30,7 +32,7 @@ impl WriteSet {
         ensures { result ≡ [] }
     {
         WriteSet {
-            rows: IndexMap::new(alloc),
+            rows: IndexMap::with_hasher(alloc, BuildHasherDefault::new()),
         }
     }
 

@@ -1,0 +1,17 @@
+use Rattle.std.proofs.Common.{◌≡◌, nat_cmp, take, drop, ap, ◌∙◌, arith}
+use Rattle.std.specs.Int.{w32, from_be_bytes}
+use Rattle.iso8583.proofs.OrderLaws.{cmp_four, bytes_part, length_part}
+use Rattle.iso8583.proofs.order.order_four.Goals as goal
+
+pub returns : goal.returns
+returns c =
+    let a = c.args.a.now in
+    let b = c.args.b.now in
+    let p = c.args.place in
+    let mine : c.in-Some-Some.mine.now ≡ take 4 (drop p a) = c.in-Some-Some.ensures.cases.same ∙ ap (take 4) c.split_at.ensures.back in
+    let theirs : c.in-Some-Some.theirs.now ≡ take 4 (drop p b) = c.in-Some-Some.ensures'.cases.same ∙ ap (take 4) c.split_at-2.ensures.back in
+    c.cmp.ensures
+    ∙ (λ i. nat_cmp (c.from_be_bytes.ensures i) (c.from_be_bytes-in-Some-Some.ensures i))
+    ∙ (λ i. nat_cmp (from_be_bytes w32 (mine i)) (from_be_bytes w32 (theirs i)))
+    ∙ cmp_four _ _ (length_part p 4 a c.requires.mine) (length_part p 4 b c.requires.theirs) (bytes_part p 4 a (λ i. omega (arith, c.type_inv.a i)))
+    (bytes_part p 4 b (λ i. omega (arith, c.type_inv.b i)))
