@@ -4,9 +4,9 @@ ghost use Rattle.rows.specs.RowVal.{IsOfKind};
 ghost use Rattle.view.specs.Recording.{AsksOnce};
 ghost use Rattle.view.specs.RowSets.{value_in, logged, IsOnceEach};
 
+use crate::kind_hasher::KindHasher;
 use crate::row_source::RowSource;
 use crate::stop::Stop;
-use crate::kind_hasher::KindHasher;
 use indexmap::IndexMap;
 use rows::{RowKey, RowVal};
 use std::alloc::Global;
