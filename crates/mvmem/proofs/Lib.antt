@@ -1,0 +1,2 @@
+pub mod ChainLaws
+pub mod Digits

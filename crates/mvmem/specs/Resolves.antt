@@ -1,0 +1,28 @@
+-- What a message sees of a row (Block-STM: read): what the nearest message before it put.
+use Rattle.std.specs.Prelude.{◌≡◌, ℕ, ◌<◌, ◌≤◌, ◌^◌, Option, Some, None}
+use Rattle.rows.specs.declared.row_key.RowKey.{RowKey}
+use Rattle.mvmem.specs.Entries.{Held, Shelf, value_at}
+use Rattle.mvmem.specs.declared.seen.Seen.{Seen}
+use Rattle.mvmem.specs.declared.seen.Seen.TheVariants.{Base, Value, Estimate}
+
+-- no entry stands between these two indices
+abbrev pub AreNoneBetween : (ℕ → Option Held) → ℕ → ℕ → Type 0
+AreNoneBetween column at index = (i : ℕ) → at < i → i < index → column i ≡ None
+
+-- what is seen from this index, of one row's entries by index
+abbrev pub IsNearestBelow : (ℕ → Option Held) → ℕ → Seen → Type 0
+-- the opening book, where no entry has an index below it
+IsNearestBelow column index Base = (i : ℕ) → i < index → column i ≡ None
+-- else the entry of the greatest index below it: a value, or an estimate
+IsNearestBelow column index (Value version value) =
+    (version.index < index) × (column version.index ≡ Some (value_at version.incarnation value)) × AreNoneBetween column version.index index
+IsNearestBelow column index (Estimate at) =
+    (at < index) × ((entry : Held) × (column at ≡ Some entry) × (entry.value ≡ None)) × AreNoneBetween column at index
+
+-- what the message at this index sees of the row
+abbrev pub Resolves : Shelf → RowKey → ℕ → Seen → Type 0
+Resolves shelf row index seen = IsNearestBelow (shelf row) index seen
+
+-- it is at most as many as the number has binary digits (0 has none)
+abbrev pub IsWithinDigitsOf : ℕ → ℕ → Type 0
+IsWithinDigitsOf count number = (digits : ℕ) → number < 2 ^ digits → count ≤ digits
