@@ -1,5 +1,6 @@
 -- What a message sees of a row (Block-STM: read): what the nearest message before it put.
 use Rattle.std.specs.Prelude.{◌≡◌, ℕ, ◌<◌, ◌≤◌, ◌^◌, Option, Some, None}
+use Rattle.rows.specs.RowVal.{IsOfKind}
 use Rattle.rows.specs.declared.row_key.RowKey.{RowKey}
 use Rattle.mvmem.specs.Entries.{Held, Shelf, value_at}
 use Rattle.mvmem.specs.declared.seen.Seen.{Seen}
@@ -22,6 +23,12 @@ IsNearestBelow column index (Estimate at) =
 -- what the message at this index sees of the row
 abbrev pub Resolves : Shelf → RowKey → ℕ → Seen → Type 0
 Resolves shelf row index seen = IsNearestBelow (shelf row) index seen
+
+-- a value that is seen of the row is of its kind
+abbrev pub IsSeenOfKind : RowKey → Seen → Type 0
+IsSeenOfKind row Base = Unit {0}
+IsSeenOfKind row (Value version value) = IsOfKind row value
+IsSeenOfKind row (Estimate at) = Unit {0}
 
 -- it is at most as many as the number has binary digits (0 has none)
 abbrev pub IsWithinDigitsOf : ℕ → ℕ → Type 0

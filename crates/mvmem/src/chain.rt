@@ -42,6 +42,7 @@ impl Chain {
     pub(crate) fn reserve(&mut self) -> Result<(), AllocError>
         ensures links { self.new.links ≡ self.old.links }
         ensures room { OnOk result (0 < self.new.room) }
+        ensures more { self.old.room ≤ self.new.room }
     {
         self.links.reserve(1)
     }

@@ -3,6 +3,7 @@
 #![tactic(auto)]
 
 mod chain;
+mod chains;
 mod link;
 mod seen;
 mod version;
