@@ -1,3 +1,5 @@
 pub mod ChainLaws
 pub mod Digits
+pub mod ListLaws
+pub mod Loops
 pub mod RowLaws

@@ -23,7 +23,7 @@ pub rows_cases : (a b : RowKey) → (a ≡ b) ⊎ (a ≢ b)
 rows_cases a b =
     elim (key_eq a b) as (λ t. key_eq a b ≡ t → (a ≡ b) ⊎ (a ≢ b)) [ true ↦ λ t. inl ((key_eq_decides a b).0 t) | false ↦ λ f. inr (λ e. false≢true (sym f ∙ (key_eq_decides a b).1 e)) ] refl
 
-key_other : (a b : RowKey) → a ≢ b → key_eq a b ≡ false
+pub key_other : (a b : RowKey) → a ≢ b → key_eq a b ≡ false
 key_other a b ne = elim (key_eq a b) as (λ t. key_eq a b ≡ t → key_eq a b ≡ false) [ true ↦ λ t. absurd (ne ((key_eq_decides a b).0 t)) | false ↦ λ f. f ] refl
 
 -- the first entry is the row's, or it is passed over
@@ -33,7 +33,7 @@ met {V} e es row same = ap (λ (b : Bool). cond b (Some e.1) (value_in es row)) 
 passed : {V : Type 0} (e : RowKey × V) (es : List (RowKey × V)) (row : RowKey) → row ≢ e.0 → value_in (e ∷ es) row ≡ value_in es row
 passed {V} e es row ne = ap (λ (b : Bool). cond b (Some e.1) (value_in es row)) (key_other row e.0 ne)
 
-all_at : {X : Type 0} (P : X → Type 0) (xs : List X) (i : ℕ) (x : X) → AllByRecursion P xs → slice_get xs i ≡ Some x → P x
+pub all_at : {X : Type 0} (P : X → Type 0) (xs : List X) (i : ℕ) (x : X) → AllByRecursion P xs → slice_get xs i ≡ Some x → P x
 all_at P [] i x all at = absurd (none-some x at)
 all_at P (y ∷ ys) zero x all at = subst P (same_Some _ _ at) all.0
 all_at P (y ∷ ys) (suc i) x all at = all_at P ys i x all.1 at

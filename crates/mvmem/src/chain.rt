@@ -51,6 +51,7 @@ impl Chain {
     pub(crate) fn seen_below(&self, index: u32) -> (Seen, u32)
         ensures seen { IsNearestBelow (found self.now.links) index result.0 }
         ensures comparisons { IsWithinDigitsOf result.1 (length self.now.links) }
+        ensures order { AreInOrder self.now.links }
     {
         let (place, comparisons) = count_below(&self.links, index);
         if place == 0 {

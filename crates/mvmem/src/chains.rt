@@ -1,8 +1,8 @@
 ghost use Rattle.std.specs.Prelude.{◌≡◌, ◌≢◌, ◌↔◌, ℕ, ◌<◌, ◌≤◌, [], length, map, slice_get, Some, None, IsTrue, IsErr, IfSome, IfNone, OnOk, OnErr, option_map};
 ghost use Rattle.rows.specs.RowVal.{IsOfKind};
 ghost use Rattle.rows.specs.declared.row_key.RowKey.{RowKey};
-ghost use Rattle.view.specs.RowSets.{value_in};
-ghost use Rattle.mvmem.specs.Chains.{stands, held_of, row_at, rows_of, room_of, links_in, IsChangedAt};
+ghost use Rattle.view.specs.RowSets.{value_in, IsOnceEach};
+ghost use Rattle.mvmem.specs.Chains.{stands, held_of, row_at, rows_of, room_of, links_in, AreInOrder, IsChangedAt};
 ghost use Rattle.mvmem.specs.Entries.{estimate_of};
 ghost use Rattle.mvmem.specs.Resolves.{Resolves, IsSeenOfKind, IsWithinDigitsOf};
 
@@ -63,6 +63,7 @@ impl Chains {
         ensures seen { Resolves (stands self.now) row.now index result.0 }
         ensures kind { IsSeenOfKind row.now result.0 }
         ensures comparisons { IsWithinDigitsOf result.1 (length (links_in (value_in self.now row.now))) }
+        ensures order { AreInOrder (links_in (value_in self.now row.now)) }
     {
         match self.rows.get(row) {
             Some(chain) => chain.seen_below(index),
@@ -76,6 +77,7 @@ impl Chains {
         ensures room { OnOk result (0 < room_of self.new row.now) }
         ensures others { (r : RowKey) → 0 < room_of self.old r → 0 < room_of self.new r }
         ensures numbers { (n : ℕ) (r : RowKey) → row_at self.old n ≡ Some r → row_at self.new n ≡ Some r }
+        ensures once { IsOnceEach self.new }
     {
         if let Some(number) = self.rows.get_index_of(row) {
             let Some(chain) = self.rows.get_index_mut(number) else {

@@ -5,8 +5,11 @@
 mod chain;
 mod chains;
 mod link;
+mod mv_mem;
+mod row_list;
 mod seen;
 mod version;
 
+pub use mv_mem::MvMem;
 pub use seen::Seen;
 pub use version::Version;
