@@ -10,10 +10,10 @@ use Rattle.mvmem.specs.Chains.{found, held_of, AreInOrder, StandsAt, FitsAt}
 use Rattle.mvmem.specs.Entries.{Held, estimate_of}
 use Rattle.mvmem.specs.declared.link.Link.{Link}
 
-same_decides : (a b : ℕ) → Decides (a == b) (a ≡ b)
+pub same_decides : (a b : ℕ) → Decides (a == b) (a ≡ b)
 same_decides a b = search rules
 
-test_other : (a b : ℕ) → a ≢ b → (a == b) ≡ false
+pub test_other : (a b : ℕ) → a ≢ b → (a == b) ≡ false
 test_other a b ne = elim (a == b) as (λ t. (a == b) ≡ t → (a == b) ≡ false) [ true ↦ λ e. absurd (ne ((same_decides a b).0 e)) | false ↦ λ e. e ] refl
 
 -- a link of another index is passed over

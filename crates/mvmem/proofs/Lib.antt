@@ -1,5 +1,9 @@
 pub mod ChainLaws
 pub mod Digits
+pub mod Kept
 pub mod ListLaws
 pub mod Loops
+pub mod Placed
+pub mod Recorded
 pub mod RowLaws
+pub mod SeenLaws

@@ -53,17 +53,18 @@ module _ {V : Type 0} where
   valued (x ∷ es) (suc k) e once at =
       passed x es e.0 (λ same. apart (x ∷ es) 0 (suc k) x e once (omega arith) refl at (sym same)) ∙ valued es k e once.1 at
 
+  -- a row that comes first comes no more
+  pub none_later : (e : RowKey × V) (es : List (RowKey × V)) (row : RowKey) → IsOnceEach (e ∷ es) → row ≡ e.0 → value_in es row ≡ None
+  none_later e es row once same =
+      elim (value_in es row) as (λ o. value_in es row ≡ o → value_in es row ≡ None) [
+        | None ↦ λ none. none
+        | Some value ↦ λ some. let there = standing es row value some in absurd (apart (e ∷ es) 0 (suc there.0) e (row, value) once (omega arith) refl there.1 (sym same))
+      ] refl
+
 -- put in a book one after another, rows that are put once each have their one value
 first_of : {X : Type 0} → Option X → Option X → Option X
 first_of None other = other
 first_of (Some x) other = Some x
-
-none_later : (w : RowKey × RowVal) (ws : List (RowKey × RowVal)) (row : RowKey) → IsOnceEach (w ∷ ws) → row ≡ w.0 → value_in ws row ≡ None
-none_later w ws row once same =
-    elim (value_in ws row) as (λ o. value_in ws row ≡ o → value_in ws row ≡ None) [
-      | None ↦ λ e. e
-      | Some value ↦ λ e. let there = standing ws row value e in absurd (apart (w ∷ ws) 0 (suc there.0) w (row, value) once (omega arith) refl there.1 (sym same))
-    ] refl
 
 same_tied : (a b : RowKey) → a ≡ b → eq_by_cmp key_cmp a b ≡ true
 same_tied a b e = ap (λ (k : RowKey). eq_by_cmp key_cmp k b) e ∙ ap is_eq (tied_itself key_cmp_total b)

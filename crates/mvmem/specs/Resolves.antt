@@ -1,7 +1,6 @@
 -- What a message sees of a row (Block-STM: read): what the nearest message before it put.
-use Rattle.std.specs.Prelude.{◌≡◌, ℕ, ◌<◌, ◌≤◌, ◌^◌, Option, Some, None}
+use Rattle.std.specs.Prelude.{◌≡◌, ℕ, ◌<◌, ◌≤◌, ◌^◌, filter, length, Option, Some, None}
 use Rattle.std.specs.FinMap as map
-use Rattle.std.specs.List.{count_by}
 use Rattle.rows.specs.Fold.{Rows}
 use Rattle.rows.specs.RowKey.{key_eq}
 use Rattle.rows.specs.RowVal.{IsOfKind}
@@ -48,7 +47,7 @@ IsLaidOver shelf index rows laid =
 
 -- how many entries the row has
 abbrev pub row_count : Entries → RowKey → ℕ
-row_count entries row = count_by (λ entry. key_eq row entry.0.row) (map.entries entries)
+row_count entries row = length (filter (λ entry. key_eq row entry.0.row) (map.entries entries))
 
 -- it is at most as many as the number has binary digits (0 has none)
 abbrev pub IsWithinDigitsOf : ℕ → ℕ → Type 0

@@ -188,6 +188,7 @@ fn put_all(chains: &mut Chains, list: &mut RowList, version: Version, writes: &W
     ensures written { (r : RowKey) (value : RowVal) → value_in writes.now r ≡ Some value → stands chains.new r version.index ≡ Some (value_at version.incarnation value) }
     ensures new { IsTrue result ↔ ((r : RowKey) × IsSome (value_in writes.now r) × (stands chains.old r version.index ≡ None)) }
     ensures rows { rows_of chains.new ≡ rows_of chains.old }
+    ensures once { IsOnceEach writes.now }
 {
     let mut is_new = false;
     for place in 0..writes.len() {

@@ -1,5 +1,6 @@
 use Rattle.std.proofs.Common.{◌≡◌, ◌<◌, ◌≤◌, Some, Option, OnOk, arith, refl, ap, sym, subst, ◌∙◌}
-use Rattle.std.specs.List.{slice_get}
+use Rattle.std.specs.List.{slice_get, IsDistinct}
+use Rattle.rows.specs.RowKey.{key_eq}
 use Rattle.mvmem.proofs.RowLaws.{relinked, same-sound, row_found, rows-set, set_own, set_room, appended_rows}
 use Rattle.mvmem.specs.Chains.{Chains, row_at, rows_of, room_in, room_of}
 use Rattle.mvmem.proofs.chains.Chains.reserve.Goals as goal
@@ -41,3 +42,8 @@ returns-in-Some-clause-numbers c n r at =
 pub returns-clause-numbers : goal.returns-clause-numbers
 returns-clause-numbers c n r at =
     appended_rows c.self.inside.rows c.args.self.now c.insert.new.self.entries c.args.row.now _ n r c.in_default.ensures.found c.in_ok-insert.ensures.entries c.self.view_is at
+
+pub returns-in-Some-clause-once : goal.returns-in-Some-clause-once
+returns-in-Some-clause-once c =
+    let es : Chains = c.self.inside.rows.entries in
+    subst (λ rows. IsDistinct key_eq rows) (sym (rows-set es c.in-Some.number c.reserve.new.self)) c.self.invariant.once
