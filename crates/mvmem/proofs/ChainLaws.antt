@@ -1,6 +1,6 @@
 -- What a chain has at an index, after a link is put, taken out or changed.
-use Rattle.std.proofs.Common.{◌≡◌, ◌≢◌, ℕ, zero, suc, ◌+◌, ◌-◌, ◌*◌, ◌/◌, ◌<◌, ◌≤◌, ◌^◌, ◌==◌, Bool, true, false, cond, if◌then◌else◌, List, [], ◌∷◌, length, get_or, set, Option, Some, None, option_map, refl, sym, ap, ◌∙◌, subst, inl, inr, arith, rules, length-set, get_or-set_other, get_or-set_same}
-use Rattle.std.proofs.lemmas.Bool.{cases_lt, cases_eq, false≢true}
+use Rattle.std.proofs.Common.{◌≡◌, ◌≢◌, ℕ, zero, suc, ◌+◌, ◌-◌, ◌<◌, ◌≤◌, ◌==◌, Bool, true, false, if◌then◌else◌, List, [], ◌∷◌, length, get_or, set, Option, Some, None, option_map, refl, sym, ap, ◌∙◌, subst, inl, inr, arith, rules, length-set, get_or-set_other, get_or-set_same}
+use Rattle.std.proofs.lemmas.Bool.{cases_lt, cases_eq}
 use Rattle.std.proofs.lemmas.List.{get_or_default}
 use Rattle.std.proofs.lemmas.List.Edits.{length-insert, get_or-insert_below, get_or-insert_at, get_or-insert_above, length-remove, get_or-remove_below, get_or-remove_above}
 use Rattle.std.proofs.lemmas.List.Quantifiers.{all_pairs_remove}
@@ -205,6 +205,6 @@ last_seen links was place index link order some within read below above same =
     subst (λ (xs : List Link). (link.index < index) × (found xs link.index ≡ Some (held_of link)) × ((i : ℕ) → link.index < i → i < index → found xs i ≡ None)) same (
       let before = below (place - 1) link (omega arith) in omega arith,
       found_at links link.index (place - 1) link order (omega arith, λ d. ap (λ (x : Link). x.index) (get_or_default links (place - 1) d link (omega arith)) ∙ sym own)
-      ∙ ap (λ (x : Link). Some (held_of x)) (sym read),
+          ∙ ap (λ (x : Link). Some (held_of x)) (sym read),
       none_between links (place - 1) index link order (omega arith) own (λ k d l. above k d (omega arith)),
     )

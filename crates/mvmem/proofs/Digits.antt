@@ -1,6 +1,6 @@
 -- A search by halves compares at most as many indices as the number of links has binary digits.
-use Rattle.std.proofs.Common.{◌≡◌, ℕ, zero, suc, ◌+◌, ◌-◌, ◌*◌, ◌/◌, ◌<◌, ◌≤◌, ◌^◌, refl, sym, ap, ◌∙◌, subst, arith}
-use Rattle.std.proofs.lemmas.Nat.{pow_pos, pow-add}
+use Rattle.std.proofs.Common.{◌≡◌, ℕ, zero, suc, ◌+◌, ◌-◌, ◌*◌, ◌/◌, ◌<◌, ◌≤◌, ◌^◌, refl, ap, ◌∙◌, arith}
+use Rattle.std.proofs.lemmas.Nat.{pow-add}
 
 -- what is below a power of two and not nothing leaves, halved, what is below the next lower power
 pub halved : (size less n count : ℕ) → 0 < size → less ≤ size / 2 → count ≤ n → size < 2 ^ (n - count) → (count + 1 ≤ n) × (less < 2 ^ (n - (count + 1)))

@@ -1,10 +1,10 @@
 -- Rows in a list where each is once, and numbers in a list.
-use Rattle.std.proofs.Common.{◌≡◌, ◌≢◌, ℕ, zero, suc, ◌+◌, ◌<◌, ◌≤◌, Bool, true, false, cond, List, [], ◌∷◌, ◌++◌, length, map, slice_get, Option, Some, None, IsSome, refl, sym, ap, ◌∙◌, subst, ◌⊎◌, inl, inr, Ordering, Less, Equal, Greater, arith}
+use Rattle.std.proofs.Common.{◌≡◌, ◌≢◌, ℕ, zero, suc, ◌<◌, Bool, true, false, cond, List, [], ◌∷◌, ◌++◌, length, map, slice_get, Option, Some, None, refl, sym, ap, ◌∙◌, ◌⊎◌, inl, inr, Ordering, Less, Equal, Greater, arith}
 use Rattle.std.proofs.lemmas.Bool.{false≢true}
 use Rattle.std.proofs.lemmas.Option.{none-some, same_Some}
 use Rattle.std.proofs.lemmas.Cmp.{tied_itself}
 use Rattle.std.specs.FinMap as finite
-use Rattle.std.specs.List.{AllByRecursion, IsDistinct, remove}
+use Rattle.std.specs.List.{IsDistinct, remove}
 use Rattle.std.specs.Ordering.{eq_by_cmp, is_eq}
 use Rattle.rows.proofs.KeyLaws.{key_eq_decides, key_cmp_total, key_cmp_antisymmetric}
 use Rattle.rows.specs.Fold.{Rows, overlay}
@@ -66,7 +66,7 @@ first_of : {X : Type 0} → Option X → Option X → Option X
 first_of None other = other
 first_of (Some x) other = Some x
 
-same_tied : (a b : RowKey) → a ≡ b → eq_by_cmp key_cmp a b ≡ true
+pub same_tied : (a b : RowKey) → a ≡ b → eq_by_cmp key_cmp a b ≡ true
 same_tied a b e = ap (λ (k : RowKey). eq_by_cmp key_cmp k b) e ∙ ap is_eq (tied_itself key_cmp_total b)
 
 tied : (o : Ordering) → is_eq o ≡ true → o ≡ Equal
@@ -74,7 +74,7 @@ tied Less e = absurd (false≢true e)
 tied Equal e = refl
 tied Greater e = absurd (false≢true e)
 
-other_tied : (a b : RowKey) → a ≢ b → eq_by_cmp key_cmp a b ≡ false
+pub other_tied : (a b : RowKey) → a ≢ b → eq_by_cmp key_cmp a b ≡ false
 other_tied a b ne = elim (eq_by_cmp key_cmp a b) as (λ t. eq_by_cmp key_cmp a b ≡ t → eq_by_cmp key_cmp a b ≡ false) [ true ↦ λ t. absurd (ne (key_cmp_antisymmetric a b (tied _ t))) | false ↦ λ f. f ] refl
 
 overlaid : (rows : Rows) (ws : List (RowKey × RowVal)) (row : RowKey) → IsOnceEach ws → finite.get (overlay rows ws) row ≡ first_of (value_in ws row) (finite.get rows row)

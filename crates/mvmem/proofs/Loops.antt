@@ -1,14 +1,14 @@
 -- What the loops over a message's rows have done so far.
-use Rattle.std.proofs.Common.{◌≡◌, ◌≢◌, ℕ, zero, suc, ◌+◌, ◌<◌, ◌≤◌, Bool, true, false, List, [], ◌∷◌, ◌++◌, length, map, slice_get, Option, Some, None, IsSome, IsTrue, is_some, option_map, refl, sym, ap, ◌∙◌, subst, ◌⊎◌, inl, inr, arith}
-use Rattle.std.proofs.lemmas.Bool.{cases_lt, cases_eq, false≢true}
+use Rattle.std.proofs.Common.{◌≡◌, ◌≢◌, ℕ, ◌+◌, ◌<◌, ◌≤◌, Bool, List, [], ◌∷◌, ◌++◌, length, slice_get, Option, Some, None, IsSome, IsTrue, option_map, refl, sym, ap, ◌∙◌, subst, ◌⊎◌, inl, inr, arith}
+use Rattle.std.proofs.lemmas.Bool.{cases_lt, false≢true}
 use Rattle.std.proofs.lemmas.List.{length-map}
 use Rattle.std.proofs.lemmas.Option.{none-some, same_Some, slice_get_within}
 use Rattle.std.specs.List.{remove}
 use Rattle.rows.specs.declared.row_key.RowKey.{RowKey}
 use Rattle.rows.specs.declared.row_val.RowVal.{RowVal}
 use Rattle.view.specs.RowSets.{value_in, IsOnceEach}
-use Rattle.mvmem.proofs.ListLaws.{standing, apart, valued, before_removed, was_there, still_there, pushed_before, pushed_last, pushed_cases}
-use Rattle.mvmem.proofs.RowLaws.{rows_cases, row_there}
+use Rattle.mvmem.proofs.ListLaws.{apart, valued, before_removed, was_there, still_there, pushed_before, pushed_last, pushed_cases}
+use Rattle.mvmem.proofs.RowLaws.{rows_cases}
 use Rattle.mvmem.specs.Chains.{Chains, stands, rows_of, row_at, room_of, IsChangedAt}
 use Rattle.mvmem.specs.Entries.{Held, estimate_of, value_at}
 use Rattle.mvmem.specs.Memory.{AreListed}

@@ -1,6 +1,6 @@
 -- The chains' links, seen as entries by place.
-use Rattle.std.proofs.Common.{◌≡◌, ◌≢◌, ℕ, zero, suc, ◌+◌, ◌<◌, ◌≤◌, ◌==◌, Bool, true, false, cond, if◌then◌else◌, List, [], ◌∷◌, ◌++◌, length, get_or, map, filter, Option, Some, None, refl, sym, ap, ◌∙◌, subst, inl, inr, Ordering, Less, Equal, Greater, arith}
-use Rattle.std.proofs.lemmas.Bool.{cases_lt, cases_eq, false≢true}
+use Rattle.std.proofs.Common.{◌≡◌, ◌≢◌, ℕ, suc, ◌+◌, ◌≤◌, ◌==◌, Bool, true, false, cond, List, [], ◌∷◌, ◌++◌, length, filter, Option, Some, None, refl, sym, ap, ◌∙◌, subst, inl, inr, Ordering, Less, Equal, Greater, arith}
+use Rattle.std.proofs.lemmas.Bool.{cases_eq, false≢true}
 use Rattle.std.proofs.lemmas.Cmp.{tied_itself}
 use Rattle.std.proofs.lemmas.Option.{none-some}
 use Rattle.std.specs.Cmp.{IsTotalOrder, then_total, on_total, nat_cmp_total}
@@ -12,9 +12,9 @@ use Rattle.rows.specs.RowKey.{key_cmp, key_eq}
 use Rattle.rows.specs.declared.row_key.RowKey.{RowKey}
 use Rattle.view.specs.RowSets.{value_in, IsOnceEach}
 use Rattle.mvmem.proofs.ChainLaws.{found_none}
-use Rattle.mvmem.proofs.RowLaws.{rows_cases, key_other, all_at}
-use Rattle.mvmem.specs.Chains.{Chain, Chains, found, held_of, links_in, stands, rows_of, AreInOrder}
-use Rattle.mvmem.specs.Entries.{Entries, Held, Place, place_cmp, place_of, held}
+use Rattle.mvmem.proofs.RowLaws.{rows_cases, key_other}
+use Rattle.mvmem.specs.Chains.{Chain, Chains, found, held_of, links_in, stands, AreInOrder}
+use Rattle.mvmem.specs.Entries.{Held, Place, place_cmp, place_of, held}
 use Rattle.mvmem.specs.Memory.{placed, placed_links}
 use Rattle.mvmem.specs.Resolves.{row_count}
 use Rattle.mvmem.specs.declared.link.Link.{Link}

@@ -1,6 +1,5 @@
 -- What a version wrote stands in place of its index's entries.
-use Rattle.std.proofs.Common.{◌≡◌, ◌≢◌, ◌↔◌, ◌⊎◌, ℕ, ◌<◌, ◌≤◌, List, Bool, Option, Some, None, IsSome, IsTrue, option_map, refl, sym, ap, ◌∙◌, subst, inl, inr}
-use Rattle.std.proofs.lemmas.Option.{none-some, same_Some}
+use Rattle.std.proofs.Common.{◌≡◌, ◌≢◌, ◌↔◌, ◌⊎◌, ℕ, Bool, Some, None, IsSome, IsTrue, option_map, refl, sym, ap, ◌∙◌, inl, inr}
 use Rattle.std.specs.FinMap as finite
 use Rattle.rows.specs.Plan.{Writes}
 use Rattle.rows.specs.declared.row_key.RowKey.{RowKey}
@@ -11,7 +10,7 @@ use Rattle.mvmem.proofs.ListLaws.{written_is}
 use Rattle.mvmem.proofs.Loops.{some_of, is_some_of}
 use Rattle.mvmem.proofs.Placed.{held_placed}
 use Rattle.mvmem.specs.Chains.{Chains, stands, rows_of}
-use Rattle.mvmem.specs.Entries.{Entries, Held, held, value_at, estimate_of, written, AreReplaced, AreEstimated, IsNewLocation}
+use Rattle.mvmem.specs.Entries.{Entries, held, value_at, estimate_of, AreReplaced, AreEstimated, IsNewLocation}
 use Rattle.mvmem.specs.Memory.{placed}
 use Rattle.mvmem.specs.declared.version.Version.{Version}
 

@@ -1,5 +1,5 @@
 -- The entries of rows as they are kept: a chain for each row, in the order of its indices.
-use Rattle.std.specs.Prelude.{◌≡◌, ◌≢◌, ◌⊎◌, ℕ, ◌<◌, ◌≤◌, List, [], ◌∷◌, ◌++◌, ◌==◌, length, map, slice_index_or, slice_get, if◌then◌else◌, Option, Some, None, IfSome, option_map}
+use Rattle.std.specs.Prelude.{◌≡◌, ◌≢◌, ◌⊎◌, ℕ, ◌<◌, ◌≤◌, List, [], ◌∷◌, ◌==◌, length, map, slice_index_or, slice_get, if◌then◌else◌, Option, Some, None, IfSome}
 use Rattle.std.specs.List.{AllPairs}
 use Rattle.rows.specs.RowVal.{IsOfKind}
 use Rattle.rows.specs.declared.row_key.RowKey.{RowKey}

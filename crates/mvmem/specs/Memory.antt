@@ -1,12 +1,12 @@
 -- What a memory of versions holds: entries, and room for more.
-use Rattle.std.specs.Prelude.{◌≡◌, ℕ, ◌<◌, ◌≤◌, List, [], ◌∷◌, ◌++◌, length, map, slice_get, slice_index_or, Option, Some, None, IsSome, refl}
+use Rattle.std.specs.Prelude.{◌≡◌, ℕ, ◌<◌, ◌≤◌, List, [], ◌∷◌, ◌++◌, length, map, slice_get, slice_index_or, Option, Some, IsSome, refl}
 use Rattle.std.specs.Coded.{Coded, code_by, coded×, coded_list, coded_ℕ, coded_option}
 use Rattle.std.specs.FinMap as finite
 use Rattle.rows.specs.Plan.{Writes}
 use Rattle.rows.specs.declared.row_key.RowKey.{RowKey}
 use Rattle.rows.specs.declared.row_val.RowVal.{RowVal}
 use Rattle.view.specs.RowSets.{value_in, IsOnceEach}
-use Rattle.mvmem.specs.Chains.{Chain, Chains, held_of, room_of, row_at, stands}
+use Rattle.mvmem.specs.Chains.{Chains, held_of, row_at, stands}
 use Rattle.mvmem.specs.Entries.{Entries, Held, Place, place_of}
 use Rattle.mvmem.specs.declared.link.Link.{Link}
 

@@ -1,9 +1,6 @@
-use Rattle.std.proofs.Common.{ℕ, ◌<◌, ◌≤◌, ◌+◌, ◌-◌, ◌/◌, ◌^◌, length, get_or, arith, sym, subst, inl, inr}
-use Rattle.std.proofs.lemmas.Bool.{cases_lt, cases_eq}
-use Rattle.std.proofs.lemmas.List.{get_or_default}
+use Rattle.std.proofs.Common.{ℕ, ◌+◌, ◌-◌, ◌/◌, arith}
 use Rattle.mvmem.proofs.ChainLaws.{nearer_below, nearer_above}
 use Rattle.mvmem.proofs.Digits.{halved}
-use Rattle.mvmem.specs.declared.link.Link.{Link}
 use Rattle.mvmem.proofs.chain.count_below.Goals as goal
 
 pub overflow_add-comparisons : goal.overflow_add-comparisons

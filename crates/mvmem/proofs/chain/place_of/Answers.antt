@@ -1,4 +1,3 @@
-use Rattle.std.proofs.Common.{ℕ, ◌≤◌, ◌<◌, length, get_or, arith, sym}
 use Rattle.mvmem.proofs.ChainLaws.{fits_apart, fits_last}
 use Rattle.mvmem.proofs.chain.place_of.Goals as goal
 use Rattle.mvmem.proofs.chain.place_of.Goals.{else-place-links-via-then-place-links+else-links-place, else-place-links-via-else-place-links}

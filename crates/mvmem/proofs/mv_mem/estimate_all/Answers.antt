@@ -1,4 +1,4 @@
-use Rattle.std.proofs.Common.{◌<◌, ℕ, ◌≡◌, refl, inl, sym, subst, arith}
+use Rattle.std.proofs.Common.{refl, inl, arith}
 use Rattle.mvmem.proofs.Loops.{estimating_more, estimating_all, same_length, same_row}
 use Rattle.mvmem.proofs.RowLaws.{row_there}
 use Rattle.mvmem.proofs.mv_mem.estimate_all.Goals as goal

@@ -1,8 +1,6 @@
-use Rattle.std.proofs.Common.{◌≡◌, ◌<◌, ◌≤◌, ◌+◌, ◌⊎◌, inl, inr, ℕ, List, length, IsSome, Option, Bool, true, false, refl, sym, subst, ap, ◌∙◌, arith}
+use Rattle.std.proofs.Common.{inl, inr, refl, sym, ap, ◌∙◌, arith}
 use Rattle.std.proofs.lemmas.Bool.{false≢true}
-use Rattle.std.proofs.lemmas.Option.{slice_get_within, none-some, same_Some}
-use Rattle.rows.specs.declared.row_key.RowKey.{RowKey}
-use Rattle.rows.specs.declared.row_val.RowVal.{RowVal}
+use Rattle.std.proofs.lemmas.Option.{slice_get_within, none-some}
 use Rattle.view.specs.RowSets.{value_in}
 use Rattle.mvmem.proofs.ListLaws.{standing, valued}
 use Rattle.mvmem.proofs.Loops.{putting_more, some_of, is_some_of}

@@ -1,5 +1,4 @@
 use Rattle.mvmem.proofs.Loops.{Putting}
-use Rattle.view.specs.RowSets.{IsOnceEach}
 use Rattle.mvmem.proofs.mv_mem.put_all.Given as goal
 
 abbrev pub invariant-loop-place : goal.invariant-loop-place

@@ -1,11 +1,10 @@
-use Rattle.std.proofs.Common.{◌≡◌, ◌<◌, ◌≤◌, ◌+◌, ℕ, List, length, IsSome, Option, sym, subst, ap, ◌∙◌, arith}
+use Rattle.std.proofs.Common.{ℕ, List, length, IsSome, Option, sym, subst, ap, ◌∙◌, arith}
 use Rattle.std.proofs.lemmas.Bool.{false≢true}
 use Rattle.std.proofs.lemmas.List.Edits.{length-remove}
 use Rattle.std.proofs.lemmas.Option.{slice_get_within}
-use Rattle.std.specs.List.{remove}
 use Rattle.rows.specs.declared.row_val.RowVal.{RowVal}
 use Rattle.view.specs.RowSets.{value_in}
-use Rattle.mvmem.proofs.Loops.{TakingOut, passed_over, taken_out, taken_out_all}
+use Rattle.mvmem.proofs.Loops.{TakingOut, passed_over, taken_out}
 use Rattle.mvmem.proofs.mv_mem.take_out_others.Goals as goal
 
 pub loop-place-preserved-then-is_some : goal.loop-place-preserved-then-is_some

@@ -1,5 +1,4 @@
 use Rattle.std.proofs.Common.{◌-◌, ◌≤◌, length}
-use Rattle.rows.specs.declared.row_key.RowKey.{RowKey}
 use Rattle.view.specs.RowSets.{value_in}
 use Rattle.mvmem.proofs.Loops.{TakingOut}
 use Rattle.mvmem.proofs.mv_mem.take_out_others.Given as goal

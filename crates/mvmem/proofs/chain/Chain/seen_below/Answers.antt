@@ -1,4 +1,4 @@
-use Rattle.std.proofs.Common.{◌≡◌, ◌∙◌, Option, Some, None, List, ◌-◌, ap, sym, subst, arith, length, get_or, ◌≤◌, ◌<◌, ℕ}
+use Rattle.std.proofs.Common.{◌≡◌, ◌∙◌, Option, Some, None, List, ◌-◌, ap, sym, subst, arith, get_or, ◌<◌, ℕ}
 use Rattle.mvmem.proofs.ChainLaws.{nothing_below, last_seen}
 use Rattle.mvmem.specs.Chains.{Chain, found, held_of, AreInOrder}
 use Rattle.rows.specs.declared.row_val.RowVal.{RowVal}

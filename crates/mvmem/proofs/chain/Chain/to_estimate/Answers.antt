@@ -1,7 +1,7 @@
 use Rattle.std.proofs.Common.{◌≡◌, List, Option, None, option_map, ◌∙◌, ap, sym, subst}
 use Rattle.mvmem.proofs.ChainLaws.{estimated_own, set_other, insert_new}
 use Rattle.mvmem.specs.Chains.{Chain, found, StandsAt, FitsAt}
-use Rattle.mvmem.specs.Entries.{Held, estimate_of}
+use Rattle.mvmem.specs.Entries.{estimate_of}
 use Rattle.mvmem.specs.declared.link.Link.{Link}
 use Rattle.mvmem.proofs.chain.Chain.to_estimate.Goals as goal
 

@@ -1,10 +1,9 @@
-use Rattle.std.proofs.Common.{◌≡◌, ◌≢◌, Some, IfSome, Option, refl, ap, sym, subst, ◌∙◌}
+use Rattle.std.proofs.Common.{Some, IfSome, refl, ap, sym, subst, ◌∙◌}
 use Rattle.std.proofs.lemmas.Option.{same_Some}
 use Rattle.mvmem.proofs.RowLaws.{changed, changed-sound, row_found, rows-set, set_other}
-use Rattle.mvmem.specs.Chains.{Chains, held_of, row_at, rows_of, room_in, room_of}
+use Rattle.mvmem.specs.Chains.{Chains, held_of, rows_of, room_in, room_of}
 use Rattle.mvmem.specs.Entries.{Held}
 use Rattle.rows.specs.RowVal.{IsOfKind}
-use Rattle.rows.specs.declared.row_key.RowKey.{RowKey}
 use Rattle.std.specs.List.{slice_get}
 use Rattle.mvmem.proofs.chains.Chains.put.Goals as goal
 

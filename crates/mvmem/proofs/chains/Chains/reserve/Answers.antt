@@ -1,8 +1,8 @@
-use Rattle.std.proofs.Common.{◌≡◌, ◌<◌, ◌≤◌, Some, Option, OnOk, arith, refl, ap, sym, subst, ◌∙◌}
+use Rattle.std.proofs.Common.{arith, refl, ap, sym, subst, ◌∙◌}
 use Rattle.std.specs.List.{slice_get, IsDistinct}
 use Rattle.rows.specs.RowKey.{key_eq}
 use Rattle.mvmem.proofs.RowLaws.{relinked, same-sound, row_found, rows-set, set_own, set_room, appended_rows}
-use Rattle.mvmem.specs.Chains.{Chains, row_at, rows_of, room_in, room_of}
+use Rattle.mvmem.specs.Chains.{Chains, rows_of, room_of}
 use Rattle.mvmem.proofs.chains.Chains.reserve.Goals as goal
 
 pub invariant_of-self : goal.invariant_of-self

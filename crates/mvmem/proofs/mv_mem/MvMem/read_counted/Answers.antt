@@ -1,4 +1,4 @@
-use Rattle.std.proofs.Common.{◌≡◌, ◌<◌, ◌≤◌, ℕ, Option, ap, sym, ◌∙◌, arith}
+use Rattle.std.proofs.Common.{ap, sym, ◌∙◌, arith}
 use Rattle.mvmem.proofs.Placed.{held_placed, chain_count}
 use Rattle.mvmem.proofs.SeenLaws.{seen_alike}
 use Rattle.mvmem.specs.Chains.{stands}

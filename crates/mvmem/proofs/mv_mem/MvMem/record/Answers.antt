@@ -1,9 +1,7 @@
-use Rattle.std.proofs.Common.{◌≡◌, ◌<◌, ◌≤◌, length, inl, ℕ, List, map, slice_get, Some, IsSome, ap, sym, subst, ◌∙◌, arith}
-use Rattle.rows.specs.declared.row_key.RowKey.{RowKey}
+use Rattle.std.proofs.Common.{inl, ap, sym, subst, ◌∙◌, arith}
 use Rattle.mvmem.proofs.Kept.{kept_changed, list_read, list_room, row_room}
-use Rattle.mvmem.proofs.Recorded.{Steps, replaced, new_location}
-use Rattle.mvmem.specs.Chains.{Chains}
-use Rattle.mvmem.specs.Memory.{Memory, RowList, AreListed, HasRoom, list_at}
+use Rattle.mvmem.proofs.Recorded.{replaced, new_location}
+use Rattle.mvmem.specs.Memory.{Memory, RowList, AreListed, HasRoom}
 use Rattle.mvmem.proofs.mv_mem.MvMem.record.Goals as goal
 
 pub take_out_others-requires : goal.take_out_others-requires
