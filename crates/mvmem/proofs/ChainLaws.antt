@@ -2,8 +2,7 @@
 use Rattle.std.proofs.Common.{◌≡◌, ◌≢◌, ℕ, zero, suc, ◌+◌, ◌-◌, ◌<◌, ◌≤◌, ◌==◌, Bool, true, false, if◌then◌else◌, List, [], ◌∷◌, length, get_or, set, Option, Some, None, option_map, refl, sym, ap, ◌∙◌, subst, inl, inr, arith, rules, length-set, get_or-set_other, get_or-set_same}
 use Rattle.std.proofs.lemmas.Bool.{cases_lt, cases_eq}
 use Rattle.std.proofs.lemmas.List.{get_or_default}
-use Rattle.std.proofs.lemmas.List.Edits.{length-insert, get_or-insert_below, get_or-insert_at, get_or-insert_above, length-remove, get_or-remove_below, get_or-remove_above}
-use Rattle.std.proofs.lemmas.List.Quantifiers.{all_pairs_remove}
+use Rattle.std.proofs.lemmas.List.Edits.{length-insert, get_or-insert_below, get_or-insert_at, length-remove, get_or-remove_below, get_or-remove_above}
 use Rattle.std.specs.Bool.{Decides}
 use Rattle.std.specs.List.{insert, remove}
 use Rattle.mvmem.specs.Chains.{found, held_of, AreInOrder, StandsAt, FitsAt}
@@ -61,18 +60,6 @@ set_other (first ∷ links) zero link index stands ne =
 set_other (first ∷ links) (suc place) link index stands ne =
     alike first (set links place link) links index (set_other links place link index (let l = stands.0 in omega arith, λ d. stands.1 d) ne)
 
-pub set_order : (links : List Link) (place : ℕ) (link : Link) → AreInOrder links → StandsAt links link.index place → AreInOrder (set links place link)
-set_order links place link order stands i j d l m =
-    let many = length-set links place link in
-    let at : (k : ℕ) → (get_or (set links place link) k d).index ≡ (get_or links k d).index = λ k. elim (cases_eq k place) [
-      | inl e ↦ ap (λ (n : ℕ). (get_or (set links place link) n d).index) e ∙ ap (λ (x : Link). x.index) (get_or-set_same links place link d stands.0) ∙ sym (stands.1 d) ∙ ap (λ (n : ℕ). (get_or links n d).index) (sym e)
-      | inr ne ↦ ap (λ (x : Link). x.index) (get_or-set_other links place k link d ne)
-    ] in
-    let first = at i in
-    let second = at j in
-    let before = order i j d l (omega arith) in
-    omega arith
-
 -- a link is put in between
 pub insert_own : (links : List Link) (place : ℕ) (link : Link) → FitsAt links link.index place → found (insert links place link) link.index ≡ Some (held_of link)
 insert_own links place link fits =
@@ -94,29 +81,6 @@ insert_new links place index fits =
       | inr above ↦ let after = fits.2 k d above l in omega arith
     ])
 
-pub insert_order : (links : List Link) (place : ℕ) (link : Link) → AreInOrder links → FitsAt links link.index place → AreInOrder (insert links place link)
-insert_order links place link order fits i j d l m =
-    let many = length-insert links place link fits.0 in
-    let index_of = λ (x : Link). x.index in
-    let below : (k : ℕ) → k < place → (get_or (insert links place link) k d).index ≡ (get_or links k d).index = λ k b. ap index_of (get_or-insert_below links place link d k b fits.0) in
-    let own : (get_or (insert links place link) place d).index ≡ link.index = ap index_of (get_or-insert_at links place link d fits.0) in
-    let above : (k : ℕ) → place < k → (get_or (insert links place link) k d).index ≡ (get_or links (k - 1) d).index = λ k a. ap (λ (n : ℕ). (get_or (insert links place link) n d).index) (omega arith) ∙ ap index_of (get_or-insert_above links place link d (k - 1) (omega arith) fits.0) in
-    elim (cases_lt j place) [
-      | inl j_below ↦ let first = below i (omega arith) in let second = below j j_below in let before = order i j d l (let w = fits.0 in omega arith) in omega arith
-      | inr j_above ↦ elim (cases_eq j place) [
-        | inl j_own ↦ let first = below i (omega arith) in let second = subst (λ (n : ℕ). (get_or (insert links place link) n d).index ≡ link.index) (sym j_own) own in let before = fits.1 i d (omega arith) in omega arith
-        | inr j_other ↦
-            let second = above j (omega arith) in
-            elim (cases_lt i place) [
-              | inl i_below ↦ let first = below i i_below in let before = order i (j - 1) d (omega arith) (omega arith) in omega arith
-              | inr i_above ↦ elim (cases_eq i place) [
-                | inl i_own ↦ let first = subst (λ (n : ℕ). (get_or (insert links place link) n d).index ≡ link.index) (sym i_own) own in let after = fits.2 (j - 1) d (omega arith) (omega arith) in omega arith
-                | inr i_other ↦ let first = above i (omega arith) in let before = order (i - 1) (j - 1) d (omega arith) (omega arith) in omega arith
-              ]
-            ]
-      ]
-    ]
-
 -- a link is taken out
 pub remove_own : (links : List Link) (place index : ℕ) → AreInOrder links → StandsAt links index place → found (remove links place) index ≡ None
 remove_own links place index order stands =
@@ -133,9 +97,6 @@ remove_other [] place index at stands ne = absurd (let l = stands.0 in omega ari
 remove_other (first ∷ links) zero index at stands ne = sym (passed first links index (λ e. ne (sym e ∙ stands.1 first)))
 remove_other (first ∷ links) (suc place) index at stands ne =
     alike first (remove links place) links index (remove_other links place index at (let l = stands.0 in omega arith, λ d. stands.1 d) ne)
-
-pub remove_order : (links : List Link) (place : ℕ) → AreInOrder links → place < length links → AreInOrder (remove links place)
-remove_order links place order l = all_pairs_remove (λ link later. link.index < later.index) links place l order
 
 -- all links up to one that is below the index are
 pub nearer_below : (links : List Link) (middle index : ℕ) (e : Link) → AreInOrder links → middle < length links → (get_or links middle e).index < index → (k : ℕ) (d : Link) → k < middle + 1 → (get_or links k d).index < index

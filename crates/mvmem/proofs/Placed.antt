@@ -1,5 +1,5 @@
 -- The chains' links, seen as entries by place.
-use Rattle.std.proofs.Common.{◌≡◌, ◌≢◌, ℕ, suc, ◌+◌, ◌≤◌, ◌==◌, Bool, true, false, cond, List, [], ◌∷◌, ◌++◌, length, filter, Option, Some, None, refl, sym, ap, ◌∙◌, subst, inl, inr, Ordering, Less, Equal, Greater, arith}
+use Rattle.std.proofs.Common.{◌≡◌, ◌≢◌, ℕ, suc, ◌+◌, ◌≤◌, Bool, true, false, cond, List, [], ◌∷◌, ◌++◌, length, filter, Option, Some, None, refl, sym, ap, ◌∙◌, subst, inl, inr, Ordering, Less, Equal, Greater, arith}
 use Rattle.std.proofs.lemmas.Bool.{cases_eq, false≢true}
 use Rattle.std.proofs.lemmas.Cmp.{tied_itself}
 use Rattle.std.proofs.lemmas.Option.{none-some}
@@ -57,9 +57,6 @@ find_append q [] ys = refl
 find_append q (x ∷ xs) ys =
     ap (cond (eq_by_cmp place_cmp q x.0) (Some x.1)) (find_append q xs ys)
     ∙ elim (eq_by_cmp place_cmp q x.0) as (λ b. cond b (Some x.1) (first_of (finite.find place_cmp q xs) (finite.find place_cmp q ys)) ≡ first_of (cond b (Some x.1) (finite.find place_cmp q xs)) (finite.find place_cmp q ys)) [ true ↦ refl | false ↦ refl ]
-
-same_index : (link : Link) (i : ℕ) → (link.index == i) ≡ true → link.index ≡ i
-same_index link i t = (Rattle.mvmem.proofs.ChainLaws.same_decides link.index i).0 t
 
 -- of the row's own links, the one at the index
 find_own : (row : RowKey) (links : List Link) (i : ℕ) → finite.find place_cmp (place_of row i) (placed_links row links) ≡ found links i
