@@ -1,0 +1,11 @@
+pub mod ChainLaws
+pub mod Digits
+pub mod Kept
+pub mod Laid
+pub mod ListLaws
+pub mod Loops
+pub mod Placed
+pub mod Recorded
+pub mod Reserved
+pub mod RowLaws
+pub mod SeenLaws

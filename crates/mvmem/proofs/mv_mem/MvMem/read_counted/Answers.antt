@@ -1,0 +1,19 @@
+use Rattle.std.proofs.Common.{ap, sym, ◌∙◌, arith}
+use Rattle.mvmem.proofs.Placed.{held_placed, chain_count}
+use Rattle.mvmem.proofs.SeenLaws.{seen_alike}
+use Rattle.mvmem.specs.Chains.{stands}
+use Rattle.mvmem.specs.Entries.{held}
+use Rattle.mvmem.specs.Memory.{Memory}
+use Rattle.mvmem.specs.Resolves.{row_count}
+use Rattle.mvmem.proofs.mv_mem.MvMem.read_counted.Goals as goal
+
+pub returns-clause-seen : goal.returns-clause-seen
+returns-clause-seen c =
+    seen_alike (stands c.self.inside.chains c.args.row.now) (held c.args.self.now.entries c.args.row.now) c.args.index c.seen_below.result.0
+    (λ i. sym (held_placed c.self.inside.chains c.args.row.now i c.self.invariant.once) ∙ ap (λ (m : Memory). held m.entries c.args.row.now i) c.self.view_is) c.seen_below.ensures.seen
+
+pub returns-clause-comparisons : goal.returns-clause-comparisons
+returns-clause-comparisons c digits within =
+    let more = chain_count c.self.inside.chains c.args.row.now c.self.invariant.once c.seen_below.ensures.order in
+    let same = ap (λ (m : Memory). row_count m.entries c.args.row.now) c.self.view_is in
+    c.seen_below.ensures.comparisons digits (omega arith)

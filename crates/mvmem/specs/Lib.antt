@@ -1,0 +1,4 @@
+pub mod Chains
+pub mod Entries
+pub mod Memory
+pub mod Resolves

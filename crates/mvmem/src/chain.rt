@@ -1,0 +1,159 @@
+ghost use Rattle.std.specs.Prelude.{◌≡◌, ◌≢◌, ◌↔◌, ℕ, ◌<◌, ◌≤◌, [], length, slice_index_or, Some, None, IsTrue, OnOk, IfOk, IfErr, option_map};
+ghost use Rattle.mvmem.specs.Chains.{found, held_of, AreInOrder, StandsAt, FitsAt};
+ghost use Rattle.mvmem.specs.Entries.{estimate_of};
+ghost use Rattle.mvmem.specs.Resolves.{IsNearestBelow, IsWithinDigitsOf};
+ghost use Rattle.mvmem.specs.declared.link.Link.{Link};
+
+use crate::link::Link;
+use crate::seen::Seen;
+use crate::version::Version;
+use std::alloc::{AllocError, Global};
+use std::marker::Model;
+
+/// The entries of one row, in the order of their indices.
+#[derive(Drop)]
+pub(crate) struct Chain {
+    links: Vec<Link>,
+}
+
+impl Model for Chain {
+    ghost use Rattle.std.specs.Prelude.{◌-◌};
+    ghost use Rattle.std.specs.Vec.{vec_len, vec_capacity};
+    ghost use Rattle.mvmem.specs.Chains.{Chain, AreInOrder};
+
+    ghost Value = { Chain };
+
+    ghost view = { λ c. record { links = c.links.items; room = vec_capacity c.links - vec_len c.links } };
+
+    ghost invariant = { λ c. AreInOrder c.links.items };
+}
+
+impl Chain {
+    /// No entries.
+    pub(crate) fn new(alloc: Global) -> Chain
+        ensures { result.links ≡ [] }
+    {
+        Chain {
+            links: Vec::new(alloc),
+        }
+    }
+
+    /// Makes room for one more entry.
+    pub(crate) fn reserve(&mut self) -> Result<(), AllocError>
+        ensures links { self.new.links ≡ self.old.links }
+        ensures room { OnOk result (0 < self.new.room) }
+        ensures more { self.old.room ≤ self.new.room }
+    {
+        self.links.reserve(1)
+    }
+
+    /// What is seen from the index, and how many indices were compared to find it.
+    pub(crate) fn seen_below(&self, index: u32) -> (Seen, u32)
+        ensures seen { IsNearestBelow (found self.now.links) index result.0 }
+        ensures comparisons { IsWithinDigitsOf result.1 (length self.now.links) }
+        ensures order { AreInOrder self.now.links }
+    {
+        let (place, comparisons) = count_below(&self.links, index);
+        if place == 0 {
+            return (Seen::Base, comparisons);
+        }
+        let link = &self.links[place - 1];
+        match link.value {
+            Some(value) => {
+                let version = Version {
+                    index: link.index,
+                    incarnation: link.incarnation,
+                };
+                (Seen::Value(version, value), comparisons)
+            }
+            None => (Seen::Estimate(link.index), comparisons),
+        }
+    }
+
+    /// Puts an entry, over the one that its index has. Answers whether its index had none.
+    pub(crate) fn put(&mut self, link: Link) -> bool
+        requires { 0 < self.old.room }
+        ensures own { found self.new.links link.index ≡ Some (held_of link) }
+        ensures others { (i : ℕ) → i ≢ link.index → found self.new.links i ≡ found self.old.links i }
+        ensures new { IsTrue result ↔ (found self.old.links link.index ≡ None) }
+    {
+        let Link {
+            index,
+            incarnation,
+            value,
+        } = link;
+        let link = Link {
+            index,
+            incarnation,
+            value,
+        };
+        match place_of(&self.links, index) {
+            Ok(place) => {
+                self.links[place] = link;
+                false
+            }
+            Err(place) => match self.links.insert(place, link) {
+                Ok(()) => true,
+                Err(_) => unreachable!(),
+            },
+        }
+    }
+
+    /// Takes the index's entry out, if it has one.
+    pub(crate) fn take_out(&mut self, index: u32)
+        ensures own { found self.new.links index ≡ None }
+        ensures others { (i : ℕ) → i ≢ index → found self.new.links i ≡ found self.old.links i }
+        ensures room { self.old.room ≤ self.new.room }
+    {
+        if let Ok(place) = place_of(&self.links, index) {
+            self.links.remove(place);
+        }
+    }
+
+    /// The index's entry, if it has one, is an estimate from now on.
+    pub(crate) fn to_estimate(&mut self, index: u32)
+        ensures own { found self.new.links index ≡ option_map estimate_of (found self.old.links index) }
+        ensures others { (i : ℕ) → i ≢ index → found self.new.links i ≡ found self.old.links i }
+    {
+        if let Ok(place) = place_of(&self.links, index) {
+            self.links[place].value = None;
+        }
+    }
+}
+
+// Where the index's link stands, or else where it would stand.
+fn place_of(links: &[Link], index: u32) -> Result<usize, usize>
+    requires { AreInOrder links.now }
+    ensures there { IfOk result (λ place. StandsAt links.now index place) }
+    ensures absent { IfErr result (λ place. FitsAt links.now index place) }
+{
+    let (place, _comparisons) = count_below(links, index);
+    if place < links.len() && links[place].index == index {
+        Ok(place)
+    } else {
+        Err(place)
+    }
+}
+
+// How many links have an index below this one, by halves; and how many indices were compared to find out.
+fn count_below(links: &[Link], index: u32) -> (usize, u32)
+    requires { AreInOrder links.now }
+    ensures within { result.0 ≤ length links.now }
+    ensures below { (k : ℕ) (d : Link) → k < result.0 → (slice_index_or links.now k d).index < index }
+    ensures above { (k : ℕ) (d : Link) → result.0 ≤ k → k < length links.now → index ≤ (slice_index_or links.now k d).index }
+    ensures comparisons { IsWithinDigitsOf result.1 (length links.now) }
+{
+    let mut low = 0;
+    let mut high = links.len();
+    let mut comparisons = 0;
+    while low < high {
+        let middle = low + (high - low) / 2;
+        comparisons += 1;
+        if links[middle].index < index {
+            low = middle + 1;
+        } else {
+            high = middle;
+        }
+    }
+    (low, comparisons)
+}

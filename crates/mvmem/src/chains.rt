@@ -1,0 +1,139 @@
+ghost use Rattle.std.specs.Prelude.{◌≡◌, ◌≢◌, ◌↔◌, ℕ, ◌<◌, ◌≤◌, [], length, map, slice_get, Some, None, IsTrue, IsErr, IfSome, IfNone, OnOk, OnErr, option_map};
+ghost use Rattle.rows.specs.RowVal.{IsOfKind};
+ghost use Rattle.rows.specs.declared.row_key.RowKey.{RowKey};
+ghost use Rattle.view.specs.RowSets.{value_in, IsOnceEach};
+ghost use Rattle.mvmem.specs.Chains.{stands, held_of, row_at, rows_of, room_of, links_in, AreInOrder, IsChangedAt};
+ghost use Rattle.mvmem.specs.Entries.{estimate_of};
+ghost use Rattle.mvmem.specs.Resolves.{Resolves, IsSeenOfKind, IsWithinDigitsOf};
+
+use crate::chain::Chain;
+use crate::link::Link;
+use crate::seen::Seen;
+use indexmap::IndexMap;
+use rows::RowKey;
+use std::alloc::{AllocError, Global};
+use std::marker::Model;
+
+/// A chain for each row, found by one look-up. A row keeps its number: no chain is taken out.
+#[derive(Drop)]
+pub(crate) struct Chains {
+    rows: IndexMap<RowKey, Chain>,
+}
+
+impl Model for Chains {
+    ghost use Rattle.mvmem.specs.Chains.{Chains, AreSound};
+
+    ghost Value = { Chains };
+
+    ghost view = { λ c. c.rows.entries };
+
+    ghost invariant = { λ c. AreSound c.rows.entries };
+}
+
+impl Chains {
+    /// No chains.
+    pub(crate) fn new(alloc: Global) -> Chains
+        ensures { result ≡ [] }
+    {
+        Chains {
+            rows: IndexMap::new(alloc),
+        }
+    }
+
+    /// How many rows have a chain.
+    pub(crate) fn len(&self) -> usize
+        ensures { result ≡ length self.now }
+    {
+        self.rows.len()
+    }
+
+    /// The row with this number.
+    pub(crate) fn row(&self, number: usize) -> &RowKey
+        requires { number < length self.now }
+        ensures { row_at self.now number ≡ Some result.now }
+    {
+        match self.rows.get_index(number) {
+            Some((row, _)) => row,
+            None => unreachable!(),
+        }
+    }
+
+    /// What is seen of the row from the index, and how many indices were compared to find it.
+    pub(crate) fn seen_below(&self, row: &RowKey, index: u32) -> (Seen, u32)
+        ensures seen { Resolves (stands self.now) row.now index result.0 }
+        ensures kind { IsSeenOfKind row.now result.0 }
+        ensures comparisons { IsWithinDigitsOf result.1 (length (links_in (value_in self.now row.now))) }
+        ensures order { AreInOrder (links_in (value_in self.now row.now)) }
+    {
+        match self.rows.get(row) {
+            Some(chain) => chain.seen_below(index),
+            None => (Seen::Base, 0),
+        }
+    }
+
+    /// Makes the row's chain, if it has none, and room in it for one more entry.
+    pub(crate) fn reserve(&mut self, alloc: Global, row: &RowKey) -> Result<(), AllocError>
+        ensures stands { (r : RowKey) (i : ℕ) → stands self.new r i ≡ stands self.old r i }
+        ensures room { OnOk result (0 < room_of self.new row.now) }
+        ensures others { (r : RowKey) → 0 < room_of self.old r → 0 < room_of self.new r }
+        ensures numbers { (n : ℕ) (r : RowKey) → row_at self.old n ≡ Some r → row_at self.new n ≡ Some r }
+        ensures once { IsOnceEach self.new }
+    {
+        if let Some(number) = self.rows.get_index_of(row) {
+            let Some(chain) = self.rows.get_index_mut(number) else {
+                unreachable!();
+            };
+            return chain.reserve();
+        }
+        let mut chain = Chain::new(alloc);
+        chain.reserve()?;
+        self.rows.insert(*row, chain)?;
+        Ok(())
+    }
+
+    /// Puts an entry of the row, over the one that its index has. Answers the row's number, and whether its index had
+    /// none.
+    pub(crate) fn put(&mut self, row: &RowKey, link: Link) -> (usize, bool)
+        requires room { 0 < room_of self.old row.now }
+        requires kind { IfSome link.value (IsOfKind row.now) }
+        ensures changed { IsChangedAt self.old self.new row.now link.index (Some (held_of link)) }
+        ensures number { row_at self.new result.0 ≡ Some row.now }
+        ensures new { IsTrue result.1 ↔ (stands self.old row.now link.index ≡ None) }
+        ensures rows { rows_of self.new ≡ rows_of self.old }
+        ensures others { (r : RowKey) → r ≢ row.now → room_of self.new r ≡ room_of self.old r }
+    {
+        let Some(number) = self.rows.get_index_of(row) else {
+            unreachable!();
+        };
+        let Some(chain) = self.rows.get_index_mut(number) else {
+            unreachable!();
+        };
+        let is_new = chain.put(link);
+        (number, is_new)
+    }
+
+    /// Takes out the entry that the row with this number has at the index, if there is one.
+    pub(crate) fn take_out(&mut self, number: usize, index: u32)
+        requires { number < length self.old }
+        ensures changed { (row : RowKey) → row_at self.old number ≡ Some row → IsChangedAt self.old self.new row index None }
+        ensures rows { rows_of self.new ≡ rows_of self.old }
+        ensures room { (r : RowKey) → room_of self.old r ≤ room_of self.new r }
+    {
+        let Some(chain) = self.rows.get_index_mut(number) else {
+            unreachable!();
+        };
+        chain.take_out(index);
+    }
+
+    /// The entry that the row with this number has at the index, if there is one, is an estimate from now on.
+    pub(crate) fn to_estimate(&mut self, number: usize, index: u32)
+        requires { number < length self.old }
+        ensures changed { (row : RowKey) → row_at self.old number ≡ Some row → IsChangedAt self.old self.new row index (option_map estimate_of (stands self.old row index)) }
+        ensures rows { rows_of self.new ≡ rows_of self.old }
+    {
+        let Some(chain) = self.rows.get_index_mut(number) else {
+            unreachable!();
+        };
+        chain.to_estimate(index);
+    }
+}

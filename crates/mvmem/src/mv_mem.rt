@@ -1,0 +1,220 @@
+ghost use Rattle.std.specs.Prelude.{◌≡◌, ◌≢◌, ◌⊎◌, ◌↔◌, ℕ, ◌<◌, ◌≤◌, length, slice_get, Some, None, IsSome, IsTrue, IfOk, OnOk, option_map};
+ghost use Rattle.std.specs.FinMap as map;
+ghost use Rattle.rows.specs.declared.row_key.RowKey.{RowKey};
+ghost use Rattle.rows.specs.declared.row_val.RowVal.{RowVal};
+ghost use Rattle.view.specs.RowSets.{value_in, IsOnceEach};
+ghost use Rattle.mvmem.specs.Chains.{stands, rows_of, room_of, row_at};
+ghost use Rattle.mvmem.specs.Entries.{held, value_at, estimate_of, AreReplaced, AreEstimated, IsNewLocation};
+ghost use Rattle.mvmem.specs.Memory.{HasRoom, AreListed, list_at};
+ghost use Rattle.mvmem.specs.Resolves.{Resolves, IsSeenOfKind, IsWithinDigitsOf, row_count, IsLaidOver};
+
+use crate::chains::Chains;
+use crate::link::Link;
+use crate::row_list::RowList;
+use crate::seen::Seen;
+use crate::version::Version;
+use rows::{Book, RowKey};
+use std::alloc::{AllocError, Global};
+use std::marker::Model;
+use view::WriteSet;
+
+/// The memory of versions: what each execution put, by row and index (Block-STM: multi-version memory). Each row has a
+/// chain of entries, in the order of their indices.
+///
+/// Beside the chains stands, for each message, the list of the rows that it has entries of. So giving up an execution,
+/// or recording the next one, goes to these few chains and to no others. The numbers of the chains are listed and not
+/// the rows' keys: a chain is then reached without hashing, and a message's list takes a tenth of the memory. The write
+/// set of the former execution could serve too, but is gone once the execution is given up.
+#[derive(Drop)]
+pub struct MvMem {
+    chains: Chains,
+    lists: Vec<RowList>,
+}
+
+impl Model for MvMem {
+    ghost use Rattle.rows.specs.contracts.row_key.RowKey.{the_row as key_row};
+    ghost use Rattle.rows.specs.contracts.row_val.RowVal.{the_row as val_row};
+    ghost use Rattle.mvmem.specs.Memory.{Memory, memory_code, memory_of, AreKept};
+
+    ghost Value = { Memory };
+
+    ghost coded = { memory_code key_row.coded val_row.coded };
+
+    ghost view = { λ m. memory_of m.chains m.lists.items };
+
+    ghost invariant = { λ m. AreKept m.chains m.lists.items };
+}
+
+impl MvMem {
+    /// No entries.
+    pub fn new(alloc: Global) -> MvMem
+        ensures { result.entries ≡ map.empty }
+    {
+        MvMem {
+            chains: Chains::new(alloc),
+            lists: Vec::new(alloc),
+        }
+    }
+
+    /// What the message at this index sees of the row.
+    pub fn read(&self, row: &RowKey, index: u32) -> Seen
+        ensures seen { Resolves (held self.now.entries) row.now index result }
+        ensures kind { IsSeenOfKind row.now result }
+    {
+        let (seen, _comparisons) = self.read_counted(row, index);
+        seen
+    }
+
+    /// What the message at this index sees of the row, and how many indices were compared to find it.
+    pub fn read_counted(&self, row: &RowKey, index: u32) -> (Seen, u32)
+        ensures seen { Resolves (held self.now.entries) row.now index result.0 }
+        ensures kind { IsSeenOfKind row.now result.0 }
+        ensures comparisons { IsWithinDigitsOf result.1 (row_count self.now.entries row.now) }
+    {
+        self.chains.seen_below(row, index)
+    }
+
+    /// Makes room for what these writes put as the message at this index. No entry changes.
+    pub fn reserve(
+        &mut self,
+        alloc: Global,
+        index: u32,
+        writes: &WriteSet,
+    ) -> Result<(), AllocError>
+        ensures entries { self.new.entries ≡ self.old.entries }
+        ensures room { OnOk result (HasRoom self.new.room index writes.now) }
+    {
+        reserve_list(&mut self.lists, alloc, index as usize, writes.len())?;
+        reserve_chains(&mut self.chains, alloc, writes)
+    }
+
+    /// Puts what this version wrote in place of all entries of its index. Answers whether a row was written that had
+    /// none. It takes no memory: there has to be room.
+    pub fn record(&mut self, version: Version, writes: &WriteSet) -> bool
+        requires { HasRoom self.old.room version.index writes.now }
+        ensures replaced { AreReplaced version writes.now self.old.entries self.new.entries }
+        ensures new { IsTrue result ↔ IsNewLocation self.old.entries version.index writes.now }
+    {
+        let list = &mut self.lists[version.index as usize];
+        take_out_others(&mut self.chains, list, version.index, writes);
+        put_all(&mut self.chains, list, version, writes)
+    }
+
+    /// All entries of the index are estimates from now on.
+    pub fn to_estimates(&mut self, index: u32)
+        ensures { AreEstimated index self.old.entries self.new.entries }
+    {
+        if let Some(list) = self.lists.get(index as usize) {
+            estimate_all(&mut self.chains, list, index);
+        }
+    }
+
+    /// The book with each row as the message at this index sees it, where it sees a value.
+    pub fn overlay(&self, index: u32, book: &Book) -> Result<Book, AllocError>
+        ensures { IfOk result (λ laid. IsLaidOver (held self.now.entries) index book.now laid) }
+    {
+        let mut laid = book.copy()?;
+        for number in 0..self.chains.len() {
+            let row = self.chains.row(number);
+            let (seen, _comparisons) = self.chains.seen_below(row, index);
+            if let Seen::Value(_, value) = seen {
+                laid.put(*row, value)?;
+            }
+        }
+        Ok(laid)
+    }
+}
+
+// Makes the message's list, if it has none, and room in it for so many rows more.
+fn reserve_list(
+    lists: &mut Vec<RowList>,
+    alloc: Global,
+    index: usize,
+    count: usize,
+) -> Result<(), AllocError>
+    ensures numbers { (i : ℕ) → (list_at lists.new.items i).numbers ≡ (list_at lists.old.items i).numbers }
+    ensures room { OnOk result ((index < length lists.new.items) × (count ≤ (list_at lists.new.items index).room)) }
+{
+    while lists.len() <= index {
+        lists.push(RowList::new(alloc))?;
+    }
+    lists[index].reserve(count)
+}
+
+// Makes the written rows' chains, where they have none, and room for one more entry in each.
+fn reserve_chains(chains: &mut Chains, alloc: Global, writes: &WriteSet) -> Result<(), AllocError>
+    ensures stands { (r : RowKey) (i : ℕ) → stands chains.new r i ≡ stands chains.old r i }
+    ensures room { OnOk result ((row : RowKey) → IsSome (value_in writes.now row) → 0 < room_of chains.new row) }
+    ensures numbers { (n : ℕ) (r : RowKey) → row_at chains.old n ≡ Some r → row_at chains.new n ≡ Some r }
+    ensures once { IsOnceEach chains.old → IsOnceEach chains.new }
+{
+    for place in 0..writes.len() {
+        let (row, _) = writes.at(place);
+        chains.reserve(alloc, &row)?;
+    }
+    Ok(())
+}
+
+// Takes out the index's entries of all rows that aren't written.
+fn take_out_others(chains: &mut Chains, list: &mut RowList, index: u32, writes: &WriteSet)
+    requires { AreListed chains.old list.old.numbers index }
+    ensures listed { AreListed chains.new list.new.numbers index }
+    ensures others { (r : RowKey) (i : ℕ) → i ≢ index → stands chains.new r i ≡ stands chains.old r i }
+    ensures written { (r : RowKey) → IsSome (value_in writes.now r) → stands chains.new r index ≡ stands chains.old r index }
+    ensures unwritten { (r : RowKey) → value_in writes.now r ≡ None → stands chains.new r index ≡ None }
+    ensures rows { rows_of chains.new ≡ rows_of chains.old }
+    ensures room { (r : RowKey) → room_of chains.old r ≤ room_of chains.new r }
+    ensures list { list.old.room ≤ list.new.room }
+{
+    let mut place = 0;
+    while place < list.len() {
+        let number = list.at(place);
+        if writes.get(chains.row(number)).is_some() {
+            place += 1;
+        } else {
+            chains.take_out(number, index);
+            list.take_out(place);
+        }
+    }
+}
+
+// Puts what the version wrote. Answers whether a row was written that had no entry of its index.
+fn put_all(chains: &mut Chains, list: &mut RowList, version: Version, writes: &WriteSet) -> bool
+    requires listed { AreListed chains.old list.old.numbers version.index }
+    requires room { (row : RowKey) → IsSome (value_in writes.now row) → 0 < room_of chains.old row }
+    requires list { length writes.now ≤ list.old.room }
+    ensures listed { AreListed chains.new list.new.numbers version.index }
+    ensures others { (r : RowKey) (i : ℕ) → (i ≢ version.index) ⊎ (value_in writes.now r ≡ None) → stands chains.new r i ≡ stands chains.old r i }
+    ensures written { (r : RowKey) (value : RowVal) → value_in writes.now r ≡ Some value → stands chains.new r version.index ≡ Some (value_at version.incarnation value) }
+    ensures new { IsTrue result ↔ ((r : RowKey) × IsSome (value_in writes.now r) × (stands chains.old r version.index ≡ None)) }
+    ensures rows { rows_of chains.new ≡ rows_of chains.old }
+    ensures once { IsOnceEach writes.now }
+{
+    let mut is_new = false;
+    for place in 0..writes.len() {
+        let (row, value) = writes.at(place);
+        let link = Link {
+            index: version.index,
+            incarnation: version.incarnation,
+            value: Some(value),
+        };
+        let (number, had_none) = chains.put(&row, link);
+        if had_none {
+            list.push(number);
+            is_new = true;
+        }
+    }
+    is_new
+}
+
+// Makes estimates of all entries of the index.
+fn estimate_all(chains: &mut Chains, list: &RowList, index: u32)
+    requires { AreListed chains.old list.now.numbers index }
+    ensures own { (r : RowKey) → stands chains.new r index ≡ option_map estimate_of (stands chains.old r index) }
+    ensures others { (r : RowKey) (i : ℕ) → i ≢ index → stands chains.new r i ≡ stands chains.old r i }
+    ensures rows { rows_of chains.new ≡ rows_of chains.old }
+{
+    for place in 0..list.len() {
+        chains.to_estimate(list.at(place), index);
+    }
+}
