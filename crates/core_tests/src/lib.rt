@@ -1,5 +1,5 @@
 //! Tests of the core and of a run: foolish calls, the order of the gate's calls, and batches that come out as one after
-//! another.
+//! another; and of the memory of versions.
 #![tactic(auto)]
 
 #[cfg(test)]
@@ -8,3 +8,5 @@ mod batches;
 mod cores;
 #[cfg(test)]
 mod gates;
+#[cfg(test)]
+mod versions;
