@@ -1,5 +1,5 @@
 //! Tests of the core and of a run: foolish calls, the order of the gate's calls, and batches that come out as one after
-//! another; and of the memory of versions.
+//! another; and of the memory of versions and the scheduler.
 #![tactic(auto)]
 
 #[cfg(test)]
@@ -8,5 +8,7 @@ mod batches;
 mod cores;
 #[cfg(test)]
 mod gates;
+#[cfg(test)]
+mod schedules;
 #[cfg(test)]
 mod versions;
