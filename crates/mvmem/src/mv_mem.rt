@@ -1,4 +1,4 @@
-ghost use Rattle.std.specs.Prelude.{◌≡◌, ◌≢◌, ◌⊎◌, ◌↔◌, ℕ, ◌<◌, ◌≤◌, length, slice_get, Some, None, IsSome, IsTrue, IfOk, OnOk, option_map};
+ghost use Rattle.std.specs.Prelude.{◌≡◌, ◌≢◌, ◌⊎◌, ◌↔◌, ℕ, ◌<◌, ◌≤◌, length, Some, None, IsSome, IsTrue, IfOk, OnOk, option_map};
 ghost use Rattle.std.specs.FinMap as map;
 ghost use Rattle.rows.specs.declared.row_key.RowKey.{RowKey};
 ghost use Rattle.rows.specs.declared.row_val.RowVal.{RowVal};
@@ -22,9 +22,9 @@ use view::WriteSet;
 /// chain of entries, in the order of their indices.
 ///
 /// Beside the chains stands, for each message, the list of the rows that it has entries of. So giving up an execution,
-/// or recording the next one, goes to these few chains and to no others. The numbers of the chains are listed and not
-/// the rows' keys: a chain is then reached without hashing, and a message's list takes a tenth of the memory. The write
-/// set of the former execution could serve too, but is gone once the execution is given up.
+/// or recording the next one, goes to these few chains and to no others. The write set of the former execution would
+/// say as much, but whoever gives an execution up would have to keep it and hand it in. Listed are the numbers of the
+/// chains and not the rows' keys: a chain is then reached without hashing, and a list takes 8 bytes for each row.
 #[derive(Drop)]
 pub struct MvMem {
     chains: Chains,

@@ -1,4 +1,4 @@
-ghost use Rattle.std.specs.Prelude.{◌≡◌, ◌≢◌, ◌+◌, ◌<◌, ◌≤◌, ◌^◌, ◌↔◌, length, min, if◌then◌else◌, nat_lt, not, ◌&&◌, IsTrue, IsFalse, IfOk};
+ghost use Rattle.std.specs.Prelude.{◌≡◌, ◌+◌, ◌<◌, ◌≤◌, ◌^◌, ◌↔◌, length, min, if◌then◌else◌, nat_lt, not, ◌&&◌, IsTrue, IsFalse, IfOk};
 ghost use Rattle.sched.specs.Board.{mark, floor, finished, lowered, given_up, passed, aborted, committed_more, IsRunning, IsOpen, IsFresh, IsWaitedFor};
 ghost use Rattle.sched.specs.Cursors.{Claims, open_schedule, IsLoweredToWaiting};
 ghost use Rattle.sched.specs.declared.status.Status.TheVariants.{Ready, Waiting};

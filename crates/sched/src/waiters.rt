@@ -1,4 +1,4 @@
-ghost use Rattle.std.specs.Prelude.{◌≡◌, ◌<◌, ◌≤◌, length, map};
+ghost use Rattle.std.specs.Prelude.{◌≡◌, ◌<◌, length, map};
 ghost use Rattle.sched.specs.Board.{woken};
 ghost use Rattle.sched.specs.Cursors.{IsLoweredToWaiting};
 ghost use Rattle.sched.specs.Sound.{WaitList};
