@@ -74,6 +74,7 @@ fn assert_floors(rt: &impl Abort, schedule: &Sched, epoch: u64, floors: [u64; 4]
         (2, floors[2]),
         (3, floors[3]),
     ] {
+        assert!(rt; index as usize <= schedule.len());
         assert_eq!(rt; schedule.floor(index), floor);
     }
 }

@@ -14,6 +14,9 @@ const AFTER: &str = "account A 4000 978";
 // What one execution puts: this row alone.
 fn writes_of(alloc: Global, line: &str) -> Result<WriteSet, Fail> {
     let (key, value) = row(line).ok_or("a row")?;
+    if !value.suits(&key) {
+        return Err(Fail::new("a row of another kind"));
+    }
     let mut writes = WriteSet::new(alloc);
     writes.put(key, value)?;
     Ok(writes)

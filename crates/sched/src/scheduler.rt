@@ -221,7 +221,7 @@ impl Sched {
     /// The floor at this index, from 0 to the number of messages: the epoch from which on the messages from here on have
     /// to be checked.
     pub fn floor(&self, index: u32) -> u64
-        requires { index < length self.now.board.floors }
+        requires { index ≤ length self.now.board.marks }
         ensures { result ≡ floor self.now.board index }
     {
         self.floors[index as usize]
