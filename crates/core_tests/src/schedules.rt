@@ -29,6 +29,22 @@ fn is_open(schedule: &Sched, version: Version) -> bool
         && schedule.incarnation(version.index) == version.incarnation
 }
 
+fn status(schedule: &Sched, index: u32) -> Option<Status> {
+    if (index as usize) < schedule.len() {
+        Some(schedule.status(index))
+    } else {
+        None
+    }
+}
+
+fn stamp(schedule: &Sched, index: u32) -> Option<u64> {
+    if (index as usize) < schedule.len() {
+        schedule.stamp(index)
+    } else {
+        None
+    }
+}
+
 // The version finishes; whether it is handed out to be checked.
 fn finish(schedule: &mut Sched, version: Version, new: bool) -> Result<bool, Fail> {
     if !is_running(schedule, version) || schedule.epoch() > 100 {
@@ -98,7 +114,7 @@ fn three_messages_share_a_card(rt: HostRuntime) -> Result<(), Fail> {
     assert_eq!(rt; schedule.next_task(), Task::Execute(version(1, 1)));
     assert_eq!(rt; schedule.next_task(), Task::Execute(version(2, 0)));
     block(&mut schedule, version(2, 0), 1)?;
-    assert_eq!(rt; schedule.status(2), Status::Waiting(1));
+    assert_eq!(rt; status(&schedule, 2), Some(Status::Waiting(1)));
     assert!(rt; finish(&mut schedule, version(1, 1), false)?);
     pass(&mut schedule, version(1, 1), 4)?;
     assert_eq!(rt; schedule.next_task(), Task::Execute(version(2, 1)));
@@ -106,8 +122,8 @@ fn three_messages_share_a_card(rt: HostRuntime) -> Result<(), Fail> {
     assert_floors(&rt, &schedule, 5, [0, 3, 4, 5]);
     assert_eq!(rt; schedule.next_task(), Task::Validate(version(2, 1)));
     pass(&mut schedule, version(2, 1), 5)?;
-    for (index, stamp) in [(0, 3), (1, 4), (2, 5)] {
-        assert_eq!(rt; schedule.stamp(index), Some(stamp));
+    for (index, epoch) in [(0, 3), (1, 4), (2, 5)] {
+        assert_eq!(rt; stamp(&schedule, index), Some(epoch));
         assert!(rt; schedule.commit());
     }
     assert!(rt; !schedule.commit());
