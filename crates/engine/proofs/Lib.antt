@@ -1,2 +1,1 @@
-mod CoreLemmas
 mod Rest

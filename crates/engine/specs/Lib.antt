@@ -1,1 +1,1 @@
-pub mod CoreAnswers
+pub mod Started

@@ -1,51 +1,59 @@
-ghost use Rattle.std.specs.Prelude.{◌≡◌, None};
-ghost use Rattle.engine.specs.CoreAnswers.{stop_of, CoreAnswers};
+ghost use Rattle.std.specs.Prelude.{◌≡◌, None, IfOk, IfErr, IfSome};
+ghost use Rattle.rows.specs.RowVal.{IsOfKind};
+ghost use Rattle.speccore_laws.specs.Step.{IsGotOfKind};
 
+use crate::shared::Shared;
+use mvmem::Version;
 use rows::{RowKey, RowVal};
-use speccore::Core;
-use speccore_laws::{CoreFault, Version};
+use speccore_laws::{CoreFault, Got};
+use std::sync::{Mutex, Wait};
 use view::{RowSource, Stop};
 
-/// The rows that one version of a message sees in the core that it is lent: what the nearest messages before it put
-/// (Block-STM), logged as they are read.
+/// The rows that one version of a message sees in the shared core: what the nearest messages before it put (Block-STM). The lock
+/// is taken for each of them, and held no longer.
 #[derive(Drop)]
-pub struct CoreRows<'a> {
-    core: &'a mut Core,
+pub struct CoreRows<'a, R: Wait> {
+    rt: &'a R,
+    shared: &'a Mutex<Shared>,
     version: Version,
 }
 
-impl<'a> CoreRows<'a> {
+impl<'a, R: Wait> CoreRows<'a, R> {
     /// The rows that this version sees.
-    pub fn new(core: &'a mut Core, version: Version) -> CoreRows<'a>
-        ensures core { result.core.now ≡ core.old }
-        ensures version { result.version ≡ version }
+    pub fn new(rt: &'a R, shared: &'a Mutex<Shared>, version: Version) -> CoreRows<'a, R>
+        ensures { result.version ≡ version }
     {
-        CoreRows { core, version }
-    }
-}
-
-impl RowSource for CoreRows<'_> {
-    // Which book a version sees isn't known: other messages may not have finished.
-    ghost book = { λ _. None };
-
-    // Each question is a step of the core.
-    ghost answers = { λ old row result new. CoreAnswers old.core.now old.version row result new.core.now × (new.version ≡ old.version) };
-
-    fn read(&mut self, key: &RowKey) -> Result<Option<RowVal>, Stop> {
-        let version = self.version;
-        match self.core.read(version, key) {
-            Ok(row) => Ok(row),
-            Err(fault) => Err(stop_of(fault)),
+        CoreRows {
+            rt,
+            shared,
+            version,
         }
     }
 }
 
-/// Why a decision stops where the core refuses a call: want of memory, or the version isn't running any more.
-pub(crate) fn stop_of(fault: CoreFault) -> Stop
-    ensures { result ≡ stop_of fault }
+impl<R: Wait> RowSource for CoreRows<'_, R> {
+    // Which book a version sees isn't known: other messages may not have finished.
+    ghost book = { λ _. None };
+
+    // Nor is what other workers do between two questions.
+    ghost answers = { λ old row result new. new.version ≡ old.version };
+
+    fn read(&mut self, key: &RowKey) -> Result<Option<RowVal>, Stop> {
+        let got = self.shared.lock(self.rt).core.read(self.version, key);
+        row_of(got)
+    }
+}
+
+// The row that was got, or why the decision stops: an estimate blocks it.
+fn row_of(got: Result<Got, CoreFault>) -> Result<Option<RowVal>, Stop>
+    ensures row { IfOk result (λ row. got ≡ Ok (Row row)) }
+    ensures blocked { (at : ℕ) → result ≡ Err (Blocked at) ↔ (got ≡ Ok (Estimate at)) }
+    ensures memory { (result ≡ Err Stop.OutOfMemory) ↔ (got ≡ Err CoreFault.OutOfMemory) }
 {
-    match fault {
-        CoreFault::OutOfMemory => Stop::OutOfMemory,
-        CoreFault::NotRunning | CoreFault::OtherReads | CoreFault::Worn => Stop::Lost,
+    match got {
+        Ok(Got::Row(row)) => Ok(row),
+        Ok(Got::Estimate(at)) => Err(Stop::Blocked(at)),
+        Err(CoreFault::OutOfMemory) => Err(Stop::OutOfMemory),
+        Err(_) => Err(Stop::Lost),
     }
 }

@@ -1,2 +1,1 @@
-pub mod Nearer
-pub mod Ready
+pub mod Origin

@@ -1,11 +1,14 @@
-//! The plainest speculative core (Block-STM): entries in one flat list; a commit resolves every logged read again.
+//! The speculative core (Block-STM): it hands out messages to be executed and checked, keeps what their executions put in a
+//! memory of versions, and commits them in the order of the batch by their stamps.
 #![tactic(auto)]
 
-mod entries;
+mod checks;
 mod frames;
-mod prefix_of;
+mod log;
+mod logging;
 mod slot;
 mod slots;
 mod speculative;
+mod standing;
 
 pub use speculative::Core;

@@ -1,168 +1,103 @@
-ghost use Rattle.std.specs.Prelude.{◌≡◌, ◌+◌, ◌<◌, [], ◌∷◌, ◌++◌, ◌↔◌, Some, None, All, IsTrue, IfSome, OnOk, OnErr};
-ghost use Rattle.rows.specs.Agreement.{IsTrueExecution};
+ghost use Rattle.std.specs.Prelude.{◌≡◌, ◌↔◌, ◌<◌, ◌++◌, [], ◌∷◌, Some, None, length, slice_get, IsTrue, IfSome, OnOk, OnErr};
 ghost use Rattle.rows.specs.RowVal.{IsOfKind};
-ghost use Rattle.speccore_laws.specs.Resolves.{ResolvesAs};
-ghost use Rattle.speccore_laws.specs.State.{fresh};
-ghost use Rattle.speccore_laws.specs.Step.{AreLogged, logged_in, last_incarnation};
+ghost use Rattle.view.specs.RowSets.{value_in};
+ghost use Rattle.speccore_laws.specs.Log.{logged_in, AreLogged};
+ghost use Rattle.speccore_laws.specs.State.{empty_slot};
+ghost use Rattle.speccore.specs.Origin.{IsFirstOf};
 
-use crate::entries::resolves_as;
-use rows::{RowKey, RowVal};
-use speccore_laws::{Entry, LoggedRead, Status};
+use crate::log::Log;
+use mvmem::Version;
+use rows::{ReplyBody, RowKey, RowVal};
+use speccore_laws::Logged;
 use std::alloc::{AllocError, Global};
 use std::marker::Model;
-use view::{Execution, ReadSet};
+use view::ReadSet;
 
-/// What is kept of one message.
+/// What is kept of one message: the reply of its execution, and what its incarnation was answered.
 #[derive(Drop)]
 pub(crate) struct Slot {
-    status: Status,
-    incarnation: u32,
-    execution: Option<Execution>,
-    log: Vec<LoggedRead>,
+    reply: Option<ReplyBody>,
+    log: Log,
 }
 
 impl Model for Slot {
-    ghost use Rattle.speccore_laws.specs.State.{MessageState};
+    ghost use Rattle.speccore_laws.specs.State.{Slot};
 
-    ghost Value = { MessageState };
+    ghost Value = { Slot };
 
-    ghost view = { λ s. record { status = s.status; incarnation = s.incarnation; execution = s.execution; log = s.log.items } };
+    ghost view = { λ s. record { reply = s.reply; log = s.log } };
 }
 
 impl Slot {
-    /// A message that nothing was done with yet.
+    /// Nothing is kept.
     pub(crate) fn new(alloc: Global) -> Slot
-        ensures { result ≡ fresh }
+        ensures { result ≡ empty_slot }
     {
         Slot {
-            status: Status::Ready,
-            incarnation: 0,
-            execution: None,
-            log: Vec::new(alloc),
+            reply: None,
+            log: Log::new(alloc),
         }
     }
 
-    /// Where the message stands.
-    pub(crate) fn status(&self) -> Status
-        ensures { result ≡ self.now.status }
+    /// The reply of the execution that finished.
+    pub(crate) fn reply(&self) -> Option<ReplyBody>
+        ensures { result ≡ self.now.reply }
     {
-        self.status
+        self.reply
     }
 
-    /// Its present incarnation.
-    pub(crate) fn incarnation(&self) -> u32
-        ensures { result ≡ self.now.incarnation }
+    /// How many rows the incarnation asked for.
+    pub(crate) fn reads(&self) -> usize
+        ensures { result ≡ length self.now.log }
     {
-        self.incarnation
+        self.log.len()
     }
 
-    /// The execution that finished.
-    pub(crate) fn execution(&self) -> &Option<Execution>
-        ensures { result.now ≡ self.now.execution }
-    {
-        &self.execution
-    }
-
-    /// Whether it waits to be executed.
-    pub(crate) fn is_ready(&self) -> bool
-        ensures { IsTrue result ↔ (self.now.status ≡ Status.Ready) }
-    {
-        self.status == Status::Ready
-    }
-
-    /// Whether this incarnation is running.
-    pub(crate) fn is_running(&self, incarnation: u32) -> bool
-        ensures { IsTrue result ↔ ((self.now.status ≡ Status.Running) × (self.now.incarnation ≡ incarnation)) }
-    {
-        self.status == Status::Running && self.incarnation == incarnation
-    }
-
-    /// Whether its execution finished.
-    pub(crate) fn is_executed(&self) -> bool
-        ensures { IsTrue result ↔ (self.now.status ≡ Status.Executed) }
-    {
-        self.status == Status::Executed
-    }
-
-    /// Hands it out; the answer is its present incarnation.
-    pub(crate) fn claim(&mut self) -> u32
-        ensures incarnation { result ≡ self.old.incarnation }
-        ensures after { self.new ≡ record (self.old) { status = Status.Running } }
-    {
-        self.status = Status::Running;
-        self.incarnation
-    }
-
-    /// What was logged of the row.
+    /// What the incarnation was answered for the row, if it asked for it.
     pub(crate) fn logged(&self, row: &RowKey) -> Option<Option<RowVal>>
         ensures value { result ≡ logged_in self.now.log row.now }
         ensures kind { IfSome result (λ value. IfSome value (IsOfKind row.now)) }
     {
-        for read in &self.log {
-            if *read.row() == *row {
-                return Some(read.value());
-            }
-        }
-        None
+        self.log.get(row)
     }
 
-    /// Logs one more read.
-    pub(crate) fn log_read(&mut self, read: LoggedRead) -> Result<(), AllocError>
-        ensures ok { OnOk result (self.new ≡ record (self.old) { log = self.old.log ++ read ∷ [] }) }
-        ensures err { OnErr result (self.new ≡ self.old) }
+    /// The row that it asked for at this place, and which execution its answer came from.
+    pub(crate) fn origin_at(&self, place: usize) -> (RowKey, Option<Version>)
+        requires { place < length self.now.log }
+        ensures { IsFirstOf (slice_get self.now.log place) result }
     {
-        self.log.reserve(1)?;
-        self.log.push_reserved(read);
-        Ok(())
+        self.log.at(place)
     }
 
-    /// Whether each of these reads was logged, with this value.
+    /// Whether each of these reads was answered so.
     pub(crate) fn has_logged(&self, reads: &ReadSet) -> bool
         ensures { IsTrue result ↔ AreLogged self.now.log reads.now }
     {
-        for index in 0..reads.len() {
-            let (row, value) = reads.at(index);
-            if !is_answer(self.logged(&row), value) {
-                return false;
-            }
-        }
-        true
+        self.log.has_logged(reads)
     }
 
-    /// Whether all that was logged still resolves as it was logged, for the message at `index`.
-    pub(crate) fn is_current(&self, entries: &[Entry], index: u32) -> bool
-        ensures { IsTrue result ↔ All (λ read. ResolvesAs entries.now read.row index read.origin) self.now.log }
+    /// Logs one more answer.
+    pub(crate) fn log(&mut self, row: &RowKey, logged: Logged) -> Result<(), AllocError>
+        requires absent { value_in self.old.log row.now ≡ None }
+        requires kind { IfSome logged.value (IsOfKind row.now) }
+        ensures ok { OnOk result (self.new ≡ record (self.old) { log = self.old.log ++ (row.now, logged) ∷ [] }) }
+        ensures err { OnErr result (self.new ≡ self.old) }
     {
-        self.log.iter().all(|read| resolves_as(entries, read.row(), index, read.origin()))
+        self.log.push(row, logged)
     }
 
-    /// Keeps the execution that finished.
-    pub(crate) fn finish(&mut self, execution: Execution)
-        ensures { self.new ≡ record (self.old) { status = Status.Executed; execution = Some execution } }
+    /// Keeps the reply of the execution that finished.
+    pub(crate) fn finish(&mut self, reply: ReplyBody)
+        ensures { self.new ≡ record (self.old) { reply = Some reply } }
     {
-        self.status = Status::Executed;
-        self.execution = Some(execution);
+        self.reply = Some(reply);
     }
 
-    /// Gives the execution up: log and execution are gone, and the next incarnation is ready.
-    pub(crate) fn give_up(&mut self)
-        requires { self.old.incarnation < last_incarnation }
-        ensures { self.new ≡ record { status = Status.Ready; incarnation = self.old.incarnation + 1; execution = None; log = [] } }
+    /// The incarnation is given up: nothing is kept of it.
+    pub(crate) fn clear(&mut self)
+        ensures { self.new ≡ empty_slot }
     {
-        self.status = Status::Ready;
-        self.incarnation += 1;
-        self.execution = None;
+        self.reply = None;
         self.log.clear();
-    }
-}
-
-// Whether a read was logged, with this value.
-fn is_answer(logged: Option<Option<RowVal>>, value: Option<RowVal>) -> bool
-    ensures { IsTrue result ↔ (logged ≡ Some value) }
-{
-    match (logged, value) {
-        (Some(Some(mine)), Some(theirs)) => mine.is_same(&theirs),
-        (Some(None), None) => true,
-        _ => false,
     }
 }

@@ -1,216 +1,375 @@
-ghost use Rattle.std.specs.Prelude.{◌≡◌, ◌≢◌, ◌<◌, ◌≤◌, ◌↔◌, None, length, take, All, IsTrue, IfOk, IfSome};
+ghost use Rattle.std.specs.Prelude.{◌≡◌, ◌≢◌, ◌<◌, ◌≤◌, ◌↔◌, Some, None, length, take, IsTrue, IfOk, IfSome};
 ghost use Rattle.rows.specs.Fold.{rows_after, replies_to};
 ghost use Rattle.rows.specs.RowVal.{IsOfKind};
-ghost use Rattle.speccore_laws.specs.Run.{IsReached};
-ghost use Rattle.speccore_laws.specs.State.{message, start};
-ghost use Rattle.speccore_laws.specs.Step.{ClaimStep, IsLeastReady, ReadStep, FinishStep, CommitStep, logged_by};
+ghost use Rattle.sched.specs.Board.{floor, mark, IsRunning};
+ghost use Rattle.speccore_laws.specs.Play.{PlayStep, opening_play};
+ghost use Rattle.speccore_laws.specs.Run.{IsReached, Claim, Read, Block, Finish, Begin, CheckOne, End, Commit};
+ghost use Rattle.speccore_laws.specs.Step.{IsGotOfKind, logged_by};
 
-use crate::entries::{add_entries, read_of, remove_entries, resolve};
+use crate::checks::{after_read, is_at_end};
 use crate::frames::{are_same, is_at};
-use crate::prefix_of::prefix_of;
+use crate::logging::{logged_of, puts_new_location, resolves_as};
 use crate::slot::Slot;
-use crate::slots::{first_ready, fresh_slots, is_executed, is_running};
+use crate::slots::{fresh_slots, replies_in};
+use crate::standing::{is_open, is_running};
 use fold::Prefix;
+use mvmem::{MvMem, Version};
 use rows::{Book, Frame, RowKey, RowVal};
-use speccore_laws::{CoreFault, Entry, Status, Task, Version};
+use sched::{Sched, Status, Task};
+use speccore_laws::{Check, CoreFault, Got, Limits, Seat};
 use std::alloc::{AllocError, Global};
 use std::marker::Model;
 use view::Execution;
 
-/// The plainest speculative core (Block-STM). Messages are executed in any order and committed in that of the batch. Whatever
+/// The speculative core (Block-STM). Messages are executed and checked in any order, and committed in that of the batch. Whatever
 /// calls are made, in any order: its state is a state of a run.
 #[derive(Drop)]
 pub struct Core {
     opening: Book,
     frames: Vec<Frame>,
-    entries: Vec<Entry>,
+    memory: MvMem,
+    sched: Sched,
     slots: Vec<Slot>,
-    committed: u32,
+    limits: Limits,
+    // The check that goes on at each seat.
+    checks: Vec<Option<Check>>,
 }
 
 impl Model for Core {
     ghost use Rattle.std.specs.Prelude.{◌≤◌, length};
-    ghost use Rattle.std.specs.FinMap as map;
+    ghost use Rattle.std.specs.FinMap as finite;
+    ghost use Rattle.mvmem.specs.Memory.{held_code, place_code};
     ghost use Rattle.rows.specs.contracts.frame.Frame.{the_row as frame_row};
     ghost use Rattle.rows.specs.contracts.row_key.RowKey.{the_row as key_row};
     ghost use Rattle.rows.specs.contracts.row_val.RowVal.{the_row as val_row};
-    ghost use Rattle.speccore_laws.specs.contracts.entry.Entry.{the_row as entry_row};
+    ghost use Rattle.sched.specs.Board.{board_code};
+    ghost use Rattle.sched.specs.contracts.mark.Mark.{the_row as mark_row};
+    ghost use Rattle.speccore_laws.specs.contracts.check.Check.{the_row as check_row};
+    ghost use Rattle.speccore_laws.specs.contracts.limits.Limits.{the_row as limits_row};
+    ghost use Rattle.speccore_laws.specs.Play.{Play, play_code};
     ghost use Rattle.speccore_laws.specs.Run.{IsReached};
-    ghost use Rattle.speccore_laws.specs.State.{State, state_code};
+    ghost use Rattle.speccore_laws.specs.State.{state_code};
     ghost use Rattle.speccore.specs.contracts.slot.Slot.{the_row as slot_row};
 
-    ghost Value = { State };
+    ghost Value = { Play };
 
-    ghost coded = { state_code (map.code key_row.coded val_row.coded) frame_row.coded entry_row.coded slot_row.coded };
+    ghost coded = { play_code (state_code (finite.code key_row.coded val_row.coded) frame_row.coded (finite.code (place_code key_row.coded) (held_code val_row.coded)) (board_code mark_row.coded) slot_row.coded limits_row.coded check_row.coded) };
 
-    ghost view = { λ c. record { opening = c.opening; frames = c.frames.items; entries = c.entries.items; messages = c.slots.items; committed = c.committed } };
+    ghost view = { λ c. record { state = record { opening = c.opening; frames = c.frames.items; entries = c.memory.entries; board = c.sched.board; slots = c.slots.items; limits = c.limits; checks = c.checks.items }; execution = c.sched.execution; validation = c.sched.validation } };
 
-    ghost invariant = { λ c. (length c.frames.items ≤ 65536) × IsReached (record { opening = c.opening; frames = c.frames.items; entries = c.entries.items; messages = c.slots.items; committed = c.committed }) };
+    ghost invariant = { λ c. (length c.frames.items ≤ 65536) × IsReached (record { opening = c.opening; frames = c.frames.items; entries = c.memory.entries; board = c.sched.board; slots = c.slots.items; limits = c.limits; checks = c.checks.items }) };
 }
 
 impl Core {
-    /// A core in its opening state, over copies of the book and the frames.
+    /// A core in its opening state, over copies of the book and the frames, without limits but those of the numbers.
     pub fn new(alloc: Global, book: &Book, frames: &[Frame]) -> Result<Core, AllocError>
         requires { length frames.now ≤ 65536 }
-        ensures { IfOk result (λ core. core ≡ start book.now frames.now) }
+        ensures { IfOk result (λ core. core ≡ opening_play book.now frames.now (record { incarnation = 4294967295; epoch = 18446744073709551615 })) }
     {
+        let limits = Limits {
+            incarnation: u32::MAX,
+            epoch: u64::MAX,
+        };
+        Core::with_limits(alloc, book, frames, limits)
+    }
+
+    /// The same with these limits; an epoch of 0 counts as 1.
+    pub fn with_limits(
+        alloc: Global,
+        book: &Book,
+        frames: &[Frame],
+        limits: Limits,
+    ) -> Result<Core, AllocError>
+        requires { length frames.now ≤ 65536 }
+        ensures { IfOk result (λ core. core ≡ opening_play book.now frames.now limits) }
+    {
+        let limits = Limits {
+            incarnation: limits.incarnation,
+            epoch: limits.epoch.max(1),
+        };
+        let no_check: Option<Check> = None;
         Ok(Core {
             opening: book.copy()?,
             frames: frames.to_vec(alloc)?,
-            entries: Vec::new(alloc),
+            memory: MvMem::new(alloc),
+            sched: Sched::new(alloc, frames.len())?,
             slots: fresh_slots(alloc, frames)?,
-            committed: 0,
+            limits,
+            checks: Vec::from_elem(alloc, no_check, 64)?,
         })
     }
 
-    /// What is to be done next: the least message that waits is handed out.
+    /// What is to be done next, by the cursors; a message that is to be executed is running from now on.
     pub fn next_task(&mut self) -> Task
-        ensures step { ClaimStep self.old result self.new }
-        ensures least { (v : Version) → result ≡ Task.Execute v → IsLeastReady self.old v.index }
-        ensures idle { result ≡ Task.Idle → All (λ m. m.status ≢ Status.Ready) self.old.messages }
+        ensures step { PlayStep self.old (Claim result) self.new }
     {
-        if self.committed as usize == self.frames.len() {
-            return Task::Done;
-        }
-        match first_ready(&self.slots) {
-            Some(index) => {
-                let slot = &mut self.slots[index];
-                let incarnation = slot.claim();
-                Task::Execute(Version {
-                    index: index as u32,
-                    incarnation,
-                })
-            }
-            None => Task::Idle,
-        }
+        self.sched.next_task()
     }
 
-    /// What the version sees of the row: as it was logged, else as it resolves now, which is then logged.
-    pub fn read(&mut self, version: Version, row: &RowKey) -> Result<Option<RowVal>, CoreFault>
-        ensures step { ReadStep self.old version row.now result self.new }
-        ensures kind { IfOk result (λ value. IfSome value (IsOfKind row.now)) }
+    /// What the version sees of the row: as it was logged, else as it resolves now, which is then logged unless it is an
+    /// estimate.
+    pub fn read(&mut self, version: Version, row: &RowKey) -> Result<Got, CoreFault>
+        ensures step { PlayStep self.old (Read version row.now result) self.new }
+        ensures kind { IfOk result (IsGotOfKind row.now) }
     {
-        if !is_running(&self.slots, version) {
+        if !is_running(&self.sched, version) {
             return Err(CoreFault::NotRunning);
         }
-        if let Some(value) = self.slots[version.index as usize].logged(row) {
-            return Ok(value);
+        let slot = &self.slots[version.index as usize];
+        if let Some(value) = slot.logged(row) {
+            return Ok(Got::Row(value));
         }
-        let seen = resolve(&self.entries, row, version.index);
-        let read = read_of(&self.opening, row, seen);
-        let slot = &mut self.slots[version.index as usize];
-        let value = read.value();
-        slot.log_read(read)?;
-        Ok(value)
+        let seen = self.memory.read(row, version.index);
+        match logged_of(&self.opening, row, seen) {
+            Ok(logged) => {
+                let value = logged.value;
+                let slot = &mut self.slots[version.index as usize];
+                slot.log(row, logged)?;
+                Ok(Got::Row(value))
+            }
+            Err(at) => Ok(Got::Estimate(at)),
+        }
     }
 
-    /// Keeps the execution of the version, whose rows then stand for the messages after it.
-    pub fn finish(&mut self, version: Version, execution: Execution) -> Result<(), CoreFault>
-        ensures step { FinishStep self.old version execution result self.new }
+    /// Gives the version up, which met an estimate of the message at `on`. Its message waits for that one, or is ready again
+    /// where that one is executed or isn't before it. It takes no memory.
+    pub fn block(&mut self, version: Version, on: u32) -> Result<(), CoreFault>
+        ensures step { PlayStep self.old (Block version on result) self.new }
     {
-        if !is_running(&self.slots, version) {
+        if !is_running(&self.sched, version) {
+            return Err(CoreFault::NotRunning);
+        }
+        if version.incarnation == self.limits.incarnation {
+            return Err(CoreFault::Worn);
+        }
+        self.sched.block(version, on);
+        let slot = &mut self.slots[version.index as usize];
+        slot.clear();
+        Ok(())
+    }
+
+    /// Keeps the execution of the version, whose rows then stand for the messages after it. Answers whether the version is
+    /// handed out to be checked.
+    pub fn finish(
+        &mut self,
+        alloc: Global,
+        version: Version,
+        execution: Execution,
+    ) -> Result<bool, CoreFault>
+        ensures step { PlayStep self.old (Finish version execution result) self.new }
+    {
+        if !is_running(&self.sched, version) {
             return Err(CoreFault::NotRunning);
         }
         let frame = execution.frame();
         if !is_at(&self.frames, version.index, &frame) {
             return Err(CoreFault::OtherReads);
         }
-        if !self.slots[version.index as usize].has_logged(execution.reads()) {
+        let slot = &self.slots[version.index as usize];
+        if !slot.has_logged(execution.reads()) {
             return Err(CoreFault::OtherReads);
         }
-        add_entries(&mut self.entries, version, execution.writes())?;
-        let slot = &mut self.slots[version.index as usize];
-        slot.finish(execution);
-        Ok(())
-    }
-
-    /// Commits the next message in the order of the batch, if its execution finished and all that it read is still so. It takes
-    /// no memory.
-    pub fn commit(&mut self) -> Result<bool, CoreFault>
-        ensures step { CommitStep self.old result self.new }
-    {
-        if !is_executed(&self.slots, self.committed) {
-            return Ok(false);
-        }
-        let slot = &self.slots[self.committed as usize];
-        if slot.is_current(&self.entries, self.committed) {
-            self.committed += 1;
-            return Ok(true);
-        }
-        if slot.incarnation() == u32::MAX {
+        let writes = execution.writes();
+        if self.sched.epoch() == self.limits.epoch
+            && puts_new_location(&self.memory, version.index, writes)
+        {
             return Err(CoreFault::Worn);
         }
-        let slot = &mut self.slots[self.committed as usize];
-        slot.give_up();
-        remove_entries(&mut self.entries, self.committed);
+        self.memory.reserve(alloc, version.index, writes)?;
+        let is_new = self.memory.record(version, writes);
+        let slot = &mut self.slots[version.index as usize];
+        slot.finish(execution.reply());
+        Ok(self.sched.finished(version, is_new))
+    }
+
+    /// Begins a check of the version at this seat; the seat's check before is gone. Answers whether it is at its end, which is
+    /// where the version logged nothing. It takes no memory.
+    pub fn begin_check(&mut self, seat: Seat, version: Version) -> Result<bool, CoreFault>
+        ensures step { PlayStep self.old (Begin seat version result) self.new }
+    {
+        if !is_open(&self.sched, version) {
+            return Err(CoreFault::Outdated);
+        }
+        let slot = &self.slots[version.index as usize];
+        let check = Check {
+            version,
+            began: self.sched.epoch(),
+            place: 0,
+            reads: slot.reads(),
+            failed: false,
+        };
+        let is_ended = is_at_end(&check);
+        self.checks[seat.number() as usize] = Some(check);
+        Ok(is_ended)
+    }
+
+    /// Resolves the next logged read of the seat's check again. Answers whether the check is at its end then: it went over all
+    /// reads, or this one resolves otherwise than it was logged. It takes no memory.
+    pub fn check_one(&mut self, seat: Seat) -> Result<bool, CoreFault>
+        ensures step { PlayStep self.old (CheckOne seat result) self.new }
+    {
+        let seat = seat.number() as usize;
+        let Some(check) = self.checks[seat] else {
+            return Err(CoreFault::NotRunning);
+        };
+        if is_at_end(&check) {
+            return Err(CoreFault::NotRunning);
+        }
+        if !is_open(&self.sched, check.version) {
+            return Err(CoreFault::Outdated);
+        }
+        let index = check.version.index;
+        let slot = &self.slots[index as usize];
+        let (row, origin) = slot.origin_at(check.place);
+        let next = after_read(check, resolves_as(&self.memory, &row, index, origin));
+        let is_ended = is_at_end(&next);
+        self.checks[seat] = Some(next);
+        Ok(is_ended)
+    }
+
+    /// Closes the seat's check, which is at its end. Answers whether the version passed it; else its execution is given up, and
+    /// its message is ready again. It takes no memory.
+    pub fn end_check(&mut self, seat: Seat) -> Result<bool, CoreFault>
+        ensures step { PlayStep self.old (End seat result) self.new }
+    {
+        let seat = seat.number() as usize;
+        let Some(check) = self.checks[seat] else {
+            return Err(CoreFault::NotRunning);
+        };
+        if !is_at_end(&check) {
+            return Err(CoreFault::NotRunning);
+        }
+        if !is_open(&self.sched, check.version) {
+            return Err(CoreFault::Outdated);
+        }
+        if !check.failed {
+            self.sched.passed(check.version, check.began);
+            self.checks[seat] = None;
+            return Ok(true);
+        }
+        if check.version.incarnation == self.limits.incarnation
+            || self.sched.epoch() == self.limits.epoch
+        {
+            return Err(CoreFault::Worn);
+        }
+        let index = check.version.index;
+        self.memory.to_estimates(index);
+        self.sched.abort(check.version);
+        let slot = &mut self.slots[index as usize];
+        slot.clear();
+        self.checks[seat] = None;
         Ok(false)
     }
 
+    /// Commits the next message in the order of the batch, if it is executed and has a stamp that no floor up to it is above.
+    /// No row is read. It takes no memory.
+    pub fn commit(&mut self) -> bool
+        ensures step { PlayStep self.old (Commit result) self.new }
+    {
+        self.sched.commit()
+    }
+}
+
+impl Core {
     /// How many messages, from the first on, are committed.
     pub fn committed(&self) -> u32
-        ensures value { result ≡ self.now.committed }
-        ensures within { result ≤ length self.now.frames }
-        ensures reached { IsReached self.now }
+        ensures value { result ≡ self.now.state.board.committed }
+        ensures within { result ≤ length self.now.state.frames }
+        ensures reached { IsReached self.now.state }
     {
-        self.committed
+        self.sched.committed()
     }
 
-    /// Where the message stands.
-    pub fn status(&self, index: u32) -> Status
-        requires { index < length self.now.frames }
-        ensures { result ≡ (message self.now index).status }
+    /// The greatest incarnation and epoch that it may come to.
+    pub fn limits(&self) -> Limits
+        ensures { result ≡ self.now.state.limits }
     {
-        self.slots[index as usize].status()
+        self.limits
+    }
+
+    /// The epoch: it rises whenever messages have to be checked again.
+    pub fn epoch(&self) -> u64
+        ensures { result ≡ self.now.state.board.epoch }
+    {
+        self.sched.epoch()
+    }
+
+    /// The epoch from which on the messages from this index on have to be checked; the index is at most the number of messages.
+    pub fn floor(&self, index: u32) -> u64
+        requires { index ≤ length self.now.state.frames }
+        ensures { result ≡ floor self.now.state.board index }
+    {
+        self.sched.floor(index)
+    }
+
+    /// The greatest epoch at which a check that the message's version passed began.
+    pub fn stamp(&self, index: u32) -> Option<u64>
+        requires { index < length self.now.state.frames }
+        ensures { result ≡ (mark self.now.state.board index).stamp }
+    {
+        self.sched.stamp(index)
+    }
+
+    /// What is done with the message.
+    pub fn status(&self, index: u32) -> Status
+        requires { index < length self.now.state.frames }
+        ensures { result ≡ (mark self.now.state.board index).status }
+    {
+        self.sched.status(index)
     }
 
     /// The message's present incarnation.
     pub fn incarnation(&self, index: u32) -> u32
-        requires { index < length self.now.frames }
-        ensures { result ≡ (message self.now index).incarnation }
+        requires { index < length self.now.state.frames }
+        ensures { result ≡ (mark self.now.state.board index).incarnation }
     {
-        self.slots[index as usize].incarnation()
+        self.sched.incarnation(index)
     }
 
     /// What the version logged of the row; `None` if it did not, or is not the present one.
     pub fn logged(&self, version: Version, row: &RowKey) -> Option<Option<RowVal>>
-        ensures present { (message self.now version.index).incarnation ≡ version.incarnation → result ≡ logged_by self.now version row.now }
-        ensures other { (message self.now version.index).incarnation ≢ version.incarnation → result ≡ None }
+        ensures present { (mark self.now.state.board version.index).incarnation ≡ version.incarnation → result ≡ logged_by self.now.state version row.now }
+        ensures other { (mark self.now.state.board version.index).incarnation ≢ version.incarnation → result ≡ None }
+        ensures kind { IfSome result (λ value. IfSome value (IsOfKind row.now)) }
     {
         let index = version.index as usize;
-        if index >= self.slots.len() {
+        if index >= self.slots.len() || self.sched.incarnation(version.index) != version.incarnation {
             return None;
         }
         let slot = &self.slots[index];
-        if slot.incarnation() == version.incarnation {
-            slot.logged(row)
-        } else {
-            None
-        }
+        slot.logged(row)
     }
 
     /// Whether these are its opening book and its frames.
     pub fn opened_with(&self, book: &Book, frames: &[Frame]) -> bool
-        ensures { IsTrue result ↔ ((self.now.opening ≡ book.now) × (self.now.frames ≡ frames.now)) }
+        ensures { IsTrue result ↔ ((self.now.state.opening ≡ book.now) × (self.now.state.frames ≡ frames.now)) }
     {
         self.opening.is_same(book) && are_same(&self.frames, frames)
     }
 
-    /// The committed messages: the opening book and the replies after them are those of deciding them one after another. The core
-    /// is gone, after want of memory too.
+    /// The committed messages: the book and the replies after them are those of deciding them one after another on the opening
+    /// book. The core is gone, after want of memory too.
     pub fn into_prefix(self, alloc: Global) -> Result<Prefix, AllocError>
-        ensures count { IfOk result (λ prefix. prefix.count ≡ self.committed) }
-        ensures within { IfOk result (λ prefix. prefix.count ≤ length self.frames) }
-        ensures book { IfOk result (λ prefix. prefix.book ≡ rows_after self.opening (take self.committed self.frames)) }
-        ensures replies { IfOk result (λ prefix. prefix.replies.items ≡ replies_to self.opening (take self.committed self.frames)) }
+        ensures count { IfOk result (λ prefix. prefix.count ≡ self.state.board.committed) }
+        ensures within { IfOk result (λ prefix. prefix.count ≤ length self.state.frames) }
+        ensures book { IfOk result (λ prefix. prefix.book ≡ rows_after self.state.opening (take self.state.board.committed self.state.frames)) }
+        ensures replies { IfOk result (λ prefix. prefix.replies.items ≡ replies_to self.state.opening (take self.state.board.committed self.state.frames)) }
     {
         let Core {
             opening,
             frames: _,
-            entries: _,
+            memory,
+            sched,
             mut slots,
-            committed,
+            limits: _,
+            checks: _,
         } = self;
-        slots.truncate(committed as usize);
-        prefix_of(alloc, opening, slots, committed)
+        let count = sched.committed();
+        slots.truncate(count as usize);
+        Ok(Prefix {
+            count,
+            book: memory.overlay(count, &opening)?,
+            replies: replies_in(alloc, &slots)?,
+        })
     }
 }

@@ -1,125 +1,132 @@
--- Why a message whose reads still resolve as they were logged may be committed.
-use Rattle.std.proofs.Common.{◌≡◌, ◌≢◌, ℕ, ◌<◌, ◌≤◌, ◌+◌, List, [], ◌∷◌, ◌++◌, ◌⊎◌, inl, inr, length, take, get_or, Contains, refl, sym, ap, ◌∙◌, subst, Option, Some, None, Bool, true, false, cond, arith}
-use Rattle.std.proofs.lemmas.Bool.{cases_lt}
-use Rattle.std.proofs.lemmas.List.{get_or-take, get_or_past, take_more, length-take}
-use Rattle.std.proofs.lemmas.List.Elements.{All-contains, recursion_from_All}
+-- Why a message with a stamp that no floor passes may be committed, though no row is read again.
+use Rattle.std.proofs.Common.{◌≡◌, ℕ, zero, suc, ◌<◌, ◌≤◌, ◌+◌, List, [], ◌∷◌, ◌++◌, ◌⊎◌, inl, inr, length, take, Contains, refl, sym, ap, ◌∙◌, subst, Option, Some, None, option_map, Bool, true, false, cond, arith}
+use Rattle.std.proofs.lemmas.Bool.{cases_lt, false≢true}
+use Rattle.std.proofs.lemmas.List.{take_more}
+use Rattle.std.proofs.lemmas.List.Elements.{recursion_from_All}
 use Rattle.std.proofs.lemmas.Option.{same_Some, none-some}
-use Rattle.std.specs.FinMap as map_of
+use Rattle.std.specs.FinMap as finite
+use Rattle.rows.proofs.KeyLaws.{key_eq_decides}
 use Rattle.rows.specs.Agreement.{Executed, Agrees, Reads}
-use Rattle.rows.specs.Fold.{Rows, rows_after}
+use Rattle.rows.specs.Fold.{Rows, rows_after, rows_after_one, writes_of, reply_of}
 use Rattle.rows.specs.RowKey.{key_eq}
 use Rattle.rows.specs.declared.frame.Frame.{Frame}
+use Rattle.rows.specs.declared.reply_body.ReplyBody.{ReplyBody}
 use Rattle.rows.specs.declared.row_key.RowKey.{RowKey}
 use Rattle.rows.specs.declared.row_val.RowVal.{RowVal}
+use Rattle.mvmem.specs.Entries.{value_at, written}
+use Rattle.mvmem.specs.Resolves.{Resolves, row_under}
+use Rattle.mvmem.specs.declared.seen.Seen.{Seen}
+use Rattle.mvmem.specs.declared.seen.Seen.TheVariants.{Base, Value, Estimate}
+use Rattle.mvmem.specs.declared.version.Version.{Version}
+use Rattle.sched.specs.Board.{committed_more, IsFresh}
+use Rattle.speccore_laws.proofs.Carries.{Carries, Carries-quiet, Moves-IsLike, IsLike-refl, kept-carried, check-carried}
+use Rattle.speccore_laws.proofs.Members.{Contains-head, Contains-tail}
+use Rattle.speccore_laws.proofs.Overlay.{Follows-push, rows_after-push, under_more}
 use Rattle.speccore_laws.specs.Follows.{Follows}
-use Rattle.speccore_laws.specs.Holds.{Holds}
-use Rattle.speccore_laws.proofs.Follows.{Follows-push, put-Follows, unput-Follows}
-use Rattle.speccore_laws.specs.Kept.{IsSoundRead, version_at}
-use Rattle.rows.proofs.KeyLaws.{key_eq_decides}
-use Rattle.speccore_laws.proofs.Members.{Contains-head, Contains-tail, Contains-nil}
-use Rattle.speccore_laws.proofs.Overlay.{Puts}
-use Rattle.speccore_laws.specs.Resolves.{Resolves, ResolvesAs, origin_of}
-use Rattle.speccore_laws.specs.Run.{writes_in}
-use Rattle.speccore_laws.specs.State.{State, MessageState, message, fresh, IsExecuted}
-use Rattle.speccore_laws.specs.Step.{AreLogged, IsCurrent, logged_in, entry_of}
-use Rattle.speccore_laws.specs.Entries.{Entry}
-use Rattle.speccore_laws.specs.Entries.{LoggedRead}
-use Rattle.speccore_laws.specs.declared.status.Status.TheVariants as status
+use Rattle.speccore_laws.specs.Holds.{Holds, IsSoundRead, IsDecidedOn}
+use Rattle.speccore_laws.specs.Log.{AreLogged, ResolvesAs, logged_in}
+use Rattle.speccore_laws.specs.State.{Log, State, Slot, message, slot, empty_slot, shelf}
+use Rattle.speccore_laws.specs.declared.logged.Logged.{Logged}
 
--- the messages from the first up to below the committed count
-abbrev settled_messages : State → List MessageState
-settled_messages s = take s.committed s.messages
+-- the frames up to a committed one
+frames_more : (s : State) → Holds s → (k : ℕ) → (d : IsDecidedOn s.opening s.frames (shelf s) k (message s k)) → take (k + 1) s.frames ≡ take k s.frames ++ d.frame ∷ []
+frames_more s h k d = take_more s.frames k d.frame d.of_frame.0 ∙ ap (λ (f : Frame). take k s.frames ++ f ∷ []) (sym d.of_frame.1)
 
--- a committed message among the settled ones
-committed_at : (s : State) (j : ℕ) → j < s.committed → get_or (settled_messages s) j fresh ≡ message s j
-committed_at s j l = get_or-take s.committed s.messages j fresh l
+-- the first messages that are committed follow the fold
+Follows-first : (s : State) → Holds s → (k : ℕ) → k ≤ s.board.committed → Follows s.opening (take k s.slots) (take k s.frames)
+Follows-first s h zero l = tt
+Follows-first s h (suc k) l =
+    let within = h.within in
+    let slotted = h.slotted in
+    let more : suc k ≡ k + 1 = omega arith in
+    let d = h.settled k (omega arith) in
+    let below : k < length s.slots = omega arith in
+    let one_more : Follows s.opening (take k s.slots ++ slot s k ∷ []) (take k s.frames ++ d.frame ∷ []) =
+    Follows-push s.opening (take k s.slots) (take k s.frames) (slot s k) d.frame (Follows-first s h k (omega arith)) d.reply in
+    subst (λ (n : ℕ). Follows s.opening (take n s.slots) (take n s.frames)) (sym more)
+    (subst (λ (ms : List Slot). Follows s.opening ms (take (k + 1) s.frames)) (sym (take_more s.slots k empty_slot below)) (subst (Follows s.opening _) (sym (frames_more s h k d)) one_more))
 
--- past the committed count there is no settled message
-not_committed : (s : State) (j : ℕ) → s.committed ≤ j → get_or (settled_messages s) j fresh ≡ fresh
-not_committed s j l = get_or_past (settled_messages s) j fresh (omega (arith, length-take s.committed s.messages))
+-- the committed messages follow the fold
+pub Follows-settled : (s : State) → Holds s → Follows s.opening (take s.board.committed s.slots) (take s.board.committed s.frames)
+Follows-settled s h = Follows-first s h s.board.committed (omega arith)
 
--- what a committed message put stands among the entries, at an index below the committed count
-put_stands : (s : State) → Holds s → (j : ℕ) (row : RowKey) → Puts (writes_in (get_or (settled_messages s) j fresh)) row → (e : Entry) × Contains s.entries e × (e.row ≡ row) × (e.version.index ≡ j) × (j < s.committed)
-put_stands s h j row puts =
-    elim (cases_lt j s.committed) [
-      | inl l ↦
-          let there : Contains (writes_in (message s j)) puts.0 = subst (λ (m : MessageState). Contains (writes_in m) puts.0) (committed_at s j l) puts.1 in
-          (entry_of (version_at j (message s j).incarnation) puts.0, h.kept.entered j puts.0 (h.settled j l) there, puts.2, refl, l)
-      | inr past ↦ absurd (Contains-nil puts.0 (subst (λ (m : MessageState). Contains (writes_in m) puts.0) (not_committed s j past) puts.1))
-    ]
+-- each row after the first messages that are committed is as the next message sees it
+under_first : (s : State) → Holds s → (k : ℕ) → k ≤ s.board.committed → (row : RowKey) (seen : Seen) → Resolves (shelf s) row k seen → finite.get (rows_after s.opening (take k s.frames)) row ≡ row_under (finite.get s.opening row) seen
+under_first s h zero l row Base is = refl
+under_first s h zero l row (Value v value) is = absurd (omega (arith, is.0))
+under_first s h zero l row (Estimate at) is = refl
+under_first s h (suc k) l row seen is =
+    let more : suc k ≡ k + 1 = omega arith in
+    let d = h.settled k (omega arith) in
+    let rows : Rows = rows_after s.opening (take k s.frames) in
+    let after : rows_after s.opening (take (suc k) s.frames) ≡ rows_after_one rows d.frame = ap (λ (n : ℕ). rows_after s.opening (take n s.frames)) more ∙ ap (rows_after s.opening) (frames_more s h k d) ∙ rows_after-push s.opening (take k s.frames) d.frame in
+    ap (λ (r : Rows). finite.get r row) after
+    ∙ under_more (shelf s) row k (message s k).incarnation rows (writes_of rows d.frame) (finite.get s.opening row) (d.values row) (λ other was. under_first s h k (omega arith) row other was) seen (subst (λ (n : ℕ). Resolves (shelf s) row n seen) more is)
 
--- the rows after the committed messages
-abbrev rows_so_far : State → Rows
-rows_so_far s = rows_after s.opening (take s.committed s.frames)
+-- each row after the committed messages is as the next message sees it
+pub under_committed : (s : State) → Holds s → (row : RowKey) (seen : Seen) → Resolves (shelf s) row s.board.committed seen → finite.get (rows_after s.opening (take s.board.committed s.frames)) row ≡ row_under (finite.get s.opening row) seen
+under_committed s h row seen is = under_first s h s.board.committed (omega arith) row seen is
 
--- what the next message sees of a row is the row after the committed messages
-seen_is_fold : (s : State) → Holds s → (read : LoggedRead) → IsSoundRead s.opening s.entries (message s) read → (seen : Option Entry) → Resolves s.entries read.row s.committed seen → origin_of seen ≡ read.origin → map_of.get (rows_so_far s) read.row ≡ read.value
-seen_is_fold s h read sound None resolves origin =
-    unput-Follows s.opening (settled_messages s) (take s.committed s.frames) read.row h.follows
-    (λ j puts. let e = put_stands s h j read.row puts in let below : s.committed ≤ e.0.version.index = All-contains (λ (o : Entry). o.row ≡ read.row → s.committed ≤ o.version.index) s.entries e.0 resolves e.1 e.2 in let at_j = e.3 in let l = e.4 in omega arith)
-    ∙ sym (sound.base (sym origin))
-seen_is_fold s h read sound (Some seen) resolves origin =
-    let owned = h.kept.owned seen resolves.0 in
-    let below : seen.version.index < s.committed = resolves.2 in
-    let there : Contains (writes_in (get_or (settled_messages s) seen.version.index fresh)) (seen.row, seen.value) = subst (λ (m : MessageState). Contains (writes_in m) (seen.row, seen.value)) (sym (committed_at s seen.version.index below)) owned.2 in
-    let none_between : (j : ℕ) → seen.version.index < j → Puts (writes_in (get_or (settled_messages s) j fresh)) seen.row → ⊥ =
-    λ j l puts. let e = put_stands s h j seen.row puts in let at_j : e.0.version.index ≡ j = e.3 in let under : j < s.committed = e.4 in let past : s.committed ≤ e.0.version.index = All-contains (λ (o : Entry). o.row ≡ read.row → seen.version.index < o.version.index → s.committed ≤ o.version.index) s.entries e.0 resolves.3 e.1 (e.2 ∙ resolves.1) (omega arith) in omega arith in
-    ap (map_of.get (rows_so_far s)) (sym resolves.1)
-    ∙ put-Follows s.opening (settled_messages s) (take s.committed s.frames) seen.version.index (seen.row, seen.value) h.follows there none_between
-    ∙ sym (sound.stands seen.version seen (sym origin) resolves.0 refl resolves.1)
+-- a read that resolves as it was logged is of the rows after the committed messages
+seen_is_fold : (s : State) → Holds s → (read : RowKey × Logged) → IsSoundRead s read → (origin : Option Version) → read.1.origin ≡ origin → ResolvesAs (shelf s) read.0 s.board.committed origin → finite.get (rows_after s.opening (take s.board.committed s.frames)) read.0 ≡ read.1.value
+seen_is_fold s h read sound None is resolves = under_committed s h read.0 Base resolves ∙ sym (sound.base is)
+seen_is_fold s h read sound (Some v) is resolves = under_committed s h read.0 (Value v resolves.0) resolves.1 ∙ sym (sound.stands v resolves.0 is resolves.1.1)
 
 -- an answer of a log is that of its first read, or of the reads behind it
-found_first : (b : Bool) (read : LoggedRead) (rest : Option (Option RowVal)) (value : Option RowVal) → cond b (Some read.value) rest ≡ Some value → ((b ≡ true) × (read.value ≡ value)) ⊎ (rest ≡ Some value)
+found_first : (b : Bool) (read : Logged) (rest : Option Logged) (value : Option RowVal) → option_map (λ (l : Logged). l.value) (cond b (Some read) rest) ≡ Some value → ((b ≡ true) × (read.value ≡ value)) ⊎ (option_map (λ (l : Logged). l.value) rest ≡ Some value)
 found_first true read rest value e = inl (refl, same_Some _ _ e)
 found_first false read rest value e = inr e
 
 -- what is logged of a row stands in the log
-pub logged_in-Some : (log : List LoggedRead) (row : RowKey) (value : Option RowVal) → logged_in log row ≡ Some value → (read : LoggedRead) × Contains log read × (read.row ≡ row) × (read.value ≡ value)
+pub logged_in-Some : (log : Log) (row : RowKey) (value : Option RowVal) → logged_in log row ≡ Some value → (read : RowKey × Logged) × Contains log read × (read.0 ≡ row) × (read.1.value ≡ value)
 logged_in-Some [] row value e = absurd (none-some value e)
 logged_in-Some (read ∷ reads) row value e =
-    elim (found_first (key_eq read.row row) read (logged_in reads row) value e) [
-      | inl here ↦ (read, Contains-head read reads, (key_eq_decides read.row row).0 here.0, here.1)
+    elim (found_first (key_eq row read.0) read.1 (Rattle.view.specs.RowSets.value_in reads row) value e) [
+      | inl here ↦ (read, Contains-head read reads, sym ((key_eq_decides row read.0).0 here.0), here.1)
       | inr later ↦ let r = logged_in-Some reads row value later in (r.0, Contains-tail read reads r.0 r.1, r.2, r.3)
     ]
 
 -- rows that agree with a log agree with the reads that were logged
-pub Agrees-logged : (log : List LoggedRead) (reads : Reads) (look : RowKey → Option RowVal) → AreLogged log reads → ((read : LoggedRead) → Contains log read → look read.row ≡ read.value) → Agrees reads look
+pub Agrees-logged : (log : Log) (reads : Reads) (look : RowKey → Option RowVal) → AreLogged log reads → ((read : RowKey × Logged) → Contains log read → look read.0 ≡ read.1.value) → Agrees reads look
 Agrees-logged log reads look logged each =
     recursion_from_All (λ read. look read.0 ≡ read.1) reads
     (λ k d l. let r = logged_in-Some log _ _ (logged k d l) in ap look (sym r.2) ∙ each r.0 r.1 ∙ r.3)
 
--- no message stands past the end
-pub in_batch : (s : State) (i : ℕ) → (message s i).status ≢ status.Ready → i < length s.messages
-in_batch s i ne =
-    elim (cases_lt i (length s.messages)) [
-      | inl l ↦ l
-      | inr past ↦ absurd (ne (ap (λ (m : MessageState). m.status) (get_or_past s.messages i fresh past)))
-    ]
-
 -- one more message is committed
-pub Holds-commit : (s : State) → Holds s → IsExecuted s s.committed → IsCurrent s s.committed → s.committed < length s.messages → Holds (record s { committed = s.committed + 1 })
-unfolding ResolvesAs
-Holds-commit s h executed current l =
-    let has = h.kept.executed s.committed executed in
+pub Holds-committed : (s : State) → Holds s → s.board.committed < length s.frames → IsFresh s.board s.board.committed → Holds (record s { board = committed_more s.board })
+Holds-committed s h l is_fresh =
+    let k : ℕ = s.board.committed in
+    let new : State = record s { board = committed_more s.board } in
+    let rows : Rows = rows_after s.opening (take k s.frames) in
+    let kept = h.messages k in
+    let has = kept.executed is_fresh.0 in
     let x : Executed = has.0 in
-    let agrees : Agrees x.reads (map_of.get (rows_so_far s)) =
-    Agrees-logged (message s s.committed).log x.reads (map_of.get (rows_so_far s)) has.1.logged
-    (λ read c. let stays = All-contains (λ (r : LoggedRead). ResolvesAs s.entries r.row s.committed r.origin) (message s s.committed).log read current c in seen_is_fold s h read (h.kept.sound s.committed read c) stays.0 stays.1 stays.2) in
-    let decided = has.1.true_one (map_of.get (rows_so_far s)) agrees in
-    let frame_there : get_or s.frames s.committed x.frame ≡ x.frame = sym has.1.of_frame.1 in
-    let one_more : Follows s.opening (take s.committed s.messages ++ message s s.committed ∷ []) (take s.committed s.frames ++ x.frame ∷ []) =
-    Follows-push s.opening (take s.committed s.messages) (take s.committed s.frames) (message s s.committed) x.frame x h.follows has.1.is
-    (sym decided.0) (sym decided.1) in
-    let messages_more : take (s.committed + 1) s.messages ≡ take s.committed s.messages ++ message s s.committed ∷ [] = take_more s.messages s.committed fresh l in
-    let frames_more : take (s.committed + 1) s.frames ≡ take s.committed s.frames ++ x.frame ∷ [] =
-    take_more s.frames s.committed x.frame has.1.of_frame.0 ∙ ap (λ (f : Frame). take s.committed s.frames ++ f ∷ []) frame_there in
+    let resolve = (kept.stamped is_fresh.0 is_fresh.1 is_fresh.2).1 is_fresh.3 in
+    let agrees : Agrees x.reads (finite.get rows) =
+    Agrees-logged (message s k).log x.reads (finite.get rows) has.1.logged
+    (λ read c. seen_is_fold s h read (kept.sound read c) read.1.origin refl (resolve c.0 read c.1 (c.1, sym c.2))) in
+    let decided = has.1.true_one (finite.get rows) agrees in
+    let carries : Carries s new = Carries-quiet s new refl refl refl refl refl refl (λ j. Moves-IsLike (message s j) (message s j) (IsLike-refl (message s j))) in
     record {
       paired = h.paired;
+      slotted = h.slotted;
+      floored = h.floored;
+      seated = h.seated;
       within = omega arith;
-      kept = h.kept;
-      settled = λ i under. elim (cases_lt i s.committed) [
-        | inl before ↦ h.settled i before
-        | inr past ↦ let same : s.committed ≡ i = omega arith in subst (IsExecuted s) same executed
+      epoch = h.epoch;
+      floors = h.floors;
+      messages = λ j. kept-carried s new carries j (message s j) (message s j) (IsLike-refl (message s j)) (λ row. refl) (h.messages j);
+      checks = λ seat check e. check-carried s new carries check (h.checks seat check e);
+      settled = λ j below. elim (cases_lt j k) [
+        | inl before ↦ h.settled j before
+        | inr past ↦
+            let same : k ≡ j = omega arith in
+            subst (λ (n : ℕ). IsDecidedOn s.opening s.frames (shelf s) n (message s n)) same (record {
+              frame = x.frame;
+              of_frame = has.1.of_frame;
+              executed = is_fresh.0;
+              reply = has.1.reply ∙ ap Some (sym decided.0);
+              values = λ row. has.1.values row ∙ ap (λ ws. option_map (value_at (message s k).incarnation) (written ws row)) (sym decided.1);
+            })
       ];
-      follows = subst (λ (ms : List MessageState). Follows s.opening ms (take (s.committed + 1) s.frames)) (sym messages_more) (subst (Follows s.opening _) (sym frames_more) one_more);
     }

@@ -1,7 +1,11 @@
+pub mod Carries
+pub mod Changed
+pub mod Checks
 pub mod Committed
-pub mod Follows
-pub mod Kept
-pub mod Keys
+pub mod Finished
+pub mod Logs
 pub mod Members
 pub mod Overlay
 pub mod Reached
+pub mod Shelves
+pub mod Unique

@@ -1,58 +1,115 @@
--- A row of a book under what was put.
-use Rattle.std.proofs.Common.{◌≡◌, true, false, cond, [], ◌∷◌, ◌⊎◌, inl, inr, refl, sym, ap, ◌∙◌, Some, Contains}
-use Rattle.std.specs.FinMap as map
+-- A row of a book under what was put, and what one more message puts.
+use Rattle.std.proofs.Common.{◌≡◌, ℕ, suc, ◌<◌, ◌≤◌, ◌+◌, Bool, true, false, cond, List, [], ◌∷◌, ◌++◌, refl, sym, ap, ap₂, ◌∙◌, subst, Option, Some, None, option_map, filter_map, arith, ◌⊎◌, inl, inr}
+use Rattle.std.proofs.lemmas.Bool.{cases_lt}
+use Rattle.std.proofs.lemmas.Option.{same_Some, none-some}
+use Rattle.std.specs.FinMap as finite
+use Rattle.std.specs.List.{cons_option}
 use Rattle.std.specs.Ordering.{eq_by_cmp}
-use Rattle.rows.specs.Fold.{Rows, overlay}
+use Rattle.rows.proofs.KeyLaws.{key_cmp_total}
+use Rattle.rows.specs.Fold.{Rows, overlay, reply_of, writes_of, rows_after_one, rows_after, replies_to}
 use Rattle.rows.specs.Plan.{Writes}
 use Rattle.rows.specs.RowKey.{key_cmp}
+use Rattle.rows.specs.declared.frame.Frame.{Frame}
+use Rattle.rows.specs.declared.reply_body.ReplyBody.{ReplyBody}
 use Rattle.rows.specs.declared.row_key.RowKey.{RowKey}
 use Rattle.rows.specs.declared.row_val.RowVal.{RowVal}
-use Rattle.rows.proofs.KeyLaws.{key_cmp_total}
-use Rattle.speccore_laws.proofs.Keys.{key_cases}
-use Rattle.speccore_laws.proofs.Members.{Contains-cons, Contains-head, Contains-tail, Contains-nil}
-use Rattle.rows.specs.PutsOnce.{PutsOnce}
+use Rattle.mvmem.specs.Entries.{Held, Shelf, value_at, written}
+use Rattle.mvmem.specs.Resolves.{Resolves, row_under}
+use Rattle.mvmem.specs.declared.seen.Seen.{Seen}
+use Rattle.mvmem.specs.declared.seen.Seen.TheVariants.{Base, Value, Estimate}
+use Rattle.speccore_laws.proofs.Shelves.{option_cases}
+use Rattle.speccore_laws.specs.Follows.{Follows}
+use Rattle.speccore_laws.specs.State.{Slot}
 
--- the row is among what is put
-abbrev pub Puts : Writes → RowKey → Type 0
-Puts writes row = (put : RowKey × RowVal) × Contains writes put × (put.0 ≡ row)
+-- the first, or where there is none the second
+abbrev pub or_else : {X : Type 0} → Option X → Option X → Option X
+or_else None other = other
+or_else (Some x) other = Some x
 
--- one row is put: it has the value that is put
-get_put : (rows : Rows) (w : RowKey × RowVal) (row : RowKey) → row ≡ w.0 → eq_by_cmp key_cmp row w.0 ≡ true → map.get (map.insert rows w.0 w.1) row ≡ Some w.1
-get_put rows w row e t = map.get-insert key_cmp_total rows w.0 w.1 row ∙ ap (λ b. cond b (Some w.1) (map.get rows row)) t
+-- the first of three
+or_else_assoc : {X : Type 0} (a b c : Option X) → or_else (or_else a b) c ≡ or_else a (or_else b c)
+or_else_assoc None b c = refl
+or_else_assoc (Some x) b c = refl
 
--- one row is put: every other row stays
-get_other : (rows : Rows) (w : RowKey × RowVal) (row : RowKey) → eq_by_cmp key_cmp row w.0 ≡ false → map.get (map.insert rows w.0 w.1) row ≡ map.get rows row
-get_other rows w row t = map.get-insert key_cmp_total rows w.0 w.1 row ∙ ap (λ b. cond b (Some w.1) (map.get rows row)) t
+-- one row is put: it has the value that is put, over what was there
+insert_cases : (b : Bool) (value : RowVal) (was : Option RowVal) → cond b (Some value) was ≡ or_else (cond b (Some value) None) was
+insert_cases true value was = refl
+insert_cases false value was = refl
 
--- a row that is not put stays
-pub overlay_other : (rows : Rows) (writes : Writes) (row : RowKey) → ¬ Puts writes row → map.get (overlay rows writes) row ≡ map.get rows row
-overlay_other rows [] row none = refl
-overlay_other rows (w ∷ ws) row none =
-    overlay_other (map.insert rows w.0 w.1) ws row (λ h. none (h.0, Contains-tail w ws h.0 h.1, h.2))
-    ∙ elim (key_cases row w.0) [
-      | inl same ↦ absurd (none (w, Contains-head w ws, sym same.1))
-      | inr apart ↦ get_other rows w row apart.0
+get_insert : (rows : Rows) (key row : RowKey) (value : RowVal) → finite.get (finite.insert rows key value) row ≡ or_else (finite.get (finite.insert (finite.empty {R = key_cmp}) key value) row) (finite.get rows row)
+get_insert rows key row value =
+    finite.get-insert key_cmp_total rows key value row
+    ∙ insert_cases (eq_by_cmp key_cmp row key) value (finite.get rows row)
+    ∙ ap (λ (o : Option RowVal). or_else o (finite.get rows row)) (sym (finite.get-insert key_cmp_total finite.empty key value row ∙ ap (λ (o : Option RowVal). cond (eq_by_cmp key_cmp row key) (Some value) o) (finite.get-empty key_cmp row)))
+
+-- a row under writes is what they put for it, or what it was
+pub get_overlay : (rows : Rows) (writes : Writes) (row : RowKey) → finite.get (overlay rows writes) row ≡ or_else (written writes row) (finite.get rows row)
+get_overlay rows [] row = ap (λ (o : Option RowVal). or_else o (finite.get rows row)) (sym (finite.get-empty key_cmp row))
+get_overlay rows (w ∷ ws) row =
+    get_overlay (finite.insert rows w.0 w.1) ws row
+    ∙ ap (or_else (written ws row)) (get_insert rows w.0 row w.1)
+    ∙ sym (or_else_assoc (written ws row) (finite.get (finite.insert finite.empty w.0 w.1) row) (finite.get rows row))
+    ∙ ap (λ (o : Option RowVal). or_else o (finite.get rows row)) (sym (get_overlay (finite.insert finite.empty w.0 w.1) ws row))
+
+-- their replies are those of the fold
+pub replies-Follows : (rows : Rows) (ms : List Slot) (frames : List Frame) → Follows rows ms frames → filter_map (λ kept. kept.reply) ms ≡ replies_to rows frames
+replies-Follows rows [] [] h = refl
+replies-Follows rows [] (frame ∷ frames) h = absurd h
+replies-Follows rows (m ∷ ms) [] h = absurd h
+replies-Follows rows (m ∷ ms) (frame ∷ frames) h =
+    ap (λ (o : Option ReplyBody). cons_option o (filter_map (λ kept. kept.reply) ms)) h.0
+    ∙ ap (λ (rs : List ReplyBody). reply_of rows frame ∷ rs) (replies-Follows (rows_after_one rows frame) ms frames h.1)
+
+-- one more message
+pub Follows-push : (rows : Rows) (ms : List Slot) (frames : List Frame) (m : Slot) (frame : Frame) → Follows rows ms frames → m.reply ≡ Some (reply_of (rows_after rows frames) frame) → Follows rows (ms ++ m ∷ []) (frames ++ frame ∷ [])
+Follows-push rows [] [] m frame h reply = (reply, tt)
+Follows-push rows [] (f ∷ frames) m frame h reply = absurd h
+Follows-push rows (n ∷ ms) [] m frame h reply = absurd h
+Follows-push rows (n ∷ ms) (f ∷ frames) m frame h reply = (h.0, Follows-push (rows_after_one rows f) ms frames m frame h.1 reply)
+
+-- the rows after one more body
+pub rows_after-push : (rows : Rows) (frames : List Frame) (frame : Frame) → rows_after rows (frames ++ frame ∷ []) ≡ rows_after_one (rows_after rows frames) frame
+rows_after-push rows [] frame = refl
+rows_after-push rows (f ∷ frames) frame = rows_after-push (rows_after_one rows f) frames frame
+
+-- what is seen from the next index is seen from this one, where nothing stands at it
+seen_before : (shelf : Shelf) (row : RowKey) (k : ℕ) (seen : Seen) → shelf row k ≡ None → Resolves shelf row (k + 1) seen → Resolves shelf row k seen
+seen_before shelf row k Base none is = λ i l. is i (omega arith)
+seen_before shelf row k (Value v value) none is =
+    elim (cases_lt v.index k) [
+      | inl below ↦ (below, is.1, λ i after l. is.2 i after (omega arith))
+      | inr past ↦ let l = is.0 in let here : v.index ≡ k = omega arith in absurd (none-some _ (sym none ∙ sym (ap (shelf row) here) ∙ is.1))
+    ]
+seen_before shelf row k (Estimate at) none is =
+    elim (cases_lt at k) [
+      | inl below ↦ (below, is.1, λ i after l. is.2 i after (omega arith))
+      | inr past ↦ let l = is.0 in let here : at ≡ k = omega arith in absurd (none-some _ (sym none ∙ sym (ap (shelf row) here) ∙ is.1.1))
     ]
 
--- each value that is put for the row is this one, and one is put or stands there already
-put_last : (rows : Rows) (writes : Writes) (row : RowKey) (value : RowVal) → ((put : RowKey × RowVal) → Contains writes put → put.0 ≡ row → put.1 ≡ value) → (map.get rows row ≡ Some value) ⊎ Puts writes row → map.get (overlay rows writes) row ≡ Some value
-put_last rows [] row value each (inl e) = e
-put_last rows [] row value each (inr h) = absurd (Contains-nil h.0 h.1)
-put_last rows (w ∷ ws) row value each h =
-    put_last (map.insert rows w.0 w.1) ws row value (λ put c. each put (Contains-tail w ws put c))
-    (elim (key_cases row w.0) [
-      | inl same ↦ inl (get_put rows w row same.1 same.0 ∙ ap Some (each w (Contains-head w ws) (sym same.1)))
-      | inr apart ↦
-          elim h [
-            | inl e ↦ inl (get_other rows w row apart.0 ∙ e)
-            | inr p ↦
-                elim (Contains-cons w ws p.0 p.1) [
-                  | inl first ↦ absurd (apart.1 (sym p.2 ∙ ap (λ (q : RowKey × RowVal). q.0) (sym first)))
-                  | inr t ↦ inr (p.0, t, p.2)
-                ]
-          ]
-    ])
+-- the value that stands at the index just before is seen
+seen_there : (shelf : Shelf) (row : RowKey) (k incarnation : ℕ) (value : RowVal) (was : Option RowVal) (seen : Seen) → shelf row k ≡ Some (value_at incarnation value) → Resolves shelf row (k + 1) seen → row_under was seen ≡ Some value
+seen_there shelf row k incarnation value was Base there is = absurd (none-some _ (sym (is k (omega arith)) ∙ there))
+seen_there shelf row k incarnation value was (Value v other) there is =
+    elim (cases_lt v.index k) [
+      | inl below ↦ absurd (none-some _ (sym (is.2 k below (omega arith)) ∙ there))
+      | inr past ↦ let l = is.0 in let here : v.index ≡ k = omega arith in ap (λ (h : Held). h.value) (same_Some (value_at v.incarnation other) (value_at incarnation value) (sym is.1 ∙ ap (shelf row) here ∙ there))
+    ]
+seen_there shelf row k incarnation value was (Estimate at) there is =
+    elim (cases_lt at k) [
+      | inl below ↦ absurd (none-some _ (sym (is.2 k below (omega arith)) ∙ there))
+      | inr past ↦ let l = is.0 in let here : at ≡ k = omega arith in absurd (none-some value (sym is.1.2 ∙ ap (λ (h : Held). h.value) (same_Some is.1.0 (value_at incarnation value) (sym is.1.1 ∙ ap (shelf row) here ∙ there))))
+    ]
 
--- a row that is put has the value that is put
-pub overlay_put : (rows : Rows) (writes : Writes) (put : RowKey × RowVal) → PutsOnce writes → Contains writes put → map.get (overlay rows writes) put.0 ≡ Some put.1
-overlay_put rows writes put once h = put_last rows writes put.0 put.1 (λ other c e. once other put c h e) (inr (put, h, refl))
+-- One more message: where its entries are what it puts on the rows before it, each row after it is as the next message sees it.
+pub under_more : (shelf : Shelf) (row : RowKey) (k incarnation : ℕ) (rows : Rows) (writes : Writes) (was : Option RowVal) → shelf row k ≡ option_map (value_at incarnation) (written writes row) → ((seen : Seen) → Resolves shelf row k seen → finite.get rows row ≡ row_under was seen) → (seen : Seen) → Resolves shelf row (k + 1) seen → finite.get (overlay rows writes) row ≡ row_under was seen
+under_more shelf row k incarnation rows writes was stands before seen is =
+    elim (option_cases (written writes row)) [
+      | inl nothing ↦
+          get_overlay rows writes row
+          ∙ ap (λ (o : Option RowVal). or_else o (finite.get rows row)) nothing
+          ∙ before seen (seen_before shelf row k seen (stands ∙ ap (option_map (value_at incarnation)) nothing) is)
+      | inr some ↦
+          get_overlay rows writes row
+          ∙ ap (λ (o : Option RowVal). or_else o (finite.get rows row)) some.1
+          ∙ sym (seen_there shelf row k incarnation some.0 was seen (stands ∙ ap (option_map (value_at incarnation)) some.1) is)
+    ]

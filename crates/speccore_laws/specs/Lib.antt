@@ -1,8 +1,7 @@
-pub mod Entries
 pub mod Follows
 pub mod Holds
-pub mod Kept
-pub mod Resolves
+pub mod Log
+pub mod Play
 pub mod Run
 pub mod State
 pub mod Step

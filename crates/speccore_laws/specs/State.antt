@@ -1,65 +1,113 @@
 -- What a core holds.
-use Rattle.std.specs.Prelude.{◌≡◌, ℕ, ◌<◌, List, [], length, map, slice_index_or, slice_set, Option, None, refl}
-use Rattle.std.specs.Coded.{Coded, code_by, coded×, coded_list, coded_ℕ}
-use Rattle.rows.specs.Agreement.{Executed}
+use Rattle.std.specs.Prelude.{◌≡◌, ℕ, ◌<◌, max, List, [], length, map, replicate, slice_index_or, slice_set, Option, Some, None, refl}
+use Rattle.std.specs.Coded.{Coded, code_by, coded×, coded_list, coded_option}
+use Rattle.std.specs.FinMap as finite
 use Rattle.rows.specs.Fold.{Rows}
 use Rattle.rows.specs.declared.frame.Frame.{Frame}
-use Rattle.speccore_laws.specs.Entries.{Entry}
-use Rattle.speccore_laws.specs.Entries.{LoggedRead}
-use Rattle.speccore_laws.specs.declared.status.Status.{Status}
-use Rattle.speccore_laws.specs.declared.status.Status.TheVariants as status
-use Rattle.speccore_laws.specs.declared.version.Version.{Version}
+use Rattle.rows.specs.declared.reply_body.ReplyBody.{ReplyBody}
+use Rattle.rows.specs.declared.row_key.RowKey.{RowKey}
+use Rattle.mvmem.specs.Entries.{Entries, Shelf, held}
+use Rattle.sched.specs.Board.{Board, mark, open_board}
+use Rattle.sched.specs.declared.mark.Mark.{Mark}
+use Rattle.sched.specs.declared.status.Status.{Status}
+use Rattle.speccore_laws.specs.declared.check.Check.{Check}
+use Rattle.speccore_laws.specs.declared.limits.Limits.{Limits}
+use Rattle.speccore_laws.specs.declared.logged.Logged.{Logged}
 
--- what is kept of one message: its present incarnation, the execution that finished, and what this incarnation read
-pub record MessageState : Type 0 where
-  pub status : Status
-  pub incarnation : ℕ
-  pub execution : Option Executed
-  pub log : List LoggedRead
+-- the rows that an incarnation was answered, in the order of asking
+abbrev pub Log : Type 0
+Log = List (RowKey × Logged)
 
--- The opening book, the batch, the rows that were put with the executions that put them, each message, and how many messages,
--- from the first on, are committed.
+-- what is kept of a message beside its entries and where it stands: the reply of the execution that finished, and what this incarnation read
+pub record Slot : Type 0 where
+  pub reply : Option ReplyBody
+  pub log : Log
+
+-- what a core holds
 pub record State : Type 0 where
   pub opening : Rows
   pub frames : List Frame
-  pub entries : List Entry
-  pub messages : List MessageState
-  pub committed : ℕ
+  pub entries : Entries
+  pub board : Board
+  pub slots : List Slot
+  pub limits : Limits
+  pub checks : List (Option Check)
 
--- a message that nothing was done with yet
-abbrev pub fresh : MessageState
-fresh = record { status = status.Ready; incarnation = 0; execution = None; log = [] }
+-- nothing is kept
+abbrev pub empty_slot : Slot
+empty_slot = record { reply = None; log = [] }
 
--- what is kept of the message at i. No message is there: then it is as a fresh one, neither running nor executed
+-- what is kept of the message at i
+abbrev pub slot : State → ℕ → Slot
+slot s i = slice_index_or s.slots i empty_slot
+
+-- all that there is of one message beside its entries
+pub record MessageState : Type 0 where
+  pub status : Status
+  pub incarnation : ℕ
+  pub stamp : Option ℕ
+  pub reply : Option ReplyBody
+  pub log : Log
+
+-- from where it stands and what is kept of it
+abbrev pub message_of : Mark → Slot → MessageState
+message_of m kept = record { status = m.status; incarnation = m.incarnation; stamp = m.stamp; reply = kept.reply; log = kept.log }
+
+-- all that there is of the message at i
 abbrev pub message : State → ℕ → MessageState
-message s i = slice_index_or s.messages i fresh
+message s i = message_of (mark s.board i) (slot s i)
+
+-- what stands for each row at each index
+abbrev pub shelf : State → Shelf
+shelf s = held s.entries
+
+-- the seat's check
+abbrev pub check_of : State → ℕ → Option Check
+check_of s seat = slice_index_or s.checks seat None
 
 -- the state with this kept of the message at i
-abbrev pub with_message : State → ℕ → MessageState → State
-with_message s i m = record s { messages = slice_set s.messages i m }
+abbrev pub with_slot : State → ℕ → Slot → State
+with_slot s i kept = record s { slots = slice_set s.slots i kept }
 
--- the opening state: all messages ready, nothing put, nothing committed
-abbrev pub start : Rows → List Frame → State
-start opening frames =
-    record { opening = opening; frames = frames; entries = []; messages = map (λ _. fresh) frames; committed = 0 }
+-- the state with this check of the seat
+abbrev pub with_check : State → ℕ → Option Check → State
+with_check s seat check = record s { checks = slice_set s.checks seat check }
+
+-- how many seats there are
+abbrev pub seats : ℕ
+seats = 64
+
+-- an epoch of 0 counts as 1
+abbrev pub bounded : Limits → Limits
+bounded limits = record { incarnation = limits.incarnation; epoch = max 1 limits.epoch }
+
+-- the opening state: all messages ready, nothing put, nothing committed, no check
+abbrev pub start : Rows → List Frame → Limits → State
+start opening frames limits = record {
+  opening = opening;
+  frames = frames;
+  entries = finite.empty;
+  board = open_board (length frames);
+  slots = map (λ _. empty_slot) frames;
+  limits = bounded limits;
+  checks = replicate seats None;
+}
 
 -- x stands at i
 abbrev pub IsAt : {X : Type 0} → List X → ℕ → X → Type 0
 IsAt xs i x = (i < length xs) × (x ≡ slice_index_or xs i x)
 
--- the version was handed out and has neither finished nor been given up
-abbrev pub IsRunning : State → Version → Type 0
-IsRunning s v = ((message s v.index).status ≡ status.Running) × ((message s v.index).incarnation ≡ v.incarnation)
+-- how a slot is stored
+abbrev pub slot_code : Coded ReplyBody → Coded RowKey → Coded Logged → Coded Slot
+slot_code reply key logged =
+    code_by (Option ReplyBody × Log) (coded× (coded_option reply) (coded_list (coded× key logged)))
+    (λ s. (s.reply, s.log)) (λ p. record { reply = p.0; log = p.1 }) (λ _. refl)
 
--- the message at i has an execution that finished
-abbrev pub IsExecuted : State → ℕ → Type 0
-IsExecuted s i = (message s i).status ≡ status.Executed
-
--- a state is stored as its parts
-abbrev pub state_code : Coded Rows → Coded Frame → Coded Entry → Coded MessageState → Coded State
-state_code rows frame entry message =
-    code_by (Rows × (List Frame × (List Entry × (List MessageState × ℕ))))
-    (coded× rows (coded× (coded_list frame) (coded× (coded_list entry) (coded× (coded_list message) coded_ℕ))))
-    (λ s. (s.opening, (s.frames, (s.entries, (s.messages, s.committed)))))
-    (λ p. record { opening = p.0; frames = p.1.0; entries = p.1.1.0; messages = p.1.1.1.0; committed = p.1.1.1.1 })
+-- how a state is stored
+abbrev pub state_code : Coded Rows → Coded Frame → Coded Entries → Coded Board → Coded Slot → Coded Limits → Coded Check → Coded State
+state_code rows frame entries board kept limits check =
+    code_by (Rows × (List Frame × (Entries × (Board × (List Slot × (Limits × List (Option Check)))))))
+    (coded× rows (coded× (coded_list frame) (coded× entries (coded× board (coded× (coded_list kept) (coded× limits (coded_list (coded_option check))))))))
+    (λ s. (s.opening, (s.frames, (s.entries, (s.board, (s.slots, (s.limits, s.checks)))))))
+    (λ p. record { opening = p.0; frames = p.1.0; entries = p.1.1.0; board = p.1.1.1.0; slots = p.1.1.1.1.0; limits = p.1.1.1.1.1.0; checks = p.1.1.1.1.1.1 })
     (λ _. refl)

@@ -1,138 +1,208 @@
 -- Which answer a core may give to a call, and the state after it. A refusal leaves the state as it was.
-use Rattle.std.specs.Prelude.{◌≡◌, ◌≢◌, ℕ, ◌+◌, ◌<◌, Bool, true, false, not, nat_eq, if◌then◌else◌, List, [], ◌∷◌, ◌++◌, length, map, filter, Option, Some, None, Result, Ok, Err, All, ◌⊎◌}
-use Rattle.rows.specs.Agreement.{Executed, Reads}
-use Rattle.rows.specs.RowKey.{key_eq}
+use Rattle.std.specs.Prelude.{◌≡◌, ◌≢◌, ℕ, ◌+◌, ◌<◌, Bool, true, false, ◌||◌, nat_eq, [], ◌∷◌, ◌++◌, length, Option, Some, None, IfSome, Result, Ok, Err, ◌⊎◌}
+use Rattle.rows.specs.Agreement.{Executed}
+use Rattle.rows.specs.RowVal.{IsOfKind}
 use Rattle.rows.specs.declared.row_key.RowKey.{RowKey}
 use Rattle.rows.specs.declared.row_val.RowVal.{RowVal}
-use Rattle.speccore_laws.specs.Resolves.{Resolves, ResolvesAs, read_of, value_of}
-use Rattle.speccore_laws.specs.State.{State, message, with_message, IsAt, IsRunning, IsExecuted}
+use Rattle.mvmem.specs.Entries.{Entries, AreReplaced, AreEstimated, IsNewLocation}
+use Rattle.mvmem.specs.Resolves.{Resolves}
+use Rattle.mvmem.specs.declared.seen.Seen.{Seen}
+use Rattle.mvmem.specs.declared.seen.Seen.TheVariants as seen
+use Rattle.mvmem.specs.declared.version.Version.{Version}
+use Rattle.sched.specs.Board.{Board, mark, claimed, given_up, finished, lowered, passed, aborted, committed_more, IsReady, IsRunning, IsOpen, IsFresh, IsWaitedFor}
+use Rattle.sched.specs.declared.status.Status.{Status}
+use Rattle.sched.specs.declared.status.Status.TheVariants as status
+use Rattle.sched.specs.declared.task.Task.{Task}
+use Rattle.sched.specs.declared.task.Task.TheVariants.{Execute, Validate, Idle, Done}
+use Rattle.speccore_laws.specs.Log.{logged_in, logged_of, AreLogged, ResolvesAs}
+use Rattle.speccore_laws.specs.State.{State, slot, empty_slot, shelf, check_of, with_slot, with_check, IsAt}
+use Rattle.speccore_laws.specs.declared.check.Check.{Check}
 use Rattle.speccore_laws.specs.declared.core_fault.CoreFault.{CoreFault}
-use Rattle.speccore_laws.specs.declared.core_fault.CoreFault.TheVariants.{NotRunning, OtherReads, OutOfMemory, Worn}
-use Rattle.speccore_laws.specs.Entries.{Entry}
-use Rattle.speccore_laws.specs.Entries.{LoggedRead}
-use Rattle.speccore_laws.specs.declared.status.Status.TheVariants as status
-use Rattle.speccore_laws.specs.declared.task.Task.{Task}
-use Rattle.speccore_laws.specs.declared.task.Task.TheVariants.{Execute, Idle, Done}
-use Rattle.speccore_laws.specs.declared.version.Version.{Version}
-
--- a message is at i, and it is ready
-abbrev pub IsReady : State → ℕ → Type 0
-IsReady s i = (i < length s.messages) × ((message s i).status ≡ status.Ready)
-
--- the message at i is ready, and none before it is
-abbrev pub IsLeastReady : State → ℕ → Type 0
-IsLeastReady s i = IsReady s i × ((j : ℕ) → j < i → (message s j).status ≢ status.Ready)
-
--- the message at i is handed out
-abbrev pub claimed : State → ℕ → State
-claimed s i = with_message s i (record (message s i) { status = status.Running })
+use Rattle.speccore_laws.specs.declared.core_fault.CoreFault.TheVariants.{NotRunning, OtherReads, Outdated, OutOfMemory, Worn}
+use Rattle.speccore_laws.specs.declared.got.Got.{Got}
+use Rattle.speccore_laws.specs.declared.got.Got.TheVariants as got
+use Rattle.speccore_laws.specs.declared.logged.Logged.{Logged}
 
 -- Asked for a task. Which message is handed out, and when none is, is left open.
 abbrev pub ClaimStep : State → Task → State → Type 0
 -- all messages are committed
-ClaimStep old Done new = (old.committed ≡ length old.frames) × (new ≡ old)
+ClaimStep old Done new = (old.board.committed ≡ length old.frames) × (new ≡ old)
 -- a ready message is handed out, at its present incarnation
 ClaimStep old (Execute v) new =
-    (old.committed ≢ length old.frames) × IsReady old v.index × (v.incarnation ≡ (message old v.index).incarnation)
-    × (new ≡ claimed old v.index)
+    (old.board.committed ≢ length old.frames) × IsReady old.board v.index × (v.incarnation ≡ (mark old.board v.index).incarnation)
+    × (new ≡ record old { board = claimed old.board v.index })
+-- an executed message is to be checked, at its present incarnation
+ClaimStep old (Validate v) new = (old.board.committed ≢ length old.frames) × IsOpen old.board v × (new ≡ old)
 -- nothing is handed out
-ClaimStep old Idle new = (old.committed ≢ length old.frames) × (new ≡ old)
-
--- what was logged of the row
-abbrev pub logged_in : List LoggedRead → RowKey → Option (Option RowVal)
-logged_in [] row = None
-logged_in (read ∷ reads) row = if key_eq read.row row then Some read.value else logged_in reads row
+ClaimStep old Idle new = (old.board.committed ≢ length old.frames) × (new ≡ old)
 
 -- what the version logged of the row
 abbrev pub logged_by : State → Version → RowKey → Option (Option RowVal)
-logged_by s v row = logged_in (message s v.index).log row
+logged_by s v row = logged_in (slot s v.index).log row
+
+-- the version sees the row so, and did not log it before
+abbrev pub IsSeen : State → Version → RowKey → Seen → Type 0
+IsSeen s v row seen = (logged_by s v row ≡ None) × Resolves (shelf s) row v.index seen
 
 -- the state after the version logged one more read
-abbrev pub with_read : State → Version → LoggedRead → State
-with_read s v read = with_message s v.index (record (message s v.index) { log = (message s v.index).log ++ read ∷ [] })
+abbrev pub with_read : State → Version → RowKey → Logged → State
+with_read s v row logged = with_slot s v.index (record (slot s v.index) { log = (slot s v.index).log ++ (row, logged) ∷ [] })
+
+-- a value that is got of the row is of its kind
+abbrev pub IsGotOfKind : RowKey → Got → Type 0
+IsGotOfKind row (got.Row value) = IfSome value (IsOfKind row)
+IsGotOfKind row (got.Estimate at) = Unit {0}
 
 -- A version asks for a row.
-abbrev pub ReadStep : State → Version → RowKey → Result (Option RowVal) CoreFault → State → Type 0
+abbrev pub ReadStep : State → Version → RowKey → Result Got CoreFault → State → Type 0
 -- a row that it logged gives the logged answer; any other is resolved, logged and answered
-ReadStep old v row (Ok got) new =
-    IsRunning old v
-    × (((logged_by old v row ≡ Some got) × (new ≡ old))
-    ⊎ ((seen : Option Entry) × (logged_by old v row ≡ None) × Resolves old.entries row v.index seen
-    × (got ≡ value_of old.opening row seen) × (new ≡ with_read old v (read_of old.opening row seen))))
-ReadStep old v row (Err NotRunning) new = ¬ IsRunning old v × (new ≡ old)
+ReadStep old v row (Ok (got.Row value)) new =
+    IsRunning old.board v
+    × (((logged_by old v row ≡ Some value) × (new ≡ old))
+    ⊎ ((seen : Seen) × (logged : Logged) × IsSeen old v row seen × (logged_of old.opening row seen ≡ Some logged)
+    × (value ≡ logged.value) × (new ≡ with_read old v row logged)))
+-- an estimate is not logged
+ReadStep old v row (Ok (got.Estimate at)) new = IsRunning old.board v × IsSeen old v row (seen.Estimate at) × (new ≡ old)
+ReadStep old v row (Err NotRunning) new = ¬ IsRunning old.board v × (new ≡ old)
 -- a read that is to be logged found no room
-ReadStep old v row (Err OutOfMemory) new = IsRunning old v × (logged_by old v row ≡ None) × (new ≡ old)
+ReadStep old v row (Err OutOfMemory) new =
+    IsRunning old.board v
+    × ((seen : Seen) × (logged : Logged) × IsSeen old v row seen × (logged_of old.opening row seen ≡ Some logged))
+    × (new ≡ old)
 -- no other refusal is given
 ReadStep old v row (Err OtherReads) new = ⊥
+ReadStep old v row (Err Outdated) new = ⊥
 ReadStep old v row (Err Worn) new = ⊥
 
--- each of these reads was logged, with this value
-abbrev pub AreLogged : List LoggedRead → Reads → Type 0
-AreLogged log reads = All (λ read. logged_in log read.0 ≡ Some read.1) reads
+-- the version is given up before it finished
+abbrev pub blocked : State → ℕ → Status → State
+blocked s i is = record (with_slot s i empty_slot) { board = given_up s.board i is }
+
+-- A version is given up, since it met an estimate.
+abbrev pub BlockStep : State → Version → ℕ → Result (Unit {0}) CoreFault → State → Type 0
+BlockStep old v on (Ok _) new =
+    IsRunning old.board v × ((mark old.board v.index).incarnation ≢ old.limits.incarnation)
+    × ((IsWaitedFor old.board v.index on × (new ≡ blocked old v.index (status.Waiting on)))
+    ⊎ (¬ IsWaitedFor old.board v.index on × (new ≡ blocked old v.index status.Ready)))
+BlockStep old v on (Err NotRunning) new = ¬ IsRunning old.board v × (new ≡ old)
+BlockStep old v on (Err Worn) new =
+    IsRunning old.board v × ((mark old.board v.index).incarnation ≡ old.limits.incarnation) × (new ≡ old)
+-- no other refusal is given
+BlockStep old v on (Err OtherReads) new = ⊥
+BlockStep old v on (Err Outdated) new = ⊥
+BlockStep old v on (Err OutOfMemory) new = ⊥
 
 -- the execution is of the version's message, and read nothing but what the version was answered
 abbrev pub IsOfVersion : State → Version → Executed → Type 0
 IsOfVersion s v execution =
-    IsAt s.frames v.index execution.frame × AreLogged (message s v.index).log execution.reads
+    IsAt s.frames v.index execution.frame × AreLogged (slot s v.index).log execution.reads
 
--- a row as the version put it
-abbrev pub entry_of : Version → RowKey × RowVal → Entry
-entry_of v put = record { row = put.0; version = v; value = put.1 }
-
--- The state after the version finished: what it put is appended. In every state of a run a running message has no entries, since
--- giving it up takes them out.
-abbrev pub finished : State → Version → Executed → State
-finished s v execution =
-    record (with_message s v.index (record (message s v.index) { status = status.Executed; execution = Some execution })) {
-      entries = s.entries ++ map (entry_of v) execution.writes;
-    }
+-- the state after the version finished, with these entries and this board
+abbrev pub with_execution : State → Version → Executed → Entries → Board → State
+with_execution s v execution entries board =
+    record (with_slot s v.index (record (slot s v.index) { reply = Some execution.reply })) { entries = entries; board = board }
 
 -- A version hands in its execution.
-abbrev pub FinishStep : State → Version → Executed → Result (Unit {0}) CoreFault → State → Type 0
-FinishStep old v execution (Ok _) new =
-    IsRunning old v × IsOfVersion old v execution × (new ≡ finished old v execution)
-FinishStep old v execution (Err NotRunning) new = ¬ IsRunning old v × (new ≡ old)
-FinishStep old v execution (Err OtherReads) new = IsRunning old v × ¬ IsOfVersion old v execution × (new ≡ old)
-FinishStep old v execution (Err OutOfMemory) new = IsRunning old v × IsOfVersion old v execution × (new ≡ old)
+abbrev pub FinishStep : State → Version → Executed → Result Bool CoreFault → State → Type 0
+-- a new location lowers; without one the version may be handed out to be checked
+FinishStep old v execution (Ok handed) new =
+    IsRunning old.board v × IsOfVersion old v execution
+    × ((entries : Entries) × AreReplaced v execution.writes old.entries entries
+    × ((IsNewLocation old.entries v.index execution.writes × (old.board.epoch ≢ old.limits.epoch) × (handed ≡ false) × (new ≡ with_execution old v execution entries (lowered (finished old.board v.index) v.index)))
+    ⊎ (¬ IsNewLocation old.entries v.index execution.writes × (new ≡ with_execution old v execution entries (finished old.board v.index)))))
+FinishStep old v execution (Err NotRunning) new = ¬ IsRunning old.board v × (new ≡ old)
+FinishStep old v execution (Err OtherReads) new = IsRunning old.board v × ¬ IsOfVersion old v execution × (new ≡ old)
+FinishStep old v execution (Err Worn) new =
+    IsRunning old.board v × IsOfVersion old v execution × IsNewLocation old.entries v.index execution.writes
+    × (old.board.epoch ≡ old.limits.epoch) × (new ≡ old)
+FinishStep old v execution (Err OutOfMemory) new =
+    IsRunning old.board v × IsOfVersion old v execution
+    × ¬ (IsNewLocation old.entries v.index execution.writes × (old.board.epoch ≡ old.limits.epoch)) × (new ≡ old)
 -- no other refusal is given
-FinishStep old v execution (Err Worn) new = ⊥
+FinishStep old v execution (Err Outdated) new = ⊥
 
--- every read that the message at i logged still resolves to the same execution, or the base
-abbrev pub IsCurrent : State → ℕ → Type 0
-IsCurrent s i = All (λ read. ResolvesAs s.entries read.row i read.origin) (message s i).log
+-- the check has gone over all reads, or has failed
+abbrev pub is_at_end : Check → Bool
+is_at_end c = c.failed || nat_eq c.place c.reads
 
--- the entries of all other messages
-abbrev pub entries_without : ℕ → List Entry → List Entry
-entries_without i entries = filter (λ e. not (nat_eq e.version.index i)) entries
+-- a check of the version, which begins now
+abbrev pub beginning : State → Version → Check
+beginning s v =
+    record { version = v; began = s.board.epoch; place = 0; reads = length (slot s v.index).log; failed = false }
 
--- the state after the execution of the message at i is given up: its entries and its log are gone, and it is ready again
-abbrev pub given_up : State → ℕ → State
-given_up s i =
-    record
-    (with_message s i
-    (record { status = status.Ready; incarnation = (message s i).incarnation + 1; execution = None; log = [] })) {
-      entries = entries_without i s.entries;
-    }
-
--- the last incarnation that a message can have
-abbrev pub last_incarnation : ℕ
-last_incarnation = 4294967295
-
--- The next message in the order of the batch is to be committed.
-abbrev pub CommitStep : State → Result Bool CoreFault → State → Type 0
--- it is executed, and all that it read is still so
-CommitStep old (Ok true) new =
-    IsExecuted old old.committed × IsCurrent old old.committed × (new ≡ record old { committed = old.committed + 1 })
--- it is not executed, or there is none; or what it read is not so any more, and it is to be executed again
-CommitStep old (Ok false) new =
-    (¬ IsExecuted old old.committed × (new ≡ old))
-    ⊎ (IsExecuted old old.committed × ¬ IsCurrent old old.committed
-    × ((message old old.committed).incarnation ≢ last_incarnation) × (new ≡ given_up old old.committed))
--- the same, and it can't be executed again
-CommitStep old (Err Worn) new =
-    IsExecuted old old.committed × ¬ IsCurrent old old.committed
-    × ((message old old.committed).incarnation ≡ last_incarnation) × (new ≡ old)
+-- A seat begins to check a version; its check before is gone. Answered is whether the check is at its end.
+abbrev pub BeginStep : State → ℕ → Version → Result Bool CoreFault → State → Type 0
+BeginStep old seat v (Ok ended) new =
+    IsOpen old.board v × (ended ≡ is_at_end (beginning old v)) × (new ≡ with_check old seat (Some (beginning old v)))
+BeginStep old seat v (Err Outdated) new = ¬ IsOpen old.board v × (new ≡ old)
 -- no other refusal is given
-CommitStep old (Err NotRunning) new = ⊥
-CommitStep old (Err OtherReads) new = ⊥
-CommitStep old (Err OutOfMemory) new = ⊥
+BeginStep old seat v (Err NotRunning) new = ⊥
+BeginStep old seat v (Err OtherReads) new = ⊥
+BeginStep old seat v (Err OutOfMemory) new = ⊥
+BeginStep old seat v (Err Worn) new = ⊥
+
+-- the seat has this check, and whether it is at its end
+abbrev pub HasCheck : State → ℕ → Check → Bool → Type 0
+HasCheck s seat c ended = (check_of s seat ≡ Some c) × (is_at_end c ≡ ended)
+
+-- the check after one more read was found as logged
+abbrev pub passed_one : Check → Check
+passed_one c = record { version = c.version; began = c.began; place = c.place + 1; reads = c.reads; failed = c.failed }
+
+-- the check after a read was found otherwise
+abbrev pub failed_one : Check → Check
+failed_one c = record { version = c.version; began = c.began; place = c.place; reads = c.reads; failed = true }
+
+-- the check after its next read was resolved again
+abbrev pub Checked : State → Check → Check → Type 0
+Checked s c next =
+    (read : RowKey × Logged) × IsAt (slot s c.version.index).log c.place read
+    × ((ResolvesAs (shelf s) read.0 c.version.index read.1.origin × (next ≡ passed_one c))
+    ⊎ (¬ ResolvesAs (shelf s) read.0 c.version.index read.1.origin × (next ≡ failed_one c)))
+
+-- A seat resolves the next read of its check again. Answered is whether the check is at its end then.
+abbrev pub CheckStep : State → ℕ → Result Bool CoreFault → State → Type 0
+CheckStep old seat (Ok ended) new =
+    (c : Check) × (next : Check) × HasCheck old seat c false × IsOpen old.board c.version × Checked old c next
+    × (ended ≡ is_at_end next) × (new ≡ with_check old seat (Some next))
+CheckStep old seat (Err NotRunning) new = ((c : Check) → ¬ HasCheck old seat c false) × (new ≡ old)
+CheckStep old seat (Err Outdated) new =
+    ((c : Check) × HasCheck old seat c false × ¬ IsOpen old.board c.version) × (new ≡ old)
+-- no other refusal is given
+CheckStep old seat (Err OtherReads) new = ⊥
+CheckStep old seat (Err OutOfMemory) new = ⊥
+CheckStep old seat (Err Worn) new = ⊥
+
+-- the state after the execution of the message at i is given up, with these entries
+abbrev pub without_execution : State → ℕ → Entries → State
+without_execution s i entries = record (with_slot s i empty_slot) { entries = entries; board = aborted s.board i }
+
+-- a check failed, and there is an incarnation and an epoch left
+abbrev pub CanAbort : State → Check → Type 0
+CanAbort s c = ((mark s.board c.version.index).incarnation ≢ s.limits.incarnation) × (s.board.epoch ≢ s.limits.epoch)
+
+-- A seat closes its check. Answered is whether it passed; else the execution is given up.
+abbrev pub EndStep : State → ℕ → Result Bool CoreFault → State → Type 0
+EndStep old seat (Ok true) new =
+    (c : Check) × HasCheck old seat c true × IsOpen old.board c.version × (c.failed ≡ false)
+    × (new ≡ with_check (record old { board = passed old.board c.version.index c.began }) seat None)
+EndStep old seat (Ok false) new =
+    (c : Check) × HasCheck old seat c true × IsOpen old.board c.version × (c.failed ≡ true) × CanAbort old c
+    × ((entries : Entries) × AreEstimated c.version.index old.entries entries
+    × (new ≡ with_check (without_execution old c.version.index entries) seat None))
+EndStep old seat (Err NotRunning) new = ((c : Check) → ¬ HasCheck old seat c true) × (new ≡ old)
+EndStep old seat (Err Outdated) new =
+    ((c : Check) × HasCheck old seat c true × ¬ IsOpen old.board c.version) × (new ≡ old)
+EndStep old seat (Err Worn) new =
+    ((c : Check) × HasCheck old seat c true × IsOpen old.board c.version × (c.failed ≡ true) × ¬ CanAbort old c) × (new ≡ old)
+-- no other refusal is given
+EndStep old seat (Err OtherReads) new = ⊥
+EndStep old seat (Err OutOfMemory) new = ⊥
+
+-- The next message in the order of the batch is to be committed. No row is read.
+abbrev pub CommitStep : State → Bool → State → Type 0
+CommitStep old true new =
+    (old.board.committed < length old.frames) × IsFresh old.board old.board.committed
+    × (new ≡ record old { board = committed_more old.board })
+CommitStep old false new =
+    ¬ ((old.board.committed < length old.frames) × IsFresh old.board old.board.committed) × (new ≡ old)

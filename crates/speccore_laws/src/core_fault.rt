@@ -8,13 +8,15 @@ use std::fmt;
 /// Why a core refuses a call. It is then as it was before.
 #[derive(Clone, Copy, Debug, PartialEq, Eq)]
 pub enum CoreFault {
-    /// The version is not running.
+    /// The version is not running; or the seat has no check that the call could go on with.
     NotRunning,
     /// The execution is of another message, or of rows that the version was not answered.
     OtherReads,
+    /// The version is not executed any more, or it is committed: there is nothing to be checked.
+    Outdated,
     /// Memory ran out.
     OutOfMemory,
-    /// The message was executed as often as can be counted.
+    /// No incarnation of the message, or no epoch, is left.
     Worn,
 }
 
@@ -26,8 +28,9 @@ impl fmt::Display for CoreFault {
                 f,
                 "the execution did not read what the version was answered"
             ),
+            CoreFault::Outdated => write!(f, "the version is not to be checked"),
             CoreFault::OutOfMemory => write!(f, "out of memory"),
-            CoreFault::Worn => write!(f, "no incarnation is left"),
+            CoreFault::Worn => write!(f, "no incarnation or epoch is left"),
         }
     }
 }

@@ -1,12 +1,18 @@
-ghost use Rattle.std.specs.Prelude.{List};
+ghost use Rattle.std.specs.Prelude.{◌≡◌, List};
 ghost use Rattle.rows.specs.Fold.{Rows};
 ghost use Rattle.rows.specs.declared.frame.Frame.{Frame};
 ghost use Rattle.speccore_laws.specs.State.{State, start};
-ghost use Rattle.speccore_laws.specs.Run.{Call, Run, RepliesAreTheFold, RowsAreTheFold};
+ghost use Rattle.speccore_laws.specs.Run.{Call, Step, Run, RepliesAreTheFold, RowsAreTheFold};
+ghost use Rattle.speccore_laws.specs.declared.limits.Limits.{Limits};
 
-/// Whatever calls are made of a core, in any order, foolish ones too: the committed replies, and the opening book under what
-/// the committed messages put, are those of deciding as many messages one after another (Block-STM: the serial order).
+/// Whatever calls are made of a core, in any order, foolish ones too: the committed replies, and the opening book with each
+/// row as the next message sees it, are those of deciding as many messages one after another (Block-STM: the serial order).
 pub fn committed_is_the_fold()
-    ensures replies { (opening : Rows) (frames : List Frame) (calls : List Call) (state : State) → Run (start opening frames) calls state → RepliesAreTheFold opening frames state }
-    ensures rows { (opening : Rows) (frames : List Frame) (calls : List Call) (state : State) → Run (start opening frames) calls state → RowsAreTheFold opening frames state }
+    ensures replies { (opening : Rows) (frames : List Frame) (limits : Limits) (calls : List Call) (state : State) → Run (start opening frames limits) calls state → RepliesAreTheFold opening frames state }
+    ensures rows { (opening : Rows) (frames : List Frame) (limits : Limits) (calls : List Call) (state : State) → Run (start opening frames limits) calls state → RowsAreTheFold opening frames state }
+{}
+
+/// A call with its answer leads from a state to one state.
+pub fn steps_are_determined()
+    ensures { (old : State) (call : Call) (one other : State) → Step old call one → Step old call other → one ≡ other }
 {}

@@ -1,19 +1,19 @@
-//! The plainest speculative core as definitions: its state, its steps and its runs, and the law that what it commits is
-//! what deciding one message after another gives (Block-STM).
+//! The speculative core as definitions (Block-STM): its state, its steps and its runs, and the law that what it commits is
+//! what deciding one message after another gives.
 #![tactic(auto)]
 
+mod check;
 mod core_fault;
-mod entry;
+mod got;
 mod laws;
-mod logged_read;
-mod status;
-mod task;
-mod version;
+mod limits;
+mod logged;
+mod seat;
 
+pub use check::Check;
 pub use core_fault::CoreFault;
-pub use entry::Entry;
-pub use laws::committed_is_the_fold;
-pub use logged_read::LoggedRead;
-pub use status::Status;
-pub use task::Task;
-pub use version::Version;
+pub use got::Got;
+pub use laws::{committed_is_the_fold, steps_are_determined};
+pub use limits::Limits;
+pub use logged::Logged;
+pub use seat::Seat;

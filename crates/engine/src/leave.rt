@@ -1,0 +1,10 @@
+/// Why a worker leaves before all is committed. It sets the stop mark then, and the rest is decided one after another.
+#[derive(Clone, Copy, Debug, PartialEq, Eq)]
+pub(crate) enum Leave {
+    /// Memory ran out.
+    OutOfMemory,
+    /// No incarnation or epoch is left.
+    Worn,
+    /// The decision stopped, and not where the core stopped it.
+    Lost,
+}

@@ -1,0 +1,17 @@
+-- What the log of a version keeps.
+use Rattle.std.specs.Prelude.{◌≡◌, Option, Some, None, IfSome}
+use Rattle.std.specs.List.{AllByRecursion}
+use Rattle.rows.specs.RowVal.{IsOfKind}
+use Rattle.rows.specs.declared.row_key.RowKey.{RowKey}
+use Rattle.mvmem.specs.declared.version.Version.{Version}
+use Rattle.speccore_laws.specs.State.{Log}
+use Rattle.speccore_laws.specs.declared.logged.Logged.{Logged}
+
+-- what was answered is of its row's kind
+abbrev pub AreOfKind : Log → Type 0
+AreOfKind log = AllByRecursion (λ read. IfSome read.1.value (IsOfKind read.0)) log
+
+-- the row and the origin of this read
+abbrev pub IsFirstOf : Option (RowKey × Logged) → RowKey × Option Version → Type 0
+IsFirstOf None origin = ⊥
+IsFirstOf (Some read) origin = (origin.0 ≡ read.0) × (origin.1 ≡ read.1.origin)

@@ -1,0 +1,16 @@
+use mvmem::Version;
+
+/// A check of a version that finished (Block-STM: validation). It goes over the version's logged reads one by one.
+#[derive(Clone, Copy, Debug, PartialEq, Eq)]
+pub struct Check {
+    /// The version that is checked.
+    pub version: Version,
+    /// The epoch at which the check began.
+    pub began: u64,
+    /// How many reads, from the first on, were found as they were logged.
+    pub place: usize,
+    /// How many reads the version had logged when the check began.
+    pub reads: usize,
+    /// Whether a read was found otherwise.
+    pub failed: bool,
+}
