@@ -1,7 +1,20 @@
-ghost use Rattle.std.specs.Prelude.{◌≡◌, ◌<◌, if◌then◌else◌};
+ghost use Rattle.std.specs.Prelude.{◌≡◌, ◌<◌, if◌then◌else◌, None, replicate, IfOk};
+ghost use Rattle.speccore_laws.specs.State.{seats};
 ghost use Rattle.speccore_laws.specs.Step.{is_at_end, passed_one, failed_one};
 
 use speccore_laws::Check;
+use std::alloc::{AllocError, Global};
+
+/// A place for the check of each seat, and no check.
+pub(crate) fn no_checks(alloc: Global) -> Result<Vec<Option<Check>>, AllocError>
+    ensures { IfOk result (λ checks. checks.items ≡ replicate seats None) }
+{
+    let mut checks = Vec::with_capacity(alloc, 64)?;
+    for _seat in 0..64 {
+        checks.push_reserved(None);
+    }
+    Ok(checks)
+}
 
 /// Whether the check has gone over all reads, or has failed.
 pub(crate) fn is_at_end(check: &Check) -> bool

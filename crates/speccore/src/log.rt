@@ -58,7 +58,7 @@ impl Log {
         ensures value { result ≡ logged_in self.now row.now }
         ensures kind { IfSome result (λ value. IfSome value (IsOfKind row.now)) }
     {
-        match self.rows.get(row) {
+        match self.rows.get(row).copied() {
             Some(logged) => Some(logged.value),
             None => None,
         }
@@ -82,7 +82,8 @@ impl Log {
         ensures ok { OnOk result (self.new ≡ self.old ++ (row.now, logged) ∷ []) }
         ensures err { OnErr result (self.new ≡ self.old) }
     {
-        self.rows.insert(*row, logged)?;
+        let Logged { origin, value } = logged;
+        self.rows.insert(*row, Logged { origin, value })?;
         Ok(())
     }
 

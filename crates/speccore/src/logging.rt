@@ -1,4 +1,4 @@
-ghost use Rattle.std.specs.Prelude.{◌≡◌, ◌↔◌, ◌<◌, ◌+◌, ◌^◌, Some, IsTrue, IfOk, IfErr, IfSome};
+ghost use Rattle.std.specs.Prelude.{◌≡◌, ◌↔◌, ◌<◌, ◌+◌, ◌^◌, Some, IsSome, IsTrue, IfOk, IfErr, IfSome};
 ghost use Rattle.rows.specs.RowVal.{IsOfKind};
 ghost use Rattle.mvmem.specs.Entries.{held, IsNewLocation};
 ghost use Rattle.mvmem.specs.Resolves.{IsSeenOfKind};

@@ -6,7 +6,7 @@ ghost use Rattle.speccore_laws.specs.Play.{PlayStep, opening_play};
 ghost use Rattle.speccore_laws.specs.Run.{IsReached, Claim, Read, Block, Finish, Begin, CheckOne, End, Commit};
 ghost use Rattle.speccore_laws.specs.Step.{IsGotOfKind, logged_by};
 
-use crate::checks::{after_read, is_at_end};
+use crate::checks::{after_read, is_at_end, no_checks};
 use crate::frames::{are_same, is_at};
 use crate::logging::{logged_of, puts_new_location, resolves_as};
 use crate::slot::Slot;
@@ -36,7 +36,7 @@ pub struct Core {
 }
 
 impl Model for Core {
-    ghost use Rattle.std.specs.Prelude.{◌≤◌, length};
+    ghost use Rattle.std.specs.Prelude.{◌<◌, ◌≤◌, ◌^◌, length};
     ghost use Rattle.std.specs.FinMap as finite;
     ghost use Rattle.mvmem.specs.Memory.{held_code, place_code};
     ghost use Rattle.rows.specs.contracts.frame.Frame.{the_row as frame_row};
@@ -57,7 +57,7 @@ impl Model for Core {
 
     ghost view = { λ c. record { state = record { opening = c.opening; frames = c.frames.items; entries = c.memory.entries; board = c.sched.board; slots = c.slots.items; limits = c.limits; checks = c.checks.items }; execution = c.sched.execution; validation = c.sched.validation } };
 
-    ghost invariant = { λ c. (length c.frames.items ≤ 65536) × IsReached (record { opening = c.opening; frames = c.frames.items; entries = c.memory.entries; board = c.sched.board; slots = c.slots.items; limits = c.limits; checks = c.checks.items }) };
+    ghost invariant = { λ c. (length c.frames.items ≤ 65536) × IsReached (record { opening = c.opening; frames = c.frames.items; entries = c.memory.entries; board = c.sched.board; slots = c.slots.items; limits = c.limits; checks = c.checks.items }) × (c.limits.incarnation < 2 ^ 32) × (c.limits.epoch < 2 ^ 64) };
 }
 
 impl Core {
@@ -87,7 +87,6 @@ impl Core {
             incarnation: limits.incarnation,
             epoch: limits.epoch.max(1),
         };
-        let no_check: Option<Check> = None;
         Ok(Core {
             opening: book.copy()?,
             frames: frames.to_vec(alloc)?,
@@ -95,7 +94,7 @@ impl Core {
             sched: Sched::new(alloc, frames.len())?,
             slots: fresh_slots(alloc, frames)?,
             limits,
-            checks: Vec::from_elem(alloc, no_check, 64)?,
+            checks: no_checks(alloc)?,
         })
     }
 
@@ -158,10 +157,22 @@ impl Core {
     ) -> Result<bool, CoreFault>
         ensures step { PlayStep self.old (Finish version execution result) self.new }
     {
+        self.keep(alloc, version, &execution)
+    }
+
+    // The same of an execution that is dropped then: what it put is copied into the memory of versions.
+    fn keep(
+        &mut self,
+        alloc: Global,
+        version: Version,
+        execution: &Execution,
+    ) -> Result<bool, CoreFault>
+        ensures step { PlayStep self.old (Finish version execution.now result) self.new }
+    {
+        let frame = execution.frame();
         if !is_running(&self.sched, version) {
             return Err(CoreFault::NotRunning);
         }
-        let frame = execution.frame();
         if !is_at(&self.frames, version.index, &frame) {
             return Err(CoreFault::OtherReads);
         }

@@ -1,0 +1,10 @@
+use Rattle.std.proofs.Common.{◌≡◌, ◌≤◌, None, Option, replicate, vec_len, vec_capacity}
+use Rattle.speccore_laws.specs.declared.check.Check.{Check}
+use Rattle.speccore.proofs.checks.no_checks.Given as goal
+
+abbrev pub invariant-loop-seat : goal.invariant-loop-seat
+invariant-loop-seat l = record {
+  made : l.checks.items ≡ replicate {A = Option Check} l._seat None;
+  len : vec_len l.checks ≡ l._seat;
+  room : 64 ≤ vec_capacity l.checks;
+}

@@ -1,0 +1,84 @@
+use Rattle.std.proofs.Common.{◌≡◌, ◌<◌, length, set, get_or, inl, inr, refl, sym, ap, ◌∙◌, subst, Option, Some, None, Result, Ok, Err, arith}
+use Rattle.std.proofs.lemmas.Result.{err_from_is_err_and}
+use Rattle.rows.specs.declared.row_val.RowVal.{RowVal}
+use Rattle.mvmem.specs.declared.seen.Seen.TheVariants.{Estimate}
+use Rattle.sched.specs.Board.{IsRunning}
+use Rattle.speccore_laws.specs.Log.{logged_in}
+use Rattle.speccore_laws.specs.Play.{Play, PlayStep}
+use Rattle.speccore_laws.specs.Run.{Read}
+use Rattle.speccore_laws.specs.State.{State, Slot, slot}
+use Rattle.speccore_laws.specs.declared.core_fault.CoreFault.TheVariants.{OutOfMemory}
+use Rattle.speccore_laws.specs.declared.core_fault.CoreFault.{CoreFault}
+use Rattle.speccore_laws.specs.declared.got.Got.{Got}
+use Rattle.speccore_laws.specs.declared.got.Got.TheVariants as got
+use Rattle.speccore.proofs.Steps.{at_slot, slot_there, slot_back, not_in, read_step, play, play_kept, unlogged}
+use Rattle.speccore.specs.contracts.speculative.Core.{the_view}
+use Rattle.speccore.proofs.speculative.Core.read.Goals as goal
+
+pub index-slot-requires : goal.index-slot-requires
+index-slot-requires c =
+    let l = slot_there (the_view c.self.inside).state c.self.invariant.1 c.args.version.index (c.is_running.ensures.within c.if-not-is_running.false) in
+    omega arith
+
+pub returns-in-Some-clause-step : goal.returns-in-Some-clause-step
+returns-in-Some-clause-step c =
+    let s : State = (the_view c.self.inside).state in
+    let l = slot_there s c.self.invariant.1 c.args.version.index (c.is_running.ensures.within c.if-not-is_running.false) in
+    let here : c.index-slot.result.now ≡ slot s c.args.version.index = at_slot s c.args.version.index c.index-slot.result.now l c.index-slot.ensures in
+    let logged : logged_in (slot s c.args.version.index).log c.args.row.now ≡ Some c.in-Some.value = ap (λ (k : Slot). logged_in k.log c.args.row.now) (sym here) ∙ sym c.logged.ensures.value ∙ c.in-Some.is in
+    subst (λ (p : Play). PlayStep p (Read c.args.version c.args.row.now (Ok (got.Row c.in-Some.value))) p) c.self.view_is
+    ((c.is_running.ensures.running.0 c.if-not-is_running.false, inl (logged, refl)), (refl, refl))
+
+pub index_mut-slot-requires : goal.index_mut-slot-requires
+index_mut-slot-requires c =
+    let l = slot_there (the_view c.self.inside).state c.self.invariant.1 c.args.version.index (c.is_running.ensures.within c.if-not-is_running.false) in
+    omega arith
+
+-- it is not logged yet
+none_there : (c : goal.After-index_mut-slot) → logged_in (slot (the_view c.self.inside).state c.args.version.index).log c.args.row.now ≡ None
+none_there c =
+    unlogged (the_view c.self.inside).state c.self.invariant.1 c.args.version c.args.row.now c.index-slot.result.now c.logged.result (c.is_running.ensures.within c.if-not-is_running.false) c.index-slot.ensures c.logged.ensures.value c.in_default.is
+
+pub log-requires-clause-absent : goal.log-requires-clause-absent
+log-requires-clause-absent c =
+    let s : State = (the_view c.self.inside).state in
+    let l = slot_there s c.self.invariant.1 c.args.version.index (c.is_running.ensures.within c.if-not-is_running.false) in
+    not_in c.index_mut-slot.result.now.log c.args.row.now (ap (λ (k : Slot). logged_in k.log c.args.row.now) (at_slot s c.args.version.index c.index_mut-slot.result.now l c.index_mut-slot.ensures.value) ∙ none_there c)
+
+abbrev after : goal.In_ok-log-in-Ok → Play
+after c = play (record (the_view c.self.inside).state { slots = set c.self.inside.slots.items c.args.version.index c.log.new.self }) c.self.inside.sched.execution c.self.inside.sched.validation
+
+step_there : (c : goal.In_ok-log-in-Ok) → PlayStep (the_view c.self.inside) (Read c.args.version c.args.row.now (Ok (got.Row c.in-Ok.logged.value))) (after c)
+step_there c =
+    let s : State = (the_view c.self.inside).state in
+    let within = c.is_running.ensures.within c.if-not-is_running.false in
+    let here = at_slot s c.args.version.index c.index_mut-slot.result.now (slot_there s c.self.invariant.1 c.args.version.index within) c.index_mut-slot.ensures.value in
+    (
+      read_step s c.self.invariant.1 c.args.version c.args.row.now c.read-seen.result c.in-Ok.logged c.index_mut-slot.result.now c.log.new.self
+      (c.is_running.ensures.running.0 c.if-not-is_running.false) within c.index_mut-slot.ensures.value
+      (ap (λ (k : Slot). logged_in k.log c.args.row.now) here ∙ unlogged s c.self.invariant.1 c.args.version c.args.row.now c.index-slot.result.now c.logged.result within c.index-slot.ensures c.logged.ensures.value c.in_default.is)
+      c.read-seen.ensures.seen (c.in-Ok.ensures.ok) c.in_ok-log-in-Ok.ensures.ok,
+      (refl, refl),
+    )
+
+pub invariant_of-self-in-Ok : goal.invariant_of-self-in-Ok
+invariant_of-self-in-Ok c = (c.self.invariant.0, play_kept (the_view c.self.inside) (Read c.args.version c.args.row.now (Ok (got.Row c.in-Ok.logged.value))) (after c) c.self.invariant.1 (step_there c), c.self.invariant.2, c.self.invariant.3)
+
+pub returns-in_ok-log-in-Ok-clause-step : goal.returns-in_ok-log-in-Ok-clause-step
+returns-in_ok-log-in-Ok-clause-step c =
+    subst (λ (p : Play). PlayStep p (Read c.args.version c.args.row.now (Ok (got.Row c.in-Ok.logged.value))) (after c)) c.self.view_is (step_there c)
+
+abbrev unchanged : goal.After-from_residual → Play
+unchanged c = play (record (the_view c.self.inside).state { slots = set c.self.inside.slots.items c.args.version.index c.log.new.self }) c.self.inside.sched.execution c.self.inside.sched.validation
+
+pub returns-in_err-log-in-Ok-clause-step : goal.returns-in_err-log-in-Ok-clause-step
+returns-in_err-log-in-Ok-clause-step c =
+    let s : State = (the_view c.self.inside).state in
+    let within = c.is_running.ensures.within c.if-not-is_running.false in
+    let none = unlogged s c.self.invariant.1 c.args.version c.args.row.now c.index-slot.result.now c.logged.result within c.index-slot.ensures c.logged.ensures.value c.in_default.is in
+    let back = slot_back s c.args.version.index c.index_mut-slot.result.now c.log.new.self c.index_mut-slot.ensures.value c.in_err-log-in-Ok.ensures.err in
+    let fault = err_from_is_err_and c.from_residual.result c.from_residual.ensures.1 in
+    let step : PlayStep (the_view c.self.inside) (Read c.args.version c.args.row.now (Err OutOfMemory)) (unchanged c) =
+    ((c.is_running.ensures.running.0 c.if-not-is_running.false, (c.read-seen.result, c.in-Ok.logged, (none, c.read-seen.ensures.seen), c.in-Ok.ensures.ok), back), (refl, refl)) in
+    subst (λ (answer : Result Got CoreFault). PlayStep c.args.self.now (Read c.args.version c.args.row.now answer) (unchanged c)) (sym (fault.1 ∙ ap Err fault.2))
+    (subst (λ (p : Play). PlayStep p (Read c.args.version c.args.row.now (Err OutOfMemory)) (unchanged c)) c.self.view_is step)
