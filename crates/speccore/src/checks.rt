@@ -10,7 +10,7 @@ pub(crate) fn no_checks(alloc: Global) -> Result<Vec<Option<Check>>, AllocError>
     ensures { IfOk result (λ checks. checks.items ≡ replicate seats None) }
 {
     let mut checks = Vec::with_capacity(alloc, 64)?;
-    for _seat in 0..64 {
+    for _ in 0..64u32 {
         checks.push_reserved(None);
     }
     Ok(checks)

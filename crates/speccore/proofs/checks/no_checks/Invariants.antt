@@ -2,9 +2,9 @@ use Rattle.std.proofs.Common.{◌≡◌, ◌≤◌, None, Option, replicate, vec
 use Rattle.speccore_laws.specs.declared.check.Check.{Check}
 use Rattle.speccore.proofs.checks.no_checks.Given as goal
 
-abbrev pub invariant-loop-seat : goal.invariant-loop-seat
-invariant-loop-seat l = record {
-  made : l.checks.items ≡ replicate {A = Option Check} l._seat None;
-  len : vec_len l.checks ≡ l._seat;
+abbrev pub invariant-loop : goal.invariant-loop
+invariant-loop l = record {
+  made : l.checks.items ≡ replicate {A = Option Check} l.counter None;
+  len : vec_len l.checks ≡ l.counter;
   room : 64 ≤ vec_capacity l.checks;
 }
