@@ -1,6 +1,7 @@
-ghost use Rattle.std.specs.Prelude.{◌≡◌, None, IfOk, IfErr, IfSome};
-ghost use Rattle.rows.specs.RowVal.{IsOfKind};
-ghost use Rattle.speccore_laws.specs.Step.{IsGotOfKind};
+ghost use Rattle.std.specs.Prelude.{◌≡◌, ◌↔◌, ℕ, None, Ok, Err, IfOk};
+ghost use Rattle.speccore_laws.specs.declared.core_fault.CoreFault.TheVariants as fault;
+ghost use Rattle.speccore_laws.specs.declared.got.Got.TheVariants as got;
+ghost use Rattle.view.specs.declared.stop.Stop.TheVariants as stop;
 
 use crate::shared::Shared;
 use mvmem::Version;
@@ -39,18 +40,18 @@ impl<R: Wait> RowSource for CoreRows<'_, R> {
     ghost answers = { λ old row result new. new.version ≡ old.version };
 
     fn read(&mut self, key: &RowKey) -> Result<Option<RowVal>, Stop> {
-        let got = self.shared.lock(self.rt).core.read(self.version, key);
-        row_of(got)
+        let answer = self.shared.lock(self.rt).core.read(self.version, key);
+        row_of(answer)
     }
 }
 
-// The row that was got, or why the decision stops: an estimate blocks it.
-fn row_of(got: Result<Got, CoreFault>) -> Result<Option<RowVal>, Stop>
-    ensures row { IfOk result (λ row. got ≡ Ok (Row row)) }
-    ensures blocked { (at : ℕ) → result ≡ Err (Blocked at) ↔ (got ≡ Ok (Estimate at)) }
-    ensures memory { (result ≡ Err Stop.OutOfMemory) ↔ (got ≡ Err CoreFault.OutOfMemory) }
+// The row that was answered, or why the decision stops: an estimate blocks it.
+fn row_of(answer: Result<Got, CoreFault>) -> Result<Option<RowVal>, Stop>
+    ensures row { IfOk result (λ row. answer ≡ Ok (got.Row row)) }
+    ensures blocked { (at : ℕ) → (result ≡ Err (stop.Blocked at)) ↔ (answer ≡ Ok (got.Estimate at)) }
+    ensures memory { (result ≡ Err stop.OutOfMemory) ↔ (answer ≡ Err fault.OutOfMemory) }
 {
-    match got {
+    match answer {
         Ok(Got::Row(row)) => Ok(row),
         Ok(Got::Estimate(at)) => Err(Stop::Blocked(at)),
         Err(CoreFault::OutOfMemory) => Err(Stop::OutOfMemory),

@@ -1,4 +1,4 @@
-use Rattle.std.proofs.Common.{◌≡◌, ◌<◌, ℕ, false, length, set, sym, ap, ap₂, ◌∙◌, subst, Some, Ok, arith}
+use Rattle.std.proofs.Common.{◌≡◌, ◌<◌, ℕ, Bool, false, length, set, sym, ap, ap₂, ◌∙◌, subst, Some, Ok, arith}
 use Rattle.speccore_laws.specs.Play.{Play, PlayStep}
 use Rattle.speccore_laws.specs.Run.{Begin}
 use Rattle.speccore_laws.specs.State.{State, Slot, slot}
@@ -7,7 +7,6 @@ use Rattle.speccore_laws.specs.declared.check.Check.{Check}
 use Rattle.speccore.proofs.Steps.{at_slot, begin_step, play, play_kept, seat_there, slot_there}
 use Rattle.speccore.specs.contracts.speculative.Core.{the_view}
 use Rattle.speccore.proofs.speculative.Core.begin_check.Goals as goal
-use Rattle.speccore.proofs.speculative.Core.begin_check.Goals.{After-self-1}
 
 pub index-slot-requires : goal.index-slot-requires
 index-slot-requires c =
@@ -19,25 +18,32 @@ index_mut-requires c =
     let l = seat_there (the_view c.self.inside).state c.self.invariant.1 c.number.result c.number.ensures.within in
     omega arith
 
-abbrev check : After-self-1 → Check
-check c = record { version = c.args.version; began = c.epoch.result; place = 0; reads = c.reads.result; failed = false }
-
-abbrev after : After-self-1 → Play
-after c = play (record (the_view c.self.inside).state { checks = set c.self.inside.checks.items c.number.result (Some (check c)) }) c.self.inside.sched.execution c.self.inside.sched.validation
-
-step_there : (c : After-self-1) → PlayStep (the_view c.self.inside) (Begin c.args.seat c.args.version (Ok c.is_at_end-is_ended.result)) (after c)
-step_there c =
+pub invariant_of-self : goal.invariant_of-self
+invariant_of-self c =
     let s : State = (the_view c.self.inside).state in
     let l = slot_there s c.self.invariant.1 c.args.version.index (c.is_open.ensures.within c.if-not-is_open.false) in
     let here = at_slot s c.args.version.index c.index-slot.result.now l c.index-slot.ensures in
-    let same : check c ≡ record { version = c.args.version; began = s.board.epoch; place = 0; reads = length c.index-slot.result.now.log; failed = false } =
+    let check : Check = record { version = c.args.version; began = c.epoch.result; place = 0; reads = c.reads.result; failed = false } in
+    let same : check ≡ record { version = c.args.version; began = s.board.epoch; place = 0; reads = length c.index-slot.result.now.log; failed = false } =
     ap₂ (λ (e n : ℕ). record { version = c.args.version; began = e; place = 0; reads = n; failed = false }) c.epoch.ensures c.reads.ensures in
-    subst (λ (n : ℕ). PlayStep (the_view c.self.inside) (Begin n c.args.version (Ok c.is_at_end-is_ended.result)) (after c)) c.number.ensures.number
-    (subst (λ ended. PlayStep (the_view c.self.inside) (Begin c.number.result c.args.version (Ok ended)) (after c)) (sym c.is_at_end-is_ended.ensures)
-    (begin_step s c.self.inside.sched.execution c.self.inside.sched.validation c.number.result c.args.version c.index-slot.result.now (check c) c.number.ensures.within (c.is_open.ensures.opened.0 c.if-not-is_open.false) here same))
-
-pub invariant_of-self : goal.invariant_of-self
-invariant_of-self c = (c.self.invariant.0, play_kept (the_view c.self.inside) (Begin c.args.seat c.args.version (Ok c.is_at_end-is_ended.result)) (after c) c.self.invariant.1 (step_there c), c.self.invariant.2, c.self.invariant.3)
+    let after : Play = play (record s { checks = set s.checks c.number.result (Some check) }) c.self.inside.sched.execution c.self.inside.sched.validation in
+    let step : PlayStep (the_view c.self.inside) (Begin c.args.seat c.args.version (Ok c.is_at_end-is_ended.result)) after =
+    subst (λ (n : ℕ). PlayStep (the_view c.self.inside) (Begin n c.args.version (Ok c.is_at_end-is_ended.result)) after) c.number.ensures.number
+    (subst (λ (ended : Bool). PlayStep (the_view c.self.inside) (Begin c.number.result c.args.version (Ok ended)) after) (sym c.is_at_end-is_ended.ensures)
+    (begin_step s c.self.inside.sched.execution c.self.inside.sched.validation c.number.result c.args.version c.index-slot.result.now check c.number.ensures.within (c.is_open.ensures.opened.0 c.if-not-is_open.false) here same)) in
+    (c.self.invariant.0, play_kept (the_view c.self.inside) (Begin c.args.seat c.args.version (Ok c.is_at_end-is_ended.result)) after c.self.invariant.1 step, c.self.invariant.2, c.self.invariant.3)
 
 pub returns : goal.returns
-returns c = record { step = subst (λ (p : Play). PlayStep p (Begin c.args.seat c.args.version (Ok c.is_at_end-is_ended.result)) (after c)) c.self.view_is (step_there c) }
+returns c =
+    let s : State = (the_view c.self.inside).state in
+    let l = slot_there s c.self.invariant.1 c.args.version.index (c.is_open.ensures.within c.if-not-is_open.false) in
+    let here = at_slot s c.args.version.index c.index-slot.result.now l c.index-slot.ensures in
+    let check : Check = record { version = c.args.version; began = c.epoch.result; place = 0; reads = c.reads.result; failed = false } in
+    let same : check ≡ record { version = c.args.version; began = s.board.epoch; place = 0; reads = length c.index-slot.result.now.log; failed = false } =
+    ap₂ (λ (e n : ℕ). record { version = c.args.version; began = e; place = 0; reads = n; failed = false }) c.epoch.ensures c.reads.ensures in
+    let after : Play = play (record s { checks = set s.checks c.number.result (Some check) }) c.self.inside.sched.execution c.self.inside.sched.validation in
+    let step : PlayStep (the_view c.self.inside) (Begin c.args.seat c.args.version (Ok c.is_at_end-is_ended.result)) after =
+    subst (λ (n : ℕ). PlayStep (the_view c.self.inside) (Begin n c.args.version (Ok c.is_at_end-is_ended.result)) after) c.number.ensures.number
+    (subst (λ (ended : Bool). PlayStep (the_view c.self.inside) (Begin c.number.result c.args.version (Ok ended)) after) (sym c.is_at_end-is_ended.ensures)
+    (begin_step s c.self.inside.sched.execution c.self.inside.sched.validation c.number.result c.args.version c.index-slot.result.now check c.number.ensures.within (c.is_open.ensures.opened.0 c.if-not-is_open.false) here same)) in
+    record { step = subst (λ (p : Play). PlayStep p (Begin c.args.seat c.args.version (Ok c.is_at_end-is_ended.result)) after) c.self.view_is step }
