@@ -153,3 +153,10 @@ pub one_wrong_line : (text : List ℕ) (m n : ℕ) → IsFirstWrongLine text m �
 one_wrong_line text m n v w =
     let before = (one_parting v.before w.before v.rest w.rest v.entries w.entries v.wrong w.wrong (sym v.parts ∙ w.parts)).0 in
     v.number ∙ ap (λ (entries : List Entry). length entries + 1) before ∙ sym w.number
+
+-- where lines of entries are followed by another one, the text begins with a line
+pub begins_with_a_line : (text more : List ℕ) (entries : List Entry) (e : Entry) → AreEntries entries → IsEntry e → text ≡ journal_text entries ++ (line_of e ++ more)
+    → ¬ BeginsWithNoLine text
+begins_with_a_line text more [] e h k is none = none e more k is
+begins_with_a_line text more (d ∷ ds) e h k is none =
+    none d (journal_text ds ++ (line_of e ++ more)) h.0 (is ∙ append_assoc (line_of d) (journal_text ds) (line_of e ++ more))

@@ -41,6 +41,8 @@ pub fn read_journal(alloc: Global, text: &[u8]) -> Result<Vec<Entry>, ReplayFaul
     ensures logged { IfErr result (λ fault. (n : ℕ) → fault ≢ ReplayFault.Unlogged n) }
     // So the text of a journal is always read, unless memory runs out, and the first wrong line of any other is found.
     ensures read { (entries : List Entry) → AreEntries entries → text.now ≡ journal_text entries → IfErr result (λ fault. fault ≡ ReplayFault.OutOfMemory) }
+    // Memory is asked for only behind an entry's line.
+    ensures memory { IfErr result (λ fault. fault ≡ ReplayFault.OutOfMemory → ¬ BeginsWithNoLine text.now) }
     ensures exact { (n : ℕ) → IsFirstWrongLine text.now n → (result ≡ Err (ReplayFault.Line n)) ⊎ (result ≡ Err ReplayFault.OutOfMemory) }
 {
     let mut entries = Vec::new(alloc);

@@ -3,8 +3,9 @@
 ghost use Rattle.std.specs.Prelude.{◌≡◌, ℕ, ◌+◌, ◌*◌, ◌≤◌, ◌∷◌, ◌++◌, length, vec_len, vec_capacity, IfOk, OnOk, OnErr, IsOk, alloc_error, IfErr};
 ghost use Rattle.std.specs.Fmt.{decimal};
 ghost use Rattle.hex.specs.Hex.{encode_lower};
-ghost use Rattle.journal_text.specs.Journal.{line_of, journal_text};
-ghost use Rattle.journal_text.specs.Texts.{version_text, identity_text, key_text, event_text};
+ghost use Rattle.iso8583.specs.Padded.{HasPrintable};
+ghost use Rattle.journal_text.specs.Journal.{line_of, journal_text, IsEntry, AreEntries};
+ghost use Rattle.journal_text.specs.Texts.{version_text, identity_text, key_text, event_text, IsVersion, IsIdentity, IsKey, IsEvent};
 
 use crate::entry::Entry;
 use crate::event::Event;
@@ -48,6 +49,7 @@ fn put_number(out: &mut Vec<u8>, number: u32)
 fn put_account(out: &mut Vec<u8>, id: &AccountId)
     requires { vec_len out.old + 56 ≤ vec_capacity out.old }
     ensures items { out.new.items ≡ out.old.items ++ encode_lower id.now.0 }
+    ensures name { HasPrintable 1 28 id.now.0 }
     ensures len { vec_len out.new ≤ vec_len out.old + 56 }
     ensures capacity { vec_capacity out.old ≤ vec_capacity out.new }
 {
@@ -59,6 +61,7 @@ fn put_account(out: &mut Vec<u8>, id: &AccountId)
 fn put_version(out: &mut Vec<u8>, version: &Version)
     requires { vec_len out.old + 21 ≤ vec_capacity out.old }
     ensures items { out.new.items ≡ out.old.items ++ version_text version.now }
+    ensures version { IsVersion version.now }
     ensures len { vec_len out.new ≤ vec_len out.old + 21 }
     ensures capacity { vec_capacity out.old ≤ vec_capacity out.new }
 {
@@ -71,6 +74,7 @@ fn put_version(out: &mut Vec<u8>, version: &Version)
 fn put_identity(out: &mut Vec<u8>, identity: &Identity)
     requires { vec_len out.old + 31 ≤ vec_capacity out.old }
     ensures items { out.new.items ≡ out.old.items ++ identity_text identity.now }
+    ensures identity { IsIdentity identity.now }
     ensures len { vec_len out.new ≤ vec_len out.old + 31 }
     ensures capacity { vec_capacity out.old ≤ vec_capacity out.new }
 {
@@ -85,6 +89,7 @@ fn put_identity(out: &mut Vec<u8>, identity: &Identity)
 fn put_key(out: &mut Vec<u8>, key: &RowKey)
     requires { vec_len out.old + 61 ≤ vec_capacity out.old }
     ensures items { out.new.items ≡ out.old.items ++ key_text key.now }
+    ensures key { IsKey key.now }
     ensures len { vec_len out.new ≤ vec_len out.old + 61 }
     ensures capacity { vec_capacity out.old ≤ vec_capacity out.new }
 {
@@ -118,6 +123,7 @@ fn put_key(out: &mut Vec<u8>, key: &RowKey)
 fn put_event(out: &mut Vec<u8>, event: &Event)
     requires { vec_len out.old + 85 ≤ vec_capacity out.old }
     ensures items { out.new.items ≡ out.old.items ++ event_text event.now }
+    ensures event { IsEvent event.now }
     ensures len { vec_len out.new ≤ vec_len out.old + 85 }
     ensures capacity { vec_capacity out.old ≤ vec_capacity out.new }
 {
@@ -151,7 +157,8 @@ fn put_event(out: &mut Vec<u8>, event: &Event)
 
 /// Appends an entry's line, with its line feed.
 fn write_line(entry: &Entry, out: &mut Vec<u8>) -> Result<(), AllocError>
-    ensures { OnOk result (out.new.items ≡ out.old.items ++ line_of entry.now) }
+    ensures items { OnOk result (out.new.items ≡ out.old.items ++ line_of entry.now) }
+    ensures entry { OnOk result (IsEntry entry.now) }
 {
     out.reserve(LINE_ROOM)?;
     put_number(out, entry.seat.number());
@@ -167,6 +174,8 @@ pub fn write_key(key: &RowKey, out: &mut Vec<u8>) -> Result<(), AllocError>
     ensures err { OnErr result (out.new.items ≡ out.old.items) }
     // Room for the longest key is enough.
     ensures room { vec_len out.old + KEY_ROOM ≤ vec_capacity out.old → IsOk result }
+    // So no other key has this text.
+    ensures key { OnOk result (IsKey key.now) }
 {
     out.reserve(KEY_ROOM)?;
     put_key(out, key);
@@ -175,7 +184,9 @@ pub fn write_key(key: &RowKey, out: &mut Vec<u8>) -> Result<(), AllocError>
 
 /// The text of a journal: a line for each entry. The only fault is want of memory.
 pub fn write_journal(alloc: Global, entries: &[Entry]) -> Result<Vec<u8>, AllocError>
-    ensures { IfOk result (λ text. text.items ≡ journal_text entries.now) }
+    ensures text { IfOk result (λ text. text.items ≡ journal_text entries.now) }
+    // So reading the text gives the entries again.
+    ensures entries { OnOk result (AreEntries entries.now) }
 {
     let mut text = Vec::new(alloc);
     for entry in entries {
