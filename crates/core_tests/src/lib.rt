@@ -9,6 +9,8 @@ mod cores;
 #[cfg(test)]
 mod gates;
 #[cfg(test)]
+mod journals;
+#[cfg(test)]
 mod schedules;
 #[cfg(test)]
 mod versions;

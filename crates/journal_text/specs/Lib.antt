@@ -1,0 +1,4 @@
+pub mod Journal
+pub mod Marks
+pub mod ReplayFault
+pub mod Texts

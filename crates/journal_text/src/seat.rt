@@ -1,0 +1,43 @@
+ghost use Rattle.std.specs.Prelude.{◌≡◌, ℕ, ◌<◌};
+ghost use Rattle.std.specs.Option.{SomeIff};
+
+use std::marker::Model;
+
+/// One of the 64 places at which workers work, from 0.
+#[derive(Clone, Copy, Debug, PartialEq, Eq)]
+pub struct Seat {
+    number: u32,
+}
+
+impl Model for Seat {
+    ghost use Rattle.std.specs.Prelude.{ℕ, ◌<◌};
+
+    ghost Value = { ℕ };
+
+    ghost view = { λ s. s.number };
+
+    ghost invariant = { λ s. s.number < 64 };
+
+    ghost inverse = { λ n. record { number = n } };
+}
+
+impl Seat {
+    /// The seat of this number, if it is below 64.
+    pub fn new(number: u32) -> Option<Seat>
+        ensures { SomeIff result (number < 64) number }
+    {
+        if number < 64 {
+            Some(Seat { number })
+        } else {
+            None
+        }
+    }
+
+    /// The seat's number, from 0.
+    pub fn number(&self) -> u32
+        ensures value { result ≡ self.now }
+        ensures bound { result < 64 }
+    {
+        self.number
+    }
+}
