@@ -4,7 +4,7 @@ ghost use Rattle.std.specs.Prelude.{None};
 use fixtures::{answer_text, body, first_book_with, has_row, pan};
 use fold::PlainRows;
 use mvmem::Version;
-use rows::{Book, Frame, RowKey};
+use rows::{Book, Frame, RowKey, RowVal};
 use rules::Shipped;
 use sched::{Status, Task};
 use speccore::Core;
@@ -26,7 +26,7 @@ impl RowSource for Rows<'_> {
 
     ghost answers = { λ _ _ _ _. Unit {0} };
 
-    fn read(&mut self, key: &RowKey) -> Result<Option<rows::RowVal>, Stop> {
+    fn read(&mut self, key: &RowKey) -> Result<Option<RowVal>, Stop> {
         match self.core.read(self.version, key) {
             Ok(Got::Row(row)) => Ok(row),
             Ok(Got::Estimate(at)) => Err(Stop::Blocked(at)),
@@ -145,13 +145,271 @@ fn assert_fails_at_the_card(
 // The epoch, the floors of three messages and one more, and the stamps.
 fn assert_marks(
     rt: &impl Abort,
+    alloc: Global,
     core: &Core,
+    requests: &Requests,
     epoch: u64,
     floors: [u64; 4],
     stamps: [Option<u64>; 3],
 ) -> Result<(), Fail> {
+    assert!(rt; core.opened_with(&opening(alloc)?, &requests.frames()?));
     assert_eq!(rt; core.epoch(), epoch);
-    if !core.opened_with(&opening(rt_alloc())?, &OF_100.frames()?) {}
-    let _ = (floors, stamps);
+    for (index, floor) in [
+        (0, floors[0]),
+        (1, floors[1]),
+        (2, floors[2]),
+        (3, floors[3]),
+    ] {
+        assert_eq!(rt; core.floor(index), floor);
+    }
+    for (index, stamp) in [(0, stamps[0]), (1, stamps[1]), (2, stamps[2])] {
+        assert_eq!(rt; core.stamp(index), stamp);
+    }
+    Ok(())
+}
+
+// Where the three messages stand.
+fn assert_stand(
+    rt: &impl Abort,
+    alloc: Global,
+    core: &Core,
+    requests: &Requests,
+    stands: [(Status, u32); 3],
+) -> Result<(), Fail> {
+    assert!(rt; core.opened_with(&opening(alloc)?, &requests.frames()?));
+    for (index, stand) in [(0, stands[0]), (1, stands[1]), (2, stands[2])] {
+        assert_eq!(rt; (core.status(index), core.incarnation(index)), stand);
+    }
+    Ok(())
+}
+
+// All is committed, with these answers and this account.
+fn assert_committed(
+    rt: &impl Abort,
+    alloc: Global,
+    core: Core,
+    answers: [&str; 3],
+    account: &str,
+) -> Result<(), Fail> {
+    let prefix = core.into_prefix(alloc)?;
+    assert_eq!(rt; (prefix.count, prefix.replies.len()), (3, 3));
+    for (reply, answer) in prefix.replies.iter().zip(answers) {
+        assert_eq!(rt; answer_text(alloc, reply)?.as_str(), answer);
+    }
+    assert!(rt; has_row(&prefix.book, account));
+    Ok(())
+}
+
+fn assert_commits(rt: &impl Abort, core: &mut Core, commits: &[bool]) {
+    for committed in commits {
+        assert_eq!(rt; core.commit(), *committed);
+    }
+}
+
+// Of three requests the second one is decided first, on the opening book; the first one is decided and checked; and the check of
+// the second one, at seat 1, has failed.
+fn second_fails(rt: &impl Abort, alloc: Global, core: &mut Core) -> Result<(), Fail> {
+    let (first, second) = (version(0, 0), version(1, 0));
+    assert_tasks(rt, core, &[Task::Execute(first), Task::Execute(second)]);
+    assert_finishes(rt, alloc, core, &OF_100, second, false)?;
+    assert_marks(rt, alloc, core, &OF_100, 2, [0, 0, 2, 0], [None; 3])?;
+    assert_finishes(rt, alloc, core, &OF_100, first, false)?;
+    assert_marks(rt, alloc, core, &OF_100, 3, [0, 3, 2, 0], [None; 3])?;
+    assert_tasks(rt, core, &[Task::Validate(first)]);
+    assert_passes(rt, core, 2, first)?;
+    assert_marks(rt, alloc, core, &OF_100, 3, [0, 3, 2, 0], [Some(3), None, None])?;
+    assert_tasks(rt, core, &[Task::Validate(second)]);
+    assert_fails_at_the_card(rt, core, 1, second)
+}
+
+// A message that read an old row is given up, another one waits for it, and all come out as one after another.
+#[test]
+fn three_requests_of_one_card(rt: HostRuntime) -> Result<(), Fail> {
+    let alloc = rt.alloc();
+    let mut core = OF_100.open(alloc)?;
+    second_fails(&rt, alloc, &mut core)?;
+    assert_eq!(rt; core.end_check(seat(1)?), Ok(false));
+    assert_marks(&rt, alloc, &core, &OF_100, 4, [0, 3, 4, 0], [Some(3), None, None])?;
+    let (again, third) = (version(1, 1), version(2, 0));
+    assert_tasks(&rt, &mut core, &[Task::Execute(again), Task::Execute(third)]);
+    let blocked = execute(
+        alloc,
+        &OF_100.frames()?[2],
+        Rows {
+            core: &mut core,
+            version: third,
+        },
+        &Shipped,
+    );
+    assert!(rt; matches!(blocked, Err(Stop::Blocked(1))));
+    assert_eq!(rt; core.block(third, 1), Ok(()));
+    let waits = [
+        (Status::Executed, 0),
+        (Status::Running, 1),
+        (Status::Waiting(1), 1),
+    ];
+    assert_stand(&rt, alloc, &core, &OF_100, waits)?;
+    assert_finishes(&rt, alloc, &mut core, &OF_100, again, true)?;
+    assert_passes(&rt, &mut core, 0, again)?;
+    assert_marks(&rt, alloc, &core, &OF_100, 4, [0, 3, 4, 0], [Some(3), Some(4), None])?;
+    let last = version(2, 1);
+    assert_tasks(&rt, &mut core, &[Task::Execute(last)]);
+    assert_finishes(&rt, alloc, &mut core, &OF_100, last, false)?;
+    assert_tasks(&rt, &mut core, &[Task::Validate(last)]);
+    assert_passes(&rt, &mut core, 2, last)?;
+    assert_marks(&rt, alloc, &core, &OF_100, 5, [0, 3, 4, 5], [Some(3), Some(4), Some(5)])?;
+    assert_commits(&rt, &mut core, &[true, true, true, false]);
+    assert_tasks(&rt, &mut core, &[Task::Done]);
+    let answers = ["000/000001", "000/000002", "000/000003"];
+    assert_committed(&rt, alloc, core, answers, "account A 9700 978")
+}
+
+// At the last epoch a failed check gives nothing up, and the messages before it are committed.
+#[test]
+fn a_failed_check_at_the_last_epoch(rt: HostRuntime) -> Result<(), Fail> {
+    let alloc = rt.alloc();
+    let limits = Limits {
+        incarnation: 4,
+        epoch: 3,
+    };
+    let mut core = Core::with_limits(alloc, &opening(alloc)?, &OF_100.frames()?, limits)?;
+    assert_eq!(rt; core.limits(), limits);
+    second_fails(&rt, alloc, &mut core)?;
+    assert_eq!(rt; core.end_check(seat(1)?), Err(CoreFault::Worn));
+    assert_marks(&rt, alloc, &core, &OF_100, 3, [0, 3, 2, 0], [Some(3), None, None])?;
+    let stands = [
+        (Status::Executed, 0),
+        (Status::Executed, 0),
+        (Status::Ready, 0),
+    ];
+    assert_stand(&rt, alloc, &core, &OF_100, stands)?;
+    assert_commits(&rt, &mut core, &[true, false]);
+    Ok(())
+}
+
+// The three versions that read before any of them was checked. The second one read all from the opening book, the third one what
+// the first one put; each seat begins the check of its message, and that of the third one fails and is left open.
+fn all_begin(rt: &impl Abort, alloc: Global, core: &mut Core) -> Result<(), Fail> {
+    let versions = [version(0, 0), version(1, 0), version(2, 0)];
+    for version in versions {
+        assert_tasks(rt, core, &[Task::Execute(version)]);
+    }
+    let early = OF_ALL.decide(alloc, core, versions[1])?;
+    assert_finishes(rt, alloc, core, &OF_ALL, versions[0], false)?;
+    assert_finishes(rt, alloc, core, &OF_ALL, versions[2], false)?;
+    assert_marks(rt, alloc, core, &OF_ALL, 3, [0, 2, 0, 3], [None; 3])?;
+    assert_eq!(rt; core.finish(alloc, versions[1], early), Ok(false));
+    assert_marks(rt, alloc, core, &OF_ALL, 4, [0, 2, 4, 3], [None; 3])?;
+    for version in versions {
+        assert_tasks(rt, core, &[Task::Validate(version)]);
+    }
+    assert_fails_at_the_card(rt, core, 2, versions[2])?;
+    assert_passes(rt, core, 0, versions[0])?;
+    assert_fails_at_the_card(rt, core, 1, versions[1])?;
+    assert_eq!(rt; core.end_check(seat(1)?), Ok(false));
+    Ok(())
+}
+
+// A late verdict on a committed message changes nothing.
+#[test]
+fn a_check_that_comes_too_late(rt: HostRuntime) -> Result<(), Fail> {
+    let alloc = rt.alloc();
+    let mut core = OF_ALL.open(alloc)?;
+    all_begin(&rt, alloc, &mut core)?;
+    assert_marks(&rt, alloc, &core, &OF_ALL, 5, [0, 2, 5, 3], [Some(4), None, None])?;
+    let (again, third) = (version(1, 1), version(2, 0));
+    assert_tasks(&rt, &mut core, &[Task::Execute(again)]);
+    assert_finishes(&rt, alloc, &mut core, &OF_ALL, again, true)?;
+    assert_passes(&rt, &mut core, 0, again)?;
+    assert_tasks(&rt, &mut core, &[Task::Validate(third)]);
+    assert_passes(&rt, &mut core, 1, third)?;
+    let stamps = [Some(4), Some(5), Some(5)];
+    assert_marks(&rt, alloc, &core, &OF_ALL, 5, [0, 2, 5, 3], stamps)?;
+    assert_commits(&rt, &mut core, &[true, true, true]);
+    assert_eq!(rt; core.end_check(seat(2)?), Err(CoreFault::Outdated));
+    assert_marks(&rt, alloc, &core, &OF_ALL, 5, [0, 2, 5, 3], stamps)?;
+    assert_eq!(rt; core.committed(), 3);
+    assert_committed(&rt, alloc, core, ["000/000001", "116", "116"], "account A 0 978")
+}
+
+// The request decided on the opening book itself, and not on what the core has.
+fn unread(alloc: Global, line: &str) -> Result<Execution, Fail> {
+    let frame = body(line).ok_or("request")?;
+    let book = opening(alloc)?;
+    Ok(execute(alloc, &frame, PlainRows::new(&book), &Shipped)?)
+}
+
+fn card() -> Result<RowKey, Fail> {
+    Ok(RowKey::Card(pan("A").ok_or("card")?))
+}
+
+// A version that isn't running can neither read nor wait nor finish, and logged nothing; none that isn't executed is checked.
+fn assert_refused(
+    rt: &impl Abort,
+    alloc: Global,
+    core: &mut Core,
+    foolish: Version,
+) -> Result<(), Fail> {
+    let key = card()?;
+    assert!(rt; matches!(core.read(foolish, &key), Err(CoreFault::NotRunning)));
+    assert_eq!(rt; core.block(foolish, 0), Err(CoreFault::NotRunning));
+    assert_eq!(rt;
+        core.finish(alloc, foolish, unread(alloc, OF_100.lines[0])?),
+        Err(CoreFault::NotRunning)
+    );
+    assert!(rt; core.logged(foolish, &key).is_none());
+    assert_eq!(rt; core.begin_check(seat(0)?, foolish), Err(CoreFault::Outdated));
+    Ok(())
+}
+
+#[test]
+fn refuses_what_is_not_running(rt: HostRuntime) -> Result<(), Fail> {
+    let alloc = rt.alloc();
+    let mut core = OF_100.open(alloc)?;
+    for (index, incarnation) in [(0, 0), (1, 0), (0, 1), (7, 0)] {
+        assert_refused(&rt, alloc, &mut core, version(index, incarnation))?;
+    }
+    for number in [0, 63] {
+        assert_eq!(rt; core.check_one(seat(number)?), Err(CoreFault::NotRunning));
+        assert_eq!(rt; core.end_check(seat(number)?), Err(CoreFault::NotRunning));
+    }
+    assert!(rt; Seat::new(64).is_none());
+    assert_commits(&rt, &mut core, &[false]);
+    assert_stand(&rt, alloc, &core, &OF_100, [(Status::Ready, 0); 3])
+}
+
+// What was not read of the core, or is another message's, is refused; what was read of it is taken once.
+#[test]
+fn takes_what_was_read_of_it_once(rt: HostRuntime) -> Result<(), Fail> {
+    let alloc = rt.alloc();
+    let mut core = OF_100.open(alloc)?;
+    let first = version(0, 0);
+    assert_tasks(&rt, &mut core, &[Task::Execute(first)]);
+    assert_eq!(rt;
+        core.finish(alloc, first, unread(alloc, OF_100.lines[0])?),
+        Err(CoreFault::OtherReads)
+    );
+    let execution = OF_100.decide(alloc, &mut core, first)?;
+    assert!(rt; core.logged(first, &card()?).is_some());
+    assert_eq!(rt;
+        core.finish(alloc, first, unread(alloc, OF_100.lines[1])?),
+        Err(CoreFault::OtherReads)
+    );
+    assert_eq!(rt; core.finish(alloc, first, execution), Ok(false));
+    assert_eq!(rt;
+        core.finish(alloc, first, unread(alloc, OF_100.lines[0])?),
+        Err(CoreFault::NotRunning)
+    );
+    assert_eq!(rt; core.committed(), 0);
+    Ok(())
+}
+
+#[test]
+fn opened_with_another_book_or_other_frames(rt: HostRuntime) -> Result<(), Fail> {
+    let alloc = rt.alloc();
+    let core = OF_100.open(alloc)?;
+    let frames = OF_100.frames()?;
+    assert!(rt; !core.opened_with(&first_book_with(alloc, &["account A 9900 978"])?, &frames));
+    assert!(rt; !core.opened_with(&opening(alloc)?, &frames[..2]));
     Ok(())
 }
