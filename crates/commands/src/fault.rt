@@ -2,21 +2,30 @@ ghost use Rattle.std.specs.Prelude.{◌≡◌};
 ghost use Rattle.commands.specs.declared.fault.Fault.TheVariants.{OutOfMemory};
 
 use std::alloc::{AllocError, AllocFailed, Global};
-use thiserror::Error;
+use std::error::Error;
+use std::fmt;
 
-/// Why the program doesn't do what its words say. The text is what it prints on standard error.
-#[derive(Debug, Drop, Error)]
+/// Why the program doesn't do what its words say.
+#[derive(Debug, Drop)]
 pub enum Fault {
     /// The words are no command: what is wrong with them.
-    #[error("{0}")]
     Usage(String),
     /// Memory ran out.
-    #[error("memory 1")]
     OutOfMemory,
 }
 
 impl Fault {
-    ghost use Rattle.commands.specs.Fault.{status_of};
+    ghost use Rattle.commands.specs.Fault.{status_of, text_of};
+
+    /// What the program prints on standard error.
+    pub fn text(&self) -> &str
+        ensures { result.now ≡ text_of self.now }
+    {
+        match self {
+            Fault::Usage(text) => text.as_str(),
+            Fault::OutOfMemory => "memory 1",
+        }
+    }
 
     /// The exit status: 2 for words that are no command, else 1.
     pub fn status(&self) -> u8
@@ -28,6 +37,14 @@ impl Fault {
         }
     }
 }
+
+impl fmt::Display for Fault {
+    fn fmt<W: fmt::Write>(&self, f: &mut fmt::Formatter<W>) -> fmt::Result {
+        f.write_str(self.text())
+    }
+}
+
+impl Error for Fault {}
 
 impl From<AllocError> for Fault {
     ghost from_gives = { λ _ fault. fault ≡ OutOfMemory };

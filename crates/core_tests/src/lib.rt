@@ -7,6 +7,8 @@ mod batches;
 #[cfg(test)]
 mod cores;
 #[cfg(test)]
+mod gate_order;
+#[cfg(test)]
 mod gates;
 #[cfg(test)]
 mod schedules;

@@ -1,4 +1,4 @@
-use commands::act;
+use commands::{Printer, act};
 use std::alloc::Global;
 use std::process::Abort;
 use std::test::Fail;
@@ -21,15 +21,26 @@ struct Said {
     err: Vec<u8>,
 }
 
+// What was printed, if there was memory for all of it.
+fn taken(printer: Printer<Vec<u8>>) -> Result<Vec<u8>, Fail> {
+    let (bytes, all) = printer.into_parts();
+    if all {
+        Ok(bytes)
+    } else {
+        Err(Fail::new("all that was printed"))
+    }
+}
+
 fn acted(alloc: Global, words: &[&str]) -> Result<Said, Fail> {
     let mut all = Vec::new(alloc);
     all.push(String::from_str(alloc, "switch")?)?;
     for word in words {
         all.push(String::from_str(alloc, word)?)?;
     }
-    let mut out = Vec::new(alloc);
-    let mut err = Vec::new(alloc);
+    let mut out = Printer::new(Vec::new(alloc));
+    let mut err = Printer::new(Vec::new(alloc));
     let status = act(alloc, &all, &mut out, &mut err);
+    let (out, err) = (taken(out)?, taken(err)?);
     Ok(Said { status, out, err })
 }
 
