@@ -84,6 +84,7 @@ impl Diary {
 }
 
 // A gate that notes its calls.
+#[derive(Drop)]
 struct NotingGate<'a> {
     diary: &'a Diary,
 }
@@ -99,6 +100,7 @@ impl Gate for NotingGate<'_> {
 }
 
 // The shipped decision, which notes where it begins and where it ends.
+#[derive(Drop)]
 struct NotingDecision<'a> {
     diary: &'a Diary,
 }
@@ -190,6 +192,7 @@ impl Tally {
 }
 
 // A gate that counts its calls.
+#[derive(Drop)]
 struct CountingGate<'a> {
     tally: &'a Tally,
 }
@@ -207,6 +210,7 @@ impl Gate for CountingGate<'_> {
 }
 
 // The shipped decision, which counts where it begins and where it ends.
+#[derive(Drop)]
 struct CountingDecision<'a> {
     tally: &'a Tally,
 }

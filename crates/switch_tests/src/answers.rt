@@ -22,12 +22,12 @@ fn words(alloc: Global, words: &[&str]) -> Result<Vec<String>, Fail> {
 fn a_body_is_answered_in_bytes_and_in_digits(rt: HostRuntime) -> Result<(), Fail> {
     let alloc = rt.alloc();
     let body = body_of_digits(alloc, "31")?.ok_or("a body")?;
-    assert_eq!(rt; body.as_slice(), b"1");
+    assert_eq!(rt; body.as_slice(), b"1".as_slice());
     let book = sample_book(alloc)?;
     for count in [1, 64] {
         let workers = Workers::new(count).ok_or("1 to 64 workers")?;
         let answer = answer_on(alloc, &book, &body, workers)?;
-        assert_eq!(rt; answer.as_slice(), b"F01000");
+        assert_eq!(rt; answer.as_slice(), b"F01000".as_slice());
     }
     assert_eq!(rt; decide_one(alloc, &body)?.as_str(), "463031303030");
     Ok(())
@@ -38,7 +38,7 @@ fn words_are_read(rt: HostRuntime) -> Result<(), Fail> {
     let alloc = rt.alloc();
     plain_words_are_read();
     match read_words(alloc, &words(alloc, &["switch", "one", "3a"])?) {
-        Ok(Command::One(body)) => assert_eq!(rt; body.as_slice(), b":"),
+        Ok(Command::One(body)) => assert_eq!(rt; body.as_slice(), b":".as_slice()),
         _ => return Err(Fail::new("one body")),
     }
     Ok(())
@@ -105,6 +105,6 @@ fn nothing_is_printed_behind_a_line_that_was_cut(rt: HostRuntime) -> Result<(), 
     }
     let (full, all) = printer.into_parts();
     assert!(rt; !all);
-    assert_eq!(rt; full.taken.as_slice(), b"first\nseco");
+    assert_eq!(rt; full.taken.as_slice(), b"first\nseco".as_slice());
     Ok(())
 }
