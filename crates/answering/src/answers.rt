@@ -6,10 +6,13 @@ use engine::{OpenGate, Workers, run};
 use rows::{Book, Frame, FrameFault, ReplyBody};
 use rules::Shipped;
 use std::alloc::{AllocError, Global};
+use std::sync::Wait;
+use std::thread::Threads;
 
 /// The answer to one body on the book: the reply's bytes, or `F` with the fault of a body that is no message. The only
 /// fault is want of memory.
-pub fn answer_on(
+pub fn answer_on<R: Threads + Wait + Sync>(
+    rt: &R,
     alloc: Global,
     book: &Book,
     body: &[u8],
@@ -18,7 +21,7 @@ pub fn answer_on(
     ensures { IfOk result (λ text. IsAnswerTo book.now body.now text.items) }
 {
     let frames = [frame_of(body)];
-    let outcome = run(alloc, book, &frames, workers, &Shipped, &OpenGate)?;
+    let outcome = run(rt, alloc, book, &frames, workers, &Shipped, &OpenGate)?;
     match outcome.replies.first() {
         Some(reply) => text_of(alloc, reply),
         None => unreachable!(),

@@ -7,6 +7,8 @@ use crate::sample::sample_book;
 use engine::Workers;
 use hex::FromHexError;
 use std::alloc::{AllocError, Global};
+use std::sync::Wait;
+use std::thread::Threads;
 
 /// The body that 1 to 512 pairs of hexadecimal digits stand for; `None` is any other text.
 pub fn body_of_digits(alloc: Global, digits: &str) -> Result<Option<Vec<u8>>, AllocError>
@@ -21,10 +23,14 @@ pub fn body_of_digits(alloc: Global, digits: &str) -> Result<Option<Vec<u8>>, Al
 }
 
 /// The reply to one body on the sample book, in hexadecimal. The only fault is want of memory.
-pub fn decide_one(alloc: Global, body: &[u8]) -> Result<String, AllocError>
+pub fn decide_one<R: Threads + Wait + Sync>(
+    rt: &R,
+    alloc: Global,
+    body: &[u8],
+) -> Result<String, AllocError>
     ensures { IfOk result (λ text. IsAnswerInDigits sample_rows body.now (string_bytes text)) }
 {
-    let reply = answer_on(alloc, &sample_book(alloc)?, body, two_workers())?;
+    let reply = answer_on(rt, alloc, &sample_book(alloc)?, body, two_workers())?;
     hex::encode(alloc, reply)
 }
 

@@ -4,7 +4,7 @@ ghost use Rattle.commands.specs.declared.fault.Fault.TheVariants.{OutOfMemory};
 use std::alloc::{AllocError, AllocFailed, Global};
 use thiserror::Error;
 
-/// Why the program doesn't do what its words say. The text is what it prints on standard error.
+/// Why the program doesn't do what its words say.
 #[derive(Debug, Drop, Error)]
 pub enum Fault {
     /// The words are no command: what is wrong with them.
@@ -16,7 +16,17 @@ pub enum Fault {
 }
 
 impl Fault {
-    ghost use Rattle.commands.specs.Fault.{status_of};
+    ghost use Rattle.commands.specs.Fault.{status_of, text_of};
+
+    /// What the program prints on standard error.
+    pub fn text(&self) -> &str
+        ensures { result.now ≡ text_of self.now }
+    {
+        match self {
+            Fault::Usage(text) => text.as_str(),
+            Fault::OutOfMemory => "memory 1",
+        }
+    }
 
     /// The exit status: 2 for words that are no command, else 1.
     pub fn status(&self) -> u8

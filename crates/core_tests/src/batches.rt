@@ -1,19 +1,22 @@
-//! Whole batches through the core, with one worker and with four.
+//! Whole batches through the core, with 1, 4 and 64 workers, and with a core that comes to no second incarnation or epoch.
 
-use engine::{OpenGate, Workers, run};
+use engine::{OpenGate, Workers, run, run_with_limits};
 use fixtures::{
     ADVICE_RULES, Batch, REQUEST_RULES, REVERSAL_RULES, UNCHECKED_RULES, WORKED, answer_text,
     has_row,
 };
 use fold::Outcome;
 use rules::Shipped;
+use speccore_laws::Limits;
 use std::alloc::Global;
 use std::process::Abort;
+use std::sync::Wait;
 use std::test::Fail;
+use std::thread::Threads;
 
 // The bodies of the batch, run on its book.
-fn outcome_of(
-    rt: &impl Abort,
+fn outcome_of<R: Abort + Threads + Wait + Sync>(
+    rt: &R,
     alloc: Global,
     batch: &Batch,
     workers: u32,
@@ -23,6 +26,7 @@ fn outcome_of(
     assert!(rt; frames.len() <= 64);
     let workers = Workers::new(workers).ok_or("1 to 64 workers")?;
     Ok(run(
+        rt,
         alloc,
         &batch.opening(alloc)?,
         &frames,
@@ -46,12 +50,17 @@ fn assert_replies(
     Ok(())
 }
 
-// The rows after the batch; and the core committed every message.
-fn assert_rows(rt: &impl Abort, batch: &Batch, outcome: &Outcome) {
+// The rows after the batch.
+fn assert_book(rt: &impl Abort, batch: &Batch, outcome: &Outcome) {
     for line in batch.after {
         assert!(rt; has_row(&outcome.book, line), "{}: {line}", batch.name);
     }
     assert_eq!(rt; outcome.book.len(), batch.rows, "{}", batch.name);
+}
+
+// The rows after the batch; and the core committed every message.
+fn assert_rows(rt: &impl Abort, batch: &Batch, outcome: &Outcome) {
+    assert_book(rt, batch, outcome);
     assert_eq!(rt;
         outcome.committed as usize,
         batch.bodies.len(),
@@ -60,13 +69,45 @@ fn assert_rows(rt: &impl Abort, batch: &Batch, outcome: &Outcome) {
     );
 }
 
-fn assert_batches(rt: &impl Abort, alloc: Global, batches: &[Batch]) -> Result<(), Fail> {
+fn assert_batches<R: Abort + Threads + Wait + Sync>(
+    rt: &R,
+    alloc: Global,
+    batches: &[Batch],
+) -> Result<(), Fail> {
     for batch in batches {
-        for workers in [1, 4] {
+        for workers in [1, 4, 64] {
             let outcome = outcome_of(rt, alloc, batch, workers)?;
             assert_replies(rt, alloc, batch, &outcome)?;
             assert_rows(rt, batch, &outcome);
         }
+    }
+    Ok(())
+}
+
+// What the core can't commit without a second incarnation or epoch is decided one after another.
+#[test]
+fn runs_where_no_second_incarnation_is_left(rt: HostRuntime) -> Result<(), Fail> {
+    let alloc = rt.alloc();
+    let limits = Limits {
+        incarnation: 0,
+        epoch: 1,
+    };
+    for batch in WORKED {
+        let frames = batch.frames(alloc)?;
+        assert!(rt; frames.len() <= 64);
+        let workers = Workers::new(4).ok_or("4 workers")?;
+        let outcome = run_with_limits(
+            &rt,
+            alloc,
+            &batch.opening(alloc)?,
+            &frames,
+            workers,
+            limits,
+            &Shipped,
+            &OpenGate,
+        )?;
+        assert_replies(&rt, alloc, batch, &outcome)?;
+        assert_book(&rt, batch, &outcome);
     }
     Ok(())
 }

@@ -37,6 +37,7 @@ impl RowSource for Rows<'_> {
 }
 
 // Three requests on card A.
+#[derive(Clone, Copy)]
 struct Requests {
     lines: [&'static str; 3],
 }

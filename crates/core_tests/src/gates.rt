@@ -10,7 +10,9 @@ use rules::Shipped;
 use std::alloc::Global;
 use std::process::Abort;
 use std::sync::atomic::{AtomicU64, Ordering};
+use std::sync::Wait;
 use std::test::Fail;
+use std::thread::Threads;
 use view::{Decide, Recorder, RowSource, Stop};
 
 // An approved request, a decline, a body that is no message, and a request on the other card.
@@ -94,15 +96,16 @@ fn is_decline(frame: &Frame) -> bool {
 }
 
 // The bodies run with one decision and one gate.
-fn outcome_of<F: Decide + Sync>(
+fn outcome_of<R: Threads + Wait + Sync, F: Decide + Sync>(
+    rt: &R,
     alloc: Global,
     decision: &F,
     gate: &WritingGate,
 ) -> Result<Outcome, Fail> {
     let book = first_book_with(alloc, &[])?;
     let frames = frames().ok_or("bodies")?;
-    let workers = Workers::new(2).ok_or("two workers")?;
-    Ok(run(alloc, &book, &frames, workers, decision, gate)?)
+    let worker = Workers::new(1).ok_or("one worker")?;
+    Ok(run(rt, alloc, &book, &frames, worker, decision, gate)?)
 }
 
 fn gate() -> WritingGate {
@@ -115,7 +118,7 @@ fn gate() -> WritingGate {
 #[test]
 fn the_core_commits_every_message(rt: HostRuntime) -> Result<(), Fail> {
     let gate = gate();
-    let outcome = outcome_of(rt.alloc(), &Shipped, &gate)?;
+    let outcome = outcome_of(&rt, rt.alloc(), &Shipped, &gate)?;
     assert_eq!(rt; (outcome.started, outcome.committed), (1, 4));
     assert_eq!(rt; gate.calls.load(Ordering::SeqCst), 1020_1121_1222_1323);
     assert_decided(&rt, rt.alloc(), &outcome)
@@ -125,19 +128,19 @@ fn the_core_commits_every_message(rt: HostRuntime) -> Result<(), Fail> {
 #[test]
 fn the_rest_is_decided_where_a_decision_stops(rt: HostRuntime) -> Result<(), Fail> {
     let gate = gate();
-    let outcome = outcome_of(rt.alloc(), &WithoutMemory, &gate)?;
+    let outcome = outcome_of(&rt, rt.alloc(), &WithoutMemory, &gate)?;
     assert_eq!(rt; (outcome.started, outcome.committed), (1, 1));
     assert_eq!(rt; gate.calls.load(Ordering::SeqCst), 10_2011);
     assert_decided(&rt, rt.alloc(), &outcome)
 }
 
-// A gate that holds nothing is called too.
+// A gate that holds nothing is called too, by as many threads as there may be.
 #[test]
 fn an_open_gate_holds_nothing(rt: HostRuntime) -> Result<(), Fail> {
     let book = first_book_with(rt.alloc(), &[])?;
     let frames = frames().ok_or("bodies")?;
     let workers = Workers::new(64).ok_or("64 workers")?;
-    let outcome = run(rt.alloc(), &book, &frames, workers, &Shipped, &OpenGate)?;
+    let outcome = run(&rt, rt.alloc(), &book, &frames, workers, &Shipped, &OpenGate)?;
     assert_eq!(rt; outcome.committed, 4);
     assert_decided(&rt, rt.alloc(), &outcome)
 }

@@ -7,6 +7,8 @@ mod batches;
 #[cfg(test)]
 mod cores;
 #[cfg(test)]
+mod gate_order;
+#[cfg(test)]
 mod gates;
 #[cfg(test)]
 mod journals;
@@ -14,3 +16,5 @@ mod journals;
 mod schedules;
 #[cfg(test)]
 mod versions;
+#[cfg(test)]
+mod workers;

@@ -22,6 +22,18 @@ pub(crate) struct Extras {
     pub(crate) account: Option<AccountId>,
 }
 
+impl Extras {
+    // None of them is there.
+    const NONE: Extras = Extras {
+        function: None,
+        original_amount: None,
+        approval: None,
+        action: None,
+        original: None,
+        account: None,
+    };
+}
+
 /// The message's type.
 pub(crate) fn mti_of(message: &Message) -> Mti
     ensures { result ≡ mti_of message.now }
@@ -67,37 +79,29 @@ pub(crate) fn reply_mti(reply: &Reply) -> Mti
 pub(crate) fn extras_of(message: &Message) -> Extras
     ensures { whole_content (transaction_of message.now) result ≡ content_of message.now }
 {
-    let none = Extras {
-        function: None,
-        original_amount: None,
-        approval: None,
-        action: None,
-        original: None,
-        account: None,
-    };
     match message {
         Message::Request(request) => Extras {
             function: Some(request.function.0),
             account: request.account,
-            ..none
+            ..Extras::NONE
         },
         Message::Advice(advice) => Extras {
             function: Some(advice.function.0),
             action: Some(advice.action.digits()),
             account: advice.account,
-            ..none
+            ..Extras::NONE
         },
         Message::Reversal(reversal) => match &reversal.scope {
             ReversalScope::Full => Extras {
                 function: Some(Digits::of_number(400)),
                 original: Some(reversal.original),
-                ..none
+                ..Extras::NONE
             },
             ReversalScope::Partial(amount) => Extras {
                 function: Some(Digits::of_number(401)),
                 original_amount: Some(*amount),
                 original: Some(reversal.original),
-                ..none
+                ..Extras::NONE
             },
         },
     }
@@ -108,34 +112,26 @@ pub(crate) fn extras_of(message: &Message) -> Extras
 pub(crate) fn reply_extras(reply: &Reply) -> Extras
     ensures { whole_content reply.now.transaction result ≡ reply_content reply.now }
 {
-    let none = Extras {
-        function: None,
-        original_amount: None,
-        approval: None,
-        action: None,
-        original: None,
-        account: None,
-    };
     match &reply.answer {
         Answer::Request(Verdict::Approved(code), account) => Extras {
             approval: Some(*code),
             action: Some(Digits::of_number(0)),
             account: *account,
-            ..none
+            ..Extras::NONE
         },
         Answer::Request(Verdict::Declined(code), account) => Extras {
             action: Some(code.action().digits()),
             account: *account,
-            ..none
+            ..Extras::NONE
         },
         Answer::Advice(action, account) => Extras {
             action: Some(action.digits()),
             account: *account,
-            ..none
+            ..Extras::NONE
         },
         Answer::Reversal(action) => Extras {
             action: Some(action.digits()),
-            ..none
+            ..Extras::NONE
         },
     }
 }

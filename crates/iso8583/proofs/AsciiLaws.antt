@@ -17,14 +17,22 @@ all_ascii test below [] h i = omega arith
 all_ascii test below (c ∷ text) h zero = below c (split (test c) (list_all test text) h).0
 all_ascii test below (c ∷ text) h (suc i) = all_ascii test below text (split (test c) (list_all test text) h).1 i
 
-digit_below : (c : ℕ) → is_ascii_digit c ≡ true → c < 128
-digit_below c h = grind (arith, nat_tests)
-
 printable_below : (c : ℕ) → (nat_le 32 c && nat_le c 126) ≡ true → c < 128
 printable_below c h = grind (arith, nat_tests)
 
-pub digits_utf8 : (text : List ℕ) → IsTrue (is_digits text) → IsUtf8 text
-digits_utf8 text h = IsUtf8-from_ascii text (all_ascii is_ascii_digit digit_below text h)
+digit_printable : (c : ℕ) → is_ascii_digit c ≡ true → (nat_le 32 c && nat_le c 126) ≡ true
+digit_printable c h = grind (arith, nat_tests)
+
+-- digits are printable characters
+pub digits_printable : (text : List ℕ) → IsTrue (is_digits text) → IsTrue (is_printable text)
+digits_printable [] h = h
+digits_printable (c ∷ text) h =
+    let both = split (is_ascii_digit c) (is_digits text) h in
+    let first : (nat_le 32 c && nat_le c 126) ≡ true = digit_printable c both.0 in
+    rw first (digits_printable text both.1)
 
 pub printable_utf8 : (text : List ℕ) → IsTrue (is_printable text) → IsUtf8 text
 printable_utf8 text h = IsUtf8-from_ascii text (all_ascii _ printable_below text h)
+
+pub digits_utf8 : (text : List ℕ) → IsTrue (is_digits text) → IsUtf8 text
+digits_utf8 text h = printable_utf8 text (digits_printable text h)

@@ -3,9 +3,8 @@ use Rattle.std.proofs.Common.{◌≡◌, ℕ, zero, suc, ◌+◌, ◌-◌, ◌*�
 use Rattle.std.proofs.Math.Seq.{take-add}
 use Rattle.std.proofs.lemmas.Bool.{cases_order, false≢true}
 use Rattle.std.proofs.lemmas.Bool.Decides.{nat_tests}
-use Rattle.std.specs.Char.{is_ascii_digit}
 use Rattle.std.specs.List.{list_all}
-use Rattle.iso8583.specs.Class.{IsDigits, IsPrintable}
+use Rattle.iso8583.specs.Class.{IsPrintable}
 use Rattle.iso8583.specs.Padded.{IsPadded, length_back}
 use Rattle.std.proofs.lemmas.List.{length-drop, length-take-le}
 use Rattle.std.specs.Cmp.{nat_cmp_is}
@@ -195,9 +194,6 @@ module _ (test : ℕ → Bool) (above : (c : ℕ) → test c ≡ true → 0 < c)
   cmp_padded (x ∷ s) (y ∷ t) m n f g e =
       ap (ordering_then (nat_cmp x y)) (cmp_padded s t m n (split (test x) (list_all test s) f).1 (split (test y) (list_all test t) g).1 (omega arith))
 
-digit_above : (c : ℕ) → is_ascii_digit c ≡ true → 0 < c
-digit_above c h = grind (arith, nat_tests)
-
 printable_above : (c : ℕ) → (nat_le 32 c && nat_le c 126) ≡ true → 0 < c
 printable_above c h = grind (arith, nat_tests)
 
@@ -207,12 +203,6 @@ module _ (min max : ℕ) (a b : List ℕ) (m n : ℕ) where
 
   level : (IsOfClass : List ℕ → Type 0) → IsPadded IsOfClass min max a m → IsPadded IsOfClass min max b n → length (take m a) + (max - m) ≡ length (take n b) + (max - n)
   level IsOfClass h k = omega (arith, length_back IsOfClass min max a m h, length_back IsOfClass min max b n k, h.at_most, k.at_most)
-
-  -- padded texts of digits compare as the texts
-  pub cmp_padded_digits : IsPadded IsDigits min max a m → IsPadded IsDigits min max b n → slice_cmp nat_cmp a b ≡ slice_cmp nat_cmp (take m a) (take n b)
-  cmp_padded_digits h k =
-      (λ i. slice_cmp nat_cmp (sym (behind IsDigits a m h) i) (sym (behind IsDigits b n k) i))
-      ∙ cmp_padded is_ascii_digit digit_above (take m a) (take n b) (max - m) (max - n) h.class k.class (level IsDigits h k)
 
   -- padded texts of printable characters compare as the texts
   pub cmp_padded_printable : IsPadded IsPrintable min max a m → IsPadded IsPrintable min max b n → slice_cmp nat_cmp a b ≡ slice_cmp nat_cmp (take m a) (take n b)

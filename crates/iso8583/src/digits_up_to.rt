@@ -1,44 +1,29 @@
-ghost use Rattle.std.specs.Prelude.{◌≡◌, ℕ, ◌≤◌, ◌<◌, ◌==◌, length};
-ghost use Rattle.std.proofs.Common.{rules};
-ghost use Rattle.std.specs.Cmp.{partial_order_from_own_ties};
-ghost use Rattle.std.specs.Cmp.Lexicographic.{pointwise, slice_cmp};
-ghost use Rattle.std.specs.Cmp.Rules.{comparing, hashing};
-ghost use Rattle.std.specs.Hash as fed;
+ghost use Rattle.std.specs.Prelude.{◌≡◌, ◌<◌};
 ghost use Rattle.std.specs.Option.{SomeIff};
-ghost use Rattle.std.specs.Ordering.{nat_cmp, as_partial_cmp};
-ghost use Rattle.iso8583.specs.Class.{IsDigits};
 ghost use Rattle.iso8583.specs.Padded.{HasDigits};
 
 use crate::class::is_digits;
-use crate::order::order;
-use std::cmp::Ordering;
-use std::hash::{Hash, Hasher};
+use crate::printable_up_to::PrintableUpTo;
 use std::marker::Model;
 
-/// A text of `MIN` to `MAX` digits; `MAX` is at most 255.
-#[derive(Clone, Copy, Debug)]
+/// A text of `MIN` to `MAX` digits; `MAX` is at most 255. By the bytes of the digits: a text stands behind each that it
+/// begins with.
+#[derive(Clone, Copy, Debug, PartialEq, Eq, PartialOrd, Ord, Hash)]
 pub struct DigitsUpTo<const MIN: usize, const MAX: usize> {
-    bytes: [u8; MAX],
-    len: u8,
+    text: PrintableUpTo<MIN, MAX>,
 }
 
 impl<const MIN: usize, const MAX: usize> Model for DigitsUpTo<MIN, MAX> {
-    ghost use Rattle.std.specs.Prelude.{ℕ, ◌-◌, List, ◌++◌, length, take, replicate};
-    ghost use Rattle.iso8583.specs.Class.{IsDigits};
-    ghost use Rattle.iso8583.specs.Padded.{IsPadded, bytes_back, length_back};
+    ghost use Rattle.std.specs.Prelude.{ℕ, List};
+    ghost use Rattle.iso8583.specs.Padded.{HasDigits};
 
     ghost Value = { List ℕ };
 
-    ghost view = { λ d. take d.len d.bytes };
+    ghost view = { λ d. d.text };
 
-    ghost invariant = { λ d. IsPadded IsDigits MIN MAX d.bytes d.len };
+    ghost invariant = { λ d. HasDigits MIN MAX d.text };
 
-    ghost inverse = { λ text. record { bytes = text ++ replicate (MAX - length text) 0; len = length text } };
-
-    ghost inverse_ok = { λ d h i. record {
-      bytes = bytes_back IsDigits MIN MAX d.bytes d.len h i;
-      len = length_back IsDigits MIN MAX d.bytes d.len h i;
-    } };
+    ghost inverse = { λ text. record { text = text } };
 }
 
 impl<const MIN: usize, const MAX: usize> DigitsUpTo<MIN, MAX> {
@@ -55,17 +40,14 @@ impl<const MIN: usize, const MAX: usize> DigitsUpTo<MIN, MAX> {
     }
 
     /// A text that was tested: `MIN` to `MAX` digits.
+    #[tactic(auto, using(crate::proofs::AsciiLaws::digits_printable))]
     pub fn of_text(text: &[u8]) -> Self
         requires max { MAX < 256 }
         requires text { HasDigits MIN MAX text.now }
         ensures { result ≡ text.now }
     {
-        let len = text.len();
-        let mut bytes = [0; MAX];
-        bytes[..len].copy_from_slice(text);
         DigitsUpTo {
-            bytes,
-            len: len as u8,
+            text: PrintableUpTo::of_text(text),
         }
     }
 
@@ -74,66 +56,15 @@ impl<const MIN: usize, const MAX: usize> DigitsUpTo<MIN, MAX> {
         ensures text { result.now ≡ self.now }
         ensures digits { HasDigits MIN MAX result.now }
     {
-        &self.bytes[..usize::from(self.len)]
+        let _ = &self.text;
+        self.text.as_slice()
     }
 
     /// The text as characters.
-    #[tactic(auto, using(crate::proofs::AsciiLaws::digits_utf8))]
     pub fn as_str(&self) -> &str
         ensures { result.now ≡ self.now }
     {
-        let text = self.as_slice();
-        // Text of this class is ASCII, so it is UTF-8.
-        unsafe { str::from_utf8_unchecked(text) }
-    }
-}
-
-impl<const MIN: usize, const MAX: usize> PartialEq for DigitsUpTo<MIN, MAX> {
-    ghost eq = { pointwise ◌==◌ };
-
-    ghost laws = { Prim.search (comparing, rules) };
-
-    fn eq(&self, other: &Self) -> bool {
-        self.as_str() == other.as_str()
-    }
-}
-
-impl<const MIN: usize, const MAX: usize> Eq for DigitsUpTo<MIN, MAX> {
-    ghost laws = { Prim.search (comparing, rules) };
-}
-
-/// By the bytes of the digits: a text stands behind each that it begins with.
-impl<const MIN: usize, const MAX: usize> Ord for DigitsUpTo<MIN, MAX> {
-    ghost cmp = { slice_cmp nat_cmp };
-
-    ghost total = { Prim.search (comparing, rules) };
-
-    ghost matches_partial_cmp = { Prim.search (comparing, rules) };
-
-    ghost matches_eq = { Prim.search (comparing, rules) };
-
-    #[inline(always)]
-    fn cmp(&self, other: &Self) -> Ordering {
-        order(&self.bytes, &other.bytes)
-    }
-}
-
-impl<const MIN: usize, const MAX: usize> PartialOrd for DigitsUpTo<MIN, MAX> {
-    ghost partial_cmp = { as_partial_cmp (slice_cmp nat_cmp) };
-
-    ghost laws = { partial_order_from_own_ties (Prim.search (comparing, rules)) (Prim.search (comparing, rules)) };
-
-    fn partial_cmp(&self, other: &Self) -> Option<Ordering> {
-        Some(self.cmp(other))
-    }
-}
-
-impl<const MIN: usize, const MAX: usize> Hash for DigitsUpTo<MIN, MAX> {
-    ghost hash_input = { fed.slice fed.u8 };
-
-    ghost respects_eq = { Prim.search (hashing, rules) };
-
-    fn hash<H: Hasher>(&self, state: &mut H) {
-        self.as_slice().hash(state);
+        let _ = &self.text;
+        self.text.as_str()
     }
 }

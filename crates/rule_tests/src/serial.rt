@@ -1,13 +1,13 @@
 //! The serial answer beside its batches: the longest one, a prefix that is gone on with, and a book as a source.
 
 use fixtures::{answer_text, body, first_book_with, has_row};
-use fold::{PlainRows, Prefix, decide_all, decide_all_by};
+use fold::{PlainRows, Prefix, decide_all, decide_all_by, put_all};
 use rows::{Frame, ReplyBody, RowKey};
 use rules::Shipped;
 use std::alloc::Global;
 use std::process::Abort;
 use std::test::Fail;
-use view::RowSource;
+use view::{RowSource, execute};
 
 // As many requests of 1 on card A, with a trace number each.
 fn requests(alloc: Global, many: u32) -> Result<Vec<Frame>, Fail> {
@@ -80,5 +80,19 @@ fn a_book_is_a_source(rt: HostRuntime) -> Result<(), Fail> {
     assert_eq!(rt; source.read(&there)?, book.get(&there));
     assert!(rt; source.read(&there)?.is_some());
     assert_eq!(rt; source.read(&absent)?, None);
+    Ok(())
+}
+
+// The rows of a decision are put on a copy of its book; the book itself stays.
+#[test]
+fn puts_what_was_decided(rt: HostRuntime) -> Result<(), Fail> {
+    let alloc = rt.alloc();
+    let book = first_book_with(alloc, &[])?;
+    let request = body("1100 000001 A 6000").ok_or("a body")?;
+    let execution = execute(alloc, &request, PlainRows::new(&book), &Shipped)?;
+    let after = put_all(book.copy()?, execution.writes())?;
+    assert!(rt; has_row(&after, "account A 4000 978"));
+    assert!(rt; has_row(&book, "account A 10000 978"));
+    assert_eq!(rt; (after.len(), book.len()), (6, 4));
     Ok(())
 }

@@ -1,12 +1,14 @@
 //! `switch`: decides card messages for an issuer.
 #![tactic(auto)]
 
-use commands::act;
+use commands::{Printer, act};
 use std::process::ExitCode;
 use std::{env, io};
 
 fn main(rt: HostRuntime) -> io::Result<ExitCode> {
     let words: Vec<String> = env::args(&rt)?.collect(rt.alloc())?;
-    let status = act(rt.alloc(), &words, &mut rt.stdout(), &mut rt.stderr());
+    let mut out = Printer::new(rt.stdout());
+    let mut err = Printer::new(rt.stderr());
+    let status = act(&rt, rt.alloc(), &words, &mut out, &mut err);
     Ok(ExitCode::from(status))
 }

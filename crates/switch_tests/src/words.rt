@@ -1,7 +1,9 @@
-use commands::act;
+use commands::{Printer, act};
 use std::alloc::Global;
 use std::process::Abort;
+use std::sync::Wait;
 use std::test::Fail;
+use std::thread::Threads;
 
 // A request of 1.00 on the first card of the sample book, and its reply.
 const REQUEST: &str =
@@ -21,21 +23,32 @@ struct Said {
     err: Vec<u8>,
 }
 
-fn acted(alloc: Global, words: &[&str]) -> Result<Said, Fail> {
+// What was printed, if there was memory for all of it.
+fn taken(printer: Printer<Vec<u8>>) -> Result<Vec<u8>, Fail> {
+    let (bytes, all) = printer.into_parts();
+    if all {
+        Ok(bytes)
+    } else {
+        Err(Fail::new("all that was printed"))
+    }
+}
+
+fn acted<R: Threads + Wait + Sync>(rt: &R, alloc: Global, words: &[&str]) -> Result<Said, Fail> {
     let mut all = Vec::new(alloc);
     all.push(String::from_str(alloc, "switch")?)?;
     for word in words {
         all.push(String::from_str(alloc, word)?)?;
     }
-    let mut out = Vec::new(alloc);
-    let mut err = Vec::new(alloc);
-    let status = act(alloc, &all, &mut out, &mut err);
+    let mut out = Printer::new(Vec::new(alloc));
+    let mut err = Printer::new(Vec::new(alloc));
+    let status = act(rt, alloc, &all, &mut out, &mut err);
+    let (out, err) = (taken(out)?, taken(err)?);
     Ok(Said { status, out, err })
 }
 
 // What one body is answered, where the words are a command.
-fn assert_answer(rt: &impl Abort, alloc: Global, frame: &str, answer: &str) -> Result<(), Fail> {
-    let acted = acted(alloc, &["one", frame])?;
+fn assert_answer<R: Abort + Threads + Wait + Sync>(rt: &R, alloc: Global, frame: &str, answer: &str) -> Result<(), Fail> {
+    let acted = acted(rt, alloc, &["one", frame])?;
     let line = format!(in alloc; "{answer}\n")?;
     assert_eq!(rt; acted.status, 0);
     assert_eq!(rt; acted.out.as_slice(), line.as_bytes());
@@ -44,8 +57,8 @@ fn assert_answer(rt: &impl Abort, alloc: Global, frame: &str, answer: &str) -> R
 }
 
 // Words that are no command: status 2, and a text on standard error alone.
-fn assert_usage(rt: &impl Abort, alloc: Global, words: &[&str]) -> Result<(), Fail> {
-    let acted = acted(alloc, words)?;
+fn assert_usage<R: Abort + Threads + Wait + Sync>(rt: &R, alloc: Global, words: &[&str]) -> Result<(), Fail> {
+    let acted = acted(rt, alloc, words)?;
     assert_eq!(rt; acted.status, 2);
     assert!(rt; acted.out.is_empty());
     assert!(rt; !acted.err.is_empty());
@@ -163,7 +176,7 @@ fn a_reversal_is_answered(rt: HostRuntime) -> Result<(), Fail> {
 
 #[test]
 fn help_says_what_there_is(rt: HostRuntime) -> Result<(), Fail> {
-    let help = acted(rt.alloc(), &["--help"])?;
+    let help = acted(&rt, rt.alloc(), &["--help"])?;
     assert_eq!(rt; help.status, 0);
     let text = str::from_utf8(&help.out).ok().ok_or("text")?;
     for part in ["Usage: switch", "one", "Exit status"] {

@@ -1,0 +1,2 @@
+pub mod PlainLemmas
+pub mod WordsLemmas

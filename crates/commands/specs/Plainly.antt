@@ -1,0 +1,17 @@
+-- What plain words are read as.
+use Rattle.std.specs.Prelude.{ℕ, List, [], ◌∷◌, codes}
+use Rattle.clap.specs.Walk.{Text}
+use Rattle.answering.specs.Answers.{IsBodyInDigits}
+use Rattle.commands.specs.Words.{IsHelp, IsOne, IsUsageFault}
+
+-- `one FRAME` is the body that FRAME stands for
+abbrev pub OneFrameIsRead : Text → Text → List ℕ → Type 0
+OneFrameIsRead name digits body = IsBodyInDigits digits body → IsOne (name ∷ codes "one" ∷ digits ∷ []) body
+
+-- `--help` asks for help
+abbrev pub HelpIsRead : Text → Type 0
+HelpIsRead name = IsHelp (name ∷ codes "--help" ∷ [])
+
+-- the words are a usage fault
+abbrev pub IsNoCommand : List Text → Type 0
+IsNoCommand words = IsUsageFault words

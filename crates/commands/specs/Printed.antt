@@ -1,0 +1,11 @@
+-- What was printed.
+use Rattle.std.specs.Prelude.{◌≡◌, ℕ, List, [], ◌∷◌, ◌++◌, Option, None, IfSome, if◌then◌else◌}
+use Rattle.commands.specs.declared.printer.Printer.{Printer}
+
+-- what the printer's writer holds, where that is known and the writer took every line
+abbrev pub printed : {W : Type 0} → (W → Option (List ℕ)) → Printer W → Option (List ℕ)
+printed contents printer = if printer.is_stuck then None else contents printer.writer
+
+-- the line and a line feed stand behind what was printed before, where the writer took it
+abbrev pub PrintsLine : Option (List ℕ) → Option (List ℕ) → List ℕ → Type 0
+PrintsLine old new line = IfSome new (λ now. IfSome old (λ before. now ≡ before ++ line ++ 10 ∷ []))

@@ -1,0 +1,48 @@
+ghost use Rattle.std.specs.Prelude.{◌≡◌, ◌++◌, ◌∷◌, [], None, OnOk, if◌then◌else◌};
+ghost use Rattle.std.specs.Io.KnownBytes.{Appends};
+ghost use Rattle.commands.specs.Printed.{printed, PrintsLine};
+
+use std::io;
+use std::io::Write;
+
+/// Prints lines to a writer. Where the writer doesn't take one, all that comes after it is dropped too.
+#[derive(Debug, Drop)]
+pub struct Printer<W> {
+    writer: W,
+    is_stuck: bool,
+}
+
+impl<W: Write> Printer<W> {
+    /// A printer over the writer, which prints behind what the writer holds.
+    pub fn new(writer: W) -> Printer<W>
+        ensures { printed W.contents result ≡ W.contents writer }
+    {
+        Printer {
+            writer,
+            is_stuck: false,
+        }
+    }
+
+    /// Prints the text and a line feed.
+    pub fn line(&mut self, text: &str)
+        ensures { PrintsLine (printed W.contents self.old) (printed W.contents self.new) text.now }
+    {
+        if !self.is_stuck {
+            self.is_stuck = write_line(&mut self.writer, text).is_err();
+        }
+    }
+
+    /// The writer, and whether it took all that was printed.
+    pub fn into_parts(self) -> (W, bool)
+        ensures { printed W.contents self ≡ (if result.1 then W.contents result.0 else None) }
+    {
+        (self.writer, !self.is_stuck)
+    }
+}
+
+fn write_line<W: Write>(writer: &mut W, text: &str) -> io::Result<()>
+    ensures { OnOk result (Appends (W.contents writer.old) (W.contents writer.new) (text.now ++ 10 ∷ [])) }
+{
+    writer.write_all(text.as_bytes())?;
+    writer.write_all(b"\n")
+}

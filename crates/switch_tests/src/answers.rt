@@ -1,0 +1,110 @@
+//! One body's way through the program, part by part.
+
+use answering::{answer_on, body_of_digits, decide_one, sample_book};
+use commands::{Command, Printer, act, plain_words_are_read, read_words};
+use engine::Workers;
+use std::alloc::Global;
+use std::io;
+use std::io::{ErrorKind, Write};
+use std::process::Abort;
+use std::test::Fail;
+
+fn words(alloc: Global, words: &[&str]) -> Result<Vec<String>, Fail> {
+    let mut all = Vec::new(alloc);
+    for word in words {
+        all.push(String::from_str(alloc, word)?)?;
+    }
+    Ok(all)
+}
+
+// A body of one byte is too short, whatever the number of workers.
+#[test]
+fn a_body_is_answered_in_bytes_and_in_digits(rt: HostRuntime) -> Result<(), Fail> {
+    let alloc = rt.alloc();
+    let body = body_of_digits(alloc, "31")?.ok_or("a body")?;
+    assert_eq!(rt; body.as_slice(), b"1".as_slice());
+    let book = sample_book(alloc)?;
+    for count in [1, 64] {
+        let workers = Workers::new(count).ok_or("1 to 64 workers")?;
+        let answer = answer_on(&rt, alloc, &book, &body, workers)?;
+        assert_eq!(rt; answer.as_slice(), b"F01000".as_slice());
+    }
+    assert_eq!(rt; decide_one(&rt, alloc, &body)?.as_str(), "463031303030");
+    Ok(())
+}
+
+#[test]
+fn words_are_read(rt: HostRuntime) -> Result<(), Fail> {
+    let alloc = rt.alloc();
+    plain_words_are_read();
+    match read_words(alloc, &words(alloc, &["switch", "one", "3a"])?) {
+        Ok(Command::One(body)) => assert_eq!(rt; body.as_slice(), b":".as_slice()),
+        _ => return Err(Fail::new("one body")),
+    }
+    Ok(())
+}
+
+// A writer that takes nothing.
+#[derive(Drop)]
+struct Closed;
+
+impl Write for Closed {
+    fn write(&mut self, _buf: &[u8]) -> io::Result<usize> {
+        Err(io::Error::from(ErrorKind::BrokenPipe))
+    }
+
+    fn flush(&mut self) -> io::Result<()> {
+        Ok(())
+    }
+}
+
+// What a writer doesn't take is dropped, and the status stays.
+#[test]
+fn what_is_not_taken_is_dropped(rt: HostRuntime) -> Result<(), Fail> {
+    for (frame, status) in [("31", 0), ("3", 2)] {
+        let words = words(rt.alloc(), &["switch", "one", frame])?;
+        let mut out = Printer::new(Closed);
+        let mut err = Printer::new(Closed);
+        assert_eq!(rt; act(&rt, rt.alloc(), &words, &mut out, &mut err), status);
+        let (_, all_out) = out.into_parts();
+        let (_, all_err) = err.into_parts();
+        assert_eq!(rt; (all_out, all_err), (status != 0, status == 0));
+    }
+    Ok(())
+}
+
+// A writer that takes one write of ten bytes at most, and then nothing.
+#[derive(Drop)]
+struct Full {
+    taken: Vec<u8>,
+}
+
+impl Write for Full {
+    fn write(&mut self, buf: &[u8]) -> io::Result<usize> {
+        let room = 10usize.saturating_sub(self.taken.len());
+        let Some(part) = buf.get(..room.min(buf.len())) else {
+            return Ok(0);
+        };
+        self.taken.extend_from_slice(part)?;
+        Ok(part.len())
+    }
+
+    fn flush(&mut self) -> io::Result<()> {
+        Ok(())
+    }
+}
+
+// A line that is taken in part stays so, and nothing stands behind it.
+#[test]
+fn nothing_is_printed_behind_a_line_that_was_cut(rt: HostRuntime) -> Result<(), Fail> {
+    let mut printer = Printer::new(Full {
+        taken: Vec::new(rt.alloc()),
+    });
+    for line in ["first", "second", ""] {
+        printer.line(line);
+    }
+    let (full, all) = printer.into_parts();
+    assert!(rt; !all);
+    assert_eq!(rt; full.taken.as_slice(), b"first\nseco".as_slice());
+    Ok(())
+}
