@@ -1,21 +1,18 @@
 -- What a text was made of: each text of a key or an event gives it back, so no two have one.
-use Rattle.std.proofs.Common.{◌≡◌, ◌≢◌, ℕ, zero, suc, ◌+◌, ◌*◌, ◌/◌, ◌%◌, ◌<◌, ◌≤◌, ◌^◌, ◌==◌, Bool, true, false, cond, List, [], ◌∷◌, ◌++◌, length, slice_index, Option, Some, None, refl, sym, ap, ◌∙◌, arith}
-use Rattle.std.specs.Prelude.{IsTrue, codes, nat_le}
+use Rattle.std.proofs.Common.{◌≡◌, ℕ, zero, suc, ◌<◌, ◌≤◌, ◌^◌, ◌==◌, false, cond, List, [], ◌∷◌, ◌++◌, slice_index, refl, sym, ap, ◌∙◌, arith}
+use Rattle.std.specs.Prelude.{nat_le}
 use Rattle.std.specs.Fmt.{decimal}
 use Rattle.std.specs.Str.Parse.{digits_value}
-use Rattle.std.specs.List.{list_all}
 use Rattle.std.specs.Result.{result_unwrap_or}
 use Rattle.std.proofs.lemmas.Bool.{and_parts, leb-true}
 use Rattle.std.proofs.lemmas.Fmt.{decimal_is_IsNumeral}
-use Rattle.std.proofs.lemmas.Option.{none-some}
-use Rattle.hex.specs.Hex.{IsBytes, encode_with, encode_lower, lower_digits, decode_of, hex_digit_value}
-use Rattle.hex.proofs.HexLemmas.{IsDigits-lower_digits, decode_of-encode_lower}
-use Rattle.iso8583.specs.Class.{IsDigits, IsPrintable}
-use Rattle.iso8583.specs.declared.identity.Identity.{Identity}
+use Rattle.hex.specs.Hex.{IsBytes, encode_lower, decode_of}
+use Rattle.hex.proofs.HexLemmas.{decode_of-encode_lower}
+use Rattle.iso8583.specs.Class.{IsPrintable}
 use Rattle.mvmem.specs.declared.version.Version.{Version}
 use Rattle.rows.specs.declared.row_key.RowKey.{RowKey}
 use Rattle.rows.specs.declared.row_key.RowKey.TheVariants as key
-use Rattle.journal_text.specs.Texts.{version_text, identity_text, key_text, event_text, IsVersion, IsIdentity, IsKey, IsEvent}
+use Rattle.journal_text.specs.Texts.{version_text, key_text, event_text, IsVersion, IsKey, IsEvent}
 use Rattle.journal_text.specs.declared.event.Event.{Event}
 use Rattle.journal_text.specs.declared.event.Event.TheVariants as event
 use Rattle.std.specs.Char.{is_ascii_digit}

@@ -1,5 +1,5 @@
 -- Which texts are those of events and of entries.
-use Rattle.std.proofs.Common.{◌≡◌, ◌≢◌, ℕ, ◌<◌, ◌^◌, List, [], ◌∷◌, ◌++◌, refl, sym, ap, subst, ◌∙◌, arith}
+use Rattle.std.proofs.Common.{◌≡◌, ◌≢◌, ℕ, ◌<◌, ◌^◌, List, ◌∷◌, ◌++◌, refl, sym, ap, subst, ◌∙◌}
 use Rattle.std.specs.Prelude.{codes}
 use Rattle.std.specs.Fmt.{decimal}
 use Rattle.mvmem.specs.declared.version.Version.{Version}
@@ -10,17 +10,6 @@ use Rattle.journal_text.specs.declared.event.Event.{Event}
 use Rattle.journal_text.specs.declared.event.Event.TheVariants as event
 use Rattle.journal_text.proofs.Back.{number_back, version_back, key_back, event_back, event_back_is, version_lacks}
 use Rattle.journal_text.proofs.Marks.{before, after, parted, not_lacking, other_lacks}
-
--- a text without a space that is none of these letters is no event
-pub not_lone : (text : List ℕ) (e : Event) → Lacks 32 text → text ≢ codes "n" → text ≢ codes "o" → text ≢ codes "e" → text ≢ codes "k" → text ≢ event_text e
-not_lone text event.Claim lacks a b c d same = a same
-not_lone text (event.Read v row) lacks a b c d same = not_lacking 32 (codes "r") (version_text v ++ 32 ∷ key_text row) (subst (Lacks 32) same lacks)
-not_lone text (event.Block v on) lacks a b c d same = not_lacking 32 (codes "b") (version_text v ++ 32 ∷ decimal on) (subst (Lacks 32) same lacks)
-not_lone text (event.Finish v) lacks a b c d same = not_lacking 32 (codes "f") (version_text v) (subst (Lacks 32) same lacks)
-not_lone text (event.BeginCheck v) lacks a b c d same = not_lacking 32 (codes "c") (version_text v) (subst (Lacks 32) same lacks)
-not_lone text event.CheckOne lacks a b c d same = b same
-not_lone text event.EndCheck lacks a b c d same = c same
-not_lone text event.Commit lacks a b c d same = d same
 
 letter_at : (letter rest other body : List ℕ) → Lacks 32 letter → Lacks 32 other → letter ++ 32 ∷ rest ≡ other ++ 32 ∷ body → letter ≡ other
 letter_at letter rest other body lacks more same = (parted 32 letter rest other body lacks more same).0

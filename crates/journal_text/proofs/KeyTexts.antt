@@ -1,5 +1,5 @@
 -- Which texts are those of keys.
-use Rattle.std.proofs.Common.{◌≡◌, ◌≢◌, ℕ, ◌+◌, ◌*◌, ◌/◌, ◌%◌, ◌<◌, ◌≤◌, ◌==◌, Bool, false, List, [], ◌∷◌, ◌++◌, length, Result, Ok, Err, refl, sym, ap, subst, ◌∙◌, arith}
+use Rattle.std.proofs.Common.{◌≡◌, ◌≢◌, ℕ, ◌/◌, ◌%◌, ◌==◌, Bool, false, List, ◌∷◌, ◌++◌, length, Result, Ok, Err, refl, sym, ap, subst, ◌∙◌, arith}
 use Rattle.std.specs.Prelude.{codes, MatchResult}
 use Rattle.std.specs.Cmp.Lexicographic.{pointwise}
 use Rattle.std.proofs.lemmas.Bool.{eq-eqb, ne_eqb, cond-true, cond-false, false≢true}
@@ -9,9 +9,8 @@ use Rattle.hex.specs.Hex.{decode_sized, decode_pairs, encode_lower, lower_digits
 use Rattle.hex.specs.declared.error.FromHexError.{FromHexError}
 use Rattle.hex.proofs.HexLemmas.{IsDigits-lower_digits, length-encode_with, decode_pairs-encode_with}
 use Rattle.iso8583.specs.Calendar.{IsDay}
-use Rattle.iso8583.specs.Class.{IsDigits, IsPrintable}
+use Rattle.iso8583.specs.Class.{IsPrintable}
 use Rattle.iso8583.specs.Padded.{HasDigits, HasPrintable}
-use Rattle.iso8583.specs.declared.account_id.AccountId.{AccountId}
 use Rattle.iso8583.specs.declared.identity.Identity.{Identity}
 use Rattle.rows.specs.declared.row_key.RowKey.{RowKey}
 use Rattle.rows.specs.declared.row_key.RowKey.TheVariants as key

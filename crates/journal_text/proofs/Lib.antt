@@ -1,3 +1,4 @@
+pub mod Anyway
 pub mod Back
 pub mod EventTexts
 pub mod KeyTexts

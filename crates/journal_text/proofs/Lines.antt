@@ -1,19 +1,17 @@
 -- No entry's line begins another's, and no two journals have one text.
-use Rattle.std.proofs.Common.{◌≡◌, ◌≢◌, ℕ, suc, ◌<◌, ◌^◌, ◌/◌, ◌%◌, ◌==◌, Bool, true, false, not, List, [], ◌∷◌, ◌++◌, length, slice_index, refl, sym, ap, ◌∙◌, append_assoc, append-nil, ◌+◌, arith}
+use Rattle.std.proofs.Common.{◌≡◌, ◌≢◌, ℕ, suc, ◌<◌, ◌/◌, ◌%◌, false, List, [], ◌∷◌, ◌++◌, length, slice_index, refl, sym, ap, ◌∙◌, append_assoc, append-nil, ◌+◌, arith}
 use Rattle.std.specs.Prelude.{codes}
 use Rattle.std.specs.Char.{is_ascii_digit}
 use Rattle.std.specs.Fmt.{decimal}
-use Rattle.std.specs.List.{list_all}
 use Rattle.std.proofs.lemmas.Option.{none-some}
 use Rattle.hex.specs.Hex.{IsBytes, encode_with, encode_lower, lower_digits, hex_digit_value}
 use Rattle.hex.proofs.HexLemmas.{IsDigits-lower_digits}
 use Rattle.iso8583.specs.declared.identity.Identity.{Identity}
-use Rattle.mvmem.specs.declared.version.Version.{Version}
 use Rattle.rows.specs.declared.row_key.RowKey.{RowKey}
 use Rattle.rows.specs.declared.row_key.RowKey.TheVariants as key
 use Rattle.journal_text.specs.Journal.{entry_text, line_of, journal_text, IsEntry, AreEntries, BeginsWithNoLine, IsFirstWrongLine}
 use Rattle.journal_text.specs.Marks.{Lacks}
-use Rattle.journal_text.specs.Texts.{version_text, identity_text, key_text, event_text, IsVersion, IsIdentity, IsKey, IsEvent}
+use Rattle.journal_text.specs.Texts.{version_text, identity_text, key_text, event_text, IsIdentity, IsKey, IsEvent}
 use Rattle.journal_text.specs.declared.entry.Entry.{Entry}
 use Rattle.journal_text.specs.declared.event.Event.{Event}
 use Rattle.journal_text.specs.declared.event.Event.TheVariants as event

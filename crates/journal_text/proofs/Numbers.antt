@@ -1,6 +1,6 @@
 -- Numbers in decimal, and versions.
-use Rattle.std.proofs.Common.{◌≡◌, ◌≢◌, ℕ, ◌<◌, ◌≤◌, ◌^◌, ◌⊎◌, inl, inr, List, [], ◌∷◌, ◌++◌, length, slice_index, Option, Some, None, refl, sym, ap, subst, ◌∙◌, rules, arith}
-use Rattle.std.specs.Prelude.{Result, Ok, Err, IfErr, IfSome, IfNone}
+use Rattle.std.proofs.Common.{◌≡◌, ◌≢◌, ℕ, ◌<◌, ◌^◌, inl, inr, List, ◌∷◌, ◌++◌, length, refl, sym, ap, subst, ◌∙◌, arith}
+use Rattle.std.specs.Prelude.{Result, Ok, Err, IfSome, IfNone}
 use Rattle.std.specs.Result.{OkIff, result_ok}
 use Rattle.std.specs.Fmt.{decimal}
 use Rattle.std.specs.Str.Parse.{digits_value}
@@ -12,16 +12,6 @@ use Rattle.mvmem.specs.declared.version.Version.{Version}
 use Rattle.journal_text.specs.Marks.{Lacks}
 use Rattle.journal_text.specs.Texts.{version_text, IsVersion, IsShortDecimal}
 use Rattle.journal_text.proofs.Marks.{digits_test, decimal_digits, decimal_lacks, parted, not_lacking}
-
--- what holds anyway holds of nothing found
-pub if_none : {T : Type 0} (found : Option T) (P : Type 0) → P → IfNone found P
-if_none None P h = h
-if_none (Some x) P h = tt
-
--- what holds of each fault holds of one that is answered
-pub if_err : {T E : Type 0} (answer : Result T E) (P : E → Type 0) → ((e : E) → P e) → IfErr answer P
-if_err (Ok x) P h = tt
-if_err (Err e) P h = h e
 
 pub decimal_short : (n : ℕ) → n < 2 ^ 32 → IsShortDecimal (decimal n)
 decimal_short n h = record {

@@ -1,6 +1,6 @@
 //! Reading events. Each reader takes the texts that are written of its values, and no other.
 
-ghost use Rattle.std.specs.Prelude.{◌≡◌, ◌≢◌, ℕ, ◌∷◌, ◌++◌, IfSome, IfNone, codes};
+ghost use Rattle.std.specs.Prelude.{◌≡◌, ◌≢◌, ◌∷◌, ◌++◌, IfSome, IfNone, codes};
 ghost use Rattle.journal_text.specs.Marks.{Lacks};
 ghost use Rattle.journal_text.specs.Texts.{event_text, IsEvent};
 ghost use Rattle.journal_text.specs.declared.event.Event.{Event};
@@ -15,16 +15,12 @@ fn lone_event_of(letter: &[u8]) -> Option<Event>
     ensures found { IfSome result (λ e. IsEvent e × (letter.now ≡ event_text e)) }
     ensures none { IfNone result ((e : Event) → IsEvent e → letter.now ≢ event_text e) }
 {
-    if letter == b"n".as_slice() {
-        Some(Event::Claim)
-    } else if letter == b"o".as_slice() {
-        Some(Event::CheckOne)
-    } else if letter == b"e".as_slice() {
-        Some(Event::EndCheck)
-    } else if letter == b"k".as_slice() {
-        Some(Event::Commit)
-    } else {
-        None
+    match letter {
+        b"n" => Some(Event::Claim),
+        b"o" => Some(Event::CheckOne),
+        b"e" => Some(Event::EndCheck),
+        b"k" => Some(Event::Commit),
+        _ => None,
     }
 }
 
@@ -52,16 +48,12 @@ fn event_of_version(letter: &[u8], rest: &[u8]) -> Option<Event>
     ensures found { IfSome result (λ e. IsEvent e × (letter.now ++ 32 ∷ rest.now ≡ event_text e)) }
     ensures none { IfNone result ((e : Event) → IsEvent e → letter.now ++ 32 ∷ rest.now ≢ event_text e) }
 {
-    if letter == b"r".as_slice() {
-        read_of(rest)
-    } else if letter == b"b".as_slice() {
-        block_of(rest)
-    } else if letter == b"f".as_slice() {
-        Some(Event::Finish(version_of(rest)?))
-    } else if letter == b"c".as_slice() {
-        Some(Event::BeginCheck(version_of(rest)?))
-    } else {
-        None
+    match letter {
+        b"r" => read_of(rest),
+        b"b" => block_of(rest),
+        b"f" => Some(Event::Finish(version_of(rest)?)),
+        b"c" => Some(Event::BeginCheck(version_of(rest)?)),
+        _ => None,
     }
 }
 

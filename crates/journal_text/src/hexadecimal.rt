@@ -1,4 +1,4 @@
-ghost use Rattle.std.specs.Prelude.{◌≡◌, ℕ, ◌≤◌, take};
+ghost use Rattle.std.specs.Prelude.{◌≡◌, ◌≤◌, take};
 ghost use Rattle.hex.specs.Hex.{encode_lower};
 ghost use Rattle.iso8583.specs.Padded.{HasPrintable};
 

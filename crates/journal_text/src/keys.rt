@@ -1,6 +1,6 @@
 //! Reading keys. Each reader takes the texts that are written of its values, and no other.
 
-ghost use Rattle.std.specs.Prelude.{◌≡◌, ◌≢◌, ℕ, ◌/◌, ◌++◌, length, IfSome, IfNone, codes};
+ghost use Rattle.std.specs.Prelude.{◌≡◌, ◌≢◌, ◌/◌, ◌++◌, length, IfSome, IfNone, codes};
 ghost use Rattle.hex.specs.Hex.{encode_lower};
 ghost use Rattle.iso8583.specs.Padded.{HasPrintable};
 ghost use Rattle.iso8583.specs.declared.account_id.AccountId.{AccountId};

@@ -1,6 +1,6 @@
 //! Writing a journal.
 
-ghost use Rattle.std.specs.Prelude.{◌≡◌, ℕ, ◌+◌, ◌*◌, ◌≤◌, ◌∷◌, ◌++◌, length, vec_len, vec_capacity, IfOk, OnOk, OnErr, IsOk, alloc_error, IfErr};
+ghost use Rattle.std.specs.Prelude.{◌≡◌, ◌+◌, ◌≤◌, ◌++◌, length, vec_len, vec_capacity, IfOk, OnOk, OnErr, IsOk};
 ghost use Rattle.std.specs.Fmt.{decimal};
 ghost use Rattle.hex.specs.Hex.{encode_lower};
 ghost use Rattle.iso8583.specs.Padded.{HasPrintable};
@@ -19,7 +19,7 @@ use std::alloc::{AllocError, Global};
 /// Bytes of room in which every key can be written without memory. The longest has 61.
 pub const KEY_ROOM: usize = 64;
 
-/// Bytes of room in which every line can be written without memory. The longest has 88.
+/// Bytes of room in which every line can be written without memory. The longest has 89.
 const LINE_ROOM: usize = 128;
 
 /// Appends the text.

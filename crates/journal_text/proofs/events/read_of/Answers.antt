@@ -3,7 +3,7 @@ use Rattle.journal_text.specs.Marks.{Lacks}
 use Rattle.journal_text.specs.Texts.{version_text}
 use Rattle.journal_text.proofs.EventTexts.{read_only, behind_version}
 use Rattle.journal_text.proofs.Marks.{not_lacking}
-use Rattle.journal_text.proofs.Numbers.{if_none}
+use Rattle.journal_text.proofs.Anyway.{if_none}
 use Rattle.journal_text.proofs.events.read_of.Goals as goal
 
 pub returns-in_err-version-clause-none : goal.returns-in_err-version-clause-none

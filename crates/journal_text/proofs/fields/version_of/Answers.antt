@@ -1,4 +1,5 @@
-use Rattle.journal_text.proofs.Numbers.{if_none, version_marked, version_parts}
+use Rattle.journal_text.proofs.Anyway.{if_none}
+use Rattle.journal_text.proofs.Numbers.{version_marked, version_parts}
 use Rattle.journal_text.proofs.fields.version_of.Goals as goal
 
 pub returns-in_err-index-clause-none : goal.returns-in_err-index-clause-none

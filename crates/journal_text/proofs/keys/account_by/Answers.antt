@@ -4,7 +4,7 @@ use Rattle.std.proofs.lemmas.Option.{none-some}
 use Rattle.hex.specs.Hex.{encode_lower}
 use Rattle.iso8583.specs.Padded.{HasPrintable}
 use Rattle.journal_text.proofs.KeyTexts.{decoded, not_unequal}
-use Rattle.journal_text.proofs.Numbers.{if_none}
+use Rattle.journal_text.proofs.Anyway.{if_none}
 use Rattle.journal_text.proofs.keys.account_by.Goals as goal
 
 pub returns-in_err-ok-clause-none : goal.returns-in_err-ok-clause-none

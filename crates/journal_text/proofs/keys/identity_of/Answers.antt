@@ -5,7 +5,7 @@ use Rattle.iso8583.specs.Padded.{HasDigits}
 use Rattle.journal_text.specs.Marks.{Lacks}
 use Rattle.journal_text.proofs.KeyTexts.{identity_marked, identity_first, identity_last}
 use Rattle.journal_text.proofs.Marks.{not_lacking}
-use Rattle.journal_text.proofs.Numbers.{if_none}
+use Rattle.journal_text.proofs.Anyway.{if_none}
 use Rattle.journal_text.proofs.keys.identity_of.Goals as goal
 
 pub returns-in_err-acquirer-clause-none : goal.returns-in_err-acquirer-clause-none

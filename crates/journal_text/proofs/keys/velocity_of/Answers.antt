@@ -1,5 +1,5 @@
 use Rattle.journal_text.proofs.KeyTexts.{day_marked, day_parts}
-use Rattle.journal_text.proofs.Numbers.{if_none}
+use Rattle.journal_text.proofs.Anyway.{if_none}
 use Rattle.journal_text.proofs.keys.velocity_of.Goals as goal
 
 pub returns-in_err-pan-clause-none : goal.returns-in_err-pan-clause-none

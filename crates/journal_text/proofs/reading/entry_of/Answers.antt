@@ -5,7 +5,7 @@ use Rattle.journal_text.specs.Texts.{event_text}
 use Rattle.journal_text.proofs.Back.{number_back, number_back_is}
 use Rattle.journal_text.proofs.Lines.{entry_parts}
 use Rattle.journal_text.proofs.Marks.{not_lacking}
-use Rattle.journal_text.proofs.Numbers.{if_none}
+use Rattle.journal_text.proofs.Anyway.{if_none}
 use Rattle.journal_text.proofs.reading.entry_of.Goals as goal
 
 pub returns-in_err-seat-clause-none : goal.returns-in_err-seat-clause-none

@@ -1,5 +1,5 @@
 use Rattle.journal_text.proofs.Lines.{line_parts}
-use Rattle.journal_text.proofs.Numbers.{if_none}
+use Rattle.journal_text.proofs.Anyway.{if_none}
 use Rattle.journal_text.proofs.reading.first_entry.Goals as goal
 
 pub returns-in_err-entry_of-clause-none : goal.returns-in_err-entry_of-clause-none

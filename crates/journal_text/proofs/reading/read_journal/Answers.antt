@@ -3,7 +3,7 @@ use Rattle.std.proofs.lemmas.Grind.{common_steps}
 use Rattle.journal_text.specs.Journal.{line_of, journal_text, IsFirstWrongLine}
 use Rattle.journal_text.specs.declared.replay_fault.ReplayFault.TheVariants.{Line}
 use Rattle.journal_text.proofs.Lines.{wrong_line, no_wrong_line, one_wrong_line, begins_with_a_line}
-use Rattle.journal_text.proofs.Numbers.{if_err}
+use Rattle.journal_text.proofs.Anyway.{if_err}
 use Rattle.journal_text.proofs.reading.read_journal.Goals as goal
 
 found : (c : goal.After-drop-entries) → IsFirstWrongLine c.args.text.now (c.len.result + 1)
