@@ -2,7 +2,8 @@
 
 use fixtures::{account, identity, pan};
 use iso8583::{Day, PanPrefix};
-use journal_text::{Entry, Event, ReplayFault, Seat, read_journal, write_journal, write_key};
+use journal_text::{Entry, Event, ReplayFault, read_journal, write_journal, write_key};
+use speccore_laws::Seat;
 use mvmem::Version;
 use rows::RowKey;
 use std::alloc::Global;

@@ -1,5 +1,5 @@
 use crate::event::Event;
-use crate::seat::Seat;
+use speccore_laws::Seat;
 
 /// An entry of a journal: what was done, and at which seat.
 #[derive(Clone, Copy, Debug, PartialEq, Eq)]

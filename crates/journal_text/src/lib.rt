@@ -10,7 +10,6 @@ mod keys;
 mod laws;
 mod reading;
 mod replay_fault;
-mod seat;
 mod writing;
 
 pub use entry::Entry;
@@ -18,5 +17,4 @@ pub use event::Event;
 pub use laws::no_two_journals_have_one_text;
 pub use reading::read_journal;
 pub use replay_fault::ReplayFault;
-pub use seat::Seat;
 pub use writing::{KEY_ROOM, write_journal, write_key};

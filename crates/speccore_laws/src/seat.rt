@@ -1,9 +1,9 @@
-ghost use Rattle.std.specs.Prelude.{◌≡◌, ◌≤◌, ◌<◌, IfSome, Some, None};
-ghost use Rattle.speccore_laws.specs.State.{seats};
+ghost use Rattle.std.specs.Prelude.{◌≡◌, ◌<◌};
+ghost use Rattle.std.specs.Option.{SomeIff};
 
 use std::marker::Model;
 
-/// One of the 64 seats at which checks are made: a worker sits at one, and its check goes on from call to call.
+/// One of the 64 seats at which workers work: a check that a worker makes goes on at its seat from call to call.
 #[derive(Clone, Copy, Debug, PartialEq, Eq)]
 pub struct Seat {
     number: u32,
@@ -11,22 +11,20 @@ pub struct Seat {
 
 impl Model for Seat {
     ghost use Rattle.std.specs.Prelude.{ℕ, ◌<◌};
-    ghost use Rattle.speccore_laws.specs.State.{seats};
 
     ghost Value = { ℕ };
 
     ghost view = { λ s. s.number };
 
-    ghost invariant = { λ s. s.number < seats };
+    ghost invariant = { λ s. s.number < 64 };
 
     ghost inverse = { λ n. record { number = n } };
 }
 
 impl Seat {
-    /// The seat of this number, 0 to 63.
+    /// The seat of this number, if it is below 64.
     pub fn new(number: u32) -> Option<Seat>
-        ensures some { number < seats → result ≡ Some number }
-        ensures none { seats ≤ number → result ≡ None }
+        ensures { SomeIff result (number < 64) number }
     {
         if number < 64 {
             Some(Seat { number })
@@ -35,10 +33,10 @@ impl Seat {
         }
     }
 
-    /// Its number.
-    pub fn number(self) -> u32
-        ensures number { result ≡ self }
-        ensures within { result < seats }
+    /// The seat's number, from 0.
+    pub fn number(&self) -> u32
+        ensures value { result ≡ self.now }
+        ensures bound { result < 64 }
     {
         self.number
     }

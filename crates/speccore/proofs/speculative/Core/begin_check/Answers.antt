@@ -15,7 +15,7 @@ index-slot-requires c =
 
 pub index_mut-requires : goal.index_mut-requires
 index_mut-requires c =
-    let l = seat_there (the_view c.self.inside).state c.self.invariant.1 c.number.result c.number.ensures.within in
+    let l = seat_there (the_view c.self.inside).state c.self.invariant.1 c.number.result c.number.ensures.bound in
     omega arith
 
 pub invariant_of-self : goal.invariant_of-self
@@ -28,9 +28,9 @@ invariant_of-self c =
     ap₂ (λ (e n : ℕ). record { version = c.args.version; began = e; place = 0; reads = n; failed = false }) c.epoch.ensures c.reads.ensures in
     let after : Play = play (record s { checks = set s.checks c.number.result (Some check) }) c.self.inside.sched.execution c.self.inside.sched.validation in
     let step : PlayStep (the_view c.self.inside) (Begin c.args.seat c.args.version (Ok c.is_at_end-is_ended.result)) after =
-    subst (λ (n : ℕ). PlayStep (the_view c.self.inside) (Begin n c.args.version (Ok c.is_at_end-is_ended.result)) after) c.number.ensures.number
+    subst (λ (n : ℕ). PlayStep (the_view c.self.inside) (Begin n c.args.version (Ok c.is_at_end-is_ended.result)) after) c.number.ensures.value
     (subst (λ (ended : Bool). PlayStep (the_view c.self.inside) (Begin c.number.result c.args.version (Ok ended)) after) (sym c.is_at_end-is_ended.ensures)
-    (begin_step s c.self.inside.sched.execution c.self.inside.sched.validation c.number.result c.args.version c.index-slot.result.now check c.number.ensures.within (c.is_open.ensures.opened.0 c.if-not-is_open.false) here same)) in
+    (begin_step s c.self.inside.sched.execution c.self.inside.sched.validation c.number.result c.args.version c.index-slot.result.now check c.number.ensures.bound (c.is_open.ensures.opened.0 c.if-not-is_open.false) here same)) in
     (c.self.invariant.0, play_kept (the_view c.self.inside) (Begin c.args.seat c.args.version (Ok c.is_at_end-is_ended.result)) after c.self.invariant.1 step, c.self.invariant.2, c.self.invariant.3)
 
 pub returns : goal.returns
@@ -43,7 +43,7 @@ returns c =
     ap₂ (λ (e n : ℕ). record { version = c.args.version; began = e; place = 0; reads = n; failed = false }) c.epoch.ensures c.reads.ensures in
     let after : Play = play (record s { checks = set s.checks c.number.result (Some check) }) c.self.inside.sched.execution c.self.inside.sched.validation in
     let step : PlayStep (the_view c.self.inside) (Begin c.args.seat c.args.version (Ok c.is_at_end-is_ended.result)) after =
-    subst (λ (n : ℕ). PlayStep (the_view c.self.inside) (Begin n c.args.version (Ok c.is_at_end-is_ended.result)) after) c.number.ensures.number
+    subst (λ (n : ℕ). PlayStep (the_view c.self.inside) (Begin n c.args.version (Ok c.is_at_end-is_ended.result)) after) c.number.ensures.value
     (subst (λ (ended : Bool). PlayStep (the_view c.self.inside) (Begin c.number.result c.args.version (Ok ended)) after) (sym c.is_at_end-is_ended.ensures)
-    (begin_step s c.self.inside.sched.execution c.self.inside.sched.validation c.number.result c.args.version c.index-slot.result.now check c.number.ensures.within (c.is_open.ensures.opened.0 c.if-not-is_open.false) here same)) in
+    (begin_step s c.self.inside.sched.execution c.self.inside.sched.validation c.number.result c.args.version c.index-slot.result.now check c.number.ensures.bound (c.is_open.ensures.opened.0 c.if-not-is_open.false) here same)) in
     record { step = subst (λ (p : Play). PlayStep p (Begin c.args.seat c.args.version (Ok c.is_at_end-is_ended.result)) after) c.self.view_is step }

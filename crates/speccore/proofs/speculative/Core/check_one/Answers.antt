@@ -14,12 +14,12 @@ use Rattle.std.proofs.lemmas.Bool.{false≢true}
 
 pub index-requires : goal.index-requires
 index-requires c =
-    let l = seat_there (the_view c.self.inside).state c.self.invariant.1 c.number-seat.result c.number-seat.ensures.within in
+    let l = seat_there (the_view c.self.inside).state c.self.invariant.1 c.number-seat.result c.number-seat.ensures.bound in
     omega arith
 
 pub index_mut-requires : goal.index_mut-requires
 index_mut-requires c =
-    let l = seat_there (the_view c.self.inside).state c.self.invariant.1 c.number-seat.result c.number-seat.ensures.within in
+    let l = seat_there (the_view c.self.inside).state c.self.invariant.1 c.number-seat.result c.number-seat.ensures.bound in
     omega arith
 
 pub returns-then-not-is_open : goal.returns-then-not-is_open
@@ -27,12 +27,12 @@ returns-then-not-is_open c =
     let s : State = (the_view c.self.inside).state in
     let seat : ℕ = c.number-seat.result in
     let check : Check = c.in-Some.check in
-    let has : check_of s seat ≡ Some check = at_seat s seat c.index.result.now check (seat_there s c.self.invariant.1 seat c.number-seat.ensures.within) c.index.ensures c.in-Some.is in
+    let has : check_of s seat ≡ Some check = at_seat s seat c.index.result.now check (seat_there s c.self.invariant.1 seat c.number-seat.ensures.bound) c.index.ensures c.in-Some.is in
     let closed : ¬ IsOpen s.board check.version = λ is. false≢true (sym c.if-not-is_open.true ∙ c.is_open.ensures.opened.1 is) in
     let step : PlayStep (the_view c.self.inside) (CheckOne seat (Err Outdated)) (the_view c.self.inside) =
-    ((c.number-seat.ensures.within, ((check, (has, sym c.is_at_end.ensures ∙ c.if-is_at_end.false), closed), refl)), (refl, refl)) in
+    ((c.number-seat.ensures.bound, ((check, (has, sym c.is_at_end.ensures ∙ c.if-is_at_end.false), closed), refl)), (refl, refl)) in
     record {
-      step = subst (λ (p : Play). PlayStep p (CheckOne c.args.seat (Err Outdated)) p) c.self.view_is (subst (λ (n : ℕ). PlayStep (the_view c.self.inside) (CheckOne n (Err Outdated)) (the_view c.self.inside)) c.number-seat.ensures.number step);
+      step = subst (λ (p : Play). PlayStep p (CheckOne c.args.seat (Err Outdated)) p) c.self.view_is (subst (λ (n : ℕ). PlayStep (the_view c.self.inside) (CheckOne n (Err Outdated)) (the_view c.self.inside)) c.number-seat.ensures.value step);
     }
 
 pub overflow_cast-index : goal.overflow_cast-index
@@ -52,7 +52,7 @@ origin_at-row-requires c =
     let s : State = (the_view c.self.inside).state in
     let seat : ℕ = c.number-seat.result in
     let check : Check = c.in-Some.check in
-    let has : check_of s seat ≡ Some check = at_seat s seat c.index.result.now check (seat_there s c.self.invariant.1 seat c.number-seat.ensures.within) c.index.ensures c.in-Some.is in
+    let has : check_of s seat ≡ Some check = at_seat s seat c.index.result.now check (seat_there s c.self.invariant.1 seat c.number-seat.ensures.bound) c.index.ensures c.in-Some.is in
     let opened : IsOpen s.board check.version = c.is_open.ensures.opened.0 c.if-not-is_open.false in
     let l = slot_there s c.self.invariant.1 check.version.index (c.is_open.ensures.within c.if-not-is_open.false) in
     let next = next_there s c.self.invariant.1 seat check has (sym c.is_at_end.ensures ∙ c.if-is_at_end.false) opened in
@@ -63,7 +63,7 @@ after_read-next-requires c =
     let s : State = (the_view c.self.inside).state in
     let seat : ℕ = c.number-seat.result in
     let check : Check = c.in-Some.check in
-    let has : check_of s seat ≡ Some check = at_seat s seat c.index.result.now check (seat_there s c.self.invariant.1 seat c.number-seat.ensures.within) c.index.ensures c.in-Some.is in
+    let has : check_of s seat ≡ Some check = at_seat s seat c.index.result.now check (seat_there s c.self.invariant.1 seat c.number-seat.ensures.bound) c.index.ensures c.in-Some.is in
     before_end s c.self.invariant.1 seat check has (sym c.is_at_end.ensures ∙ c.if-is_at_end.false)
 
 pub invariant_of-self : goal.invariant_of-self
@@ -71,16 +71,16 @@ invariant_of-self c =
     let s : State = (the_view c.self.inside).state in
     let seat : ℕ = c.number-seat.result in
     let check : Check = c.in-Some.check in
-    let has : check_of s seat ≡ Some check = at_seat s seat c.index.result.now check (seat_there s c.self.invariant.1 seat c.number-seat.ensures.within) c.index.ensures c.in-Some.is in
+    let has : check_of s seat ≡ Some check = at_seat s seat c.index.result.now check (seat_there s c.self.invariant.1 seat c.number-seat.ensures.bound) c.index.ensures c.in-Some.is in
     let opened : IsOpen s.board check.version = c.is_open.ensures.opened.0 c.if-not-is_open.false in
     let l = slot_there s c.self.invariant.1 check.version.index (c.is_open.ensures.within c.if-not-is_open.false) in
     let next : Check = c.after_read-next.result in
     let after : Play = play (record s { checks = set s.checks seat (Some next) }) c.self.inside.sched.execution c.self.inside.sched.validation in
     let made : PlayStep (the_view c.self.inside) (CheckOne seat (Ok (is_at_end next))) after =
-    check_step s c.self.inside.sched.execution c.self.inside.sched.validation seat check next c.index-slot.result.now c.origin_at-row.result c.resolves_as.result c.number-seat.ensures.within has (sym c.is_at_end.ensures ∙ c.if-is_at_end.false) opened
+    check_step s c.self.inside.sched.execution c.self.inside.sched.validation seat check next c.index-slot.result.now c.origin_at-row.result c.resolves_as.result c.number-seat.ensures.bound has (sym c.is_at_end.ensures ∙ c.if-is_at_end.false) opened
     (at_slot s check.version.index c.index-slot.result.now l c.index-slot.ensures) c.origin_at-row.ensures c.resolves_as.ensures.0 c.resolves_as.ensures.1 c.after_read-next.ensures in
     let step : PlayStep (the_view c.self.inside) (CheckOne c.args.seat (Ok c.is_at_end-is_ended.result)) after =
-    subst (λ (n : ℕ). PlayStep (the_view c.self.inside) (CheckOne n (Ok c.is_at_end-is_ended.result)) after) c.number-seat.ensures.number
+    subst (λ (n : ℕ). PlayStep (the_view c.self.inside) (CheckOne n (Ok c.is_at_end-is_ended.result)) after) c.number-seat.ensures.value
     (subst (λ (ended : Bool). PlayStep (the_view c.self.inside) (CheckOne seat (Ok ended)) after) (sym c.is_at_end-is_ended.ensures) made) in
     (c.self.invariant.0, play_kept (the_view c.self.inside) (CheckOne c.args.seat (Ok c.is_at_end-is_ended.result)) after c.self.invariant.1 step, c.self.invariant.2, c.self.invariant.3)
 
@@ -89,15 +89,15 @@ returns c =
     let s : State = (the_view c.self.inside).state in
     let seat : ℕ = c.number-seat.result in
     let check : Check = c.in-Some.check in
-    let has : check_of s seat ≡ Some check = at_seat s seat c.index.result.now check (seat_there s c.self.invariant.1 seat c.number-seat.ensures.within) c.index.ensures c.in-Some.is in
+    let has : check_of s seat ≡ Some check = at_seat s seat c.index.result.now check (seat_there s c.self.invariant.1 seat c.number-seat.ensures.bound) c.index.ensures c.in-Some.is in
     let opened : IsOpen s.board check.version = c.is_open.ensures.opened.0 c.if-not-is_open.false in
     let l = slot_there s c.self.invariant.1 check.version.index (c.is_open.ensures.within c.if-not-is_open.false) in
     let next : Check = c.after_read-next.result in
     let after : Play = play (record s { checks = set s.checks seat (Some next) }) c.self.inside.sched.execution c.self.inside.sched.validation in
     let made : PlayStep (the_view c.self.inside) (CheckOne seat (Ok (is_at_end next))) after =
-    check_step s c.self.inside.sched.execution c.self.inside.sched.validation seat check next c.index-slot.result.now c.origin_at-row.result c.resolves_as.result c.number-seat.ensures.within has (sym c.is_at_end.ensures ∙ c.if-is_at_end.false) opened
+    check_step s c.self.inside.sched.execution c.self.inside.sched.validation seat check next c.index-slot.result.now c.origin_at-row.result c.resolves_as.result c.number-seat.ensures.bound has (sym c.is_at_end.ensures ∙ c.if-is_at_end.false) opened
     (at_slot s check.version.index c.index-slot.result.now l c.index-slot.ensures) c.origin_at-row.ensures c.resolves_as.ensures.0 c.resolves_as.ensures.1 c.after_read-next.ensures in
     let step : PlayStep (the_view c.self.inside) (CheckOne c.args.seat (Ok c.is_at_end-is_ended.result)) after =
-    subst (λ (n : ℕ). PlayStep (the_view c.self.inside) (CheckOne n (Ok c.is_at_end-is_ended.result)) after) c.number-seat.ensures.number
+    subst (λ (n : ℕ). PlayStep (the_view c.self.inside) (CheckOne n (Ok c.is_at_end-is_ended.result)) after) c.number-seat.ensures.value
     (subst (λ (ended : Bool). PlayStep (the_view c.self.inside) (CheckOne seat (Ok ended)) after) (sym c.is_at_end-is_ended.ensures) made) in
     record { step = subst (λ (p : Play). PlayStep p (CheckOne c.args.seat (Ok c.is_at_end-is_ended.result)) after) c.self.view_is step }

@@ -16,17 +16,17 @@ use Rattle.speccore_laws.specs.Step.{CanAbort}
 
 pub index-requires : goal.index-requires
 index-requires c =
-    let l = seat_there (the_view c.self.inside).state c.self.invariant.1 c.number-seat.result c.number-seat.ensures.within in
+    let l = seat_there (the_view c.self.inside).state c.self.invariant.1 c.number-seat.result c.number-seat.ensures.bound in
     omega arith
 
 pub index_mut-requires : goal.index_mut-requires
 index_mut-requires c =
-    let l = seat_there (the_view c.self.inside).state c.self.invariant.1 c.number-seat.result c.number-seat.ensures.within in
+    let l = seat_there (the_view c.self.inside).state c.self.invariant.1 c.number-seat.result c.number-seat.ensures.bound in
     omega arith
 
 pub index_mut-requires-2 : goal.index_mut-requires-2
 index_mut-requires-2 c =
-    let l = seat_there (the_view c.self.inside).state c.self.invariant.1 c.number-seat.result c.number-seat.ensures.within in
+    let l = seat_there (the_view c.self.inside).state c.self.invariant.1 c.number-seat.result c.number-seat.ensures.bound in
     omega arith
 
 pub returns-then-not-is_open : goal.returns-then-not-is_open
@@ -34,12 +34,12 @@ returns-then-not-is_open c =
     let s : State = (the_view c.self.inside).state in
     let seat : ℕ = c.number-seat.result in
     let check : Check = c.in-Some.check in
-    let has : check_of s seat ≡ Some check = at_seat s seat c.index.result.now check (seat_there s c.self.invariant.1 seat c.number-seat.ensures.within) c.index.ensures c.in-Some.is in
+    let has : check_of s seat ≡ Some check = at_seat s seat c.index.result.now check (seat_there s c.self.invariant.1 seat c.number-seat.ensures.bound) c.index.ensures c.in-Some.is in
     let closed : ¬ IsOpen s.board check.version = λ is. false≢true (sym c.if-not-is_open.true ∙ c.is_open.ensures.opened.1 is) in
     let step : PlayStep (the_view c.self.inside) (End seat (Err Outdated)) (the_view c.self.inside) =
-    ((c.number-seat.ensures.within, ((check, (has, sym c.is_at_end.ensures ∙ c.if-not-is_at_end.false), closed), refl)), (refl, refl)) in
+    ((c.number-seat.ensures.bound, ((check, (has, sym c.is_at_end.ensures ∙ c.if-not-is_at_end.false), closed), refl)), (refl, refl)) in
     record {
-      step = subst (λ (p : Play). PlayStep p (End c.args.seat (Err Outdated)) p) c.self.view_is (subst (λ (n : ℕ). PlayStep (the_view c.self.inside) (End n (Err Outdated)) (the_view c.self.inside)) c.number-seat.ensures.number step);
+      step = subst (λ (p : Play). PlayStep p (End c.args.seat (Err Outdated)) p) c.self.view_is (subst (λ (n : ℕ). PlayStep (the_view c.self.inside) (End n (Err Outdated)) (the_view c.self.inside)) c.number-seat.ensures.value step);
     }
 
 pub invariant_of-self : goal.invariant_of-self
@@ -47,13 +47,13 @@ invariant_of-self c =
     let s : State = (the_view c.self.inside).state in
     let seat : ℕ = c.number-seat.result in
     let check : Check = c.in-Some.check in
-    let has : check_of s seat ≡ Some check = at_seat s seat c.index.result.now check (seat_there s c.self.invariant.1 seat c.number-seat.ensures.within) c.index.ensures c.in-Some.is in
+    let has : check_of s seat ≡ Some check = at_seat s seat c.index.result.now check (seat_there s c.self.invariant.1 seat c.number-seat.ensures.bound) c.index.ensures c.in-Some.is in
     let opened : IsOpen s.board check.version = c.is_open.ensures.opened.0 c.if-not-is_open.false in
     let l = slot_there s c.self.invariant.1 check.version.index (c.is_open.ensures.within c.if-not-is_open.false) in
     let after : Play = play (record s { board = c.passed.new.self.board; checks = set s.checks seat None }) c.passed.new.self.execution c.passed.new.self.validation in
     let step : PlayStep (the_view c.self.inside) (End c.args.seat (Ok true)) after =
-    subst (λ (n : ℕ). PlayStep (the_view c.self.inside) (End n (Ok true)) after) c.number-seat.ensures.number
-    (pass_step s c.self.inside.sched.execution c.self.inside.sched.validation seat check c.passed.new.self c.number-seat.ensures.within has (sym c.is_at_end.ensures ∙ c.if-not-is_at_end.false) opened c.if-not-check.true c.passed.ensures) in
+    subst (λ (n : ℕ). PlayStep (the_view c.self.inside) (End n (Ok true)) after) c.number-seat.ensures.value
+    (pass_step s c.self.inside.sched.execution c.self.inside.sched.validation seat check c.passed.new.self c.number-seat.ensures.bound has (sym c.is_at_end.ensures ∙ c.if-not-is_at_end.false) opened c.if-not-check.true c.passed.ensures) in
     (c.self.invariant.0, play_kept (the_view c.self.inside) (End c.args.seat (Ok true)) after c.self.invariant.1 step, c.self.invariant.2, c.self.invariant.3)
 
 pub returns-then-not-check : goal.returns-then-not-check
@@ -61,13 +61,13 @@ returns-then-not-check c =
     let s : State = (the_view c.self.inside).state in
     let seat : ℕ = c.number-seat.result in
     let check : Check = c.in-Some.check in
-    let has : check_of s seat ≡ Some check = at_seat s seat c.index.result.now check (seat_there s c.self.invariant.1 seat c.number-seat.ensures.within) c.index.ensures c.in-Some.is in
+    let has : check_of s seat ≡ Some check = at_seat s seat c.index.result.now check (seat_there s c.self.invariant.1 seat c.number-seat.ensures.bound) c.index.ensures c.in-Some.is in
     let opened : IsOpen s.board check.version = c.is_open.ensures.opened.0 c.if-not-is_open.false in
     let l = slot_there s c.self.invariant.1 check.version.index (c.is_open.ensures.within c.if-not-is_open.false) in
     let after : Play = play (record s { board = c.passed.new.self.board; checks = set s.checks seat None }) c.passed.new.self.execution c.passed.new.self.validation in
     let step : PlayStep (the_view c.self.inside) (End c.args.seat (Ok true)) after =
-    subst (λ (n : ℕ). PlayStep (the_view c.self.inside) (End n (Ok true)) after) c.number-seat.ensures.number
-    (pass_step s c.self.inside.sched.execution c.self.inside.sched.validation seat check c.passed.new.self c.number-seat.ensures.within has (sym c.is_at_end.ensures ∙ c.if-not-is_at_end.false) opened c.if-not-check.true c.passed.ensures) in
+    subst (λ (n : ℕ). PlayStep (the_view c.self.inside) (End n (Ok true)) after) c.number-seat.ensures.value
+    (pass_step s c.self.inside.sched.execution c.self.inside.sched.validation seat check c.passed.new.self c.number-seat.ensures.bound has (sym c.is_at_end.ensures ∙ c.if-not-is_at_end.false) opened c.if-not-check.true c.passed.ensures) in
     record { step = subst (λ (p : Play). PlayStep p (End c.args.seat (Ok true)) after) c.self.view_is step }
 
 pub returns-then-check-self : goal.returns-then-check-self
@@ -75,7 +75,7 @@ returns-then-check-self c =
     let s : State = (the_view c.self.inside).state in
     let seat : ℕ = c.number-seat.result in
     let check : Check = c.in-Some.check in
-    let has : check_of s seat ≡ Some check = at_seat s seat c.index.result.now check (seat_there s c.self.invariant.1 seat c.number-seat.ensures.within) c.index.ensures c.in-Some.is in
+    let has : check_of s seat ≡ Some check = at_seat s seat c.index.result.now check (seat_there s c.self.invariant.1 seat c.number-seat.ensures.bound) c.index.ensures c.in-Some.is in
     let opened : IsOpen s.board check.version = c.is_open.ensures.opened.0 c.if-not-is_open.false in
     let l = slot_there s c.self.invariant.1 check.version.index (c.is_open.ensures.within c.if-not-is_open.false) in
     let worn : ¬ CanAbort s check =
@@ -84,9 +84,9 @@ returns-then-check-self c =
       | then-check-self-via-else-check-self+then-epoch-self w ↦ λ can. can.1 (sym w.epoch.ensures ∙ w.if-epoch-self.true)
     ] in
     let step : PlayStep (the_view c.self.inside) (End seat (Err Worn)) (the_view c.self.inside) =
-    ((c.number-seat.ensures.within, ((check, (has, sym c.is_at_end.ensures ∙ c.if-not-is_at_end.false), opened, c.if-not-check.false, worn), refl)), (refl, refl)) in
+    ((c.number-seat.ensures.bound, ((check, (has, sym c.is_at_end.ensures ∙ c.if-not-is_at_end.false), opened, c.if-not-check.false, worn), refl)), (refl, refl)) in
     record {
-      step = subst (λ (p : Play). PlayStep p (End c.args.seat (Err Worn)) p) c.self.view_is (subst (λ (n : ℕ). PlayStep (the_view c.self.inside) (End n (Err Worn)) (the_view c.self.inside)) c.number-seat.ensures.number step);
+      step = subst (λ (p : Play). PlayStep p (End c.args.seat (Err Worn)) p) c.self.view_is (subst (λ (n : ℕ). PlayStep (the_view c.self.inside) (End n (Err Worn)) (the_view c.self.inside)) c.number-seat.ensures.value step);
     }
 
 pub abort-requires-clause-left : goal.abort-requires-clause-left
@@ -94,7 +94,7 @@ abort-requires-clause-left c =
     let s : State = (the_view c.self.inside).state in
     let seat : ℕ = c.number-seat.result in
     let check : Check = c.in-Some.check in
-    let has : check_of s seat ≡ Some check = at_seat s seat c.index.result.now check (seat_there s c.self.invariant.1 seat c.number-seat.ensures.within) c.index.ensures c.in-Some.is in
+    let has : check_of s seat ≡ Some check = at_seat s seat c.index.result.now check (seat_there s c.self.invariant.1 seat c.number-seat.ensures.bound) c.index.ensures c.in-Some.is in
     let opened : IsOpen s.board check.version = c.is_open.ensures.opened.0 c.if-not-is_open.false in
     let l = slot_there s c.self.invariant.1 check.version.index (c.is_open.ensures.within c.if-not-is_open.false) in
     let bound = ((Holds-reached s c.self.invariant.1).messages check.version.index).incarnation in
@@ -127,13 +127,13 @@ invariant_of-self-2 c =
     let s : State = (the_view c.self.inside).state in
     let seat : ℕ = c.number-seat.result in
     let check : Check = c.in-Some.check in
-    let has : check_of s seat ≡ Some check = at_seat s seat c.index.result.now check (seat_there s c.self.invariant.1 seat c.number-seat.ensures.within) c.index.ensures c.in-Some.is in
+    let has : check_of s seat ≡ Some check = at_seat s seat c.index.result.now check (seat_there s c.self.invariant.1 seat c.number-seat.ensures.bound) c.index.ensures c.in-Some.is in
     let opened : IsOpen s.board check.version = c.is_open.ensures.opened.0 c.if-not-is_open.false in
     let l = slot_there s c.self.invariant.1 check.version.index (c.is_open.ensures.within c.if-not-is_open.false) in
     let after : Play = play (record s { board = c.abort.new.self.board; entries = c.to_estimates.new.self.entries; slots = set s.slots check.version.index c.clear.new.self; checks = set s.checks seat None }) c.abort.new.self.execution c.abort.new.self.validation in
     let step : PlayStep (the_view c.self.inside) (End c.args.seat (Ok false)) after =
-    subst (λ (n : ℕ). PlayStep (the_view c.self.inside) (End n (Ok false)) after) c.number-seat.ensures.number
-    (fail_step s c.self.inside.sched.execution c.self.inside.sched.validation seat check c.to_estimates.new.self.entries c.abort.new.self c.clear.new.self c.number-seat.ensures.within has (sym c.is_at_end.ensures ∙ c.if-not-is_at_end.false) opened c.if-not-check.false c.if-check-self.false (λ same. c.if-epoch-self.false (c.epoch.ensures ∙ same)) c.to_estimates.ensures c.abort.ensures c.clear.ensures) in
+    subst (λ (n : ℕ). PlayStep (the_view c.self.inside) (End n (Ok false)) after) c.number-seat.ensures.value
+    (fail_step s c.self.inside.sched.execution c.self.inside.sched.validation seat check c.to_estimates.new.self.entries c.abort.new.self c.clear.new.self c.number-seat.ensures.bound has (sym c.is_at_end.ensures ∙ c.if-not-is_at_end.false) opened c.if-not-check.false c.if-check-self.false (λ same. c.if-epoch-self.false (c.epoch.ensures ∙ same)) c.to_estimates.ensures c.abort.ensures c.clear.ensures) in
     (c.self.invariant.0, play_kept (the_view c.self.inside) (End c.args.seat (Ok false)) after c.self.invariant.1 step, c.self.invariant.2, c.self.invariant.3)
 
 pub returns : goal.returns
@@ -141,11 +141,11 @@ returns c =
     let s : State = (the_view c.self.inside).state in
     let seat : ℕ = c.number-seat.result in
     let check : Check = c.in-Some.check in
-    let has : check_of s seat ≡ Some check = at_seat s seat c.index.result.now check (seat_there s c.self.invariant.1 seat c.number-seat.ensures.within) c.index.ensures c.in-Some.is in
+    let has : check_of s seat ≡ Some check = at_seat s seat c.index.result.now check (seat_there s c.self.invariant.1 seat c.number-seat.ensures.bound) c.index.ensures c.in-Some.is in
     let opened : IsOpen s.board check.version = c.is_open.ensures.opened.0 c.if-not-is_open.false in
     let l = slot_there s c.self.invariant.1 check.version.index (c.is_open.ensures.within c.if-not-is_open.false) in
     let after : Play = play (record s { board = c.abort.new.self.board; entries = c.to_estimates.new.self.entries; slots = set s.slots check.version.index c.clear.new.self; checks = set s.checks seat None }) c.abort.new.self.execution c.abort.new.self.validation in
     let step : PlayStep (the_view c.self.inside) (End c.args.seat (Ok false)) after =
-    subst (λ (n : ℕ). PlayStep (the_view c.self.inside) (End n (Ok false)) after) c.number-seat.ensures.number
-    (fail_step s c.self.inside.sched.execution c.self.inside.sched.validation seat check c.to_estimates.new.self.entries c.abort.new.self c.clear.new.self c.number-seat.ensures.within has (sym c.is_at_end.ensures ∙ c.if-not-is_at_end.false) opened c.if-not-check.false c.if-check-self.false (λ same. c.if-epoch-self.false (c.epoch.ensures ∙ same)) c.to_estimates.ensures c.abort.ensures c.clear.ensures) in
+    subst (λ (n : ℕ). PlayStep (the_view c.self.inside) (End n (Ok false)) after) c.number-seat.ensures.value
+    (fail_step s c.self.inside.sched.execution c.self.inside.sched.validation seat check c.to_estimates.new.self.entries c.abort.new.self c.clear.new.self c.number-seat.ensures.bound has (sym c.is_at_end.ensures ∙ c.if-not-is_at_end.false) opened c.if-not-check.false c.if-check-self.false (λ same. c.if-epoch-self.false (c.epoch.ensures ∙ same)) c.to_estimates.ensures c.abort.ensures c.clear.ensures) in
     record { step = subst (λ (p : Play). PlayStep p (End c.args.seat (Ok false)) after) c.self.view_is step }
