@@ -88,8 +88,8 @@ pub fn put_all(book: Book, writes: &WriteSet) -> Result<Book, AllocError>
 {
     let mut after = book;
     for index in 0..writes.len() {
-        let (key, row) = writes.at(index);
-        after.put(key, row)?;
+        let (key, row) = writes.row(index);
+        after.put(*key, *row)?;
     }
     Ok(after)
 }
