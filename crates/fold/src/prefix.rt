@@ -1,4 +1,4 @@
-ghost use Rattle.std.specs.Prelude.{◌≡◌, ◌+◌, ◌<◌, ◌^◌, [], ◌∷◌, ◌++◌, IfOk};
+ghost use Rattle.std.specs.Prelude.{◌≡◌, ◌+◌, ◌<◌, ◌^◌, [], ◌∷◌, ◌++◌, IfOk, OnOk};
 ghost use Rattle.rows.specs.Fold.{overlay, reply_of, writes_of, rows_after_one};
 
 use crate::plain_rows::PlainRows;
@@ -32,32 +32,23 @@ impl Prefix {
         }
     }
 
-    // Decides one more body, over the memory of these sets.
+    // Decides one more body, over the memory of these sets, which are given back.
     pub(crate) fn decide_next<F: Decide>(
-        self,
+        &mut self,
         frame: &Frame,
         decision: &F,
         sets: Sets,
-    ) -> Result<(Prefix, Sets), AllocError>
-        requires { self.count + 1 < 2 ^ 32 }
-        ensures count { IfOk result (λ after. after.0.count ≡ self.count + 1) }
-        ensures book { IfOk result (λ after. after.0.book ≡ rows_after_one self.book frame.now) }
-        ensures replies { IfOk result (λ after. after.0.replies.items ≡ self.replies.items ++ reply_of self.book frame.now ∷ []) }
+    ) -> Result<Sets, AllocError>
+        requires { self.old.count + 1 < 2 ^ 32 }
+        ensures count { OnOk result (self.new.count ≡ self.old.count + 1) }
+        ensures book { OnOk result (self.new.book ≡ rows_after_one self.old.book frame.now) }
+        ensures replies { OnOk result (self.new.replies.items ≡ self.old.replies.items ++ reply_of self.old.book frame.now ∷ []) }
     {
         let (reply, sets) = decide_on(&self.book, frame, decision, sets)?;
-        let Prefix {
-            count,
-            book,
-            mut replies,
-        } = self;
-        let book = put_all(book, &sets.writes)?;
-        replies.push(reply)?;
-        let prefix = Prefix {
-            count: count + 1,
-            book,
-            replies,
-        };
-        Ok((prefix, sets))
+        put_each(&mut self.book, &sets.writes)?;
+        self.replies.push(reply)?;
+        self.count += 1;
+        Ok(sets)
     }
 }
 
@@ -87,9 +78,17 @@ pub fn put_all(book: Book, writes: &WriteSet) -> Result<Book, AllocError>
     ensures { IfOk result (λ after. after ≡ overlay book writes.now) }
 {
     let mut after = book;
-    for index in 0..writes.len() {
-        let (key, row) = writes.at(index);
-        after.put(key, row)?;
-    }
+    put_each(&mut after, writes)?;
     Ok(after)
+}
+
+// Puts these rows, one after another.
+fn put_each(book: &mut Book, writes: &WriteSet) -> Result<(), AllocError>
+    ensures { OnOk result (book.new ≡ overlay book.old writes.now) }
+{
+    for index in 0..writes.len() {
+        let (key, row) = writes.row(index);
+        book.put(*key, *row)?;
+    }
+    Ok(())
 }

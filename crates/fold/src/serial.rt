@@ -38,7 +38,7 @@ pub fn decide_all_by<F: Decide>(
     let mut sets = Sets::new(alloc);
     let rest = &frames[after.count as usize..];
     for frame in rest {
-        (after, sets) = after.decide_next(frame, decision, sets)?;
+        sets = after.decide_next(frame, decision, sets)?;
     }
     Ok(after)
 }

@@ -61,7 +61,7 @@ fn order_eight(a: &[u8], b: &[u8], place: usize) -> Ordering
     let (_, theirs) = b.split_at(place);
     match (mine.first_chunk::<8>(), theirs.first_chunk::<8>()) {
         (Some(mine), Some(theirs)) => {
-            u64::from_be_bytes(*mine).cmp(&u64::from_be_bytes(*theirs))
+            order_numbers(u64::from_be_bytes(*mine), u64::from_be_bytes(*theirs))
         }
         _ => unreachable!(),
     }
@@ -78,8 +78,21 @@ fn order_four(a: &[u8], b: &[u8], place: usize) -> Ordering
     let (_, theirs) = b.split_at(place);
     match (mine.first_chunk::<4>(), theirs.first_chunk::<4>()) {
         (Some(mine), Some(theirs)) => {
-            u32::from_be_bytes(*mine).cmp(&u32::from_be_bytes(*theirs))
+            let (mine, theirs) = (u32::from_be_bytes(*mine), u32::from_be_bytes(*theirs));
+            order_numbers(u64::from(mine), u64::from(theirs))
         }
         _ => unreachable!(),
+    }
+}
+
+// Which of two numbers comes first. That they are the same is tested first: it needs no turning of bytes.
+#[inline(always)]
+fn order_numbers(mine: u64, theirs: u64) -> Ordering
+    ensures { result ≡ nat_cmp mine theirs }
+{
+    if mine == theirs {
+        Ordering::Equal
+    } else {
+        mine.cmp(&theirs)
     }
 }

@@ -17,4 +17,5 @@ pub mod RequestTable
 pub mod ReversalTable
 pub mod RowKey
 pub mod RowVal
+pub mod SameKey
 pub mod Typed

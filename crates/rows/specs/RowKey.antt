@@ -1,5 +1,5 @@
 -- The order of row keys: by kind, and inside a kind by the bytes of what names the row.
-use Rattle.std.specs.Prelude.{ℕ, Bool, ◌&&◌, ◌==◌, List, []}
+use Rattle.std.specs.Prelude.{ℕ, Bool, ◌&&◌, ◌==◌, List, [], ◌∷◌}
 use Rattle.std.specs.Cmp.Lexicographic.{pointwise, slice_cmp}
 use Rattle.std.specs.Ordering.{nat_cmp, on, then_cmp}
 use Rattle.std.specs.declared.cmp.Ordering.{Ordering}
@@ -57,3 +57,11 @@ key_cmp = then_cmp (on kind_of nat_cmp) texts_cmp
 -- the test whether two keys name the same row
 abbrev pub key_eq : RowKey → RowKey → Bool
 key_eq a b = (kind_of a == kind_of b) && (text_eq (first_text a) (first_text b) && (text_eq (second_text a) (second_text b) && text_eq (third_text a) (third_text b)))
+
+-- what a hasher is fed of a key: its texts, one write each
+abbrev pub fed_texts : RowKey → List (List ℕ)
+fed_texts (key.Card pan) = pan.0 ∷ []
+fed_texts (key.Velocity pan day) = pan.0 ∷ day ∷ []
+fed_texts (key.Budget prefix) = prefix.0 ∷ []
+fed_texts (key.Original identity) = identity.acquirer.0 ∷ identity.stan.0 ∷ identity.stamp ∷ []
+fed_texts (key.Account id) = id.0 ∷ []

@@ -3,17 +3,21 @@ ghost use Rattle.std.specs.FinMap as map;
 ghost use Rattle.rows.specs.RowVal.{IsOfKind};
 ghost use Rattle.rows.specs.RowKey.{key_cmp};
 
+use crate::book_rows::BookRows;
 use crate::row_key::RowKey;
 use crate::row_val::RowVal;
+use indexmap::IndexMap;
 use std::alloc::{AllocError, Global};
-use std::collections::BTreeMap;
-use std::collections::btree_map::Iter;
+use std::collections::BTreeSet;
 use std::marker::Model;
 
 /// The issuer's rows: a finite map from row keys to row values, each of its key's kind.
 #[derive(Drop)]
 pub struct Book {
-    rows: BTreeMap<RowKey, RowVal>,
+    // A row is found by its key's hash.
+    rows: IndexMap<RowKey, RowVal>,
+    // The keys of the rows, in their order.
+    keys: BTreeSet<RowKey>,
 }
 
 impl Model for Book {
@@ -22,7 +26,7 @@ impl Model for Book {
     ghost use Rattle.rows.specs.RowKey.{key_cmp};
     ghost use Rattle.rows.specs.contracts.row_key.RowKey.{the_row as key_row};
     ghost use Rattle.rows.specs.contracts.row_val.RowVal.{the_row as val_row};
-    ghost use Rattle.rows.specs.Book.{AllOfKind};
+    ghost use Rattle.rows.specs.Book.{AreOfKind, AreTheKeys};
 
     ghost Value = { map.FinMap key_cmp RowVal };
 
@@ -30,7 +34,7 @@ impl Model for Book {
 
     ghost view = { λ b. map.from_entries b.rows.entries };
 
-    ghost invariant = { λ b. AllOfKind b.rows.entries };
+    ghost invariant = { λ b. AreOfKind b.rows.entries × AreTheKeys b.rows.entries b.keys.keys };
 }
 
 impl Book {
@@ -39,7 +43,8 @@ impl Book {
         ensures { result ≡ map.empty }
     {
         Book {
-            rows: BTreeMap::new(alloc),
+            rows: IndexMap::new(alloc),
+            keys: BTreeSet::new(alloc),
         }
     }
 
@@ -59,24 +64,34 @@ impl Book {
         ensures err { OnErr result (self.new ≡ self.old) }
         ensures full { OnErr result (map.get self.old key ≡ None) }
     {
-        self.rows.insert(key, val)?;
-        Ok(())
+        let listed = key;
+        if self.rows.insert(key, val)?.is_some() {
+            return Ok(());
+        }
+        match self.keys.insert(listed) {
+            Ok(_) => Ok(()),
+            Err(_) => {
+                self.rows.pop();
+                Err(AllocError)
+            }
+        }
     }
 
     /// Takes the row out.
-    #[tactic(auto, using(crate::proofs::BookLaws::get_seen, crate::proofs::BookLaws::remove_seen))]
+    #[tactic(auto, using(crate::proofs::BookLaws::get_seen))]
     pub fn remove(&mut self, key: &RowKey) -> Option<RowVal>
         ensures value { result ≡ map.get self.old key.now }
         ensures after { self.new ≡ map.remove self.old key.now }
     {
-        self.rows.remove(key)
+        self.keys.remove(key);
+        self.rows.swap_remove(key)
     }
 
     /// How many rows there are.
     pub fn len(&self) -> usize
         ensures { result ≡ map.len self.now }
     {
-        self.rows.len()
+        self.keys.len()
     }
 
     /// Whether there is no row.
@@ -87,10 +102,10 @@ impl Book {
     }
 
     /// The rows in the order of their keys.
-    pub fn rows(&self) -> Iter<'_, RowKey, RowVal>
+    pub fn rows(&self) -> BookRows<'_>
         ensures { result ≡ map.entries self.now }
     {
-        self.rows.iter()
+        BookRows::new(self.keys.iter(), &self.rows)
     }
 
     /// An equal book of its own.
@@ -99,6 +114,7 @@ impl Book {
     {
         Ok(Book {
             rows: self.rows.clone()?,
+            keys: self.keys.clone()?,
         })
     }
 
@@ -112,7 +128,7 @@ impl Book {
 }
 
 // Whether the rows that are left of the two are the same.
-fn are_same_rows(mine: Iter<'_, RowKey, RowVal>, theirs: Iter<'_, RowKey, RowVal>) -> bool
+fn are_same_rows(mine: BookRows<'_>, theirs: BookRows<'_>) -> bool
     ensures { IsTrue result ↔ (mine ≡ theirs) }
 {
     let mut theirs = theirs;

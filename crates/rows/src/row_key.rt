@@ -1,10 +1,11 @@
 ghost use Rattle.std.specs.Prelude.{◌≡◌, ℕ, ◌∷◌, ◌++◌};
-ghost use Rattle.std.proofs.Common.{rules};
+ghost use Rattle.std.proofs.Common.{rules, ap};
 ghost use Rattle.std.specs.Cmp.{partial_order_from_own_ties};
 ghost use Rattle.std.specs.Cmp.Rules.{comparing, hashing};
 ghost use Rattle.std.specs.Hash as fed;
 ghost use Rattle.std.specs.Ordering.{as_partial_cmp};
-ghost use Rattle.rows.specs.RowKey.{key_cmp, texts_cmp, key_eq, kind_of, first_text, second_text, third_text};
+ghost use Rattle.rows.specs.RowKey.{key_cmp, key_eq, fed_texts, kind_of, first_text, second_text, third_text};
+ghost use Rattle.rows.specs.SameKey.{key_eq_decides};
 
 use iso8583::{AccountId, Day, Identity, Pan, PanPrefix};
 use std::cmp::Ordering;
@@ -37,29 +38,6 @@ impl RowKey {
             RowKey::Budget(_) => 2,
             RowKey::Original(_) => 3,
             RowKey::Account(_) => 4,
-        }
-    }
-
-    // Which of two keys of one kind comes first.
-    #[inline(always)]
-    #[tactic(auto, using(crate::proofs::KeyLaws::then_nothing))]
-    fn cmp_texts(&self, other: &RowKey) -> Ordering
-        requires { kind_of self.now ≡ kind_of other.now }
-        ensures { result ≡ texts_cmp self.now other.now }
-    {
-        match (self, other) {
-            (RowKey::Card(mine), RowKey::Card(theirs)) => mine.cmp(theirs),
-            (RowKey::Velocity(mine, day), RowKey::Velocity(theirs, other_day)) => {
-                mine.cmp(theirs).then_with(|| day.cmp(other_day))
-            }
-            (RowKey::Budget(mine), RowKey::Budget(theirs)) => mine.cmp(theirs),
-            (RowKey::Original(mine), RowKey::Original(theirs)) => mine
-                .acquirer
-                .cmp(&theirs.acquirer)
-                .then_with(|| mine.stan.cmp(&theirs.stan))
-                .then_with(|| mine.stamp.cmp(&theirs.stamp)),
-            (RowKey::Account(mine), RowKey::Account(theirs)) => mine.cmp(theirs),
-            _ => unreachable!(),
         }
     }
 
@@ -102,11 +80,10 @@ impl PartialEq for RowKey {
 
     ghost laws = { Prim.search (comparing, rules) };
 
+    #[inline(always)]
+    #[tactic(auto, using(crate::proofs::KeyLaws::same_test))]
     fn eq(&self, other: &RowKey) -> bool {
-        self.kind() == other.kind()
-            && self.first() == other.first()
-            && self.second() == other.second()
-            && self.third() == other.third()
+        self.cmp(other).is_eq()
     }
 }
 
@@ -115,15 +92,25 @@ impl Eq for RowKey {
 }
 
 impl Hash for RowKey {
-    ghost hash_input = { λ key. fed.u8 (kind_of key) ++ fed.str (first_text key) ++ fed.str (second_text key) ++ fed.str (third_text key) };
+    ghost hash_input = { fed_texts };
 
-    ghost respects_eq = { Prim.search (hashing, rules) };
+    ghost respects_eq = { λ a b same. ap fed_texts ((key_eq_decides a b).0 same) };
 
     fn hash<H: Hasher>(&self, state: &mut H) {
-        self.kind().hash(state);
-        self.first().hash(state);
-        self.second().hash(state);
-        self.third().hash(state);
+        match self {
+            RowKey::Card(pan) => state.write(pan.as_slice()),
+            RowKey::Velocity(pan, day) => {
+                state.write(pan.as_slice());
+                state.write(day.as_slice());
+            }
+            RowKey::Budget(prefix) => state.write(prefix.as_slice()),
+            RowKey::Original(identity) => {
+                state.write(identity.acquirer.as_slice());
+                state.write(identity.stan.as_slice());
+                state.write(identity.stamp.as_slice());
+            }
+            RowKey::Account(id) => state.write(id.as_slice()),
+        }
     }
 }
 
@@ -138,10 +125,21 @@ impl Ord for RowKey {
     ghost matches_eq = { Prim.search (comparing, rules) };
 
     #[inline(always)]
+    #[tactic(auto, using(crate::proofs::KeyLaws::then_nothing))]
     fn cmp(&self, other: &RowKey) -> Ordering {
-        match self.kind().cmp(&other.kind()) {
-            Ordering::Equal => self.cmp_texts(other),
-            unequal => unequal,
+        match (self, other) {
+            (RowKey::Card(mine), RowKey::Card(theirs)) => mine.cmp(theirs),
+            (RowKey::Velocity(mine, day), RowKey::Velocity(theirs, other_day)) => {
+                mine.cmp(theirs).then_with(|| day.cmp(other_day))
+            }
+            (RowKey::Budget(mine), RowKey::Budget(theirs)) => mine.cmp(theirs),
+            (RowKey::Original(mine), RowKey::Original(theirs)) => mine
+                .acquirer
+                .cmp(&theirs.acquirer)
+                .then_with(|| mine.stan.cmp(&theirs.stan))
+                .then_with(|| mine.stamp.cmp(&theirs.stamp)),
+            (RowKey::Account(mine), RowKey::Account(theirs)) => mine.cmp(theirs),
+            _ => self.kind().cmp(&other.kind()),
         }
     }
 }

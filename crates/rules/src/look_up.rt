@@ -18,5 +18,5 @@ pub(crate) fn look_up<S: RowSource>(
     ensures stops { IfSome (S.book rows.old.source) (λ _. IfErr result (λ stop. stop ≡ Stop.OutOfMemory)) }
     ensures book { S.book rows.new.source ≡ S.book rows.old.source }
 {
-    rows.read(key)
+    rows.ask(key)
 }

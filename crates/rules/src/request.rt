@@ -7,10 +7,10 @@ ghost use Rattle.rules.specs.Needs.{ReadsNeeds};
 ghost use Rattle.view.specs.Recording.{IsStopOf};
 
 use crate::look_up::look_up;
-use crate::request_answers::{answer_again, approve, decline};
+use crate::request_answers::{answer_again, approve, decline, reply_to};
 use crate::request_facts::{refused_by_limits, refused_unseen, request_funds, usable_account};
 use crate::typed::{account_in, budget_in, card_in, original_in, spent_in, velocity_in};
-use iso8583::{AccountId, DeclineCode, Request};
+use iso8583::{AccountId, DeclineCode, Request, Verdict};
 use rows::{AccountRow, CardRow, ReplyBody, RowKey, VelocityRow};
 use view::{Recorder, RowSource, Stop};
 
@@ -27,6 +27,23 @@ pub(crate) fn decide_request<S: RowSource>(
     ensures stops { IfSome (S.book rows.old.source) (λ _. IfErr result (λ stop. stop ≡ Stop.OutOfMemory)) }
     ensures book { S.book rows.new.source ≡ S.book rows.old.source }
 {
+    let verdict = decide_verdict(request, rows)?;
+    Ok(reply_to(request, verdict))
+}
+
+// Decides an authorization request: approved, or what it is declined for.
+fn decide_verdict<S: RowSource>(
+    request: &Request,
+    rows: &mut Recorder<S>,
+) -> Result<Verdict, Stop>
+    requires follows { Follows (Good (message.Request request.now)) rows.old.reads rows.old.writes (table.request_plan request.now) }
+    requires kinds { kinds_read rows.old.reads ≡ [] }
+    ensures done { IfOk result (λ verdict. Concludes (Good (message.Request request.now)) rows.new.reads rows.new.writes (table.reply_to_request request.now verdict)) }
+    ensures so_far { ReadsNeeds (Good (message.Request request.now)) rows.new.reads }
+    ensures stop { IfErr result (λ stop. (stop ≡ Stop.OutOfMemory) ⊎ IsStopOf S.answers rows.new.source stop) }
+    ensures stops { IfSome (S.book rows.old.source) (λ _. IfErr result (λ stop. stop ≡ Stop.OutOfMemory)) }
+    ensures book { S.book rows.new.source ≡ S.book rows.old.source }
+{
     let key = RowKey::Original(request.transaction.identity());
     match original_in(&look_up(rows, &key)?) {
         Some(row) => answer_again(request, &row, rows),
@@ -35,10 +52,10 @@ pub(crate) fn decide_request<S: RowSource>(
 }
 
 // Decides a request whose identity wasn't seen before: what it is refused for before its card is known, then its card.
-fn decide_fresh<S: RowSource>(request: &Request, rows: &mut Recorder<S>) -> Result<ReplyBody, Stop>
+fn decide_fresh<S: RowSource>(request: &Request, rows: &mut Recorder<S>) -> Result<Verdict, Stop>
     requires follows { Follows (Good (message.Request request.now)) rows.old.reads rows.old.writes (table.fresh_request request.now) }
     requires kinds { kinds_read rows.old.reads ≡ 3 ∷ [] }
-    ensures done { IfOk result (λ reply. Concludes (Good (message.Request request.now)) rows.new.reads rows.new.writes reply) }
+    ensures done { IfOk result (λ verdict. Concludes (Good (message.Request request.now)) rows.new.reads rows.new.writes (table.reply_to_request request.now verdict)) }
     ensures so_far { ReadsNeeds (Good (message.Request request.now)) rows.new.reads }
     ensures stop { IfErr result (λ stop. (stop ≡ Stop.OutOfMemory) ⊎ IsStopOf S.answers rows.new.source stop) }
     ensures stops { IfSome (S.book rows.old.source) (λ _. IfErr result (λ stop. stop ≡ Stop.OutOfMemory)) }
@@ -63,10 +80,10 @@ fn decide_on_account<S: RowSource>(
     card: &CardRow,
     id: AccountId,
     rows: &mut Recorder<S>,
-) -> Result<ReplyBody, Stop>
+) -> Result<Verdict, Stop>
     requires follows { Follows (Good (message.Request request.now)) rows.old.reads rows.old.writes (table.on_usable request.now card.now (Ok id)) }
     requires kinds { kinds_read rows.old.reads ≡ 3 ∷ 0 ∷ [] }
-    ensures done { IfOk result (λ reply. Concludes (Good (message.Request request.now)) rows.new.reads rows.new.writes reply) }
+    ensures done { IfOk result (λ verdict. Concludes (Good (message.Request request.now)) rows.new.reads rows.new.writes (table.reply_to_request request.now verdict)) }
     ensures so_far { ReadsNeeds (Good (message.Request request.now)) rows.new.reads }
     ensures stop { IfErr result (λ stop. (stop ≡ Stop.OutOfMemory) ⊎ IsStopOf S.answers rows.new.source stop) }
     ensures stops { IfSome (S.book rows.old.source) (λ _. IfErr result (λ stop. stop ≡ Stop.OutOfMemory)) }
@@ -89,10 +106,10 @@ fn decide_on_day<S: RowSource>(
     id: AccountId,
     account: &AccountRow,
     rows: &mut Recorder<S>,
-) -> Result<ReplyBody, Stop>
+) -> Result<Verdict, Stop>
     requires follows { Follows (Good (message.Request request.now)) rows.old.reads rows.old.writes (table.looked_for_day request.now card.now id account.now) }
     requires kinds { kinds_read rows.old.reads ≡ 3 ∷ 0 ∷ 4 ∷ [] }
-    ensures done { IfOk result (λ reply. Concludes (Good (message.Request request.now)) rows.new.reads rows.new.writes reply) }
+    ensures done { IfOk result (λ verdict. Concludes (Good (message.Request request.now)) rows.new.reads rows.new.writes (table.reply_to_request request.now verdict)) }
     ensures so_far { ReadsNeeds (Good (message.Request request.now)) rows.new.reads }
     ensures stop { IfErr result (λ stop. (stop ≡ Stop.OutOfMemory) ⊎ IsStopOf S.answers rows.new.source stop) }
     ensures stops { IfSome (S.book rows.old.source) (λ _. IfErr result (λ stop. stop ≡ Stop.OutOfMemory)) }
@@ -111,10 +128,10 @@ fn decide_on_limits<S: RowSource>(
     account: &AccountRow,
     day: &VelocityRow,
     rows: &mut Recorder<S>,
-) -> Result<ReplyBody, Stop>
+) -> Result<Verdict, Stop>
     requires follows { Follows (Good (message.Request request.now)) rows.old.reads rows.old.writes (table.on_day request.now card.now id account.now day.now) }
     requires kinds { kinds_read rows.old.reads ≡ 3 ∷ 0 ∷ 4 ∷ 1 ∷ [] }
-    ensures done { IfOk result (λ reply. Concludes (Good (message.Request request.now)) rows.new.reads rows.new.writes reply) }
+    ensures done { IfOk result (λ verdict. Concludes (Good (message.Request request.now)) rows.new.reads rows.new.writes (table.reply_to_request request.now verdict)) }
     ensures so_far { ReadsNeeds (Good (message.Request request.now)) rows.new.reads }
     ensures stop { IfErr result (λ stop. (stop ≡ Stop.OutOfMemory) ⊎ IsStopOf S.answers rows.new.source stop) }
     ensures stops { IfSome (S.book rows.old.source) (λ _. IfErr result (λ stop. stop ≡ Stop.OutOfMemory)) }

@@ -19,7 +19,7 @@ use rows::{
 use view::{Recorder, RowSource, Stop};
 
 // The reply to a request: it repeats the request's elements beside its verdict.
-fn reply_to(request: &Request, verdict: Verdict) -> ReplyBody
+pub(crate) fn reply_to(request: &Request, verdict: Verdict) -> ReplyBody
     ensures { result ≡ table.reply_to_request request.now verdict }
 {
     ReplyBody::Reply(Reply {
@@ -33,9 +33,9 @@ pub(crate) fn decline<S: RowSource>(
     request: &Request,
     code: DeclineCode,
     rows: &mut Recorder<S>,
-) -> Result<ReplyBody, Stop>
+) -> Result<Verdict, Stop>
     requires follows { Follows (Good (message.Request request.now)) rows.old.reads rows.old.writes (table.declined_request request.now code) }
-    ensures done { IfOk result (λ reply. Concludes (Good (message.Request request.now)) rows.new.reads rows.new.writes reply) }
+    ensures done { IfOk result (λ verdict. Concludes (Good (message.Request request.now)) rows.new.reads rows.new.writes (table.reply_to_request request.now verdict)) }
     ensures so_far { ReadsNeeds (Good (message.Request request.now)) rows.new.reads }
     ensures stop { IfErr result (λ stop. (stop ≡ Stop.OutOfMemory) ⊎ IsStopOf S.answers rows.new.source stop) }
     ensures stops { IfSome (S.book rows.old.source) (λ _. IfErr result (λ stop. stop ≡ Stop.OutOfMemory)) }
@@ -44,7 +44,7 @@ pub(crate) fn decline<S: RowSource>(
     let key = RowKey::Original(request.transaction.identity());
     let kept = kept_of(&request.transaction, Outcome::Declined(code, None));
     rows.write(key, kept)?;
-    Ok(reply_to(request, Verdict::Declined(code)))
+    Ok(Verdict::Declined(code))
 }
 
 // Answers a request of an identity that was seen before.
@@ -52,9 +52,9 @@ pub(crate) fn answer_again<S: RowSource>(
     request: &Request,
     row: &OriginalRow,
     rows: &mut Recorder<S>,
-) -> Result<ReplyBody, Stop>
+) -> Result<Verdict, Stop>
     requires follows { Follows (Good (message.Request request.now)) rows.old.reads rows.old.writes (table.request_again request.now row.now) }
-    ensures done { IfOk result (λ reply. Concludes (Good (message.Request request.now)) rows.new.reads rows.new.writes reply) }
+    ensures done { IfOk result (λ verdict. Concludes (Good (message.Request request.now)) rows.new.reads rows.new.writes (table.reply_to_request request.now verdict)) }
     ensures so_far { ReadsNeeds (Good (message.Request request.now)) rows.new.reads }
     ensures stop { IfErr result (λ stop. (stop ≡ Stop.OutOfMemory) ⊎ IsStopOf S.answers rows.new.source stop) }
     ensures stops { IfSome (S.book rows.old.source) (λ _. IfErr result (λ stop. stop ≡ Stop.OutOfMemory)) }
@@ -71,21 +71,21 @@ fn answer_marked<S: RowSource>(
     request: &Request,
     mark: &Mark,
     rows: &mut Recorder<S>,
-) -> Result<ReplyBody, Stop>
+) -> Result<Verdict, Stop>
     requires follows { Follows (Good (message.Request request.now)) rows.old.reads rows.old.writes (table.request_again request.now (OriginalRow.Ahead mark.now)) }
-    ensures done { IfOk result (λ reply. Concludes (Good (message.Request request.now)) rows.new.reads rows.new.writes reply) }
+    ensures done { IfOk result (λ verdict. Concludes (Good (message.Request request.now)) rows.new.reads rows.new.writes (table.reply_to_request request.now verdict)) }
     ensures so_far { ReadsNeeds (Good (message.Request request.now)) rows.new.reads }
     ensures stop { IfErr result (λ stop. (stop ≡ Stop.OutOfMemory) ⊎ IsStopOf S.answers rows.new.source stop) }
     ensures stops { IfSome (S.book rows.old.source) (λ _. IfErr result (λ stop. stop ≡ Stop.OutOfMemory)) }
     ensures book { S.book rows.new.source ≡ S.book rows.old.source }
 {
     if !is_marked(mark, &request.transaction, OriginalKind::Request) {
-        return Ok(reply_to(request, Verdict::Declined(DeclineCode::DUPLICATE)));
+        return Ok(Verdict::Declined(DeclineCode::DUPLICATE));
     }
     let key = RowKey::Original(request.transaction.identity());
     let outcome = Outcome::Declined(DeclineCode::NOT_TRACED, Some(mark.reversal));
     rows.write(key, kept_of(&request.transaction, outcome))?;
-    Ok(reply_to(request, Verdict::Declined(DeclineCode::NOT_TRACED)))
+    Ok(Verdict::Declined(DeclineCode::NOT_TRACED))
 }
 
 // Whether it is a repeat of the request that is kept.
@@ -96,15 +96,15 @@ fn is_repeat_of(request: &Request, kept: &Kept) -> bool
 }
 
 // The answer to a request of an identity that was decided before.
-fn answer_kept<S: RowSource>(request: &Request, kept: &Kept, rows: &Recorder<S>) -> ReplyBody
+fn answer_kept<S: RowSource>(request: &Request, kept: &Kept, rows: &Recorder<S>) -> Verdict
     requires { Follows (Good (message.Request request.now)) rows.now.reads rows.now.writes (table.request_again request.now (OriginalRow.Kept kept.now)) }
-    ensures { Concludes (Good (message.Request request.now)) rows.now.reads rows.now.writes result }
+    ensures { Concludes (Good (message.Request request.now)) rows.now.reads rows.now.writes (table.reply_to_request request.now result) }
 {
     let _ = rows;
     if is_repeat_of(request, kept) {
-        return reply_to(request, kept_verdict(&kept.outcome()));
+        return kept_verdict(&kept.outcome());
     }
-    reply_to(request, Verdict::Declined(DeclineCode::DUPLICATE))
+    Verdict::Declined(DeclineCode::DUPLICATE)
 }
 
 // Approves a request: it is kept, the card's approvals and its day rise, and the amount is taken from what pays.
@@ -114,13 +114,13 @@ pub(crate) fn approve<S: RowSource>(
     day: &VelocityRow,
     paying: &Funds,
     rows: &mut Recorder<S>,
-) -> Result<ReplyBody, Stop>
+) -> Result<Verdict, Stop>
     requires follows { Follows (Good (message.Request request.now)) rows.old.reads rows.old.writes (table.approved request.now card.now day.now paying.now) }
     requires approvals { card.now.approvals < 999999 }
     requires count { day.now.count < 999999 }
     requires sum { day.now.sum + request.now.transaction.amount ≤ 10 ^ 15 }
     requires covered { request.now.transaction.amount ≤ balance_of paying.now }
-    ensures done { IfOk result (λ reply. Concludes (Good (message.Request request.now)) rows.new.reads rows.new.writes reply) }
+    ensures done { IfOk result (λ verdict. Concludes (Good (message.Request request.now)) rows.new.reads rows.new.writes (table.reply_to_request request.now verdict)) }
     ensures so_far { ReadsNeeds (Good (message.Request request.now)) rows.new.reads }
     ensures stop { IfErr result (λ stop. (stop ≡ Stop.OutOfMemory) ⊎ IsStopOf S.answers rows.new.source stop) }
     ensures stops { IfSome (S.book rows.old.source) (λ _. IfErr result (λ stop. stop ≡ Stop.OutOfMemory)) }
@@ -154,5 +154,5 @@ pub(crate) fn approve<S: RowSource>(
     rows.write(card_key, RowVal::Card(charged))?;
     rows.write(day_key, RowVal::Velocity(spent))?;
     rows.write(paying.key(), paid.row())?;
-    Ok(reply_to(request, verdict))
+    Ok(verdict)
 }

@@ -1,2 +1,2 @@
 pub mod KindLaws
-pub mod LogLaws
+pub mod ListLaws

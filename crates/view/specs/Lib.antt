@@ -1,3 +1,2 @@
-pub mod KindHasher
 pub mod Recording
 pub mod RowSets

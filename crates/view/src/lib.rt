@@ -3,7 +3,6 @@
 
 mod decide;
 mod execution;
-mod kind_hasher;
 mod read_set;
 mod recorder;
 mod row_source;

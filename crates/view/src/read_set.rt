@@ -4,31 +4,28 @@ ghost use Rattle.rows.specs.RowVal.{IsOfKind};
 ghost use Rattle.view.specs.Recording.{AsksOnce};
 ghost use Rattle.view.specs.RowSets.{value_in, logged, IsOnceEach};
 
-use crate::kind_hasher::KindHasher;
 use crate::row_source::RowSource;
 use crate::stop::Stop;
-use indexmap::IndexMap;
 use rows::{RowKey, RowVal};
 use std::alloc::Global;
-use std::hash::BuildHasherDefault;
 use std::marker::Model;
 
 /// The rows that a decision read, each once, in the order of reading: the value, or that the row was absent
 /// (Block-STM: read set).
 #[derive(Drop)]
 pub struct ReadSet {
-    rows: IndexMap<RowKey, Option<RowVal>, BuildHasherDefault<KindHasher>>,
+    rows: Vec<(RowKey, Option<RowVal>)>,
 }
 
 impl Model for ReadSet {
     ghost use Rattle.rows.specs.Agreement.{Reads};
-    ghost use Rattle.view.specs.RowSets.{AreReadsOfKind};
+    ghost use Rattle.view.specs.RowSets.{AreReadsOfKind, IsOnceEach};
 
     ghost Value = { Reads };
 
-    ghost view = { λ set. set.rows.entries };
+    ghost view = { λ set. set.rows.items };
 
-    ghost invariant = { λ set. AreReadsOfKind set.rows.entries };
+    ghost invariant = { λ set. AreReadsOfKind set.rows.items × IsOnceEach set.rows.items };
 }
 
 impl ReadSet {
@@ -37,7 +34,7 @@ impl ReadSet {
         ensures { result ≡ [] }
     {
         ReadSet {
-            rows: IndexMap::with_hasher(alloc, BuildHasherDefault::new()),
+            rows: Vec::new(alloc),
         }
     }
 
@@ -69,10 +66,7 @@ impl ReadSet {
         ensures entry { slice_get self.now index ≡ Some result }
         ensures kind { IfSome result.1 (IsOfKind result.0) }
     {
-        match self.rows.get_index(index) {
-            Some((key, row)) => (*key, *row),
-            None => unreachable!(),
-        }
+        self.rows[index]
     }
 
     /// What the row was, if it was read.
@@ -80,7 +74,12 @@ impl ReadSet {
         ensures value { result ≡ value_in self.now key.now }
         ensures kind { IfSome result (λ row. IfSome row (IsOfKind key.now)) }
     {
-        self.rows.get(key).copied()
+        for entry in &self.rows {
+            if *key == entry.0 {
+                return Some(entry.1);
+            }
+        }
+        None
     }
 
     // Makes room, asks the source for a row that was not read yet, and logs the answer.
@@ -101,9 +100,7 @@ impl ReadSet {
         self.rows.reserve(1)?;
         let row = source.read(key)?;
         let answer = row;
-        match self.rows.insert(*key, row) {
-            Ok(_) => Ok(answer),
-            Err(_) => unreachable!(),
-        }
+        self.rows.push_reserved((*key, row));
+        Ok(answer)
     }
 }

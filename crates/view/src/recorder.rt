@@ -81,6 +81,25 @@ impl<S: RowSource> Recorder<S> {
         self.reads.ask(key, &mut self.source)
     }
 
+    /// What a row is that was neither put nor read yet: as the source answers, which is then logged.
+    #[inline(always)]
+    pub fn ask(&mut self, key: &RowKey) -> Result<Option<RowVal>, Stop>
+        requires { kept self.old key.now ≡ None }
+
+        // The source is asked once, and its answer is logged.
+        ensures asked { AsksOnce S.answers self.old.source key.now result self.new.source }
+        ensures logged { IfOk result (λ row. self.new.reads ≡ logged self.old.reads key.now row) }
+        ensures err { OnErr result (self.new.reads ≡ self.old.reads) }
+        ensures writes { self.new.writes ≡ self.old.writes }
+        ensures kind { IfOk result (λ row. IfSome row (IsOfKind key.now)) }
+
+        // A known book stays, and want of memory is all that stops it.
+        ensures stops { IfSome (S.book self.old.source) (λ _. IfErr result (λ stop. stop ≡ Stop.OutOfMemory)) }
+        ensures book { S.book self.new.source ≡ S.book self.old.source }
+    {
+        self.reads.ask(key, &mut self.source)
+    }
+
     /// Puts a row, over the value that it has; a row that is put already takes no memory.
     pub fn write(&mut self, key: RowKey, row: RowVal) -> Result<(), Stop>
         requires { IsOfKind key row }

@@ -1,29 +1,26 @@
-ghost use Rattle.std.specs.Prelude.{◌≡◌, ◌<◌, ◌↔◌, [], Some, length, slice_get, IsTrue, IfSome, OnOk, OnErr};
+ghost use Rattle.std.specs.Prelude.{◌≡◌, ◌<◌, ◌↔◌, [], Some, length, slice_get, IsTrue, IfSome, IfNone, None, OnOk, OnErr};
 ghost use Rattle.rows.specs.RowVal.{IsOfKind};
 ghost use Rattle.view.specs.RowSets.{value_in, put, IsOnceEach};
 
-use crate::kind_hasher::KindHasher;
-use indexmap::IndexMap;
 use rows::{RowKey, RowVal};
 use std::alloc::{AllocError, Global};
-use std::hash::BuildHasherDefault;
 use std::marker::Model;
 
 /// The rows that a decision puts, each once, in the order of first touch (Block-STM: write set).
 #[derive(Drop)]
 pub struct WriteSet {
-    rows: IndexMap<RowKey, RowVal, BuildHasherDefault<KindHasher>>,
+    rows: Vec<(RowKey, RowVal)>,
 }
 
 impl Model for WriteSet {
     ghost use Rattle.rows.specs.Plan.{Writes};
-    ghost use Rattle.view.specs.RowSets.{AreWritesOfKind};
+    ghost use Rattle.view.specs.RowSets.{AreWritesOfKind, IsOnceEach};
 
     ghost Value = { Writes };
 
-    ghost view = { λ set. set.rows.entries };
+    ghost view = { λ set. set.rows.items };
 
-    ghost invariant = { λ set. AreWritesOfKind set.rows.entries };
+    ghost invariant = { λ set. AreWritesOfKind set.rows.items × IsOnceEach set.rows.items };
 }
 
 impl WriteSet {
@@ -32,7 +29,7 @@ impl WriteSet {
         ensures { result ≡ [] }
     {
         WriteSet {
-            rows: IndexMap::with_hasher(alloc, BuildHasherDefault::new()),
+            rows: Vec::new(alloc),
         }
     }
 
@@ -64,10 +61,18 @@ impl WriteSet {
         ensures entry { slice_get self.now index ≡ Some result }
         ensures kind { IsOfKind result.0 result.1 }
     {
-        match self.rows.get_index(index) {
-            Some((key, row)) => (*key, *row),
-            None => unreachable!(),
-        }
+        self.rows[index]
+    }
+
+    /// The row that is put at this place, and its value, where they stand.
+    #[inline(always)]
+    pub fn row(&self, index: usize) -> (&RowKey, &RowVal)
+        requires { index < length self.now }
+        ensures entry { slice_get self.now index ≡ Some (result.0.now, result.1.now) }
+        ensures kind { IsOfKind result.0.now result.1.now }
+    {
+        let (key, row) = &self.rows[index];
+        (key, row)
     }
 
     /// The row's value, if it is put.
@@ -75,7 +80,12 @@ impl WriteSet {
         ensures value { result ≡ value_in self.now key.now }
         ensures kind { IfSome result (IsOfKind key.now) }
     {
-        self.rows.get(key).copied()
+        for entry in &self.rows {
+            if *key == entry.0 {
+                return Some(entry.1);
+            }
+        }
+        None
     }
 
     /// Puts a row; one that is put already keeps its place.
@@ -85,7 +95,24 @@ impl WriteSet {
         ensures err { OnErr result (self.new ≡ self.old) }
         ensures absent { OnErr result (value_in self.old key ≡ None) }
     {
-        self.rows.insert(key, row)?;
+        match self.place_of(&key) {
+            Some(place) => self.rows[place] = (key, row),
+            None => self.rows.push((key, row))?,
+        }
         Ok(())
+    }
+
+    // Where the row stands, if it is put.
+    fn place_of(&self, key: &RowKey) -> Option<usize>
+        ensures found { IfSome result (λ place. (row : RowVal) × (slice_get self.now place ≡ Some (key.now, row))) }
+        ensures within { IfSome result (λ place. place < length self.now) }
+        ensures absent { IfNone result (value_in self.now key.now ≡ None) }
+    {
+        for (place, entry) in self.rows.iter().enumerate() {
+            if *key == entry.0 {
+                return Some(place);
+            }
+        }
+        None
     }
 }

@@ -10,7 +10,7 @@ returns c =
     let p = c.args.place in
     let mine : c.in-Some-Some.mine.now ≡ take 8 (drop p a) = c.in-Some-Some.ensures.cases.same ∙ ap (take 8) c.split_at.ensures.back in
     let theirs : c.in-Some-Some.theirs.now ≡ take 8 (drop p b) = c.in-Some-Some.ensures'.cases.same ∙ ap (take 8) c.split_at-2.ensures.back in
-    c.cmp.ensures
+    c.order_numbers.ensures
     ∙ (λ i. nat_cmp (c.from_be_bytes.ensures i) (c.from_be_bytes-in-Some-Some.ensures i))
     ∙ (λ i. nat_cmp (from_be_bytes w64 (mine i)) (from_be_bytes w64 (theirs i)))
     ∙ cmp_eight _ _ (length_part p 8 a c.requires.mine) (length_part p 8 b c.requires.theirs) (bytes_part p 8 a (λ i. omega (arith, c.type_inv.a i)))

@@ -10,8 +10,9 @@ returns c =
     let p = c.args.place in
     let mine : c.in-Some-Some.mine.now ≡ take 4 (drop p a) = c.in-Some-Some.ensures.cases.same ∙ ap (take 4) c.split_at.ensures.back in
     let theirs : c.in-Some-Some.theirs.now ≡ take 4 (drop p b) = c.in-Some-Some.ensures'.cases.same ∙ ap (take 4) c.split_at-2.ensures.back in
-    c.cmp.ensures
-    ∙ (λ i. nat_cmp (c.from_be_bytes.ensures i) (c.from_be_bytes-in-Some-Some.ensures i))
+    c.order_numbers.ensures
+    ∙ (λ i. nat_cmp (c.from.ensures i) (c.from-in-Some-Some.ensures i))
+    ∙ (λ i. nat_cmp (c.from_be_bytes-mine.ensures i) (c.from_be_bytes-theirs.ensures i))
     ∙ (λ i. nat_cmp (from_be_bytes w32 (mine i)) (from_be_bytes w32 (theirs i)))
     ∙ cmp_four _ _ (length_part p 4 a c.requires.mine) (length_part p 4 b c.requires.theirs) (bytes_part p 4 a (λ i. omega (arith, c.type_inv.a i)))
     (bytes_part p 4 b (λ i. omega (arith, c.type_inv.b i)))

@@ -1,4 +1,4 @@
-use Rattle.std.proofs.Common.{sym, ap, ◌∙◌}
+use Rattle.std.proofs.Common.{refl, sym, ap, ◌∙◌}
 use Rattle.rows.specs.RequestTable.{reply_to_request, kept_verdict}
 use Rattle.rules.proofs.FollowingLaws.{follows_then, follows_else, concluded_with_none}
 use Rattle.rules.proofs.request_answers.answer_kept.Goals as goal
@@ -6,8 +6,8 @@ use Rattle.rules.proofs.request_answers.answer_kept.Goals as goal
 pub returns-then-is_repeat_of : goal.returns-then-is_repeat_of
 returns-then-is_repeat_of g c =
     concluded_with_none _ c.args.rows.now _ _ (follows_then _ _ _ _ _ _ c.requires (sym c.is_repeat_of.ensures ∙ c.if-is_repeat_of.true))
-    (c.reply_to.ensures ∙ ap (reply_to_request c.args.request.now) (c.kept_verdict.ensures ∙ ap kept_verdict c.outcome.ensures))
+    (ap (reply_to_request c.args.request.now) (c.kept_verdict.ensures ∙ ap kept_verdict c.outcome.ensures))
 
 pub returns : goal.returns
 returns g c =
-    concluded_with_none _ c.args.rows.now _ _ (follows_else _ _ _ _ _ _ c.requires (sym c.is_repeat_of.ensures ∙ c.if-is_repeat_of.false)) c.reply_to-2.ensures
+    concluded_with_none _ c.args.rows.now _ _ (follows_else _ _ _ _ _ _ c.requires (sym c.is_repeat_of.ensures ∙ c.if-is_repeat_of.false)) refl

@@ -50,7 +50,7 @@ returns-clause-done g c =
     ∷ (key.Card r.transaction.pan, val.Card (record c.args.card.now { approvals = approvals i }))
     ∷ (key.Velocity r.transaction.pan (c.day.ensures i), val.Velocity (record { count = c.in-Some-Some.ensures'.1 i; sum = c.in-Some-Some-2.ensures.1 i }))
     ∷ (key_of_funds paying, row i) ∷ []) in
-    concluded _ _ _ _ _ _ _ _ c.requires.follows puts.0 table (c.reply_to.ensures ∙ ap (λ code. reply_to_request r (verdict.Approved code)) code)
+    concluded _ _ _ _ _ _ _ _ c.requires.follows puts.0 table (ap (λ code. reply_to_request r (verdict.Approved code)) code)
 
 pub returns-clause-so_far : goal.returns-clause-so_far
 returns-clause-so_far g c = concluded_needs _ _ _ _ (returns-clause-done g c)

@@ -1,4 +1,4 @@
-use Rattle.std.proofs.Common.{ap}
+use Rattle.std.proofs.Common.{refl, ap}
 use Rattle.rules.proofs.FollowingLaws.{follows_needs, concluded_with_one, concluded_needs}
 use Rattle.rows.specs.declared.row_key.RowKey.TheVariants as key
 use Rattle.rules.proofs.request_answers.decline.Goals as goal
@@ -8,7 +8,7 @@ returns-in_err-write-clause-so_far g c = follows_needs _ _ _ _ _ c.requires.foll
 
 pub returns-clause-done : goal.returns-clause-done
 returns-clause-done g c =
-    concluded_with_one _ c.args.rows.now _ _ _ _ _ _ c.requires.follows c.in_ok-write.ensures.ok (λ i. (key.Original (c.identity.ensures i), c.kept_of-kept.ensures i)) c.reply_to.ensures
+    concluded_with_one _ c.args.rows.now _ _ _ _ _ _ c.requires.follows c.in_ok-write.ensures.ok (λ i. (key.Original (c.identity.ensures i), c.kept_of-kept.ensures i)) refl
 
 pub returns-clause-so_far : goal.returns-clause-so_far
 returns-clause-so_far g c = concluded_needs _ _ _ _ (returns-clause-done g c)

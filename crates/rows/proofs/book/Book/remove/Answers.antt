@@ -1,6 +1,12 @@
-use Rattle.rows.proofs.BookLaws.{of_kind_remove}
+use Rattle.rows.proofs.BookLaws.{remove_seen, kinds_removed, keys_removed}
 use Rattle.rows.proofs.book.Book.remove.Goals as goal
 
 pub invariant_of-self : goal.invariant_of-self
-invariant_of-self c =
-    rw c.remove.ensures.entries (of_kind_remove c.self.inside.rows.entries _ c.self.invariant)
+invariant_of-self c = (
+  kinds_removed c.self.inside.rows.entries c.swap_remove.new.self.entries c.args.key.now c.self.invariant.0 c.swap_remove.ensures.updates.0,
+  keys_removed c.self.inside.rows.entries c.swap_remove.new.self.entries c.args.key.now c.self.inside.keys.keys c.remove.new.self.keys c.self.invariant.1 c.swap_remove.ensures.updates.0 c.remove.ensures.updates.0,
+)
+
+pub returns-clause-after : goal.returns-clause-after
+returns-clause-after c =
+    rw (← c.self.view_is) (remove_seen c.self.inside.rows.entries c.swap_remove.new.self.entries c.args.key.now c.swap_remove.ensures.updates.0)

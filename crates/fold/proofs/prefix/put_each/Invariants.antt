@@ -1,7 +1,7 @@
 use Rattle.std.proofs.Common.{◌≡◌, drop}
 use Rattle.rows.specs.Fold.{overlay}
-use Rattle.fold.proofs.prefix.put_all.Given as goal
+use Rattle.fold.proofs.prefix.put_each.Given as goal
 
 -- the rows that are left, put over the book, make what all of them make of the first book
 abbrev pub invariant-loop-index : goal.invariant-loop-index
-invariant-loop-index l = overlay l.after (drop l.index l.writes) ≡ overlay l.fn.book l.writes
+invariant-loop-index l = overlay l.book (drop l.index l.writes) ≡ overlay l.fn.book l.writes

@@ -2,7 +2,7 @@ use Rattle.std.proofs.Common.{refl, sym, ap, ◌∙◌}
 use Rattle.rows.specs.declared.row_key.RowKey.TheVariants as key
 use Rattle.rows.specs.RequestTable as table
 use Rattle.rules.proofs.FollowingLaws.{unread, looked_as}
-use Rattle.rules.proofs.request.decide_request.Goals as goal
+use Rattle.rules.proofs.request.decide_verdict.Goals as goal
 
 pub look_up-requires : goal.look_up-requires
 look_up-requires g c = unread c.args.rows.now _ _ _ (key.Original c.identity.result) c.requires.follows c.requires.kinds refl
