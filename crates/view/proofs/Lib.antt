@@ -1,2 +1,2 @@
 pub mod KindLaws
-pub mod ListLaws
+pub mod LogLaws

@@ -6,6 +6,7 @@ ghost use Rattle.view.specs.RowSets.{value_in, logged, IsOnceEach};
 
 use crate::row_source::RowSource;
 use crate::stop::Stop;
+use indexmap::IndexMap;
 use rows::{RowKey, RowVal};
 use std::alloc::Global;
 use std::marker::Model;
@@ -14,18 +15,18 @@ use std::marker::Model;
 /// (Block-STM: read set).
 #[derive(Drop)]
 pub struct ReadSet {
-    rows: Vec<(RowKey, Option<RowVal>)>,
+    rows: IndexMap<RowKey, Option<RowVal>>,
 }
 
 impl Model for ReadSet {
     ghost use Rattle.rows.specs.Agreement.{Reads};
-    ghost use Rattle.view.specs.RowSets.{AreReadsOfKind, IsOnceEach};
+    ghost use Rattle.view.specs.RowSets.{AreReadsOfKind};
 
     ghost Value = { Reads };
 
-    ghost view = { λ set. set.rows.items };
+    ghost view = { λ set. set.rows.entries };
 
-    ghost invariant = { λ set. AreReadsOfKind set.rows.items × IsOnceEach set.rows.items };
+    ghost invariant = { λ set. AreReadsOfKind set.rows.entries };
 }
 
 impl ReadSet {
@@ -34,7 +35,7 @@ impl ReadSet {
         ensures { result ≡ [] }
     {
         ReadSet {
-            rows: Vec::new(alloc),
+            rows: IndexMap::new(alloc),
         }
     }
 
@@ -66,7 +67,10 @@ impl ReadSet {
         ensures entry { slice_get self.now index ≡ Some result }
         ensures kind { IfSome result.1 (IsOfKind result.0) }
     {
-        self.rows[index]
+        match self.rows.get_index(index) {
+            Some((key, row)) => (*key, *row),
+            None => unreachable!(),
+        }
     }
 
     /// What the row was, if it was read.
@@ -74,12 +78,7 @@ impl ReadSet {
         ensures value { result ≡ value_in self.now key.now }
         ensures kind { IfSome result (λ row. IfSome row (IsOfKind key.now)) }
     {
-        for entry in &self.rows {
-            if *key == entry.0 {
-                return Some(entry.1);
-            }
-        }
-        None
+        self.rows.get(key).copied()
     }
 
     // Makes room, asks the source for a row that was not read yet, and logs the answer.
@@ -100,7 +99,9 @@ impl ReadSet {
         self.rows.reserve(1)?;
         let row = source.read(key)?;
         let answer = row;
-        self.rows.push_reserved((*key, row));
-        Ok(answer)
+        match self.rows.insert(*key, row) {
+            Ok(_) => Ok(answer),
+            Err(_) => unreachable!(),
+        }
     }
 }

@@ -1,7 +1,8 @@
-ghost use Rattle.std.specs.Prelude.{◌≡◌, ◌<◌, ◌↔◌, [], Some, length, slice_get, IsTrue, IfSome, IfNone, None, OnOk, OnErr};
+ghost use Rattle.std.specs.Prelude.{◌≡◌, ◌<◌, ◌↔◌, [], Some, length, slice_get, IsTrue, IfSome, OnOk, OnErr};
 ghost use Rattle.rows.specs.RowVal.{IsOfKind};
 ghost use Rattle.view.specs.RowSets.{value_in, put, IsOnceEach};
 
+use indexmap::IndexMap;
 use rows::{RowKey, RowVal};
 use std::alloc::{AllocError, Global};
 use std::marker::Model;
@@ -9,18 +10,18 @@ use std::marker::Model;
 /// The rows that a decision puts, each once, in the order of first touch (Block-STM: write set).
 #[derive(Drop)]
 pub struct WriteSet {
-    rows: Vec<(RowKey, RowVal)>,
+    rows: IndexMap<RowKey, RowVal>,
 }
 
 impl Model for WriteSet {
     ghost use Rattle.rows.specs.Plan.{Writes};
-    ghost use Rattle.view.specs.RowSets.{AreWritesOfKind, IsOnceEach};
+    ghost use Rattle.view.specs.RowSets.{AreWritesOfKind};
 
     ghost Value = { Writes };
 
-    ghost view = { λ set. set.rows.items };
+    ghost view = { λ set. set.rows.entries };
 
-    ghost invariant = { λ set. AreWritesOfKind set.rows.items × IsOnceEach set.rows.items };
+    ghost invariant = { λ set. AreWritesOfKind set.rows.entries };
 }
 
 impl WriteSet {
@@ -29,7 +30,7 @@ impl WriteSet {
         ensures { result ≡ [] }
     {
         WriteSet {
-            rows: Vec::new(alloc),
+            rows: IndexMap::new(alloc),
         }
     }
 
@@ -61,7 +62,10 @@ impl WriteSet {
         ensures entry { slice_get self.now index ≡ Some result }
         ensures kind { IsOfKind result.0 result.1 }
     {
-        self.rows[index]
+        match self.rows.get_index(index) {
+            Some((key, row)) => (*key, *row),
+            None => unreachable!(),
+        }
     }
 
     /// The row that is put at this place, and its value, where they stand.
@@ -71,8 +75,10 @@ impl WriteSet {
         ensures entry { slice_get self.now index ≡ Some (result.0.now, result.1.now) }
         ensures kind { IsOfKind result.0.now result.1.now }
     {
-        let (key, row) = &self.rows[index];
-        (key, row)
+        match self.rows.get_index(index) {
+            Some(entry) => entry,
+            None => unreachable!(),
+        }
     }
 
     /// The row's value, if it is put.
@@ -80,12 +86,7 @@ impl WriteSet {
         ensures value { result ≡ value_in self.now key.now }
         ensures kind { IfSome result (IsOfKind key.now) }
     {
-        for entry in &self.rows {
-            if *key == entry.0 {
-                return Some(entry.1);
-            }
-        }
-        None
+        self.rows.get(key).copied()
     }
 
     /// Puts a row; one that is put already keeps its place.
@@ -95,24 +96,7 @@ impl WriteSet {
         ensures err { OnErr result (self.new ≡ self.old) }
         ensures absent { OnErr result (value_in self.old key ≡ None) }
     {
-        match self.place_of(&key) {
-            Some(place) => self.rows[place] = (key, row),
-            None => self.rows.push((key, row))?,
-        }
+        self.rows.insert(key, row)?;
         Ok(())
-    }
-
-    // Where the row stands, if it is put.
-    fn place_of(&self, key: &RowKey) -> Option<usize>
-        ensures found { IfSome result (λ place. (row : RowVal) × (slice_get self.now place ≡ Some (key.now, row))) }
-        ensures within { IfSome result (λ place. place < length self.now) }
-        ensures absent { IfNone result (value_in self.now key.now ≡ None) }
-    {
-        for (place, entry) in self.rows.iter().enumerate() {
-            if *key == entry.0 {
-                return Some(place);
-            }
-        }
-        None
     }
 }
