@@ -88,7 +88,7 @@ fn put_each(book: &mut Book, writes: &WriteSet) -> Result<(), AllocError>
 {
     for index in 0..writes.len() {
         let (key, row) = writes.row(index);
-        book.put(*key, *row)?;
+        book.put_copy(key, row)?;
     }
     Ok(())
 }

@@ -64,11 +64,32 @@ impl Book {
         ensures err { OnErr result (self.new ≡ self.old) }
         ensures full { OnErr result (map.get self.old key ≡ None) }
     {
-        let listed = key;
-        if self.rows.insert(key, val)?.is_some() {
+        self.put_copy(&key, &val)
+    }
+
+    /// Puts a copy of the value at the key, over what was there. Only a row that wasn't there takes memory.
+    pub fn put_copy(&mut self, key: &RowKey, val: &RowVal) -> Result<(), AllocError>
+        requires { IsOfKind key.now val.now }
+        ensures ok { OnOk result (self.new ≡ map.insert self.old key.now val.now) }
+        ensures err { OnErr result (self.new ≡ self.old) }
+        ensures full { OnErr result (map.get self.old key.now ≡ None) }
+    {
+        if let Some(there) = self.rows.get_mut(key) {
+            *there = *val;
             return Ok(());
         }
-        match self.keys.insert(listed) {
+        self.put_new(key, val)
+    }
+
+    // Puts a row that isn't there.
+    fn put_new(&mut self, key: &RowKey, val: &RowVal) -> Result<(), AllocError>
+        requires kind { IsOfKind key.now val.now }
+        requires absent { map.get self.old key.now ≡ None }
+        ensures ok { OnOk result (self.new ≡ map.insert self.old key.now val.now) }
+        ensures err { OnErr result (self.new ≡ self.old) }
+    {
+        self.rows.insert(*key, *val)?;
+        match self.keys.insert(*key) {
             Ok(_) => Ok(()),
             Err(_) => {
                 self.rows.pop();

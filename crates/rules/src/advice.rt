@@ -8,7 +8,6 @@ ghost use Rattle.view.specs.Recording.{IsStopOf};
 
 use crate::advice_answers::{accept, acknowledge, answer_again};
 use crate::advice_facts::advice_funds;
-use crate::look_up::look_up;
 use crate::typed::{account_in, budget_in, card_in, original_in};
 use iso8583::{AccountId, Advice};
 use rows::{AccountRow, ReplyBody, RowKey};
@@ -28,7 +27,7 @@ pub(crate) fn decide_advice<S: RowSource>(
     ensures book { S.book rows.new.source ≡ S.book rows.old.source }
 {
     let key = RowKey::Original(advice.transaction.identity());
-    match original_in(&look_up(rows, &key)?) {
+    match original_in(&rows.ask(&key)?) {
         Some(row) => answer_again(advice, &row, rows),
         None => decide_fresh(advice, rows),
     }
@@ -48,7 +47,7 @@ fn decide_fresh<S: RowSource>(advice: &Advice, rows: &mut Recorder<S>) -> Result
         return acknowledge(advice, rows);
     }
     let key = RowKey::Card(advice.transaction.pan);
-    let Some(card) = card_in(&look_up(rows, &key)?) else {
+    let Some(card) = card_in(&rows.ask(&key)?) else {
         return acknowledge(advice, rows);
     };
     match card.accounts.account_of(&advice.account) {
@@ -72,7 +71,7 @@ fn decide_on_account<S: RowSource>(
     ensures book { S.book rows.new.source ≡ S.book rows.old.source }
 {
     let key = RowKey::Account(id);
-    let Some(account) = account_in(&look_up(rows, &key)?) else {
+    let Some(account) = account_in(&rows.ask(&key)?) else {
         return acknowledge(advice, rows);
     };
     if advice.transaction.currency != account.currency {
@@ -97,7 +96,7 @@ fn decide_on_funds<S: RowSource>(
     ensures book { S.book rows.new.source ≡ S.book rows.old.source }
 {
     let key = RowKey::Budget(advice.transaction.pan.prefix());
-    let budget = budget_in(&look_up(rows, &key)?);
+    let budget = budget_in(&rows.ask(&key)?);
     match advice_funds(&advice.transaction, id, account, &budget) {
         Some(paying) => accept(advice, &paying, rows),
         None => acknowledge(advice, rows),

@@ -5,7 +5,6 @@ mod advice;
 mod advice_answers;
 mod advice_facts;
 mod facts;
-mod look_up;
 mod request;
 mod request_answers;
 mod request_facts;

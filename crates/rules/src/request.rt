@@ -6,7 +6,6 @@ ghost use Rattle.rules.specs.Following.{Follows, Concludes, kinds_read};
 ghost use Rattle.rules.specs.Needs.{ReadsNeeds};
 ghost use Rattle.view.specs.Recording.{IsStopOf};
 
-use crate::look_up::look_up;
 use crate::request_answers::{answer_again, approve, decline, reply_to};
 use crate::request_facts::{refused_by_limits, refused_unseen, request_funds, usable_account};
 use crate::typed::{account_in, budget_in, card_in, original_in, spent_in, velocity_in};
@@ -32,10 +31,7 @@ pub(crate) fn decide_request<S: RowSource>(
 }
 
 // Decides an authorization request: approved, or what it is declined for.
-fn decide_verdict<S: RowSource>(
-    request: &Request,
-    rows: &mut Recorder<S>,
-) -> Result<Verdict, Stop>
+fn decide_verdict<S: RowSource>(request: &Request, rows: &mut Recorder<S>) -> Result<Verdict, Stop>
     requires follows { Follows (Good (message.Request request.now)) rows.old.reads rows.old.writes (table.request_plan request.now) }
     requires kinds { kinds_read rows.old.reads ≡ [] }
     ensures done { IfOk result (λ verdict. Concludes (Good (message.Request request.now)) rows.new.reads rows.new.writes (table.reply_to_request request.now verdict)) }
@@ -45,7 +41,7 @@ fn decide_verdict<S: RowSource>(
     ensures book { S.book rows.new.source ≡ S.book rows.old.source }
 {
     let key = RowKey::Original(request.transaction.identity());
-    match original_in(&look_up(rows, &key)?) {
+    match original_in(&rows.ask(&key)?) {
         Some(row) => answer_again(request, &row, rows),
         None => decide_fresh(request, rows),
     }
@@ -65,7 +61,7 @@ fn decide_fresh<S: RowSource>(request: &Request, rows: &mut Recorder<S>) -> Resu
         return decline(request, code, rows);
     }
     let key = RowKey::Card(request.transaction.pan);
-    let Some(card) = card_in(&look_up(rows, &key)?) else {
+    let Some(card) = card_in(&rows.ask(&key)?) else {
         return decline(request, DeclineCode::NO_CARD_RECORD, rows);
     };
     match usable_account(request, &card) {
@@ -90,7 +86,7 @@ fn decide_on_account<S: RowSource>(
     ensures book { S.book rows.new.source ≡ S.book rows.old.source }
 {
     let key = RowKey::Account(id);
-    let Some(account) = account_in(&look_up(rows, &key)?) else {
+    let Some(account) = account_in(&rows.ask(&key)?) else {
         return decline(request, DeclineCode::SYSTEM_MALFUNCTION, rows);
     };
     if request.transaction.currency != account.currency {
@@ -116,7 +112,7 @@ fn decide_on_day<S: RowSource>(
     ensures book { S.book rows.new.source ≡ S.book rows.old.source }
 {
     let key = RowKey::Velocity(request.transaction.pan, request.transaction.stamp.day());
-    let day = spent_in(velocity_in(&look_up(rows, &key)?));
+    let day = spent_in(velocity_in(&rows.ask(&key)?));
     decide_on_limits(request, card, id, account, &day, rows)
 }
 
@@ -141,7 +137,7 @@ fn decide_on_limits<S: RowSource>(
         return decline(request, code, rows);
     }
     let key = RowKey::Budget(request.transaction.pan.prefix());
-    let budget = budget_in(&look_up(rows, &key)?);
+    let budget = budget_in(&rows.ask(&key)?);
     match request_funds(&request.transaction, id, account, &budget) {
         Ok(paying) => approve(request, card, day, &paying, rows),
         Err(code) => decline(request, code, rows),

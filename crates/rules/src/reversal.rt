@@ -8,7 +8,6 @@ ghost use Rattle.rules.specs.Following.{Follows, Concludes, kinds_read};
 ghost use Rattle.rules.specs.Needs.{ReadsNeeds};
 ghost use Rattle.view.specs.Recording.{IsStopOf};
 
-use crate::look_up::look_up;
 use crate::reversal_answers::{answer_settled, mark_ahead, settle_unposted, unchanged};
 use crate::reversal_facts::{account_funds, budget_funds, is_named, is_wrong_part};
 use crate::reversal_refunds::{reverse_advice, reverse_request};
@@ -31,7 +30,7 @@ pub(crate) fn decide_reversal<S: RowSource>(
     ensures book { S.book rows.new.source ≡ S.book rows.old.source }
 {
     let key = RowKey::Original(reversal.original.identity);
-    match original_in(&look_up(rows, &key)?) {
+    match original_in(&rows.ask(&key)?) {
         Some(row) => decide_on_row(reversal, &row, rows),
         None => mark_ahead(reversal, rows),
     }
@@ -122,7 +121,7 @@ fn decide_by_account<S: RowSource>(
     ensures book { S.book rows.new.source ≡ S.book rows.old.source }
 {
     let key = RowKey::Account(id);
-    let paid = account_funds(id, account_in(&look_up(rows, &key)?));
+    let paid = account_funds(id, account_in(&rows.ask(&key)?));
     decide_on_paid(reversal, kept, &paid, rows)
 }
 
@@ -141,7 +140,7 @@ fn decide_by_budget<S: RowSource>(
     ensures book { S.book rows.new.source ≡ S.book rows.old.source }
 {
     let key = RowKey::Budget(kept.card().prefix());
-    let paid = budget_funds(kept.card().prefix(), budget_in(&look_up(rows, &key)?));
+    let paid = budget_funds(kept.card().prefix(), budget_in(&rows.ask(&key)?));
     decide_on_paid(reversal, kept, &paid, rows)
 }
 
@@ -185,7 +184,7 @@ fn decide_on_day<S: RowSource>(
     ensures book { S.book rows.new.source ≡ S.book rows.old.source }
 {
     let key = RowKey::Velocity(kept.card(), reversal.original.identity.stamp.day());
-    match velocity_in(&look_up(rows, &key)?) {
+    match velocity_in(&rows.ask(&key)?) {
         Some(day) => reverse_request(reversal, kept, paid, &day, rows),
         None => Ok(unchanged(reversal, Action::NOT_TRACED)),
     }

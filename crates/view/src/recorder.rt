@@ -1,7 +1,7 @@
 ghost use Rattle.std.specs.Prelude.{◌≡◌, ◌⊎◌, [], Some, None, IfOk, IfErr, IfSome, OnOk, OnErr};
 ghost use Rattle.std.specs.FinMap as map;
 ghost use Rattle.rows.specs.RowVal.{IsOfKind};
-ghost use Rattle.view.specs.Recording.{kept, AgreesWithBook, AsksOnce};
+ghost use Rattle.view.specs.Recording.{kept, AgreesWithBook, AsksOnce, IsStopOf};
 ghost use Rattle.view.specs.RowSets.{value_in, logged, put};
 
 use crate::read_set::ReadSet;
@@ -93,7 +93,8 @@ impl<S: RowSource> Recorder<S> {
         ensures writes { self.new.writes ≡ self.old.writes }
         ensures kind { IfOk result (λ row. IfSome row (IsOfKind key.now)) }
 
-        // A known book stays, and want of memory is all that stops it.
+        // It stops where the source does or memory runs out. A known book stays, and there want of memory is all that stops it.
+        ensures stop { IfErr result (λ stop. (stop ≡ Stop.OutOfMemory) ⊎ IsStopOf S.answers self.new.source stop) }
         ensures stops { IfSome (S.book self.old.source) (λ _. IfErr result (λ stop. stop ≡ Stop.OutOfMemory)) }
         ensures book { S.book self.new.source ≡ S.book self.old.source }
     {

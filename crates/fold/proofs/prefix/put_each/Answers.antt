@@ -5,6 +5,6 @@ use Rattle.fold.proofs.prefix.put_each.Goals as goal
 
 pub loop-index-preserved : goal.loop-index-preserved
 loop-index-preserved c =
-    ap (λ (rows : Rows). overlay rows (drop (c.loop-index.index + 1) c.args.writes.now)) c.in_ok-put.ensures.ok
+    ap (λ (rows : Rows). overlay rows (drop (c.loop-index.index + 1) c.args.writes.now)) c.in_ok-put_copy.ensures.ok
     ∙ overlay-drop c.loop-index.book c.args.writes.now c.loop-index.index (c.row.result.0.now, c.row.result.1.now) c.row.ensures.entry
     ∙ c.loop-index.invariant

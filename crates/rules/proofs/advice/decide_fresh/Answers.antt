@@ -9,11 +9,11 @@ acknowledge-requires g c = record {
   follows = follows_else _ _ _ _ _ _ c.requires.follows (other_number _ _ (λ zero. c.if-code-ne0.true (c.code.ensures.value ∙ zero)));
 }
 
-pub look_up-requires : goal.look_up-requires
-look_up-requires g c = unread c.args.rows.now _ _ _ (key.Card c.args.advice.now.transaction.pan) c.requires.follows c.requires.kinds refl
+pub ask-requires : goal.ask-requires
+ask-requires g c = unread c.args.rows.now _ _ _ (key.Card c.args.advice.now.transaction.pan) c.requires.follows c.requires.kinds refl
 
-pub returns-in_err-look_up-clause-so_far : goal.returns-in_err-look_up-clause-so_far
-returns-in_err-look_up-clause-so_far g c = follows_needs _ _ _ _ _ c.requires.follows c.in_err-look_up.ensures.err
+pub returns-in_err-ask-clause-so_far : goal.returns-in_err-ask-clause-so_far
+returns-in_err-ask-clause-so_far g c = follows_needs _ _ _ _ _ c.requires.follows c.in_err-ask.ensures.err
 
 pub acknowledge-requires-in_default : goal.acknowledge-requires-in_default
 acknowledge-requires-in_default g c =
@@ -21,7 +21,7 @@ acknowledge-requires-in_default g c =
     record {
       follows =
           looked_as _ _ _ _ _ _ _ _ _ _ (follows_then _ _ _ _ (table.looked_for_card a) _ c.requires.follows (same_number _ _ (sym c.code.ensures.value ∙ c.if-code-ne0.false)))
-          c.in_ok-look_up.ensures.logged c.in_ok-look_up.ensures.writes refl
+          c.in_ok-ask.ensures.logged c.in_ok-ask.ensures.writes refl
           (ap (table.advice_on_card a) (sym c.card_in.ensures ∙ c.in_default.is));
     }
 
@@ -29,7 +29,7 @@ pub decide_on_account-requires-clause-follows : goal.decide_on_account-requires-
 decide_on_account-requires-clause-follows g c =
     let a = c.args.advice.now in
     looked_as _ _ _ _ _ _ _ _ _ _ (follows_then _ _ _ _ (table.looked_for_card a) _ c.requires.follows (same_number _ _ (sym c.code.ensures.value ∙ c.if-code-ne0.false)))
-    c.in_ok-look_up.ensures.logged c.in_ok-look_up.ensures.writes refl
+    c.in_ok-ask.ensures.logged c.in_ok-ask.ensures.writes refl
     (ap (table.advice_on_card a) (sym c.card_in.ensures ∙ c.in-Some.is) ∙ ap (table.advice_on_named a) (sym c.account_of.ensures ∙ c.in-Some-account_of.is))
 
 pub acknowledge-requires-in-None : goal.acknowledge-requires-in-None
@@ -38,6 +38,6 @@ acknowledge-requires-in-None g c =
     record {
       follows =
           looked_as _ _ _ _ _ _ _ _ _ _ (follows_then _ _ _ _ (table.looked_for_card a) _ c.requires.follows (same_number _ _ (sym c.code.ensures.value ∙ c.if-code-ne0.false)))
-          c.in_ok-look_up.ensures.logged c.in_ok-look_up.ensures.writes refl
+          c.in_ok-ask.ensures.logged c.in_ok-ask.ensures.writes refl
           (ap (table.advice_on_card a) (sym c.card_in.ensures ∙ c.in-Some.is) ∙ ap (table.advice_on_named a) (sym c.account_of.ensures ∙ c.in-None.is));
     }

@@ -5,16 +5,16 @@ use Rattle.rules.proofs.FollowingLaws.{unread, looked_as, follows_then, follows_
 use Rattle.rows.specs.Facts.{is_same_currency}
 use Rattle.rules.proofs.advice.decide_on_account.Goals as goal
 
-pub look_up-requires : goal.look_up-requires
-look_up-requires g c = unread c.args.rows.now _ _ _ (key.Account c.args.id) c.requires.follows c.requires.kinds refl
+pub ask-requires : goal.ask-requires
+ask-requires g c = unread c.args.rows.now _ _ _ (key.Account c.args.id) c.requires.follows c.requires.kinds refl
 
-pub returns-in_err-look_up-clause-so_far : goal.returns-in_err-look_up-clause-so_far
-returns-in_err-look_up-clause-so_far g c = follows_needs _ _ _ _ _ c.requires.follows c.in_err-look_up.ensures.err
+pub returns-in_err-ask-clause-so_far : goal.returns-in_err-ask-clause-so_far
+returns-in_err-ask-clause-so_far g c = follows_needs _ _ _ _ _ c.requires.follows c.in_err-ask.ensures.err
 
 pub acknowledge-requires : goal.acknowledge-requires
 acknowledge-requires g c = record {
   follows =
-      looked_as _ _ _ _ _ _ _ _ _ _ c.requires.follows c.in_ok-look_up.ensures.logged c.in_ok-look_up.ensures.writes refl
+      looked_as _ _ _ _ _ _ _ _ _ _ c.requires.follows c.in_ok-ask.ensures.logged c.in_ok-ask.ensures.writes refl
       (ap (table.advice_on_account c.args.advice.now c.args.id) (sym c.account_in.ensures ∙ c.in_default.is));
 }
 
@@ -22,7 +22,7 @@ pub acknowledge-requires-then-ne : goal.acknowledge-requires-then-ne
 acknowledge-requires-then-ne g c = record {
   follows =
       follows_else _ _ _ (is_same_currency c.args.advice.now.transaction.currency c.in-Some.account.currency) _ _
-      (looked_as _ _ _ _ _ _ _ _ _ _ c.requires.follows c.in_ok-look_up.ensures.logged c.in_ok-look_up.ensures.writes refl
+      (looked_as _ _ _ _ _ _ _ _ _ _ c.requires.follows c.in_ok-ask.ensures.logged c.in_ok-ask.ensures.writes refl
       (ap (table.advice_on_account c.args.advice.now c.args.id) (sym c.account_in.ensures ∙ c.in-Some.is)))
       (not_true _ (sym c.ne.ensures ∙ c.if-ne.true));
 }
@@ -30,6 +30,6 @@ acknowledge-requires-then-ne g c = record {
 pub decide_on_funds-requires-clause-follows : goal.decide_on_funds-requires-clause-follows
 decide_on_funds-requires-clause-follows g c =
     follows_then _ _ _ (is_same_currency c.args.advice.now.transaction.currency c.in-Some.account.currency) _ _
-    (looked_as _ _ _ _ _ _ _ _ _ _ c.requires.follows c.in_ok-look_up.ensures.logged c.in_ok-look_up.ensures.writes refl
+    (looked_as _ _ _ _ _ _ _ _ _ _ c.requires.follows c.in_ok-ask.ensures.logged c.in_ok-ask.ensures.writes refl
     (ap (table.advice_on_account c.args.advice.now c.args.id) (sym c.account_in.ensures ∙ c.in-Some.is)))
     (not_false _ (sym c.ne.ensures ∙ c.if-ne.false))

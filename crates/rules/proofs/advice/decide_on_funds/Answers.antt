@@ -4,16 +4,16 @@ use Rattle.rows.specs.AdviceTable as table
 use Rattle.rules.proofs.FollowingLaws.{unread, looked_as, follows_needs}
 use Rattle.rules.proofs.advice.decide_on_funds.Goals as goal
 
-pub look_up-requires : goal.look_up-requires
-look_up-requires g c = unread c.args.rows.now _ _ _ (key.Budget c.prefix.result) c.requires.follows c.requires.kinds refl
+pub ask-requires : goal.ask-requires
+ask-requires g c = unread c.args.rows.now _ _ _ (key.Budget c.prefix.result) c.requires.follows c.requires.kinds refl
 
-pub returns-in_err-look_up-clause-so_far : goal.returns-in_err-look_up-clause-so_far
-returns-in_err-look_up-clause-so_far g c = follows_needs _ _ _ _ _ c.requires.follows c.in_err-look_up.ensures.err
+pub returns-in_err-ask-clause-so_far : goal.returns-in_err-ask-clause-so_far
+returns-in_err-ask-clause-so_far g c = follows_needs _ _ _ _ _ c.requires.follows c.in_err-ask.ensures.err
 
 pub accept-requires-clause-follows : goal.accept-requires-clause-follows
 accept-requires-clause-follows g c =
     let a = c.args.advice.now in
-    looked_as _ _ _ _ _ _ _ _ _ _ c.requires.follows c.in_ok-look_up.ensures.logged c.in_ok-look_up.ensures.writes (λ i. key.Budget (c.prefix.ensures i))
+    looked_as _ _ _ _ _ _ _ _ _ _ c.requires.follows c.in_ok-ask.ensures.logged c.in_ok-ask.ensures.writes (λ i. key.Budget (c.prefix.ensures i))
     (ap (table.advice_on_funds a)
     (ap (table.advice_funds a.transaction c.args.id c.args.account.now) (sym c.budget_in-budget.ensures) ∙ sym c.advice_funds.ensures.funds ∙ c.in-Some.is))
 
@@ -22,7 +22,7 @@ acknowledge-requires g c =
     let a = c.args.advice.now in
     record {
       follows =
-          looked_as _ _ _ _ _ _ _ _ _ _ c.requires.follows c.in_ok-look_up.ensures.logged c.in_ok-look_up.ensures.writes (λ i. key.Budget (c.prefix.ensures i))
+          looked_as _ _ _ _ _ _ _ _ _ _ c.requires.follows c.in_ok-ask.ensures.logged c.in_ok-ask.ensures.writes (λ i. key.Budget (c.prefix.ensures i))
           (ap (table.advice_on_funds a)
           (ap (table.advice_funds a.transaction c.args.id c.args.account.now) (sym c.budget_in-budget.ensures) ∙ sym c.advice_funds.ensures.funds ∙ c.in-None.is));
     }

@@ -4,11 +4,11 @@ use Rattle.rows.specs.RequestTable as table
 use Rattle.rules.proofs.FollowingLaws.{unread, looked_as, follows_as, follows_needs}
 use Rattle.rules.proofs.request.decide_fresh.Goals as goal
 
-pub look_up-requires : goal.look_up-requires
-look_up-requires g c = unread c.args.rows.now _ _ _ (key.Card c.args.request.now.transaction.pan) c.requires.follows c.requires.kinds refl
+pub ask-requires : goal.ask-requires
+ask-requires g c = unread c.args.rows.now _ _ _ (key.Card c.args.request.now.transaction.pan) c.requires.follows c.requires.kinds refl
 
-pub returns-in_err-look_up-clause-so_far : goal.returns-in_err-look_up-clause-so_far
-returns-in_err-look_up-clause-so_far g c = follows_needs _ _ _ _ _ c.requires.follows c.in_err-look_up.ensures.err
+pub returns-in_err-ask-clause-so_far : goal.returns-in_err-ask-clause-so_far
+returns-in_err-ask-clause-so_far g c = follows_needs _ _ _ _ _ c.requires.follows c.in_err-ask.ensures.err
 
 pub decline-requires-in_default-card_in : goal.decline-requires-in_default-card_in
 decline-requires-in_default-card_in g c =
@@ -16,14 +16,14 @@ decline-requires-in_default-card_in g c =
     record {
       follows =
           looked_as _ _ _ _ _ _ _ _ _ _ (follows_as _ _ _ _ (table.looked_for_card r) (ap (λ o. table.unless_refused r o (table.looked_for_card r)) (sym c.refused_unseen.ensures ∙ c.in_default.is)) c.requires.follows)
-          c.in_ok-look_up.ensures.logged c.in_ok-look_up.ensures.writes refl (ap (table.on_card r) (sym c.card_in.ensures ∙ c.in_default-card_in.is));
+          c.in_ok-ask.ensures.logged c.in_ok-ask.ensures.writes refl (ap (table.on_card r) (sym c.card_in.ensures ∙ c.in_default-card_in.is));
     }
 
 pub decide_on_account-requires-clause-follows : goal.decide_on_account-requires-clause-follows
 decide_on_account-requires-clause-follows g c =
     let r = c.args.request.now in
     looked_as _ _ _ _ _ _ _ _ _ _ (follows_as _ _ _ _ (table.looked_for_card r) (ap (λ o. table.unless_refused r o (table.looked_for_card r)) (sym c.refused_unseen.ensures ∙ c.in_default.is)) c.requires.follows)
-    c.in_ok-look_up.ensures.logged c.in_ok-look_up.ensures.writes refl
+    c.in_ok-ask.ensures.logged c.in_ok-ask.ensures.writes refl
     (ap (table.on_card r) (sym c.card_in.ensures ∙ c.in-Some-card_in.is) ∙ ap (table.on_usable r c.in-Some-card_in.card) (sym c.usable_account.ensures ∙ c.in-Ok.is))
 
 pub decline-requires-in-Err : goal.decline-requires-in-Err
@@ -32,6 +32,6 @@ decline-requires-in-Err g c =
     record {
       follows =
           looked_as _ _ _ _ _ _ _ _ _ _ (follows_as _ _ _ _ (table.looked_for_card r) (ap (λ o. table.unless_refused r o (table.looked_for_card r)) (sym c.refused_unseen.ensures ∙ c.in_default.is)) c.requires.follows)
-          c.in_ok-look_up.ensures.logged c.in_ok-look_up.ensures.writes refl
+          c.in_ok-ask.ensures.logged c.in_ok-ask.ensures.writes refl
           (ap (table.on_card r) (sym c.card_in.ensures ∙ c.in-Some-card_in.is) ∙ ap (table.on_usable r c.in-Some-card_in.card) (sym c.usable_account.ensures ∙ c.in-Err.is));
     }

@@ -5,14 +5,14 @@ use Rattle.rows.specs.Typed as typed
 use Rattle.rules.proofs.FollowingLaws.{unread, looked_as, follows_needs}
 use Rattle.rules.proofs.request.decide_on_day.Goals as goal
 
-pub look_up-requires : goal.look_up-requires
-look_up-requires g c = unread c.args.rows.now _ _ _ (key.Velocity c.args.request.now.transaction.pan c.day.result) c.requires.follows c.requires.kinds refl
+pub ask-requires : goal.ask-requires
+ask-requires g c = unread c.args.rows.now _ _ _ (key.Velocity c.args.request.now.transaction.pan c.day.result) c.requires.follows c.requires.kinds refl
 
-pub returns-in_err-look_up-clause-so_far : goal.returns-in_err-look_up-clause-so_far
-returns-in_err-look_up-clause-so_far g c = follows_needs _ _ _ _ _ c.requires.follows c.in_err-look_up.ensures.err
+pub returns-in_err-ask-clause-so_far : goal.returns-in_err-ask-clause-so_far
+returns-in_err-ask-clause-so_far g c = follows_needs _ _ _ _ _ c.requires.follows c.in_err-ask.ensures.err
 
 pub decide_on_limits-requires-clause-follows : goal.decide_on_limits-requires-clause-follows
 decide_on_limits-requires-clause-follows g c =
     let r = c.args.request.now in
-    looked_as _ _ _ _ _ _ _ _ _ _ c.requires.follows c.in_ok-look_up.ensures.logged c.in_ok-look_up.ensures.writes (λ i. key.Velocity r.transaction.pan (c.day.ensures i))
+    looked_as _ _ _ _ _ _ _ _ _ _ c.requires.follows c.in_ok-ask.ensures.logged c.in_ok-ask.ensures.writes (λ i. key.Velocity r.transaction.pan (c.day.ensures i))
     (ap (λ day. table.on_day r c.args.card.now c.args.id c.args.account.now day) (sym (c.spent_in-day.ensures ∙ ap typed.spent_in c.velocity_in.ensures)))

@@ -4,11 +4,11 @@ use Rattle.rows.specs.RequestTable as table
 use Rattle.rules.proofs.FollowingLaws.{unread, looked_as, follows_as, follows_needs}
 use Rattle.rules.proofs.request.decide_on_limits.Goals as goal
 
-pub look_up-requires : goal.look_up-requires
-look_up-requires g c = unread c.args.rows.now _ _ _ (key.Budget c.prefix.result) c.requires.follows c.requires.kinds refl
+pub ask-requires : goal.ask-requires
+ask-requires g c = unread c.args.rows.now _ _ _ (key.Budget c.prefix.result) c.requires.follows c.requires.kinds refl
 
-pub returns-in_err-look_up-clause-so_far : goal.returns-in_err-look_up-clause-so_far
-returns-in_err-look_up-clause-so_far g c = follows_needs _ _ _ _ _ c.requires.follows c.in_err-look_up.ensures.err
+pub returns-in_err-ask-clause-so_far : goal.returns-in_err-ask-clause-so_far
+returns-in_err-ask-clause-so_far g c = follows_needs _ _ _ _ _ c.requires.follows c.in_err-ask.ensures.err
 
 pub approve-requires-clause-follows : goal.approve-requires-clause-follows
 approve-requires-clause-follows g c =
@@ -17,7 +17,7 @@ approve-requires-clause-follows g c =
     (follows_as _ _ _ _ (table.looked_for_funds r c.args.card.now c.args.id c.args.account.now c.args.day.now)
     (ap (λ o. table.unless_refused r o (table.looked_for_funds r c.args.card.now c.args.id c.args.account.now c.args.day.now)) (sym c.refused_by_limits.ensures.refused ∙ c.in_default.is))
     c.requires.follows)
-    c.in_ok-look_up.ensures.logged c.in_ok-look_up.ensures.writes (λ i. key.Budget (c.prefix.ensures i))
+    c.in_ok-ask.ensures.logged c.in_ok-ask.ensures.writes (λ i. key.Budget (c.prefix.ensures i))
     (ap (table.on_funds r c.args.card.now c.args.day.now)
     (ap (table.request_funds r.transaction c.args.id c.args.account.now) (sym c.budget_in-budget.ensures) ∙ sym c.request_funds.ensures.funds ∙ c.in-Ok.is))
 
@@ -30,7 +30,7 @@ decline-requires-in-Err g c =
           (follows_as _ _ _ _ (table.looked_for_funds r c.args.card.now c.args.id c.args.account.now c.args.day.now)
           (ap (λ o. table.unless_refused r o (table.looked_for_funds r c.args.card.now c.args.id c.args.account.now c.args.day.now)) (sym c.refused_by_limits.ensures.refused ∙ c.in_default.is))
           c.requires.follows)
-          c.in_ok-look_up.ensures.logged c.in_ok-look_up.ensures.writes (λ i. key.Budget (c.prefix.ensures i))
+          c.in_ok-ask.ensures.logged c.in_ok-ask.ensures.writes (λ i. key.Budget (c.prefix.ensures i))
           (ap (table.on_funds r c.args.card.now c.args.day.now)
           (ap (table.request_funds r.transaction c.args.id c.args.account.now) (sym c.budget_in-budget.ensures) ∙ sym c.request_funds.ensures.funds ∙ c.in-Err.is));
     }

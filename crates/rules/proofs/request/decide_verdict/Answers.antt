@@ -4,17 +4,17 @@ use Rattle.rows.specs.RequestTable as table
 use Rattle.rules.proofs.FollowingLaws.{unread, looked_as}
 use Rattle.rules.proofs.request.decide_verdict.Goals as goal
 
-pub look_up-requires : goal.look_up-requires
-look_up-requires g c = unread c.args.rows.now _ _ _ (key.Original c.identity.result) c.requires.follows c.requires.kinds refl
+pub ask-requires : goal.ask-requires
+ask-requires g c = unread c.args.rows.now _ _ _ (key.Original c.identity.result) c.requires.follows c.requires.kinds refl
 
 pub answer_again-requires : goal.answer_again-requires
 answer_again-requires g c = record {
   follows =
-      looked_as _ _ _ _ _ _ _ _ _ _ c.requires.follows c.in_ok-look_up.ensures.logged c.in_ok-look_up.ensures.writes (λ i. key.Original (c.identity.ensures i))
+      looked_as _ _ _ _ _ _ _ _ _ _ c.requires.follows c.in_ok-ask.ensures.logged c.in_ok-ask.ensures.writes (λ i. key.Original (c.identity.ensures i))
       (ap (table.on_original c.args.request.now) (sym c.original_in.ensures ∙ c.in-Some.is));
 }
 
 pub decide_fresh-requires-clause-follows : goal.decide_fresh-requires-clause-follows
 decide_fresh-requires-clause-follows g c =
-    looked_as _ _ _ _ _ _ _ _ _ _ c.requires.follows c.in_ok-look_up.ensures.logged c.in_ok-look_up.ensures.writes (λ i. key.Original (c.identity.ensures i))
+    looked_as _ _ _ _ _ _ _ _ _ _ c.requires.follows c.in_ok-ask.ensures.logged c.in_ok-ask.ensures.writes (λ i. key.Original (c.identity.ensures i))
     (ap (table.on_original c.args.request.now) (sym c.original_in.ensures ∙ c.in-None.is))

@@ -4,13 +4,13 @@ use Rattle.rows.specs.declared.row_key.RowKey.TheVariants as key
 use Rattle.rules.proofs.FollowingLaws.{unread, looked_as, follows_needs}
 use Rattle.rules.proofs.reversal.decide_by_account.Goals as goal
 
-pub look_up-requires : goal.look_up-requires
-look_up-requires g c = unread c.args.rows.now _ _ _ (key.Account c.args.id) c.requires.follows c.requires.kinds refl
+pub ask-requires : goal.ask-requires
+ask-requires g c = unread c.args.rows.now _ _ _ (key.Account c.args.id) c.requires.follows c.requires.kinds refl
 
-pub returns-in_err-look_up-clause-so_far : goal.returns-in_err-look_up-clause-so_far
-returns-in_err-look_up-clause-so_far g c = follows_needs _ _ _ _ _ c.requires.follows c.in_err-look_up.ensures.err
+pub returns-in_err-ask-clause-so_far : goal.returns-in_err-ask-clause-so_far
+returns-in_err-ask-clause-so_far g c = follows_needs _ _ _ _ _ c.requires.follows c.in_err-ask.ensures.err
 
 pub decide_on_paid-requires-clause-follows : goal.decide_on_paid-requires-clause-follows
 decide_on_paid-requires-clause-follows g c =
-    looked_as _ _ _ _ _ _ _ _ _ _ c.requires.follows c.in_ok-look_up.ensures.logged c.in_ok-look_up.ensures.writes refl
+    looked_as _ _ _ _ _ _ _ _ _ _ c.requires.follows c.in_ok-ask.ensures.logged c.in_ok-ask.ensures.writes refl
     (ap (table.on_paid c.args.reversal.now c.args.kept.now) (ap (option_map _) (sym c.account_in.ensures) ∙ sym c.account_funds-paid.ensures))

@@ -6,15 +6,15 @@ use Rattle.rows.specs.declared.funds.Funds.TheVariants as funds
 use Rattle.rules.proofs.FollowingLaws.{unread, looked_as, follows_needs}
 use Rattle.rules.proofs.reversal.decide_by_budget.Goals as goal
 
-pub look_up-requires : goal.look_up-requires
-look_up-requires g c = unread c.args.rows.now _ _ _ (key.Budget c.prefix.result) c.requires.follows c.requires.kinds refl
+pub ask-requires : goal.ask-requires
+ask-requires g c = unread c.args.rows.now _ _ _ (key.Budget c.prefix.result) c.requires.follows c.requires.kinds refl
 
-pub returns-in_err-look_up-clause-so_far : goal.returns-in_err-look_up-clause-so_far
-returns-in_err-look_up-clause-so_far g c = follows_needs _ _ _ _ _ c.requires.follows c.in_err-look_up.ensures.err
+pub returns-in_err-ask-clause-so_far : goal.returns-in_err-ask-clause-so_far
+returns-in_err-ask-clause-so_far g c = follows_needs _ _ _ _ _ c.requires.follows c.in_err-ask.ensures.err
 
 pub decide_on_paid-requires-clause-follows : goal.decide_on_paid-requires-clause-follows
 decide_on_paid-requires-clause-follows g c =
     let key_prefix = c.prefix.ensures ∙ ap prefix_of c.card.ensures.card in
     let row_prefix = c.prefix-2.ensures ∙ ap prefix_of c.card-2.ensures.card in
-    looked_as _ _ _ _ _ _ _ _ _ _ c.requires.follows c.in_ok-look_up.ensures.logged c.in_ok-look_up.ensures.writes (λ i. key.Budget (key_prefix i))
+    looked_as _ _ _ _ _ _ _ _ _ _ c.requires.follows c.in_ok-ask.ensures.logged c.in_ok-ask.ensures.writes (λ i. key.Budget (key_prefix i))
     (ap (table.on_paid c.args.reversal.now c.args.kept.now) (sym (c.budget_funds-paid.ensures ∙ (λ i. option_map (funds.Budget (row_prefix i)) (c.budget_in.ensures i)))))

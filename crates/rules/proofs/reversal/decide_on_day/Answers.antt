@@ -4,23 +4,23 @@ use Rattle.rows.specs.declared.row_key.RowKey.TheVariants as key
 use Rattle.rules.proofs.FollowingLaws.{unread, looked_as, follows_needs, concluded_with_none, concluded_needs}
 use Rattle.rules.proofs.reversal.decide_on_day.Goals as goal
 
-pub look_up-requires : goal.look_up-requires
-look_up-requires g c = unread c.args.rows.now _ _ _ (key.Velocity c.card.result c.day.result) c.requires.follows refl c.requires.days
+pub ask-requires : goal.ask-requires
+ask-requires g c = unread c.args.rows.now _ _ _ (key.Velocity c.card.result c.day.result) c.requires.follows refl c.requires.days
 
-pub returns-in_err-look_up-clause-so_far : goal.returns-in_err-look_up-clause-so_far
-returns-in_err-look_up-clause-so_far g c = follows_needs _ _ _ _ _ c.requires.follows c.in_err-look_up.ensures.err
+pub returns-in_err-ask-clause-so_far : goal.returns-in_err-ask-clause-so_far
+returns-in_err-ask-clause-so_far g c = follows_needs _ _ _ _ _ c.requires.follows c.in_err-ask.ensures.err
 
 pub reverse_request-requires : goal.reverse_request-requires
 reverse_request-requires g c = record {
   follows =
-      looked_as _ _ _ _ _ _ _ _ _ _ c.requires.follows c.in_ok-look_up.ensures.logged c.in_ok-look_up.ensures.writes (λ i. key.Velocity (c.card.ensures.card i) (c.day.ensures i))
+      looked_as _ _ _ _ _ _ _ _ _ _ c.requires.follows c.in_ok-ask.ensures.logged c.in_ok-ask.ensures.writes (λ i. key.Velocity (c.card.ensures.card i) (c.day.ensures i))
       (ap (table.on_original_day c.args.reversal.now c.args.kept.now c.args.paid.now) (sym c.velocity_in.ensures ∙ c.in-Some.is));
 }
 
 pub returns-in-None-clause-done : goal.returns-in-None-clause-done
 returns-in-None-clause-done g c =
-    concluded_with_none _ c.look_up.new.rows _ _
-    (looked_as _ _ _ _ _ _ _ _ _ _ c.requires.follows c.in_ok-look_up.ensures.logged c.in_ok-look_up.ensures.writes (λ i. key.Velocity (c.card.ensures.card i) (c.day.ensures i))
+    concluded_with_none _ c.ask.new.self _ _
+    (looked_as _ _ _ _ _ _ _ _ _ _ c.requires.follows c.in_ok-ask.ensures.logged c.in_ok-ask.ensures.writes (λ i. key.Velocity (c.card.ensures.card i) (c.day.ensures i))
     (ap (table.on_original_day c.args.reversal.now c.args.kept.now c.args.paid.now) (sym c.velocity_in.ensures ∙ c.in-None.is)))
     c.unchanged.ensures
 
