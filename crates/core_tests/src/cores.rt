@@ -218,7 +218,15 @@ fn second_fails(rt: &impl Abort, alloc: Global, core: &mut Core) -> Result<(), F
     assert_marks(rt, alloc, core, &OF_100, 3, [0, 3, 2, 0], [None; 3])?;
     assert_tasks(rt, core, &[Task::Validate(first)]);
     assert_passes(rt, core, 2, first)?;
-    assert_marks(rt, alloc, core, &OF_100, 3, [0, 3, 2, 0], [Some(3), None, None])?;
+    assert_marks(
+        rt,
+        alloc,
+        core,
+        &OF_100,
+        3,
+        [0, 3, 2, 0],
+        [Some(3), None, None],
+    )?;
     assert_tasks(rt, core, &[Task::Validate(second)]);
     assert_fails_at_the_card(rt, core, 1, second)
 }
@@ -230,9 +238,21 @@ fn three_requests_of_one_card(rt: HostRuntime) -> Result<(), Fail> {
     let mut core = OF_100.open(alloc)?;
     second_fails(&rt, alloc, &mut core)?;
     assert_eq!(rt; core.end_check(seat(1)?), Ok(false));
-    assert_marks(&rt, alloc, &core, &OF_100, 4, [0, 3, 4, 0], [Some(3), None, None])?;
+    assert_marks(
+        &rt,
+        alloc,
+        &core,
+        &OF_100,
+        4,
+        [0, 3, 4, 0],
+        [Some(3), None, None],
+    )?;
     let (again, third) = (version(1, 1), version(2, 0));
-    assert_tasks(&rt, &mut core, &[Task::Execute(again), Task::Execute(third)]);
+    assert_tasks(
+        &rt,
+        &mut core,
+        &[Task::Execute(again), Task::Execute(third)],
+    );
     let blocked = execute(
         alloc,
         &OF_100.frames()?[2],
@@ -252,13 +272,29 @@ fn three_requests_of_one_card(rt: HostRuntime) -> Result<(), Fail> {
     assert_stand(&rt, alloc, &core, &OF_100, waits)?;
     assert_finishes(&rt, alloc, &mut core, &OF_100, again, true)?;
     assert_passes(&rt, &mut core, 0, again)?;
-    assert_marks(&rt, alloc, &core, &OF_100, 4, [0, 3, 4, 0], [Some(3), Some(4), None])?;
+    assert_marks(
+        &rt,
+        alloc,
+        &core,
+        &OF_100,
+        4,
+        [0, 3, 4, 0],
+        [Some(3), Some(4), None],
+    )?;
     let last = version(2, 1);
     assert_tasks(&rt, &mut core, &[Task::Execute(last)]);
     assert_finishes(&rt, alloc, &mut core, &OF_100, last, false)?;
     assert_tasks(&rt, &mut core, &[Task::Validate(last)]);
     assert_passes(&rt, &mut core, 2, last)?;
-    assert_marks(&rt, alloc, &core, &OF_100, 5, [0, 3, 4, 5], [Some(3), Some(4), Some(5)])?;
+    assert_marks(
+        &rt,
+        alloc,
+        &core,
+        &OF_100,
+        5,
+        [0, 3, 4, 5],
+        [Some(3), Some(4), Some(5)],
+    )?;
     assert_commits(&rt, &mut core, &[true, true, true, false]);
     assert_tasks(&rt, &mut core, &[Task::Done]);
     let answers = ["000/000001", "000/000002", "000/000003"];
@@ -277,7 +313,15 @@ fn a_failed_check_at_the_last_epoch(rt: HostRuntime) -> Result<(), Fail> {
     assert_eq!(rt; core.limits(), limits);
     second_fails(&rt, alloc, &mut core)?;
     assert_eq!(rt; core.end_check(seat(1)?), Err(CoreFault::Worn));
-    assert_marks(&rt, alloc, &core, &OF_100, 3, [0, 3, 2, 0], [Some(3), None, None])?;
+    assert_marks(
+        &rt,
+        alloc,
+        &core,
+        &OF_100,
+        3,
+        [0, 3, 2, 0],
+        [Some(3), None, None],
+    )?;
     let stands = [
         (Status::Executed, 0),
         (Status::Executed, 0),
@@ -317,7 +361,15 @@ fn a_check_that_comes_too_late(rt: HostRuntime) -> Result<(), Fail> {
     let alloc = rt.alloc();
     let mut core = OF_ALL.open(alloc)?;
     all_begin(&rt, alloc, &mut core)?;
-    assert_marks(&rt, alloc, &core, &OF_ALL, 5, [0, 2, 5, 3], [Some(4), None, None])?;
+    assert_marks(
+        &rt,
+        alloc,
+        &core,
+        &OF_ALL,
+        5,
+        [0, 2, 5, 3],
+        [Some(4), None, None],
+    )?;
     let (again, third) = (version(1, 1), version(2, 0));
     assert_tasks(&rt, &mut core, &[Task::Execute(again)]);
     assert_finishes(&rt, alloc, &mut core, &OF_ALL, again, true)?;
@@ -330,7 +382,13 @@ fn a_check_that_comes_too_late(rt: HostRuntime) -> Result<(), Fail> {
     assert_eq!(rt; core.end_check(seat(2)?), Err(CoreFault::Outdated));
     assert_marks(&rt, alloc, &core, &OF_ALL, 5, [0, 2, 5, 3], stamps)?;
     assert_eq!(rt; core.committed(), 3);
-    assert_committed(&rt, alloc, core, ["000/000001", "116", "116"], "account A 0 978")
+    assert_committed(
+        &rt,
+        alloc,
+        core,
+        ["000/000001", "116", "116"],
+        "account A 0 978",
+    )
 }
 
 // The request decided on the opening book itself, and not on what the core has.
@@ -359,7 +417,10 @@ fn assert_refused(
         Err(CoreFault::NotRunning)
     );
     assert!(rt; core.logged(foolish, &key).is_none());
-    assert_eq!(rt; core.begin_check(seat(0)?, foolish), Err(CoreFault::Outdated));
+    assert_eq!(rt;
+        core.begin_check(seat(0)?, foolish),
+        Err(CoreFault::Outdated)
+    );
     Ok(())
 }
 

@@ -205,7 +205,8 @@ impl Gate for CountingGate<'_> {
     }
 
     fn after_record(&self, index: u32, _incarnation: u32) {
-        self.tally.count(&self.tally.after, &self.tally.ended, index as usize);
+        self.tally
+            .count(&self.tally.after, &self.tally.ended, index as usize);
     }
 }
 
@@ -223,9 +224,11 @@ impl Decide for CountingDecision<'_> {
     ) -> Result<ReplyBody, Stop> {
         let trace = trace_of(frame);
         let index = TRACES.iter().position(|text| *text == trace).unwrap_or(4);
-        self.tally.count(&self.tally.begun, &self.tally.before, index);
+        self.tally
+            .count(&self.tally.begun, &self.tally.before, index);
         let reply = rules::decide(frame, rows)?;
-        self.tally.count(&self.tally.ended, &self.tally.begun, index);
+        self.tally
+            .count(&self.tally.ended, &self.tally.begun, index);
         Ok(reply)
     }
 }

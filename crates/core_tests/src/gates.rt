@@ -9,8 +9,8 @@ use rows::{Frame, ReplyBody};
 use rules::Shipped;
 use std::alloc::Global;
 use std::process::Abort;
-use std::sync::atomic::{AtomicU64, Ordering};
 use std::sync::Wait;
+use std::sync::atomic::{AtomicU64, Ordering};
 use std::test::Fail;
 use std::thread::Threads;
 use view::{Decide, Recorder, RowSource, Stop};
@@ -140,7 +140,15 @@ fn an_open_gate_holds_nothing(rt: HostRuntime) -> Result<(), Fail> {
     let book = first_book_with(rt.alloc(), &[])?;
     let frames = frames().ok_or("bodies")?;
     let workers = Workers::new(64).ok_or("64 workers")?;
-    let outcome = run(&rt, rt.alloc(), &book, &frames, workers, &Shipped, &OpenGate)?;
+    let outcome = run(
+        &rt,
+        rt.alloc(),
+        &book,
+        &frames,
+        workers,
+        &Shipped,
+        &OpenGate,
+    )?;
     assert_eq!(rt; outcome.committed, 4);
     assert_decided(&rt, rt.alloc(), &outcome)
 }

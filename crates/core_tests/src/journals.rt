@@ -3,9 +3,9 @@
 use fixtures::{account, identity, pan};
 use iso8583::{Day, PanPrefix};
 use journal_text::{Entry, Event, ReplayFault, read_journal, write_journal, write_key};
-use speccore_laws::Seat;
 use mvmem::Version;
 use rows::RowKey;
+use speccore_laws::Seat;
 use std::alloc::Global;
 use std::process::Abort;
 use std::test::Fail;
@@ -76,8 +76,14 @@ fn an_execution_is_written_and_read(rt: HostRuntime) -> Result<(), Fail> {
 fn each_event_has_its_line(rt: HostRuntime) -> Result<(), Fail> {
     for (event, line) in [
         (Event::Claim, b"63 n\n".as_slice()),
-        (Event::Read(version(7, 2), card()?), b"63 r 7.2 card:4111110000000005\n"),
-        (Event::Block(version(7, 2), 4_294_967_295), b"63 b 7.2 4294967295\n"),
+        (
+            Event::Read(version(7, 2), card()?),
+            b"63 r 7.2 card:4111110000000005\n",
+        ),
+        (
+            Event::Block(version(7, 2), 4_294_967_295),
+            b"63 b 7.2 4294967295\n",
+        ),
         (Event::Finish(version(10, 0)), b"63 f 10.0\n"),
         (Event::BeginCheck(version(0, 10)), b"63 c 0.10\n"),
         (Event::CheckOne, b"63 o\n"),

@@ -160,7 +160,15 @@ fn two_decisions_meet(rt: HostRuntime) -> Result<(), Fail> {
         second: AtomicU64::new(0),
         met: AtomicU64::new(0),
     };
-    let outcome = run(&rt, alloc, &book, &two_cards()?, workers, &meeting, &OpenGate)?;
+    let outcome = run(
+        &rt,
+        alloc,
+        &book,
+        &two_cards()?,
+        workers,
+        &meeting,
+        &OpenGate,
+    )?;
     assert!(rt; meeting.met.load(Ordering::SeqCst) >= 2);
     assert_answers(&rt, alloc, &outcome, &["000/000001", "000/000001"])
 }

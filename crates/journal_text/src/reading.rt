@@ -8,8 +8,8 @@ use crate::entry::Entry;
 use crate::events::event_of;
 use crate::fields::{number_of, parted};
 use crate::replay_fault::ReplayFault;
-use std::alloc::Global;
 use speccore_laws::Seat;
+use std::alloc::Global;
 
 /// The entry that is written so, without its line feed.
 fn entry_of(line: &[u8]) -> Option<Entry>

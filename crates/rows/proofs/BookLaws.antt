@@ -60,10 +60,10 @@ pub keys_stay : (es ns : List (RowKey × RowVal)) (k : RowKey) (v : RowVal) (key
     → AreTheKeys ns keys
 keys_stay es ns k v keys are there put q =
     are q ∙ rw (put q) (
-      elim (key_eq k q) as (λ t. key_eq k q ≡ t → is_some (value_at es q) ≡ is_some (cond t (Some v) (value_at es q))) [
-        | true ↦ λ same. subst (λ (x : RowKey). is_some (value_at es x) ≡ true) ((key_eq_decides k q).0 same) there
-        | false ↦ λ _. refl
-      ] refl)
+    elim (key_eq k q) as (λ t. key_eq k q ≡ t → is_some (value_at es q) ≡ is_some (cond t (Some v) (value_at es q))) [
+      | true ↦ λ same. subst (λ (x : RowKey). is_some (value_at es x) ≡ true) ((key_eq_decides k q).0 same) there
+      | false ↦ λ _. refl
+    ] refl)
 
 -- the keys of the rows, where one is taken out
 pub keys_removed : (es ns : List (RowKey × RowVal)) (k : RowKey) (before after : List RowKey) → AreTheKeys es before
@@ -139,8 +139,8 @@ pub entries_seen : (es : List (RowKey × RowVal)) (ks : List RowKey) → IsStric
 entries_seen es ks sorted are =
     let there = keys_there es ks are in
     let same : map.from_entries {R = key_cmp} (listed es ks) ≡ map.from_entries es =
-      map.same_map key_cmp_total key_cmp_antisymmetric _ _ (λ q.
-      get_seen (listed es ks) q ∙ value_listed es ks q there ∙ covered (value_at es q) _ (are q) ∙ sym (get_seen es q)) in
+    map.same_map key_cmp_total key_cmp_antisymmetric _ _ (λ q.
+    get_seen (listed es ks) q ∙ value_listed es ks q there ∙ covered (value_at es q) _ (are q) ∙ sym (get_seen es q)) in
     ap map.entries (sym same) ∙ ordered_entries (listed es ks) (subst (IsStrictlySortedBy key_cmp) (sym (keys_listed es ks there)) sorted)
 
 length_listed : (es : List (RowKey × RowVal)) (ks : List RowKey) → AreThere es ks → length (listed es ks) ≡ length ks
@@ -160,10 +160,10 @@ pub kinds_put : (es ns : List (RowKey × RowVal)) (k : RowKey) (v : RowVal) → 
     → ((q : RowKey) → value_at ns q ≡ cond (key_eq k q) (Some v) (value_at es q)) → AreOfKind ns
 kinds_put es ns k v kinds kind put q =
     rw (put q) (
-      elim (key_eq k q) as (λ t. key_eq k q ≡ t → IfSome (cond t (Some v) (value_at es q)) (IsOfKind q)) [
-        | true ↦ λ same. subst (λ (x : RowKey). IsOfKind x v) ((key_eq_decides k q).0 same) kind
-        | false ↦ λ _. kinds q
-      ] refl)
+    elim (key_eq k q) as (λ t. key_eq k q ≡ t → IfSome (cond t (Some v) (value_at es q)) (IsOfKind q)) [
+      | true ↦ λ same. subst (λ (x : RowKey). IsOfKind x v) ((key_eq_decides k q).0 same) kind
+      | false ↦ λ _. kinds q
+    ] refl)
 
 -- rows without one of them
 pub kinds_removed : (es ns : List (RowKey × RowVal)) (k : RowKey) → AreOfKind es → ((q : RowKey) → value_at ns q ≡ cond (key_eq k q) None (value_at es q)) → AreOfKind ns

@@ -70,9 +70,17 @@ claim_step s reached e v Idle after claims =
 -- a row that wasn't logged is logged as it is seen
 pub read_step : (s : State) → IsReached s → (v : Version) (row : RowKey) (seen : Seen) (logged : Logged) (kept after : Slot) → IsRunning s.board v → v.index < length s.board.marks → kept ≡ get_or s.slots v.index kept → logged_in kept.log row ≡ None → Resolves (shelf s) row v.index seen → logged_of s.opening row seen ≡ Some logged → after ≡ record kept { log = kept.log ++ (row, logged) ∷ [] } → ReadStep s v row (Ok (got.Row logged.value)) (record s { slots = set s.slots v.index after })
 read_step s reached v row seen logged kept after running l is none resolves gives change =
-    let here : kept ≡ slot s v.index = at_slot s v.index kept (slot_there s reached v.index l) is in
-    (running, inr (seen, logged, (subst (λ (k : Slot). logged_in k.log row ≡ None) here none, resolves), gives, refl,
-        ap (with_slot s v.index) (change ∙ ap (λ (k : Slot). record k { log = k.log ++ (row, logged) ∷ [] }) here)))
+    let here : kept ≡ slot s v.index = at_slot s v.index kept (slot_there s reached v.index l) is in (
+      running,
+      inr (
+        seen,
+        logged,
+        (subst (λ (k : Slot). logged_in k.log row ≡ None) here none, resolves),
+        gives,
+        refl,
+        ap (with_slot s v.index) (change ∙ ap (λ (k : Slot). record k { log = k.log ++ (row, logged) ∷ [] }) here),
+      ),
+    )
 
 -- what the scheduler answers to a commit is a step
 pub commit_step : (s : State) → IsReached s → (answer : Bool) (after : Board) → (IsTrue answer → IsFresh s.board s.board.committed × (after ≡ committed_more s.board)) → (IsFalse answer → ¬ IsFresh s.board s.board.committed × (after ≡ s.board)) → CommitStep s answer (record s { board = after })
@@ -112,16 +120,23 @@ pub block_step : (s : State) (e x : ℕ) (v : Version) (on : ℕ) (new : Schedul
     → after ≡ empty_slot
     → PlayStep (play s e x) (Block v on (Ok tt)) (play (record s { board = new.board; slots = set s.slots v.index after }) new.execution new.validation)
 block_step s e x v on new after running left waits ready cleared =
-    let same : (b : Board) → new.board ≡ b → record s { board = new.board; slots = set s.slots v.index after } ≡ record s { board = b; slots = set s.slots v.index empty_slot } = λ b is. ap₂ (λ (c : Board) (k : Slot). record s { board = c; slots = set s.slots v.index k }) is cleared in
-    (
-      (running, (λ last. left (sym running.1 ∙ last)), elim (waited_cases s.board v.index on) [
-        | inl w ↦ inl (w, same _ (ap (λ (c : Schedule). c.board) (waits w)))
-        | inr n ↦ inr (n, same _ (ap (λ (c : Schedule). c.board) (ready n)))
-      ]),
-      ((λ w. ap (λ (c : Schedule). c.execution) (waits w)), (λ n. ap (λ (c : Schedule). c.execution) (ready n)), elim (waited_cases s.board v.index on) [
-        | inl w ↦ ap (λ (c : Schedule). c.validation) (waits w)
-        | inr n ↦ ap (λ (c : Schedule). c.validation) (ready n)
-      ]),
+    let same : (b : Board) → new.board ≡ b → record s { board = new.board; slots = set s.slots v.index after } ≡ record s { board = b; slots = set s.slots v.index empty_slot } = λ b is. ap₂ (λ (c : Board) (k : Slot). record s { board = c; slots = set s.slots v.index k }) is cleared in (
+      (
+        running,
+        (λ last. left (sym running.1 ∙ last)),
+        elim (waited_cases s.board v.index on) [
+          | inl w ↦ inl (w, same _ (ap (λ (c : Schedule). c.board) (waits w)))
+          | inr n ↦ inr (n, same _ (ap (λ (c : Schedule). c.board) (ready n)))
+        ],
+      ),
+      (
+        (λ w. ap (λ (c : Schedule). c.execution) (waits w)),
+        (λ n. ap (λ (c : Schedule). c.execution) (ready n)),
+        elim (waited_cases s.board v.index on) [
+          | inl w ↦ ap (λ (c : Schedule). c.validation) (waits w)
+          | inr n ↦ ap (λ (c : Schedule). c.validation) (ready n)
+        ],
+      ),
     )
 
 -- what a version that finishes leaves is a step
@@ -133,17 +148,43 @@ pub finish_step : (s : State) (e x : ℕ) (v : Version) (execution : Executed) (
     → after ≡ record kept { reply = Some execution.reply }
     → PlayStep (play s e x) (Finish v execution (Ok handed)) (play (record s { board = new.board; entries = entries; slots = set s.slots v.index after }) new.execution new.validation)
 finish_step s e x v execution true handed entries new kept after true_one running of_version here replaced is_so only left board lowers validation out change =
-    let location = is_so refl in
-    (
-      (true_one, (running, of_version, (entries, replaced, inl (location, left location, out,
-        ap₂ (λ (b : Board) (k : Slot). record s { board = b; entries = entries; slots = set s.slots v.index k }) board (change ∙ ap (λ (k : Slot). record k { reply = Some execution.reply }) here))))),
+    let location = is_so refl in (
+      (
+        true_one,
+        (
+          running,
+          of_version,
+          (
+            entries,
+            replaced,
+            inl (
+              location,
+              left location,
+              out,
+              ap₂ (λ (b : Board) (k : Slot). record s { board = b; entries = entries; slots = set s.slots v.index k }) board (change ∙ ap (λ (k : Slot). record k { reply = Some execution.reply }) here),
+            ),
+          ),
+        ),
+      ),
       (lowers, (λ n. (out, validation)), (λ none. absurd (none location))),
     )
 finish_step s e x v execution false handed entries new kept after true_one running of_version here replaced is_so only left board lowers validation out change =
-    let none : ¬ IsNewLocation s.entries v.index execution.writes = λ n. false≢true (only n) in
-    (
-      (true_one, (running, of_version, (entries, replaced, inr (none,
-        ap₂ (λ (b : Board) (k : Slot). record s { board = b; entries = entries; slots = set s.slots v.index k }) board (change ∙ ap (λ (k : Slot). record k { reply = Some execution.reply }) here))))),
+    let none : ¬ IsNewLocation s.entries v.index execution.writes = λ n. false≢true (only n) in (
+      (
+        true_one,
+        (
+          running,
+          of_version,
+          (
+            entries,
+            replaced,
+            inr (
+              none,
+              ap₂ (λ (b : Board) (k : Slot). record s { board = b; entries = entries; slots = set s.slots v.index k }) board (change ∙ ap (λ (k : Slot). record k { reply = Some execution.reply }) here),
+            ),
+          ),
+        ),
+      ),
       (lowers, (λ n. absurd (none n)), (λ n. (out, validation))),
     )
 
@@ -187,12 +228,24 @@ pass_step s e x seat c new l has ended opened passes is =
 pub fail_step : (s : State) (e x seat : ℕ) (c : Check) (entries : Entries) (new : Schedule) (after : Slot) → seat < seats → check_of s seat ≡ Some c → is_at_end c ≡ true → IsOpen s.board c.version → c.failed ≡ true → c.version.incarnation ≢ s.limits.incarnation → s.board.epoch ≢ s.limits.epoch → AreEstimated c.version.index s.entries entries
     → new ≡ record { board = aborted s.board c.version.index; execution = min e c.version.index; validation = min x (c.version.index + 1) } → after ≡ empty_slot
     → PlayStep (play s e x) (End seat (Ok false)) (play (record s { board = new.board; entries = entries; slots = set s.slots c.version.index after; checks = set s.checks seat None }) new.execution new.validation)
-fail_step s e x seat c entries new after l has ended opened fails left epoch estimated is cleared =
+fail_step s e x seat c entries new after l has ended opened fails left epoch estimated is cleared = (
+  (
+    l,
     (
-      (l, (c, (has, ended), opened, fails, ((λ last. left (sym opened.0.1 ∙ last)), epoch), (entries, estimated,
-        ap₂ (λ (n : Schedule) (k : Slot). record s { board = n.board; entries = entries; slots = set s.slots c.version.index k; checks = set s.checks seat None }) is cleared))),
-      (c, has, ap (λ (n : Schedule). n.execution) is, ap (λ (n : Schedule). n.validation) is),
-    )
+      c,
+      (has, ended),
+      opened,
+      fails,
+      ((λ last. left (sym opened.0.1 ∙ last)), epoch),
+      (
+        entries,
+        estimated,
+        ap₂ (λ (n : Schedule) (k : Slot). record s { board = n.board; entries = entries; slots = set s.slots c.version.index k; checks = set s.checks seat None }) is cleared,
+      ),
+    ),
+  ),
+  (c, has, ap (λ (n : Schedule). n.execution) is, ap (λ (n : Schedule). n.validation) is),
+)
 
 -- an open check that is not at its end has a read that comes next
 pub next_there : (s : State) → IsReached s → (seat : ℕ) (c : Check) → check_of s seat ≡ Some c → is_at_end c ≡ false → IsOpen s.board c.version → c.place < length (slot s c.version.index).log
@@ -244,11 +297,10 @@ not_in log row none =
 
 -- what was tested of an execution that is handed in
 pub of_version : (s : State) (v : Version) (x : Executed) (frames : List Frame) (frame : Frame) (kept : Slot) (reads : Reads) → frames ≡ s.frames → frame ≡ x.frame → IsAt frames v.index frame → kept ≡ slot s v.index → reads ≡ x.reads → AreLogged kept.log reads → IsOfVersion s v x
-of_version s v x frames frame kept reads same_frames same_frame at here same_reads logged =
-    (
-      subst (IsAt s.frames v.index) same_frame (subst (λ (fs : List Frame). IsAt fs v.index frame) same_frames at),
-      subst (AreLogged (slot s v.index).log) same_reads (subst (λ (k : Slot). AreLogged k.log reads) here logged),
-    )
+of_version s v x frames frame kept reads same_frames same_frame at here same_reads logged = (
+  subst (IsAt s.frames v.index) same_frame (subst (λ (fs : List Frame). IsAt fs v.index frame) same_frames at),
+  subst (AreLogged (slot s v.index).log) same_reads (subst (λ (k : Slot). AreLogged k.log reads) here logged),
+)
 
 -- and what was found missing
 pub not_of_version : (s : State) (v : Version) (x : Executed) (kept : Slot) (reads : Reads) → kept ≡ slot s v.index → reads ≡ x.reads → ¬ AreLogged kept.log reads → ¬ IsOfVersion s v x

@@ -31,12 +31,7 @@ pub(crate) fn logged_of(opening: &Book, row: &RowKey, seen: Seen) -> Result<Logg
 }
 
 /// Whether the message at this index sees of the row what this execution put, or the opening book where it is none.
-pub(crate) fn resolves_as(
-    memory: &MvMem,
-    row: &RowKey,
-    index: u32,
-    origin: Option<Version>,
-) -> bool
+pub(crate) fn resolves_as(memory: &MvMem, row: &RowKey, index: u32, origin: Option<Version>) -> bool
     ensures { IsTrue result ↔ ResolvesAs (held memory.now.entries) row.now index origin }
 {
     match (memory.read(row, index), origin) {

@@ -344,7 +344,9 @@ impl Core {
         ensures kind { IfSome result (λ value. IfSome value (IsOfKind row.now)) }
     {
         let index = version.index as usize;
-        if index >= self.slots.len() || self.sched.incarnation(version.index) != version.incarnation {
+        if index >= self.slots.len()
+            || self.sched.incarnation(version.index) != version.incarnation
+        {
             return None;
         }
         let slot = &self.slots[index];

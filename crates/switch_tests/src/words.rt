@@ -47,7 +47,12 @@ fn acted<R: Threads + Wait + Sync>(rt: &R, alloc: Global, words: &[&str]) -> Res
 }
 
 // What one body is answered, where the words are a command.
-fn assert_answer<R: Abort + Threads + Wait + Sync>(rt: &R, alloc: Global, frame: &str, answer: &str) -> Result<(), Fail> {
+fn assert_answer<R: Abort + Threads + Wait + Sync>(
+    rt: &R,
+    alloc: Global,
+    frame: &str,
+    answer: &str,
+) -> Result<(), Fail> {
     let acted = acted(rt, alloc, &["one", frame])?;
     let line = format!(in alloc; "{answer}\n")?;
     assert_eq!(rt; acted.status, 0);
@@ -57,7 +62,11 @@ fn assert_answer<R: Abort + Threads + Wait + Sync>(rt: &R, alloc: Global, frame:
 }
 
 // Words that are no command: status 2, and a text on standard error alone.
-fn assert_usage<R: Abort + Threads + Wait + Sync>(rt: &R, alloc: Global, words: &[&str]) -> Result<(), Fail> {
+fn assert_usage<R: Abort + Threads + Wait + Sync>(
+    rt: &R,
+    alloc: Global,
+    words: &[&str],
+) -> Result<(), Fail> {
     let acted = acted(rt, alloc, words)?;
     assert_eq!(rt; acted.status, 2);
     assert!(rt; acted.out.is_empty());

@@ -12,7 +12,7 @@ pub invariant_of-self-in-Ok : goal.invariant_of-self-in-Ok
 invariant_of-self-in-Ok c = (
   kinds_put c.self.inside.rows.entries c.insert.new.self.entries c.args.key.now c.args.val.now c.self.invariant.0 c.requires.kind c.in_ok-insert.ensures.updates.0,
   keys_put c.self.inside.rows.entries c.insert.new.self.entries c.args.key.now c.args.val.now c.self.inside.keys.keys c.insert-2.new.self.keys c.self.invariant.1
-  c.in_ok-insert.ensures.updates.0 c.in-Ok.ensures.updates.0,
+      c.in_ok-insert.ensures.updates.0 c.in-Ok.ensures.updates.0,
 )
 
 pub returns-in-Ok-clause-ok : goal.returns-in-Ok-clause-ok

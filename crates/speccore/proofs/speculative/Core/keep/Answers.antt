@@ -29,7 +29,7 @@ returns-then-not-has_logged c =
     let not_of = not_of_version s c.args.version c.args.execution.now c.index-slot.result.now c.reads.result.now here c.reads.ensures (λ logged. false≢true (sym c.if-not-has_logged.true ∙ c.has_logged.ensures.1 logged)) in
     record {
       step = subst (λ (p : Play). PlayStep p (Finish c.args.version c.args.execution.now (Err OtherReads)) p) c.self.view_is
-      ((c.frame-frame.ensures.local, (c.is_running.ensures.running.0 c.if-not-is_running.false, not_of, refl)), (refl, refl));
+          ((c.frame-frame.ensures.local, (c.is_running.ensures.running.0 c.if-not-is_running.false, not_of, refl)), (refl, refl));
     }
 
 pub returns-then-puts_new_location : goal.returns-then-puts_new_location
@@ -43,7 +43,7 @@ returns-then-puts_new_location c =
     let new = subst (IsNewLocation s.entries c.args.version.index) c.writes-writes.ensures (c.puts_new_location.ensures.0 c.if-puts_new_location.true) in
     record {
       step = subst (λ (p : Play). PlayStep p (Finish c.args.version c.args.execution.now (Err Worn)) p) c.self.view_is
-      ((c.frame-frame.ensures.local, (running, of, new, sym c.epoch.ensures ∙ c.if-epoch-self.true, refl)), (refl, refl));
+          ((c.frame-frame.ensures.local, (running, of, new, sym c.epoch.ensures ∙ c.if-epoch-self.true, refl)), (refl, refl));
     }
 
 pub returns-in_err-reserve : goal.returns-in_err-reserve
@@ -66,7 +66,7 @@ returns-in_err-reserve c =
     ((c.frame-frame.ensures.local, (running, of, (λ worn. left worn.0 worn.1), same)), (refl, refl)) in
     record {
       step = subst (λ (answer : Result Bool CoreFault). PlayStep c.args.self.now (Finish c.args.version c.args.execution.now answer) unchanged) (sym (fault.1 ∙ ap Err fault.2))
-      (subst (λ (p : Play). PlayStep p (Finish c.args.version c.args.execution.now (Err OutOfMemory)) unchanged) c.self.view_is step);
+          (subst (λ (p : Play). PlayStep p (Finish c.args.version c.args.execution.now (Err OutOfMemory)) unchanged) c.self.view_is step);
     }
 
 pub index_mut-slot-requires : goal.index_mut-slot-requires

@@ -52,12 +52,11 @@ step_there : (c : goal.In_ok-log-in-Ok) → PlayStep (the_view c.self.inside) (R
 step_there c =
     let s : State = (the_view c.self.inside).state in
     let within = c.is_running.ensures.within c.if-not-is_running.false in
-    let here = at_slot s c.args.version.index c.index_mut-slot.result.now (slot_there s c.self.invariant.1 c.args.version.index within) c.index_mut-slot.ensures.value in
-    (
+    let here = at_slot s c.args.version.index c.index_mut-slot.result.now (slot_there s c.self.invariant.1 c.args.version.index within) c.index_mut-slot.ensures.value in (
       read_step s c.self.invariant.1 c.args.version c.args.row.now c.read-seen.result c.in-Ok.logged c.index_mut-slot.result.now c.log.new.self
-      (c.is_running.ensures.running.0 c.if-not-is_running.false) within c.index_mut-slot.ensures.value
-      (ap (λ (k : Slot). logged_in k.log c.args.row.now) here ∙ unlogged s c.self.invariant.1 c.args.version c.args.row.now c.index-slot.result.now c.logged.result within c.index-slot.ensures c.logged.ensures.value c.in_default.is)
-      c.read-seen.ensures.seen (c.in-Ok.ensures.ok) c.in_ok-log-in-Ok.ensures.ok,
+          (c.is_running.ensures.running.0 c.if-not-is_running.false) within c.index_mut-slot.ensures.value
+          (ap (λ (k : Slot). logged_in k.log c.args.row.now) here ∙ unlogged s c.self.invariant.1 c.args.version c.args.row.now c.index-slot.result.now c.logged.result within c.index-slot.ensures c.logged.ensures.value c.in_default.is)
+          c.read-seen.ensures.seen (c.in-Ok.ensures.ok) c.in_ok-log-in-Ok.ensures.ok,
       (refl, refl),
     )
 
