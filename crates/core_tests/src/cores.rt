@@ -231,74 +231,117 @@ fn second_fails(rt: &impl Abort, alloc: Global, core: &mut Core) -> Result<(), F
     assert_fails_at_the_card(rt, core, 1, second)
 }
 
-// A message that read an old row is given up, another one waits for it, and all come out as one after another.
-#[test]
-fn three_requests_of_one_card(rt: HostRuntime) -> Result<(), Fail> {
-    let alloc = rt.alloc();
-    let mut core = OF_100.open(alloc)?;
-    second_fails(&rt, alloc, &mut core)?;
+// The second message is given up and claimed again, and the third one, which meets its estimate, waits for it.
+fn third_waits(rt: &impl Abort, alloc: Global, core: &mut Core) -> Result<(), Fail> {
     assert_eq!(rt; core.end_check(seat(1)?), Ok(false));
     assert_marks(
-        &rt,
+        rt,
         alloc,
-        &core,
+        core,
         &OF_100,
         4,
         [0, 3, 4, 0],
         [Some(3), None, None],
     )?;
     let (again, third) = (version(1, 1), version(2, 0));
-    assert_tasks(
-        &rt,
-        &mut core,
-        &[Task::Execute(again), Task::Execute(third)],
-    );
-    let blocked = execute(
-        alloc,
-        &OF_100.frames()?[2],
-        Rows {
-            core: &mut core,
-            version: third,
-        },
-        &Shipped,
-    );
-    assert!(rt; matches!(blocked, Err(Stop::Blocked(1))));
-    assert_eq!(rt; core.block(third, 1), Ok(()));
+    assert_tasks(rt, core, &[Task::Execute(again), Task::Execute(third)]);
+    assert_blocked(rt, alloc, core, third)?;
     let waits = [
         (Status::Executed, 0),
         (Status::Running, 1),
         (Status::Waiting(1), 1),
     ];
-    assert_stand(&rt, alloc, &core, &OF_100, waits)?;
-    assert_finishes(&rt, alloc, &mut core, &OF_100, again, true)?;
-    assert_passes(&rt, &mut core, 0, again)?;
+    assert_stand(rt, alloc, core, &OF_100, waits)
+}
+
+// The version meets an estimate of the message before it, and is given up.
+fn assert_blocked(
+    rt: &impl Abort,
+    alloc: Global,
+    core: &mut Core,
+    version: Version,
+) -> Result<(), Fail> {
+    let frame = body(OF_100.lines[2]).ok_or("request")?;
+    let blocked = execute(alloc, &frame, Rows { core, version }, &Shipped);
+    assert!(rt; matches!(blocked, Err(Stop::Blocked(1))));
+    assert_eq!(rt; core.block(version, 1), Ok(()));
+    Ok(())
+}
+
+// The second message finishes at the rows that it put before, is checked at once, and passes.
+fn second_passes(rt: &impl Abort, alloc: Global, core: &mut Core) -> Result<(), Fail> {
+    let again = version(1, 1);
+    assert_finishes(rt, alloc, core, &OF_100, again, true)?;
+    assert_passes(rt, core, 0, again)?;
     assert_marks(
-        &rt,
+        rt,
         alloc,
-        &core,
+        core,
         &OF_100,
         4,
         [0, 3, 4, 0],
         [Some(3), Some(4), None],
-    )?;
+    )
+}
+
+// The third message was woken: it finishes and passes.
+fn third_passes(rt: &impl Abort, alloc: Global, core: &mut Core) -> Result<(), Fail> {
     let last = version(2, 1);
-    assert_tasks(&rt, &mut core, &[Task::Execute(last)]);
-    assert_finishes(&rt, alloc, &mut core, &OF_100, last, false)?;
-    assert_tasks(&rt, &mut core, &[Task::Validate(last)]);
-    assert_passes(&rt, &mut core, 2, last)?;
+    assert_tasks(rt, core, &[Task::Execute(last)]);
+    assert_finishes(rt, alloc, core, &OF_100, last, false)?;
+    assert_tasks(rt, core, &[Task::Validate(last)]);
+    assert_passes(rt, core, 2, last)?;
     assert_marks(
-        &rt,
+        rt,
         alloc,
-        &core,
+        core,
         &OF_100,
         5,
         [0, 3, 4, 5],
         [Some(3), Some(4), Some(5)],
-    )?;
-    assert_commits(&rt, &mut core, &[true, true, true, false]);
-    assert_tasks(&rt, &mut core, &[Task::Done]);
+    )
+}
+
+fn all_of_one_card(rt: &impl Abort, alloc: Global, core: &mut Core) -> Result<(), Fail> {
+    second_fails(rt, alloc, core)?;
+    third_waits(rt, alloc, core)?;
+    second_passes(rt, alloc, core)?;
+    third_passes(rt, alloc, core)?;
+    assert_commits(rt, core, &[true, true, true, false]);
+    assert_tasks(rt, core, &[Task::Done]);
+    Ok(())
+}
+
+// A message that read an old row is given up, another one waits for it, and all come out as one after another.
+#[test]
+fn three_requests_of_one_card(rt: HostRuntime) -> Result<(), Fail> {
+    let alloc = rt.alloc();
+    let mut core = OF_100.open(alloc)?;
+    all_of_one_card(&rt, alloc, &mut core)?;
     let answers = ["000/000001", "000/000002", "000/000003"];
     assert_committed(&rt, alloc, core, answers, "account A 9700 978")
+}
+
+fn one_is_worn(rt: &impl Abort, alloc: Global, core: &mut Core) -> Result<(), Fail> {
+    second_fails(rt, alloc, core)?;
+    assert_eq!(rt; core.end_check(seat(1)?), Err(CoreFault::Worn));
+    assert_marks(
+        rt,
+        alloc,
+        core,
+        &OF_100,
+        3,
+        [0, 3, 2, 0],
+        [Some(3), None, None],
+    )?;
+    let stands = [
+        (Status::Executed, 0),
+        (Status::Executed, 0),
+        (Status::Ready, 0),
+    ];
+    assert_stand(rt, alloc, core, &OF_100, stands)?;
+    assert_commits(rt, core, &[true, false]);
+    Ok(())
 }
 
 // At the last epoch a failed check gives nothing up, and the messages before it are committed.
@@ -311,30 +354,12 @@ fn a_failed_check_at_the_last_epoch(rt: HostRuntime) -> Result<(), Fail> {
     };
     let mut core = Core::with_limits(alloc, &opening(alloc)?, &OF_100.frames()?, limits)?;
     assert_eq!(rt; core.limits(), limits);
-    second_fails(&rt, alloc, &mut core)?;
-    assert_eq!(rt; core.end_check(seat(1)?), Err(CoreFault::Worn));
-    assert_marks(
-        &rt,
-        alloc,
-        &core,
-        &OF_100,
-        3,
-        [0, 3, 2, 0],
-        [Some(3), None, None],
-    )?;
-    let stands = [
-        (Status::Executed, 0),
-        (Status::Executed, 0),
-        (Status::Ready, 0),
-    ];
-    assert_stand(&rt, alloc, &core, &OF_100, stands)?;
-    assert_commits(&rt, &mut core, &[true, false]);
-    Ok(())
+    one_is_worn(&rt, alloc, &mut core)
 }
 
-// The three versions that read before any of them was checked. The second one read all from the opening book, the third one what
-// the first one put; each seat begins the check of its message, and that of the third one fails and is left open.
-fn all_begin(rt: &impl Abort, alloc: Global, core: &mut Core) -> Result<(), Fail> {
+// The three versions read before any of them was checked: the second one all from the opening book, the third one what the first
+// one put.
+fn all_finish(rt: &impl Abort, alloc: Global, core: &mut Core) -> Result<(), Fail> {
     let versions = [version(0, 0), version(1, 0), version(2, 0)];
     for version in versions {
         assert_tasks(rt, core, &[Task::Execute(version)]);
@@ -344,7 +369,12 @@ fn all_begin(rt: &impl Abort, alloc: Global, core: &mut Core) -> Result<(), Fail
     assert_finishes(rt, alloc, core, &OF_ALL, versions[2], false)?;
     assert_marks(rt, alloc, core, &OF_ALL, 3, [0, 2, 0, 3], [None; 3])?;
     assert_eq!(rt; core.finish(alloc, versions[1], early), Ok(false));
-    assert_marks(rt, alloc, core, &OF_ALL, 4, [0, 2, 4, 3], [None; 3])?;
+    assert_marks(rt, alloc, core, &OF_ALL, 4, [0, 2, 4, 3], [None; 3])
+}
+
+// Each seat begins the check of its message. That of the third one fails and is left open, the second one is given up.
+fn all_are_checked(rt: &impl Abort, alloc: Global, core: &mut Core) -> Result<(), Fail> {
+    let versions = [version(0, 0), version(1, 0), version(2, 0)];
     for version in versions {
         assert_tasks(rt, core, &[Task::Validate(version)]);
     }
@@ -352,7 +382,36 @@ fn all_begin(rt: &impl Abort, alloc: Global, core: &mut Core) -> Result<(), Fail
     assert_passes(rt, core, 0, versions[0])?;
     assert_fails_at_the_card(rt, core, 1, versions[1])?;
     assert_eq!(rt; core.end_check(seat(1)?), Ok(false));
-    Ok(())
+    assert_marks(
+        rt,
+        alloc,
+        core,
+        &OF_ALL,
+        5,
+        [0, 2, 5, 3],
+        [Some(4), None, None],
+    )
+}
+
+// The second message is declined now and puts no card: both messages pass.
+fn both_pass(rt: &impl Abort, alloc: Global, core: &mut Core) -> Result<(), Fail> {
+    let (again, third) = (version(1, 1), version(2, 0));
+    assert_tasks(rt, core, &[Task::Execute(again)]);
+    assert_finishes(rt, alloc, core, &OF_ALL, again, true)?;
+    assert_passes(rt, core, 0, again)?;
+    assert_tasks(rt, core, &[Task::Validate(third)]);
+    assert_passes(rt, core, 1, third)
+}
+
+fn one_is_late(rt: &impl Abort, alloc: Global, core: &mut Core) -> Result<(), Fail> {
+    all_finish(rt, alloc, core)?;
+    all_are_checked(rt, alloc, core)?;
+    both_pass(rt, alloc, core)?;
+    let stamps = [Some(4), Some(5), Some(5)];
+    assert_marks(rt, alloc, core, &OF_ALL, 5, [0, 2, 5, 3], stamps)?;
+    assert_commits(rt, core, &[true, true, true]);
+    assert_eq!(rt; core.end_check(seat(2)?), Err(CoreFault::Outdated));
+    assert_marks(rt, alloc, core, &OF_ALL, 5, [0, 2, 5, 3], stamps)
 }
 
 // A late verdict on a committed message changes nothing.
@@ -360,28 +419,7 @@ fn all_begin(rt: &impl Abort, alloc: Global, core: &mut Core) -> Result<(), Fail
 fn a_check_that_comes_too_late(rt: HostRuntime) -> Result<(), Fail> {
     let alloc = rt.alloc();
     let mut core = OF_ALL.open(alloc)?;
-    all_begin(&rt, alloc, &mut core)?;
-    assert_marks(
-        &rt,
-        alloc,
-        &core,
-        &OF_ALL,
-        5,
-        [0, 2, 5, 3],
-        [Some(4), None, None],
-    )?;
-    let (again, third) = (version(1, 1), version(2, 0));
-    assert_tasks(&rt, &mut core, &[Task::Execute(again)]);
-    assert_finishes(&rt, alloc, &mut core, &OF_ALL, again, true)?;
-    assert_passes(&rt, &mut core, 0, again)?;
-    assert_tasks(&rt, &mut core, &[Task::Validate(third)]);
-    assert_passes(&rt, &mut core, 1, third)?;
-    let stamps = [Some(4), Some(5), Some(5)];
-    assert_marks(&rt, alloc, &core, &OF_ALL, 5, [0, 2, 5, 3], stamps)?;
-    assert_commits(&rt, &mut core, &[true, true, true]);
-    assert_eq!(rt; core.end_check(seat(2)?), Err(CoreFault::Outdated));
-    assert_marks(&rt, alloc, &core, &OF_ALL, 5, [0, 2, 5, 3], stamps)?;
-    assert_eq!(rt; core.committed(), 3);
+    one_is_late(&rt, alloc, &mut core)?;
     assert_committed(
         &rt,
         alloc,
@@ -424,42 +462,55 @@ fn assert_refused(
     Ok(())
 }
 
-#[test]
-fn refuses_what_is_not_running(rt: HostRuntime) -> Result<(), Fail> {
-    let alloc = rt.alloc();
-    let mut core = OF_100.open(alloc)?;
+fn all_are_refused(rt: &impl Abort, alloc: Global, core: &mut Core) -> Result<(), Fail> {
     for (index, incarnation) in [(0, 0), (1, 0), (0, 1), (7, 0)] {
-        assert_refused(&rt, alloc, &mut core, version(index, incarnation))?;
+        assert_refused(rt, alloc, core, version(index, incarnation))?;
     }
     for number in [0, 63] {
         assert_eq!(rt; core.check_one(seat(number)?), Err(CoreFault::NotRunning));
         assert_eq!(rt; core.end_check(seat(number)?), Err(CoreFault::NotRunning));
     }
+    assert_commits(rt, core, &[false]);
+    assert_stand(rt, alloc, core, &OF_100, [(Status::Ready, 0); 3])
+}
+
+#[test]
+fn refuses_what_is_not_running(rt: HostRuntime) -> Result<(), Fail> {
+    let mut core = OF_100.open(rt.alloc())?;
     assert!(rt; Seat::new(64).is_none());
-    assert_commits(&rt, &mut core, &[false]);
-    assert_stand(&rt, alloc, &core, &OF_100, [(Status::Ready, 0); 3])
+    all_are_refused(&rt, rt.alloc(), &mut core)
+}
+
+// An execution that was not made on the core's rows is refused, for either message.
+fn assert_other_reads(
+    rt: &impl Abort,
+    alloc: Global,
+    core: &mut Core,
+    line: &str,
+) -> Result<(), Fail> {
+    let execution = unread(alloc, line)?;
+    assert_eq!(rt;
+        core.finish(alloc, version(0, 0), execution),
+        Err(CoreFault::OtherReads)
+    );
+    Ok(())
 }
 
 // What was not read of the core, or is another message's, is refused; what was read of it is taken once.
-#[test]
-fn takes_what_was_read_of_it_once(rt: HostRuntime) -> Result<(), Fail> {
-    let alloc = rt.alloc();
-    let mut core = OF_100.open(alloc)?;
+fn one_is_taken(rt: &impl Abort, alloc: Global, core: &mut Core) -> Result<(), Fail> {
     let first = version(0, 0);
-    assert_tasks(&rt, &mut core, &[Task::Execute(first)]);
-    assert_eq!(rt;
-        core.finish(alloc, first, unread(alloc, OF_100.lines[0])?),
-        Err(CoreFault::OtherReads)
-    );
-    let execution = OF_100.decide(alloc, &mut core, first)?;
-    assert!(rt; core.logged(first, &card()?).is_some());
-    assert_eq!(rt;
-        core.finish(alloc, first, unread(alloc, OF_100.lines[1])?),
-        Err(CoreFault::OtherReads)
-    );
+    assert_tasks(rt, core, &[Task::Execute(first)]);
+    assert_other_reads(rt, alloc, core, OF_100.lines[0])?;
+    let execution = OF_100.decide(alloc, core, first)?;
     assert_eq!(rt; core.finish(alloc, first, execution), Ok(false));
+    assert!(rt; core.logged(first, &card()?).is_some());
+    assert_refused_again(rt, alloc, core)
+}
+
+fn assert_refused_again(rt: &impl Abort, alloc: Global, core: &mut Core) -> Result<(), Fail> {
+    let again = unread(alloc, OF_100.lines[0])?;
     assert_eq!(rt;
-        core.finish(alloc, first, unread(alloc, OF_100.lines[0])?),
+        core.finish(alloc, version(0, 0), again),
         Err(CoreFault::NotRunning)
     );
     assert_eq!(rt; core.committed(), 0);
@@ -467,11 +518,45 @@ fn takes_what_was_read_of_it_once(rt: HostRuntime) -> Result<(), Fail> {
 }
 
 #[test]
-fn opened_with_another_book_or_other_frames(rt: HostRuntime) -> Result<(), Fail> {
-    let alloc = rt.alloc();
-    let core = OF_100.open(alloc)?;
-    let frames = OF_100.frames()?;
-    assert!(rt; !core.opened_with(&first_book_with(alloc, &["account A 9900 978"])?, &frames));
-    assert!(rt; !core.opened_with(&opening(alloc)?, &frames[..2]));
+fn takes_what_was_read_of_it_once(rt: HostRuntime) -> Result<(), Fail> {
+    let mut core = OF_100.open(rt.alloc())?;
+    one_is_taken(&rt, rt.alloc(), &mut core)
+}
+
+// The second message's decision, made on the core's rows for the first one's version, is another message's.
+fn another_is_refused(rt: &impl Abort, alloc: Global, core: &mut Core) -> Result<(), Fail> {
+    let first = version(0, 0);
+    assert_tasks(rt, core, &[Task::Execute(first)]);
+    let frame = body(OF_100.lines[1]).ok_or("request")?;
+    let rows = Rows {
+        core,
+        version: first,
+    };
+    let other = execute(alloc, &frame, rows, &Shipped)?;
+    assert_eq!(rt;
+        core.finish(alloc, first, other),
+        Err(CoreFault::OtherReads)
+    );
     Ok(())
+}
+
+#[test]
+fn refuses_another_message(rt: HostRuntime) -> Result<(), Fail> {
+    let mut core = OF_100.open(rt.alloc())?;
+    another_is_refused(&rt, rt.alloc(), &mut core)
+}
+
+fn assert_opened_otherwise(rt: &impl Abort, alloc: Global, core: &Core) -> Result<(), Fail> {
+    let frames = OF_100.frames()?;
+    let other = first_book_with(alloc, &["account A 9900 978"])?;
+    assert!(rt; !core.opened_with(&other, &frames));
+    let book = opening(alloc)?;
+    assert!(rt; !core.opened_with(&book, &frames[..2]));
+    Ok(())
+}
+
+#[test]
+fn opened_with_another_book_or_other_frames(rt: HostRuntime) -> Result<(), Fail> {
+    let core = OF_100.open(rt.alloc())?;
+    assert_opened_otherwise(&rt, rt.alloc(), &core)
 }
