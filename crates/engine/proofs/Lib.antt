@@ -1,1 +1,2 @@
+mod Finished
 mod Rest

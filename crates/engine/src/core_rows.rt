@@ -1,12 +1,13 @@
-ghost use Rattle.std.specs.Prelude.{◌≡◌, ◌↔◌, ℕ, None, Ok, Err, IfOk};
+ghost use Rattle.std.specs.Prelude.{◌≡◌, ◌↔◌, ℕ, None, Err, IfOk};
+ghost use Rattle.journal_laws.specs.declared.answer.Answer.TheVariants as answers;
 ghost use Rattle.speccore_laws.specs.declared.core_fault.CoreFault.TheVariants as fault;
 ghost use Rattle.speccore_laws.specs.declared.got.Got.TheVariants as got;
 ghost use Rattle.view.specs.declared.stop.Stop.TheVariants as stop;
 
-use crate::shared::Shared;
+use journal::{Answer, Event, Traced};
 use mvmem::Version;
 use rows::{RowKey, RowVal};
-use speccore_laws::{CoreFault, Got};
+use speccore_laws::{CoreFault, Got, Seat};
 use std::sync::{Mutex, Wait};
 use view::{RowSource, Stop};
 
@@ -15,18 +16,26 @@ use view::{RowSource, Stop};
 #[derive(Drop)]
 pub struct CoreRows<'a, R: Wait> {
     rt: &'a R,
-    shared: &'a Mutex<Shared>,
+    traced: &'a Mutex<Traced>,
+    seat: Seat,
     version: Version,
 }
 
 impl<'a, R: Wait> CoreRows<'a, R> {
-    /// The rows that this version sees.
-    pub fn new(rt: &'a R, shared: &'a Mutex<Shared>, version: Version) -> CoreRows<'a, R>
-        ensures { result.version ≡ version }
+    /// The rows that this version sees, asked for at this seat.
+    pub fn new(
+        rt: &'a R,
+        traced: &'a Mutex<Traced>,
+        seat: Seat,
+        version: Version,
+    ) -> CoreRows<'a, R>
+        ensures seat { result.seat ≡ seat }
+        ensures version { result.version ≡ version }
     {
         CoreRows {
             rt,
-            shared,
+            traced,
+            seat,
             version,
         }
     }
@@ -40,21 +49,24 @@ impl<R: Wait> RowSource for CoreRows<'_, R> {
     ghost answers = { λ old row result new. new.version ≡ old.version };
 
     fn read(&mut self, key: &RowKey) -> Result<Option<RowVal>, Stop> {
-        let answer = self.shared.lock(self.rt).core.read(self.version, key);
+        let answer = self
+            .traced
+            .lock(self.rt)
+            .step(self.seat, Event::Read(self.version, *key));
         row_of(answer)
     }
 }
 
-// The row that was answered, or why the decision stops: an estimate blocks it.
-fn row_of(answer: Result<Got, CoreFault>) -> Result<Option<RowVal>, Stop>
-    ensures row { IfOk result (λ row. answer ≡ Ok (got.Row row)) }
-    ensures blocked { (at : ℕ) → (result ≡ Err (stop.Blocked at)) ↔ (answer ≡ Ok (got.Estimate at)) }
-    ensures memory { (result ≡ Err stop.OutOfMemory) ↔ (answer ≡ Err fault.OutOfMemory) }
+/// The row that was answered, or why the decision stops: an estimate blocks it.
+pub(crate) fn row_of(answer: Answer) -> Result<Option<RowVal>, Stop>
+    ensures row { IfOk result (λ row. answer ≡ answers.Got (got.Row row)) }
+    ensures blocked { (at : ℕ) → (result ≡ Err (stop.Blocked at)) ↔ (answer ≡ answers.Got (got.Estimate at)) }
+    ensures memory { (result ≡ Err stop.OutOfMemory) ↔ (answer ≡ answers.Refused fault.OutOfMemory) }
 {
     match answer {
-        Ok(Got::Row(row)) => Ok(row),
-        Ok(Got::Estimate(at)) => Err(Stop::Blocked(at)),
-        Err(CoreFault::OutOfMemory) => Err(Stop::OutOfMemory),
-        Err(_) => Err(Stop::Lost),
+        Answer::Got(Got::Row(row)) => Ok(row),
+        Answer::Got(Got::Estimate(at)) => Err(Stop::Blocked(at)),
+        Answer::Refused(CoreFault::OutOfMemory) => Err(Stop::OutOfMemory),
+        _ => Err(Stop::Lost),
     }
 }

@@ -1,16 +1,17 @@
 //! Decides a batch through the speculative core, on several threads (Block-STM).
 #![tactic(auto)]
 
+mod alone;
+mod checking;
 mod core_rows;
 mod gate;
 mod leave;
 mod running;
-mod shared;
+mod traced_rows;
 mod turns;
 mod workers;
 
 pub use core_rows::CoreRows;
 pub use gate::{Gate, OpenGate};
-pub use running::{run, run_with_limits};
-pub use shared::Shared;
+pub use running::{run, run_traced, run_with_limits};
 pub use workers::Workers;

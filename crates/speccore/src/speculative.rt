@@ -337,6 +337,15 @@ impl Core {
         self.sched.incarnation(index)
     }
 
+    /// Whether the version was handed out, and has neither finished nor been given up.
+    pub fn is_running(&self, version: Version) -> bool
+        ensures running { IsTrue result ↔ IsRunning self.now.state.board version }
+        ensures within { IsTrue result → version.index < length self.now.state.frames }
+    {
+        let _ = self.committed();
+        is_running(&self.sched, version)
+    }
+
     /// What the version logged of the row; `None` if it did not, or is not the present one.
     pub fn logged(&self, version: Version, row: &RowKey) -> Option<Option<RowVal>>
         ensures present { (mark self.now.state.board version.index).incarnation ≡ version.incarnation → result ≡ logged_by self.now.state version row.now }

@@ -174,7 +174,7 @@ Holds-start opening frames limits =
     }
 
 -- opening book, frames and limits stay
-abbrev IsOfSame : State → State → Type 0
+abbrev pub IsOfSame : State → State → Type 0
 IsOfSame old new = (new.opening ≡ old.opening) × (new.frames ≡ old.frames) × (new.limits ≡ old.limits)
 
 -- a state that is equal to one of the same book, frames and limits has them too
@@ -249,7 +249,7 @@ same-CommitStep old true new step = same_from old new _ step.2 (refl, refl, refl
 same-CommitStep old false new step = stays old new step.1
 
 -- one call
-same-Step : (old : State) (call : Call) (new : State) → Step old call new → IsOfSame old new
+pub same-Step : (old : State) (call : Call) (new : State) → Step old call new → IsOfSame old new
 same-Step old (Claim task) new step = same-ClaimStep old task new step
 same-Step old (Read v row answer) new step = same-ReadStep old v row answer new step
 same-Step old (Block v on answer) new step = same-BlockStep old v on answer new step
@@ -278,7 +278,7 @@ Run-push old [] mid call new run step = (new, subst (λ (s : State). Step s call
 Run-push old (first ∷ calls) mid call new run step = (run.0, run.1, Run-push run.0 calls mid call new run.2 step)
 
 -- limits that are bounded are so
-bounded_again : (limits : Limits) → bounded (bounded limits) ≡ bounded limits
+pub bounded_again : (limits : Limits) → bounded (bounded limits) ≡ bounded limits
 bounded_again limits =
     let e : max 1 (max 1 limits.epoch) ≡ max 1 limits.epoch = omega arith in
     ap (λ (epoch : ℕ). record limits { epoch = epoch }) e

@@ -172,7 +172,7 @@ unique-BeginStep old seat v (Err OutOfMemory) a b x y = absurd x
 unique-BeginStep old seat v (Err Worn) a b x y = absurd x
 
 -- the check after its next read is one
-Checked-unique : (s : State) (c m n : Check) → Checked s c m → Checked s c n → m ≡ n
+pub Checked-unique : (s : State) (c m n : Check) → Checked s c m → Checked s c n → m ≡ n
 Checked-unique s c m n x y =
     let reads : x.0 ≡ y.0 = one_at (slot s c.version.index).log c.place x.0 y.0 x.1 y.1 in
     let same : ResolvesAs (shelf s) x.0.0 c.version.index x.0.1.origin ≡ ResolvesAs (shelf s) y.0.0 c.version.index y.0.1.origin = ap (λ (r : RowKey × Logged). ResolvesAs (shelf s) r.0 c.version.index r.1.origin) reads in
@@ -182,7 +182,7 @@ Checked-unique s c m n x y =
     ]
 
 -- a seat has one check
-one_check : (s : State) (seat : ℕ) (c d : Check) → check_of s seat ≡ Some c → check_of s seat ≡ Some d → c ≡ d
+pub one_check : (s : State) (seat : ℕ) (c d : Check) → check_of s seat ≡ Some c → check_of s seat ≡ Some d → c ≡ d
 one_check s seat c d e f = same_Some _ _ (sym e ∙ f)
 
 unique-CheckStep : (old : State) (seat : ℕ) (answer : Result Bool CoreFault) (a b : State) → CheckStep old seat answer a → CheckStep old seat answer b → a ≡ b

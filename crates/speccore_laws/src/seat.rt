@@ -22,6 +22,13 @@ impl Model for Seat {
 }
 
 impl Seat {
+    /// The seat of number 0.
+    pub fn first() -> Seat
+        ensures { result ≡ 0 }
+    {
+        Seat { number: 0 }
+    }
+
     /// The seat of this number, if it is below 64.
     pub fn new(number: u32) -> Option<Seat>
         ensures { SomeIff result (number < 64) number }

@@ -1,5 +1,5 @@
 ghost use Rattle.std.specs.Prelude.{◌≡◌, ◌⊎◌, IfOk, IfErr, IfSome};
-ghost use Rattle.rows.specs.Agreement.{IsTrueExecution};
+ghost use Rattle.rows.specs.Agreement.{IsLocal, IsTrueExecution};
 ghost use Rattle.rows.specs.Fold.{reply_of, writes_of};
 ghost use Rattle.view.specs.Recording.{AgreesWithBook, IsStopOf};
 
@@ -34,6 +34,19 @@ impl Model for Execution {
 }
 
 impl Execution {
+    /// A decision of this body that read and put these rows, where it is that of the decision table.
+    pub fn new(frame: Frame, reads: ReadSet, writes: WriteSet, reply: ReplyBody) -> Execution
+        requires { IsLocal frame reads writes reply }
+        ensures { result ≡ record { frame = frame; reads = reads; writes = writes; reply = reply } }
+    {
+        Execution {
+            frame,
+            reads,
+            writes,
+            reply,
+        }
+    }
+
     /// The body that was decided.
     pub fn frame(&self) -> Frame
         ensures frame { result ≡ self.now.frame }

@@ -1,0 +1,95 @@
+ghost use Rattle.std.specs.Prelude.{◌≡◌, ◌≤◌, IfOk, IsTrue, length};
+ghost use Rattle.engine.specs.Journals.{IsFinished};
+
+use crate::checking::{check, is_worn};
+use crate::traced_rows::TracedRows;
+use journal::{Answer, Event, Traced};
+use mvmem::Version;
+use rows::{Book, Frame};
+use rules::Shipped;
+use sched::Task;
+use speccore_laws::{CoreFault, Limits, Seat};
+use std::alloc::{AllocError, Global};
+use std::sync::Wait;
+use view::{Execution, Stop, execute};
+
+/// A new core of this book and these bodies, on which the caller alone takes a worker's turns, until all is committed or no
+/// incarnation or epoch is left. The messages are decided by the shipped decision.
+pub(crate) fn played_alone<R: Wait>(
+    rt: &R,
+    alloc: Global,
+    book: &Book,
+    frames: &[Frame],
+    limits: Limits,
+) -> Result<Traced, AllocError>
+    requires { length frames.now ≤ 65536 }
+    ensures { IfOk result (λ traced. IsFinished traced.core traced.entries) }
+{
+    let mut traced = Traced::with_limits(alloc, book, frames, limits)?;
+    for _ in rt.forever() {
+        if take_turn(rt, alloc, frames, &mut traced)? {
+            return Ok(traced);
+        }
+    }
+    unreachable!()
+}
+
+// One task, claimed and done. Answers whether it is the last one.
+fn take_turn<R: Wait>(
+    rt: &R,
+    alloc: Global,
+    frames: &[Frame],
+    traced: &mut Traced,
+) -> Result<bool, AllocError>
+    ensures { IfOk result (λ last. IsTrue last → IsFinished traced.new.core traced.new.entries) }
+{
+    match traced.step(Seat::first(), Event::Claim) {
+        Answer::Claimed(Task::Done) => Ok(true),
+        Answer::Claimed(Task::Execute(version)) => decide_alone(rt, alloc, frames, traced, version),
+        Answer::Claimed(Task::Validate(version)) => check(rt, traced, Seat::first(), version),
+        Answer::Refused(CoreFault::OutOfMemory) => Err(AllocError),
+        _ => Ok(false),
+    }
+}
+
+// Decides a version and hands its execution in. A version that met an estimate is given up.
+fn decide_alone<R: Wait>(
+    rt: &R,
+    alloc: Global,
+    frames: &[Frame],
+    traced: &mut Traced,
+    version: Version,
+) -> Result<bool, AllocError>
+    ensures { IfOk result (λ last. IsTrue last → IsFinished traced.new.core traced.new.entries) }
+{
+    let Some(frame) = frames.get(version.index as usize) else {
+        return Ok(false);
+    };
+    let rows = TracedRows::new(traced, Seat::first(), version);
+    match execute(alloc, frame, rows, &Shipped) {
+        Ok(execution) => finish_alone(rt, alloc, traced, version, execution),
+        Err(Stop::Blocked(on)) => is_worn(traced, Seat::first(), Event::Block(version, on)),
+        Err(Stop::OutOfMemory) => Err(AllocError),
+        Err(Stop::Lost) => Ok(false),
+    }
+}
+
+// Hands an execution in, and checks the version where it is handed out for that.
+#[tactic(auto, using(crate::proofs::Finished::worn_finish))]
+fn finish_alone<R: Wait>(
+    rt: &R,
+    alloc: Global,
+    traced: &mut Traced,
+    version: Version,
+    execution: Execution,
+) -> Result<bool, AllocError>
+    ensures { IfOk result (λ last. IsTrue last → IsFinished traced.new.core traced.new.entries) }
+{
+    let named = version;
+    match traced.finish(alloc, Seat::first(), version, execution) {
+        Answer::Finished(true) => check(rt, traced, Seat::first(), named),
+        Answer::Refused(CoreFault::OutOfMemory) => Err(AllocError),
+        Answer::Refused(CoreFault::Worn) => Ok(true),
+        _ => Ok(false),
+    }
+}

@@ -1,0 +1,61 @@
+ghost use Rattle.std.specs.Prelude.{◌≡◌, IfOk, IsTrue};
+ghost use Rattle.engine.specs.Journals.{IsFinished};
+ghost use Rattle.journal_laws.specs.Answers.{IsNoFinish};
+
+use journal::{Answer, Event, Traced};
+use mvmem::Version;
+use speccore_laws::{CoreFault, Seat};
+use std::alloc::AllocError;
+use std::sync::Wait;
+
+/// Checks a version, one read after another, and commits what can be. Answers whether no incarnation or epoch is left. A check that is
+/// refused is left: the version was given up, or is committed.
+pub(crate) fn check<R: Wait>(
+    rt: &R,
+    traced: &mut Traced,
+    seat: Seat,
+    version: Version,
+) -> Result<bool, AllocError>
+    ensures { IfOk result (λ worn. IsTrue worn → IsFinished traced.new.core traced.new.entries) }
+{
+    let mut checking = traced.step(seat, Event::BeginCheck(version));
+    for _ in rt.forever() {
+        match checking {
+            Answer::Checking(false) => checking = traced.step(seat, Event::CheckOne),
+            Answer::Checking(true) => return end_check(rt, traced, seat),
+            Answer::Refused(CoreFault::OutOfMemory) => return Err(AllocError),
+            _ => return Ok(false),
+        }
+    }
+    unreachable!()
+}
+
+// Closes the seat's check, and commits what can be.
+fn end_check<R: Wait>(rt: &R, traced: &mut Traced, seat: Seat) -> Result<bool, AllocError>
+    ensures { IfOk result (λ worn. IsTrue worn → IsFinished traced.new.core traced.new.entries) }
+{
+    if is_worn(traced, seat, Event::EndCheck)? {
+        return Ok(true);
+    }
+    for _ in rt.forever() {
+        match traced.step(seat, Event::Commit) {
+            Answer::Committed(true) => {}
+            Answer::Refused(CoreFault::OutOfMemory) => return Err(AllocError),
+            _ => return Ok(false),
+        }
+    }
+    unreachable!()
+}
+
+/// Asks the core. Answers whether no incarnation or epoch is left for it.
+#[tactic(auto, using(crate::proofs::Finished::worn_finished))]
+pub(crate) fn is_worn(traced: &mut Traced, seat: Seat, event: Event) -> Result<bool, AllocError>
+    requires { IsNoFinish event }
+    ensures { IfOk result (λ worn. IsTrue worn → IsFinished traced.new.core traced.new.entries) }
+{
+    match traced.step(seat, event) {
+        Answer::Refused(CoreFault::OutOfMemory) => Err(AllocError),
+        Answer::Refused(CoreFault::Worn) => Ok(true),
+        _ => Ok(false),
+    }
+}

@@ -1,0 +1,42 @@
+ghost use Rattle.std.specs.Prelude.{◌≡◌, None};
+
+use crate::core_rows::row_of;
+use journal::{Event, Traced};
+use mvmem::Version;
+use rows::{RowKey, RowVal};
+use speccore_laws::Seat;
+use view::{RowSource, Stop};
+
+/// The rows that one version of a message sees in a core that no other thread has.
+#[derive(Drop)]
+pub(crate) struct TracedRows<'a> {
+    traced: &'a mut Traced,
+    seat: Seat,
+    version: Version,
+}
+
+impl<'a> TracedRows<'a> {
+    /// The rows that this version sees, asked for at this seat.
+    pub(crate) fn new(traced: &'a mut Traced, seat: Seat, version: Version) -> TracedRows<'a>
+        ensures seat { result.seat ≡ seat }
+        ensures version { result.version ≡ version }
+    {
+        TracedRows {
+            traced,
+            seat,
+            version,
+        }
+    }
+}
+
+impl RowSource for TracedRows<'_> {
+    // Which book a version sees isn't known: messages before it may not have finished.
+    ghost book = { λ _. None };
+
+    ghost answers = { λ old row result new. new.version ≡ old.version };
+
+    fn read(&mut self, key: &RowKey) -> Result<Option<RowVal>, Stop> {
+        let answer = self.traced.step(self.seat, Event::Read(self.version, *key));
+        row_of(answer)
+    }
+}

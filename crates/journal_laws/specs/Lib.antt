@@ -1,0 +1,3 @@
+pub mod Answers
+pub mod Logged
+pub mod Plays

@@ -1,0 +1,154 @@
+//! The journals of runs on threads, and the longest batch.
+
+use engine::{Gate, OpenGate, Workers, run, run_traced};
+use fixtures::{answer_text, body, first_book_with, has_row};
+use fold::Outcome;
+use journal::{Entry, Event, replay};
+use rows::{Frame, ReplyBody};
+use rules::Shipped;
+use std::alloc::Global;
+use std::process::Abort;
+use std::sync::Wait;
+use std::sync::atomic::{AtomicU64, Ordering};
+use std::test::Fail;
+use std::thread;
+use std::thread::Threads;
+
+// How often a thread looks whether another got on, before the test fails.
+const TURNS: u64 = 50_000_000;
+
+// Holds the first message before its first decision until the second one was recorded.
+#[derive(Drop)]
+struct HoldingGate {
+    recorded: AtomicU64,
+}
+
+impl Gate for HoldingGate {
+    fn before_decide(&self, index: u32, incarnation: u32) {
+        if index == 0 && incarnation == 0 {
+            for _ in 0..TURNS {
+                if self.recorded.load(Ordering::SeqCst) > 0 {
+                    return;
+                }
+                thread::yield_now();
+            }
+        }
+    }
+
+    fn after_record(&self, index: u32, _incarnation: u32) {
+        if index == 1 {
+            self.recorded.fetch_add(1, Ordering::SeqCst);
+        }
+    }
+}
+
+// Where in the journal the message at this index first finishes.
+fn finish_of(entries: &[Entry], index: u32) -> Option<usize> {
+    entries
+        .iter()
+        .position(|entry| matches!(entry.event, Event::Finish(version) if version.index == index))
+}
+
+// The journal plays to a core that committed what the run did.
+fn assert_replays(
+    rt: &impl Abort,
+    alloc: Global,
+    frames: &[Frame],
+    outcome: &Outcome,
+    entries: &[Entry],
+) -> Result<(), Fail> {
+    assert!(rt; frames.len() <= 64);
+    let book = first_book_with(alloc, &[])?;
+    let prefix = replay(alloc, &book, frames, entries)?.into_prefix(alloc)?;
+    assert_eq!(rt; prefix.count, outcome.committed);
+    assert_eq!(rt; prefix.replies.len(), outcome.replies.len());
+    for (played, reply) in prefix.replies.iter().zip(&outcome.replies) {
+        let text = answer_text(alloc, reply)?;
+        assert_eq!(rt; answer_text(alloc, played)?.as_str(), text.as_str());
+    }
+    assert!(rt; prefix.book.is_same(&outcome.book));
+    Ok(())
+}
+
+// The second message finishes before the first one does, and the journal says so.
+#[test]
+fn the_journal_has_the_order_of_finishing(rt: HostRuntime) -> Result<(), Fail> {
+    let alloc = rt.alloc();
+    let first = body("1100 000001 A 100").ok_or("request")?;
+    let second = body("1100 000002 B 100").ok_or("request")?;
+    let frames = [first, second];
+    let book = first_book_with(alloc, &[])?;
+    let workers = Workers::new(2).ok_or("two workers")?;
+    let gate = HoldingGate {
+        recorded: AtomicU64::new(0),
+    };
+    let (outcome, entries) =
+        run_traced(&rt, alloc, &book, &frames, workers, &Shipped, &gate)?;
+    let before = finish_of(&entries, 1).ok_or("a finish")?;
+    let after = finish_of(&entries, 0).ok_or("a finish")?;
+    assert!(rt; before < after);
+    assert_eq!(rt; outcome.committed, 2);
+    assert_replays(&rt, alloc, &frames, &outcome, &entries)
+}
+
+// As many requests of 1 on card A, with a trace number each.
+fn requests(alloc: Global, many: u32) -> Result<Vec<Frame>, Fail> {
+    let mut frames = Vec::new(alloc);
+    for trace in 0..many {
+        let line = format!(in alloc; "1100 {trace:06} A 1")?;
+        frames.push(body(line.as_str()).ok_or("a body")?)?;
+    }
+    Ok(frames)
+}
+
+// Action and approval code of the reply at this place.
+fn answer_at(alloc: Global, replies: &[ReplyBody], index: usize) -> Result<String, Fail> {
+    Ok(answer_text(alloc, replies.get(index).ok_or("a reply")?)?)
+}
+
+// How many of the replies have this text.
+fn count_of(alloc: Global, replies: &[ReplyBody], text: &str) -> Result<u64, Fail> {
+    let mut count = 0u64;
+    for reply in replies {
+        if answer_text(alloc, reply)?.as_str() == text {
+            count = count.saturating_add(1);
+        }
+    }
+    Ok(count)
+}
+
+// Three requests are approved, then the day's limit is reached; and the core committed every message.
+fn assert_longest(rt: &impl Abort, alloc: Global, outcome: &Outcome) -> Result<(), Fail> {
+    let replies = &outcome.replies;
+    for (index, answer) in [(0, "000/000001"), (1, "000/000002"), (2, "000/000003")] {
+        assert_eq!(rt; answer_at(alloc, replies, index)?.as_str(), answer);
+    }
+    assert_eq!(rt; count_of(alloc, replies, "123")?, 65_533);
+    assert!(rt; has_row(&outcome.book, "account A 9997 978"));
+    assert_eq!(rt; outcome.committed, 65_536);
+    Ok(())
+}
+
+fn assert_run<R: Abort + Threads + Wait + Sync>(
+    rt: &R,
+    alloc: Global,
+    frames: &[Frame],
+    workers: u32,
+) -> Result<(), Fail> {
+    assert!(rt; frames.len() == 65_536);
+    let book = first_book_with(alloc, &[])?;
+    let workers = Workers::new(workers).ok_or("1 to 64 workers")?;
+    let outcome = run(rt, alloc, &book, frames, workers, &Shipped, &OpenGate)?;
+    assert_longest(rt, alloc, &outcome)
+}
+
+// The longest batch, with 1, 4 and 64 workers: the same replies each time.
+#[test]
+fn runs_the_longest_batch(rt: HostRuntime) -> Result<(), Fail> {
+    let alloc = rt.alloc();
+    let frames = requests(alloc, 65_536)?;
+    for workers in [1, 4, 64] {
+        assert_run(&rt, alloc, &frames, workers)?;
+    }
+    Ok(())
+}
