@@ -147,11 +147,9 @@ fn kept_by_a_core(
 ) -> Result<Vec<Entry>, Fail> {
     let frames = frames_of(script)?;
     let mut traced = Traced::new(alloc, book, &frames)?;
-    let kept = assert_kept(rt, alloc, book, &mut traced, entries, script);
+    assert_kept(rt, alloc, book, &mut traced, entries, script)?;
     let (core, journal) = traced.into_parts();
-    let committed = assert_committed(rt, alloc, core, script);
-    kept?;
-    committed?;
+    assert_committed(rt, alloc, core, script)?;
     Ok(journal)
 }
 
