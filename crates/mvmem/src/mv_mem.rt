@@ -29,6 +29,8 @@ use view::WriteSet;
 pub struct MvMem {
     chains: Chains,
     lists: Vec<RowList>,
+    // Where the chains stand for which room was made last.
+    numbers: Vec<usize>,
 }
 
 impl Model for MvMem {
@@ -53,6 +55,7 @@ impl MvMem {
         MvMem {
             chains: Chains::new(alloc),
             lists: Vec::new(alloc),
+            numbers: Vec::new(alloc),
         }
     }
 
@@ -71,21 +74,43 @@ impl MvMem {
         ensures kind { IsSeenOfKind row.now result.0 }
         ensures comparisons { IsWithinDigitsOf result.1 (row_count self.now.entries row.now) }
     {
-        self.chains.seen_below(row, index)
+        self.chains.seen_below(row, &[], index)
     }
 
-    /// Makes room for what these writes put as the message at this index. No entry changes.
+    /// What the message at this index sees of the row, and a number for `read_at`.
+    pub fn look(&self, row: &RowKey, index: u32) -> (Seen, usize)
+        ensures seen { Resolves (held self.now.entries) row.now index result.0 }
+        ensures kind { IsSeenOfKind row.now result.0 }
+    {
+        match self.chains.number_of(row, &[]) {
+            Some(number) => (self.chains.seen_at(number, index).0, number),
+            None => (Seen::Base, usize::MAX),
+        }
+    }
+
+    /// The same as `read`. With the number that `look` answered for the row nothing is hashed.
+    pub fn read_at(&self, row: &RowKey, number: usize, index: u32) -> Seen
+        ensures seen { Resolves (held self.now.entries) row.now index result }
+        ensures kind { IsSeenOfKind row.now result }
+    {
+        let (seen, _comparisons) = self.chains.seen_below(row, &[number], index);
+        seen
+    }
+
+    /// Makes room for what these writes put as the message at this index. No entry changes. A row to which `look`
+    /// answered one of these numbers is not hashed.
     pub fn reserve(
         &mut self,
         alloc: Global,
         index: u32,
         writes: &WriteSet,
+        numbers: &[usize],
     ) -> Result<(), AllocError>
         ensures entries { self.new.entries ≡ self.old.entries }
         ensures room { OnOk result (HasRoom self.new.room index writes.now) }
     {
         reserve_list(&mut self.lists, alloc, index as usize, writes.len())?;
-        reserve_chains(&mut self.chains, alloc, writes)
+        reserve_chains(&mut self.chains, alloc, writes, numbers, &mut self.numbers)
     }
 
     /// Puts what this version wrote in place of all entries of its index. Answers whether a row was written that had
@@ -97,7 +122,7 @@ impl MvMem {
     {
         let list = &mut self.lists[version.index as usize];
         take_out_others(&mut self.chains, list, version.index, writes);
-        put_all(&mut self.chains, list, version, writes)
+        put_all(&mut self.chains, list, version, writes, &self.numbers)
     }
 
     /// All entries of the index are estimates from now on.
@@ -116,7 +141,7 @@ impl MvMem {
         let mut laid = book.copy()?;
         for number in 0..self.chains.len() {
             let row = self.chains.row(number);
-            let (seen, _comparisons) = self.chains.seen_below(row, index);
+            let (seen, _comparisons) = self.chains.seen_at(number, index);
             if let Seen::Value(_, value) = seen {
                 laid.put(*row, value)?;
             }
@@ -141,16 +166,25 @@ fn reserve_list(
     lists[index].reserve(count)
 }
 
-// Makes the written rows' chains, where they have none, and room for one more entry in each.
-fn reserve_chains(chains: &mut Chains, alloc: Global, writes: &WriteSet) -> Result<(), AllocError>
+// Makes the written rows' chains, where they have none, and room for one more entry in each. They are looked for among
+// these numbers first; `found` has their numbers then.
+fn reserve_chains(
+    chains: &mut Chains,
+    alloc: Global,
+    writes: &WriteSet,
+    numbers: &[usize],
+    found: &mut Vec<usize>,
+) -> Result<(), AllocError>
     ensures stands { (r : RowKey) (i : ℕ) → stands chains.new r i ≡ stands chains.old r i }
     ensures room { OnOk result ((row : RowKey) → IsSome (value_in writes.now row) → 0 < room_of chains.new row) }
     ensures numbers { (n : ℕ) (r : RowKey) → row_at chains.old n ≡ Some r → row_at chains.new n ≡ Some r }
     ensures once { IsOnceEach chains.old → IsOnceEach chains.new }
 {
+    found.clear();
     for place in 0..writes.len() {
-        let (row, _) = writes.at(place);
-        chains.reserve(alloc, &row)?;
+        let (row, _) = writes.row(place);
+        let number = chains.reserve(alloc, row, numbers)?;
+        found.push(number)?;
     }
     Ok(())
 }
@@ -178,8 +212,15 @@ fn take_out_others(chains: &mut Chains, list: &mut RowList, index: u32, writes: 
     }
 }
 
-// Puts what the version wrote. Answers whether a row was written that had no entry of its index.
-fn put_all(chains: &mut Chains, list: &mut RowList, version: Version, writes: &WriteSet) -> bool
+// Puts what the version wrote. The chain of a row is looked for at the number that stands at the row's place first.
+// Answers whether a row was written that had no entry of its index.
+fn put_all(
+    chains: &mut Chains,
+    list: &mut RowList,
+    version: Version,
+    writes: &WriteSet,
+    numbers: &[usize],
+) -> bool
     requires listed { AreListed chains.old list.old.numbers version.index }
     requires room { (row : RowKey) → IsSome (value_in writes.now row) → 0 < room_of chains.old row }
     requires list { length writes.now ≤ list.old.room }
@@ -192,13 +233,14 @@ fn put_all(chains: &mut Chains, list: &mut RowList, version: Version, writes: &W
 {
     let mut is_new = false;
     for place in 0..writes.len() {
-        let (row, value) = writes.at(place);
+        let (row, value) = writes.row(place);
         let link = Link {
             index: version.index,
             incarnation: version.incarnation,
-            value: Some(value),
+            value: Some(*value),
         };
-        let (number, had_none) = chains.put(&row, link);
+        let rest = numbers.get(place..).unwrap_or(&[]);
+        let (number, had_none) = chains.put(row, rest, link);
         if had_none {
             list.push(number);
             is_new = true;
