@@ -30,11 +30,18 @@ pub(crate) fn logged_of(opening: &Book, row: &RowKey, seen: Seen) -> Result<Logg
     }
 }
 
-/// Whether the message at this index sees of the row what this execution put, or the opening book where it is none.
-pub(crate) fn resolves_as(memory: &MvMem, row: &RowKey, index: u32, origin: Option<Version>) -> bool
+/// Whether the message at this index sees of the row what this execution put, or the opening book where it is none. The row
+/// is looked for at this number first.
+pub(crate) fn resolves_as(
+    memory: &MvMem,
+    row: &RowKey,
+    number: usize,
+    index: u32,
+    origin: Option<Version>,
+) -> bool
     ensures { IsTrue result ↔ ResolvesAs (held memory.now.entries) row.now index origin }
 {
-    match (memory.read(row, index), origin) {
+    match (memory.read_at(row, number, index), origin) {
         (Seen::Base, None) => true,
         (Seen::Value(version, _), Some(logged)) => version == logged,
         _ => false,
