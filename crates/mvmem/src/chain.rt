@@ -38,12 +38,15 @@ impl Chain {
         }
     }
 
-    /// Makes room for one more entry.
+    /// Makes room for one more entry. Many rows are put once, so the first entry gets room for itself alone.
     pub(crate) fn reserve(&mut self) -> Result<(), AllocError>
         ensures links { self.new.links ≡ self.old.links }
         ensures room { OnOk result (0 < self.new.room) }
         ensures more { self.old.room ≤ self.new.room }
     {
+        if self.links.is_empty() {
+            return self.links.reserve_exact(1);
+        }
         self.links.reserve(1)
     }
 

@@ -1,6 +1,7 @@
 -- A log in two parts: the first reads, found by their keys, and those behind them.
-use Rattle.std.proofs.Common.{◌≡◌, ℕ, zero, suc, ◌<◌, Bool, true, false, cond, List, [], ◌∷◌, ◌++◌, length, get_or, Option, Some, None, IfSome, refl, sym, ap, ◌∙◌, subst, append_assoc, arith}
+use Rattle.std.proofs.Common.{◌≡◌, ℕ, zero, suc, ◌<◌, Bool, true, false, cond, List, [], ◌∷◌, ◌++◌, length, get_or, Option, Some, None, IfSome, refl, sym, ap, ◌∙◌, subst, Bor, append_assoc, arith}
 use Rattle.std.proofs.lemmas.Option.{none-some}
+use Rattle.std.specs.Option.{option_copied}
 use Rattle.rows.specs.RowKey.{key_eq}
 use Rattle.rows.specs.RowVal.{IsOfKind}
 use Rattle.rows.specs.declared.row_key.RowKey.{RowKey}
@@ -45,6 +46,11 @@ pub found_of_kind : (log : Log) (row : RowKey) (found : Option Logged) → AreOf
 found_of_kind log row found kinds is =
     subst (λ (o : Option Logged). IfSome o (λ logged. IfSome logged.value (IsOfKind row))) (sym is)
     (found_suits (λ k l. IfSome l.value (IsOfKind k)) log row kinds)
+
+-- the same where it is lent
+pub kind_copied : (row : RowKey) (found : Option (Bor Logged)) → IfSome (option_copied found) (λ logged. IfSome logged.value (IsOfKind row)) → IfSome found (λ logged. IfSome logged.now.value (IsOfKind row))
+kind_copied row None kinds = tt
+kind_copied row (Some logged) kinds = kinds
 
 -- the second part alone
 pub kinds_behind : (few : List Read) (more : Log) → AreOfKind (log_of few more) → AreOfKind more

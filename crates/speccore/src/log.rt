@@ -1,4 +1,5 @@
-ghost use Rattle.std.specs.Prelude.{◌≡◌, ◌↔◌, ◌<◌, ◌++◌, [], ◌∷◌, None, length, slice_get, IsTrue, IfSome, OnOk, OnErr};
+ghost use Rattle.std.specs.Prelude.{◌≡◌, ◌↔◌, ◌<◌, ◌++◌, [], ◌∷◌, Some, None, length, slice_get, IsTrue, IfSome, OnOk, OnErr};
+ghost use Rattle.std.specs.Option.{option_copied, option_map};
 ghost use Rattle.rows.specs.RowVal.{IsOfKind};
 ghost use Rattle.view.specs.RowSets.{value_in};
 ghost use Rattle.speccore_laws.specs.Log.{logged_in, AreLogged};
@@ -15,6 +16,9 @@ use view::ReadSet;
 
 /// So many rows are found by comparing keys, without hashing.
 pub(crate) const FEW: usize = 8;
+
+// So many rows are asked for where a request is approved.
+const USUAL: usize = 5;
 
 /// What an incarnation was answered, each row once, in the order of asking (Block-STM: read set).
 ///
@@ -64,20 +68,20 @@ impl Log {
     }
 
     // What was logged of the row, if it was asked for.
-    fn find(&self, row: &RowKey) -> Option<Logged>
-        ensures value { result ≡ value_in self.now row.now }
-        ensures kind { IfSome result (λ logged. IfSome logged.value (IsOfKind row.now)) }
+    fn find(&self, row: &RowKey) -> Option<&Logged>
+        ensures value { option_copied result ≡ value_in self.now row.now }
+        ensures kind { IfSome result (λ logged. IfSome logged.now.value (IsOfKind row.now)) }
     {
         for place in 0..self.few.len() {
             let read = &self.few[place];
             if *row == read.row {
-                return Some(read.logged);
+                return Some(&read.logged);
             }
         }
         if self.more.is_empty() {
             return None;
         }
-        self.more.get(row).copied()
+        self.more.get(row)
     }
 
     /// What was answered for the row, if it was asked for.
@@ -134,6 +138,9 @@ impl Log {
         let Logged { origin, value } = logged;
         let logged = Logged { origin, value };
         if self.more.is_empty() && self.few.len() < FEW {
+            if self.few.is_empty() {
+                self.few.reserve_exact(USUAL)?;
+            }
             self.few.push(Read {
                 row,
                 logged,
@@ -151,7 +158,7 @@ impl Log {
     {
         for index in 0..reads.len() {
             let (row, value) = reads.at(index);
-            if !is_answer(self.get(&row), value) {
+            if !is_answer(self.find(&row), &value) {
                 return false;
             }
         }
@@ -159,13 +166,23 @@ impl Log {
     }
 }
 
-// Whether a row was answered so.
-fn is_answer(logged: Option<Option<RowVal>>, value: Option<RowVal>) -> bool
-    ensures { IsTrue result ↔ (logged ≡ Some value) }
+// Whether this was logged, with this value.
+fn is_answer(logged: Option<&Logged>, value: &Option<RowVal>) -> bool
+    ensures { IsTrue result ↔ (option_map (λ l. l.value) (option_copied logged.entry) ≡ Some value.now) }
 {
-    match (logged, value) {
-        (Some(Some(mine)), Some(theirs)) => mine.is_same(&theirs),
-        (Some(None), None) => true,
+    match logged {
+        Some(logged) => are_same(&logged.value, value),
+        None => false,
+    }
+}
+
+// Whether both are the same value, or both are none.
+fn are_same(mine: &Option<RowVal>, theirs: &Option<RowVal>) -> bool
+    ensures { IsTrue result ↔ (mine.now ≡ theirs.now) }
+{
+    match (mine, theirs) {
+        (Some(mine), Some(theirs)) => mine.is_same(theirs),
+        (None, None) => true,
         _ => false,
     }
 }

@@ -1,5 +1,6 @@
 use Rattle.std.proofs.Common.{◌≡◌, ℕ, ◌<◌, true, false, get_or, length, Option, None, Some, IfSome, refl, ap, sym, subst, ◌∙◌, arith, rules}
 use Rattle.std.proofs.lemmas.List.{get_or_default}
+use Rattle.std.specs.Option.{option_copied}
 use Rattle.rows.specs.RowKey.{key_eq}
 use Rattle.rows.specs.RowVal.{IsOfKind}
 use Rattle.view.specs.RowSets.{value_in}
@@ -7,9 +8,8 @@ use Rattle.speccore_laws.specs.State.{Log}
 use Rattle.speccore_laws.specs.declared.logged.Logged.{Logged}
 use Rattle.speccore.specs.Origin.{log_of}
 use Rattle.speccore.specs.declared.read.Read.{Read}
-use Rattle.speccore.proofs.Parts.{found_few, found_of_kind, nothing_in, passed_few}
+use Rattle.speccore.proofs.Parts.{found_few, found_of_kind, kind_copied, nothing_in, passed_few}
 use Rattle.speccore.proofs.log.Log.find.Goals as goal
-use Rattle.speccore.proofs.log.Log.find.Goals.{After-copied}
 
 pub returns-then-eq-clause-value : goal.returns-then-eq-clause-value
 returns-then-eq-clause-value c =
@@ -39,16 +39,16 @@ returns-then-is_empty-clause-value c =
     sym (behind ∙ nothing_in c.self.inside.more.entries c.args.row.now (c.is_empty.ensures.0 c.if-is_empty.true))
     ∙ ap (λ (log : Log). value_in log c.args.row.now) c.self.view_is
 
--- the row's answer among the reads behind the first
-value_got : (c : After-copied) → c.copied.result ≡ value_in (log_of c.self.inside.few.items c.self.inside.more.entries) c.args.row.now
-value_got c =
+pub returns-clause-value : goal.returns-clause-value
+returns-clause-value c =
     let end = c.loop-place-test.false in
     let many = c.len-place-end.ensures in
-    let got : c.copied.result ≡ value_in c.self.inside.more.entries c.args.row.now = c.copied.ensures ∙ c.get.ensures.value in
-    got ∙ sym (passed_few c.self.inside.few.items c.self.inside.more.entries c.args.row.now (λ j d l. c.loop-place.invariant j d (omega arith)))
-
-pub returns-clause-value : goal.returns-clause-value
-returns-clause-value c = value_got c ∙ ap (λ (log : Log). value_in log c.args.row.now) c.self.view_is
+    let behind = passed_few c.self.inside.few.items c.self.inside.more.entries c.args.row.now (λ j d l. c.loop-place.invariant j d (omega arith)) in
+    c.get.ensures.value ∙ sym behind ∙ ap (λ (log : Log). value_in log c.args.row.now) c.self.view_is
 
 pub returns-clause-kind : goal.returns-clause-kind
-returns-clause-kind c = found_of_kind (log_of c.self.inside.few.items c.self.inside.more.entries) c.args.row.now c.copied.result c.self.invariant (value_got c)
+returns-clause-kind c =
+    let end = c.loop-place-test.false in
+    let many = c.len-place-end.ensures in
+    let behind = passed_few c.self.inside.few.items c.self.inside.more.entries c.args.row.now (λ j d l. c.loop-place.invariant j d (omega arith)) in
+    kind_copied c.args.row.now c.get.result (found_of_kind (log_of c.self.inside.few.items c.self.inside.more.entries) c.args.row.now (option_copied c.get.result) c.self.invariant (c.get.ensures.value ∙ sym behind))
