@@ -2,13 +2,13 @@ ghost use Rattle.std.specs.Prelude.{◌≡◌, ◌≢◌, ◌↔◌, ℕ, ◌<�
 ghost use Rattle.rows.specs.RowVal.{IsOfKind};
 ghost use Rattle.rows.specs.declared.row_key.RowKey.{RowKey};
 ghost use Rattle.view.specs.RowSets.{value_in, IsOnceEach};
-ghost use Rattle.mvmem.specs.Chains.{stands, held_of, row_at, rows_of, room_of, links_in, AreInOrder, IsChangedAt};
+ghost use Rattle.std.specs.Option.{option_copied};
+ghost use Rattle.mvmem.specs.Chains.{stands, held_of, seen_of, row_at, rows_of, room_of, links_in, AreInOrder, IsChangedAt};
 ghost use Rattle.mvmem.specs.Entries.{estimate_of};
 ghost use Rattle.mvmem.specs.Resolves.{Resolves, IsSeenOfKind, IsWithinDigitsOf};
 
 use crate::chain::Chain;
 use crate::link::Link;
-use crate::seen::Seen;
 use indexmap::IndexMap;
 use rows::RowKey;
 use std::alloc::{AllocError, Global};
@@ -81,31 +81,37 @@ impl Chains {
         self.rows.get_index_of(row)
     }
 
-    /// What is seen from the index of the row with this number, and how many indices were compared to find it.
-    pub(crate) fn seen_at(&self, number: usize, index: u32) -> (Seen, u32)
+    /// The nearest entry below the index of the row with this number, if there is one, and how many indices were compared
+    /// to find it.
+    pub(crate) fn nearest_at(&self, number: usize, index: u32) -> (Option<&Link>, u32)
         requires { number < length self.now }
-        ensures seen { (row : RowKey) → row_at self.now number ≡ Some row → Resolves (stands self.now) row index result.0 }
-        ensures kind { (row : RowKey) → row_at self.now number ≡ Some row → IsSeenOfKind row result.0 }
+        ensures seen { (row : RowKey) → row_at self.now number ≡ Some row → Resolves (stands self.now) row index (seen_of (option_copied result.0)) }
+        ensures kind { (row : RowKey) → row_at self.now number ≡ Some row → IsSeenOfKind row (seen_of (option_copied result.0)) }
         ensures comparisons { (row : RowKey) → row_at self.now number ≡ Some row → IsWithinDigitsOf result.1 (length (links_in (value_in self.now row))) }
         ensures order { (row : RowKey) → row_at self.now number ≡ Some row → AreInOrder (links_in (value_in self.now row)) }
     {
         match self.rows.get_index(number) {
-            Some((_, chain)) => chain.seen_below(index),
+            Some((_, chain)) => chain.nearest_below(index),
             None => unreachable!(),
         }
     }
 
-    /// What is seen of the row from the index, and how many indices were compared to find it. Its chain is looked for
-    /// among these numbers first.
-    pub(crate) fn seen_below(&self, row: &RowKey, numbers: &[usize], index: u32) -> (Seen, u32)
-        ensures seen { Resolves (stands self.now) row.now index result.0 }
-        ensures kind { IsSeenOfKind row.now result.0 }
+    /// The row's nearest entry below the index, if there is one, and how many indices were compared to find it. The row's
+    /// chain is looked for among these numbers first.
+    pub(crate) fn nearest_below(
+        &self,
+        row: &RowKey,
+        numbers: &[usize],
+        index: u32,
+    ) -> (Option<&Link>, u32)
+        ensures seen { Resolves (stands self.now) row.now index (seen_of (option_copied result.0)) }
+        ensures kind { IsSeenOfKind row.now (seen_of (option_copied result.0)) }
         ensures comparisons { IsWithinDigitsOf result.1 (length (links_in (value_in self.now row.now))) }
         ensures order { AreInOrder (links_in (value_in self.now row.now)) }
     {
         match self.number_of(row, numbers) {
-            Some(number) => self.seen_at(number, index),
-            None => (Seen::Base, 0),
+            Some(number) => self.nearest_at(number, index),
+            None => (None, 0),
         }
     }
 

@@ -3,13 +3,14 @@ ghost use Rattle.std.specs.FinMap as map;
 ghost use Rattle.rows.specs.declared.row_key.RowKey.{RowKey};
 ghost use Rattle.rows.specs.declared.row_val.RowVal.{RowVal};
 ghost use Rattle.view.specs.RowSets.{value_in, IsOnceEach};
-ghost use Rattle.mvmem.specs.Chains.{stands, rows_of, room_of, row_at};
+ghost use Rattle.std.specs.Option.{option_copied};
+ghost use Rattle.mvmem.specs.Chains.{seen_of, stands, rows_of, room_of, row_at};
 ghost use Rattle.mvmem.specs.Entries.{held, value_at, estimate_of, AreReplaced, AreEstimated, IsNewLocation};
 ghost use Rattle.mvmem.specs.Memory.{HasRoom, AreListed, list_at};
 ghost use Rattle.mvmem.specs.Resolves.{Resolves, IsSeenOfKind, IsWithinDigitsOf, row_count, IsLaidOver};
 
 use crate::chains::Chains;
-use crate::link::Link;
+use crate::link::{Link, seen_of};
 use crate::row_list::RowList;
 use crate::seen::Seen;
 use crate::version::Version;
@@ -74,27 +75,27 @@ impl MvMem {
         ensures kind { IsSeenOfKind row.now result.0 }
         ensures comparisons { IsWithinDigitsOf result.1 (row_count self.now.entries row.now) }
     {
-        self.chains.seen_below(row, &[], index)
+        let (link, comparisons) = self.chains.nearest_below(row, &[], index);
+        (seen_of(link), comparisons)
     }
 
-    /// What the message at this index sees of the row, and a number for `read_at`.
-    pub fn look(&self, row: &RowKey, index: u32) -> (Seen, usize)
-        ensures seen { Resolves (held self.now.entries) row.now index result.0 }
-        ensures kind { IsSeenOfKind row.now result.0 }
+    /// The entry of the row that the message at this index sees, if there is one, where it stands; and a number for `look_at`.
+    pub fn look(&self, row: &RowKey, index: u32) -> (Option<&Link>, usize)
+        ensures seen { Resolves (held self.now.entries) row.now index (seen_of (option_copied result.0)) }
+        ensures kind { IsSeenOfKind row.now (seen_of (option_copied result.0)) }
     {
         match self.chains.number_of(row, &[]) {
-            Some(number) => (self.chains.seen_at(number, index).0, number),
-            None => (Seen::Base, usize::MAX),
+            Some(number) => (self.chains.nearest_at(number, index).0, number),
+            None => (None, usize::MAX),
         }
     }
 
-    /// The same as `read`. With the number that `look` answered for the row nothing is hashed.
-    pub fn read_at(&self, row: &RowKey, number: usize, index: u32) -> Seen
-        ensures seen { Resolves (held self.now.entries) row.now index result }
-        ensures kind { IsSeenOfKind row.now result }
+    /// The same entry. With the number that `look` answered for the row nothing is hashed.
+    pub fn look_at(&self, row: &RowKey, number: usize, index: u32) -> Option<&Link>
+        ensures seen { Resolves (held self.now.entries) row.now index (seen_of (option_copied result)) }
+        ensures kind { IsSeenOfKind row.now (seen_of (option_copied result)) }
     {
-        let (seen, _comparisons) = self.chains.seen_below(row, &[number], index);
-        seen
+        self.chains.nearest_below(row, &[number], index).0
     }
 
     /// Makes room for what these writes put as the message at this index. No entry changes. A row to which `look`
@@ -141,7 +142,8 @@ impl MvMem {
         let mut laid = book.copy()?;
         for number in 0..self.chains.len() {
             let row = self.chains.row(number);
-            let (seen, _comparisons) = self.chains.seen_at(number, index);
+            let (link, _comparisons) = self.chains.nearest_at(number, index);
+            let seen = seen_of(link);
             if let Seen::Value(_, value) = seen {
                 laid.put(*row, value)?;
             }

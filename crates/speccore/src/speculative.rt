@@ -118,8 +118,8 @@ impl Core {
         if let Some(value) = slot.logged(row) {
             return Ok(Got::Row(value));
         }
-        let (seen, number) = self.memory.look(row, version.index);
-        match logged_of(&self.opening, row, seen) {
+        let (link, number) = self.memory.look(row, version.index);
+        match logged_of(&self.opening, row, link) {
             Ok(logged) => {
                 let value = logged.value;
                 let slot = &mut self.slots[version.index as usize];
