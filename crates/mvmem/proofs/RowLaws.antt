@@ -1,5 +1,5 @@
 -- What stands for each row, after the chain of one is changed.
-use Rattle.std.proofs.Common.{◌≡◌, ◌≢◌, ℕ, zero, suc, ◌<◌, ◌≤◌, Bool, true, false, cond, List, [], ◌∷◌, ◌++◌, length, get_or, map, slice_get, position, Option, Some, None, IfSome, is_some, option_map, refl, sym, ap, ◌∙◌, subst, ◌⊎◌, inl, inr, arith}
+use Rattle.std.proofs.Common.{◌≡◌, ◌≢◌, ℕ, zero, suc, ◌<◌, ◌≤◌, Bool, true, false, cond, List, [], ◌∷◌, ◌++◌, length, get_or, map, slice_get, position, Option, Some, None, IfSome, IfNone, is_some, option_map, refl, sym, ap, ◌∙◌, subst, ◌⊎◌, inl, inr, arith}
 use Rattle.std.proofs.lemmas.Bool.{false≢true}
 use Rattle.std.proofs.lemmas.List.Quantifiers.{position-Some}
 use Rattle.std.proofs.lemmas.Option.{slice_get-get_or, none-some, same_Some}
@@ -17,6 +17,10 @@ use Rattle.mvmem.specs.Resolves.{Resolves, IsSeenOfKind}
 use Rattle.mvmem.specs.declared.seen.Seen.{Seen}
 use Rattle.mvmem.specs.declared.seen.Seen.TheVariants.{Base, Value, Estimate}
 use Rattle.mvmem.specs.declared.link.Link.{Link}
+
+no_value : {X : Type 0} (o : Option X) → false ≡ is_some o → o ≡ None
+no_value None e = refl
+no_value (Some x) e = absurd (false≢true e)
 
 -- a row is this one, or another
 pub rows_cases : (a b : RowKey) → (a ≡ b) ⊎ (a ≢ b)
@@ -80,6 +84,32 @@ pub row_found : (es : Chains) (n : ℕ) (row : RowKey) → position (key_eq row)
 row_found es n row is =
     let there = position-Some (key_eq row) (rows_of es) n row is in
     slice_get-get_or (rows_of es) n row there.0 ∙ ap Some (sym ((key_eq_decides row (get_or (rows_of es) n row)).0 there.1))
+
+-- where a look-up by hash finds a number, it is the row's
+pub number_found : (es : Chains) (row : RowKey) (o : Option ℕ) → o ≡ position (key_eq row) (rows_of es) → IfSome o (λ n. row_at es n ≡ Some row)
+number_found es row None is = tt
+number_found es row (Some n) is = row_found es n row (sym is)
+
+-- and where it finds none, the row has no chain
+pub number_missed : (es : Chains) (row : RowKey) (o : Option ℕ) → is_some o ≡ is_some (value_in es row) → IfNone o (value_in es row ≡ None)
+number_missed es row None same = no_value (value_in es row) same
+number_missed es row (Some n) same = tt
+
+-- what stands at a number is its row
+pub row_here : (es : Chains) (n : ℕ) (e : RowKey × Chain) → slice_get es n ≡ Some e → row_at es n ≡ Some e.0
+row_here [] n e at = absurd (none-some e at)
+row_here (x ∷ es) zero e at = ap Some (ap (λ (y : RowKey × Chain). y.0) (same_Some x e at))
+row_here (x ∷ es) (suc n) e at = row_here es n e at
+
+-- where nothing stands, there is no row
+pub no_row_here : (es : Chains) (n : ℕ) → slice_get es n ≡ None → row_at es n ≡ None
+no_row_here [] n none = refl
+no_row_here (x ∷ es) zero none = absurd (none-some x (sym none))
+no_row_here (x ∷ es) (suc n) none = no_row_here es n none
+
+-- the chain that stands at a row's number is its chain
+pub chain_here : (es : Chains) (n : ℕ) (e : RowKey × Chain) (row : RowKey) → slice_get es n ≡ Some e → value_in es e.0 ≡ Some e.1 → row_at es n ≡ Some row → value_in es row ≡ Some e.1
+chain_here es n e row at is named = ap (value_in es) (same_Some row e.0 (sym named ∙ row_here es n e at)) ∙ is
 
 -- a number below their count is a row's
 pub row_there : (es : Chains) (n : ℕ) → n < length es → (row : RowKey) × (row_at es n ≡ Some row)
@@ -158,10 +188,6 @@ row_at-append : (es more : Chains) (n : ℕ) (row : RowKey) → row_at es n ≡ 
 row_at-append [] more n row at = absurd (none-some row at)
 row_at-append (e ∷ es) more zero row at = at
 row_at-append (e ∷ es) more (suc n) row at = row_at-append es more n row at
-
-no_value : {X : Type 0} (o : Option X) → false ≡ is_some o → o ≡ None
-no_value None e = refl
-no_value (Some x) e = absurd (false≢true e)
 
 pub appended_rows : {S : Type 0} (m : IndexMap RowKey Chain S) (was new : Chains) (row : RowKey) (chain : Chain) (n : ℕ) (r : RowKey) → false ≡ is_some (value_in m.entries row) → new ≡ insert_entry key_eq m.entries row chain → m.entries ≡ was → row_at was n ≡ Some r → row_at new n ≡ Some r
 appended_rows m was new row chain n r none is same at =

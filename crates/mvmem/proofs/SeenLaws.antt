@@ -4,7 +4,9 @@ use Rattle.std.proofs.lemmas.Bool.{cases_lt, cases_eq}
 use Rattle.std.proofs.lemmas.Option.{none-some, same_Some}
 use Rattle.rows.specs.declared.row_val.RowVal.{RowVal}
 use Rattle.mvmem.specs.Entries.{Held, value_at}
-use Rattle.mvmem.specs.Resolves.{IsNearestBelow, row_under}
+use Rattle.mvmem.specs.Chains.{held_of, seen_by, seen_of}
+use Rattle.mvmem.specs.Resolves.{AreNoneBetween, IsNearestBelow, row_under}
+use Rattle.mvmem.specs.declared.link.Link.{Link}
 use Rattle.mvmem.specs.declared.seen.Seen.{Seen}
 use Rattle.mvmem.specs.declared.seen.Seen.TheVariants.{Base, Value, Estimate}
 
@@ -41,3 +43,11 @@ same_under column index (Estimate at) (Value version value) was p q =
     let one = nearest_one column index version.index at (value_at version.incarnation value) p.1.0 q.0 p.0 q.1 p.1.1 q.2 p.2 in
     absurd (value_estimate (value_at version.incarnation value) p.1.0 value (same_Some _ _ (sym q.1 ∙ ap column one ∙ p.1.1)) refl p.1.2)
 same_under column index (Estimate at) (Estimate other) was p q = refl
+
+-- a link that stands below the index, with nothing in between, is what is seen
+pub seen_link : (column : ℕ → Option Held) (index : ℕ) (link : Link) → link.index < index → column link.index ≡ Some (held_of link) → AreNoneBetween column link.index index → IsNearestBelow column index (seen_of (Some link))
+seen_link column index link below stands none =
+    elim link.value as (λ v. link.value ≡ v → IsNearestBelow column index (seen_by link.index link.incarnation v)) [
+      | None ↦ λ no_value. (below, (held_of link, stands, no_value), none)
+      | Some value ↦ λ is. (below, stands ∙ ap (λ (v : Option RowVal). Some (record { incarnation = link.incarnation; value = v })) is, none)
+    ] refl

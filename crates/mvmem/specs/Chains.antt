@@ -6,6 +6,9 @@ use Rattle.rows.specs.declared.row_key.RowKey.{RowKey}
 use Rattle.view.specs.RowSets.{value_in, IsOnceEach}
 use Rattle.mvmem.specs.Entries.{Held, Shelf}
 use Rattle.mvmem.specs.declared.link.Link.{Link}
+use Rattle.mvmem.specs.declared.seen.Seen.{Seen}
+use Rattle.mvmem.specs.declared.seen.Seen.TheVariants.{Base, Value, Estimate}
+use Rattle.rows.specs.declared.row_val.RowVal.{RowVal}
 
 -- a chain: its links, and for how many more there is room
 pub record Chain : Type 0 where
@@ -15,6 +18,16 @@ pub record Chain : Type 0 where
 -- the entry that a link is
 abbrev pub held_of : Link → Held
 held_of link = record { incarnation = link.incarnation; value = link.value }
+
+-- what is seen where an entry that is so is the nearest one
+abbrev pub seen_by : ℕ → ℕ → Option RowVal → Seen
+seen_by index incarnation None = Estimate index
+seen_by index incarnation (Some value) = Value (record { index = index; incarnation = incarnation }) value
+
+-- what is seen where this link is the nearest one, or none is
+abbrev pub seen_of : Option Link → Seen
+seen_of None = Base
+seen_of (Some link) = seen_by link.index link.incarnation link.value
 
 -- the entry at the index
 abbrev pub found : List Link → ℕ → Option Held

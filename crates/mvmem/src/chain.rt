@@ -1,12 +1,11 @@
 ghost use Rattle.std.specs.Prelude.{◌≡◌, ◌≢◌, ◌↔◌, ℕ, ◌<◌, ◌≤◌, [], length, slice_index_or, Some, None, IsTrue, OnOk, IfOk, IfErr, option_map};
-ghost use Rattle.mvmem.specs.Chains.{found, held_of, AreInOrder, StandsAt, FitsAt};
+ghost use Rattle.std.specs.Option.{option_copied};
+ghost use Rattle.mvmem.specs.Chains.{found, held_of, seen_of, AreInOrder, StandsAt, FitsAt};
 ghost use Rattle.mvmem.specs.Entries.{estimate_of};
 ghost use Rattle.mvmem.specs.Resolves.{IsNearestBelow, IsWithinDigitsOf};
 ghost use Rattle.mvmem.specs.declared.link.Link.{Link};
 
 use crate::link::Link;
-use crate::seen::Seen;
-use crate::version::Version;
 use std::alloc::{AllocError, Global};
 use std::marker::Model;
 
@@ -38,36 +37,29 @@ impl Chain {
         }
     }
 
-    /// Makes room for one more entry.
+    /// Makes room for one more entry. Many rows are put once, so the first entry gets room for itself alone.
     pub(crate) fn reserve(&mut self) -> Result<(), AllocError>
         ensures links { self.new.links ≡ self.old.links }
         ensures room { OnOk result (0 < self.new.room) }
         ensures more { self.old.room ≤ self.new.room }
     {
+        if self.links.is_empty() {
+            return self.links.reserve_exact(1);
+        }
         self.links.reserve(1)
     }
 
-    /// What is seen from the index, and how many indices were compared to find it.
-    pub(crate) fn seen_below(&self, index: u32) -> (Seen, u32)
-        ensures seen { IsNearestBelow (found self.now.links) index result.0 }
+    /// The nearest entry below the index, if there is one, and how many indices were compared to find it.
+    pub(crate) fn nearest_below(&self, index: u32) -> (Option<&Link>, u32)
+        ensures seen { IsNearestBelow (found self.now.links) index (seen_of (option_copied result.0)) }
         ensures comparisons { IsWithinDigitsOf result.1 (length self.now.links) }
         ensures order { AreInOrder self.now.links }
     {
         let (place, comparisons) = count_below(&self.links, index);
         if place == 0 {
-            return (Seen::Base, comparisons);
+            return (None, comparisons);
         }
-        let link = &self.links[place - 1];
-        match link.value {
-            Some(value) => {
-                let version = Version {
-                    index: link.index,
-                    incarnation: link.incarnation,
-                };
-                (Seen::Value(version, value), comparisons)
-            }
-            None => (Seen::Estimate(link.index), comparisons),
-        }
+        (Some(&self.links[place - 1]), comparisons)
     }
 
     /// Puts an entry, over the one that its index has. Answers whether its index had none.

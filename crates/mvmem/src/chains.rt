@@ -1,14 +1,14 @@
-ghost use Rattle.std.specs.Prelude.{◌≡◌, ◌≢◌, ◌↔◌, ℕ, ◌<◌, ◌≤◌, [], length, Some, None, IsTrue, IfSome, OnOk, option_map};
+ghost use Rattle.std.specs.Prelude.{◌≡◌, ◌≢◌, ◌↔◌, ℕ, ◌<◌, ◌≤◌, [], length, Some, None, IsTrue, IfSome, IfNone, OnOk, option_map};
 ghost use Rattle.rows.specs.RowVal.{IsOfKind};
 ghost use Rattle.rows.specs.declared.row_key.RowKey.{RowKey};
 ghost use Rattle.view.specs.RowSets.{value_in, IsOnceEach};
-ghost use Rattle.mvmem.specs.Chains.{stands, held_of, row_at, rows_of, room_of, links_in, AreInOrder, IsChangedAt};
+ghost use Rattle.std.specs.Option.{option_copied};
+ghost use Rattle.mvmem.specs.Chains.{stands, held_of, seen_of, row_at, rows_of, room_of, links_in, AreInOrder, IsChangedAt};
 ghost use Rattle.mvmem.specs.Entries.{estimate_of};
 ghost use Rattle.mvmem.specs.Resolves.{Resolves, IsSeenOfKind, IsWithinDigitsOf};
 
 use crate::chain::Chain;
 use crate::link::Link;
-use crate::seen::Seen;
 use indexmap::IndexMap;
 use rows::RowKey;
 use std::alloc::{AllocError, Global};
@@ -58,42 +58,123 @@ impl Chains {
         }
     }
 
-    /// What is seen of the row from the index, and how many indices were compared to find it.
-    pub(crate) fn seen_below(&self, row: &RowKey, index: u32) -> (Seen, u32)
-        ensures seen { Resolves (stands self.now) row.now index result.0 }
-        ensures kind { IsSeenOfKind row.now result.0 }
-        ensures comparisons { IsWithinDigitsOf result.1 (length (links_in (value_in self.now row.now))) }
-        ensures order { AreInOrder (links_in (value_in self.now row.now)) }
+    // Whether this is the row's number.
+    fn is_number_of(&self, number: usize, row: &RowKey) -> bool
+        ensures { IsTrue result ↔ (row_at self.now number ≡ Some row.now) }
     {
-        match self.rows.get(row) {
-            Some(chain) => chain.seen_below(index),
-            None => (Seen::Base, 0),
+        match self.rows.get_index(number) {
+            Some((other, _)) => *other == *row,
+            None => false,
         }
     }
 
-    /// Makes the row's chain, if it has none, and room in it for one more entry.
-    pub(crate) fn reserve(&mut self, alloc: Global, row: &RowKey) -> Result<(), AllocError>
+    /// The row's number, if it has a chain. It is looked for among these numbers first, which takes no hashing.
+    pub(crate) fn number_of(&self, row: &RowKey, numbers: &[usize]) -> Option<usize>
+        ensures found { IfSome result (λ number. row_at self.now number ≡ Some row.now) }
+        ensures absent { IfNone result (value_in self.now row.now ≡ None) }
+    {
+        for number in numbers {
+            if self.is_number_of(*number, row) {
+                return Some(*number);
+            }
+        }
+        self.rows.get_index_of(row)
+    }
+
+    /// The nearest entry below the index of the row with this number, if there is one, and how many indices were compared
+    /// to find it.
+    pub(crate) fn nearest_at(&self, number: usize, index: u32) -> (Option<&Link>, u32)
+        requires { number < length self.now }
+        ensures seen { (row : RowKey) → row_at self.now number ≡ Some row → Resolves (stands self.now) row index (seen_of (option_copied result.0)) }
+        ensures kind { (row : RowKey) → row_at self.now number ≡ Some row → IsSeenOfKind row (seen_of (option_copied result.0)) }
+        ensures comparisons { (row : RowKey) → row_at self.now number ≡ Some row → IsWithinDigitsOf result.1 (length (links_in (value_in self.now row))) }
+        ensures order { (row : RowKey) → row_at self.now number ≡ Some row → AreInOrder (links_in (value_in self.now row)) }
+    {
+        match self.rows.get_index(number) {
+            Some((_, chain)) => chain.nearest_below(index),
+            None => unreachable!(),
+        }
+    }
+
+    /// The row's nearest entry below the index, if there is one, and how many indices were compared to find it. The row's
+    /// chain is looked for among these numbers first.
+    pub(crate) fn nearest_below(
+        &self,
+        row: &RowKey,
+        numbers: &[usize],
+        index: u32,
+    ) -> (Option<&Link>, u32)
+        ensures seen { Resolves (stands self.now) row.now index (seen_of (option_copied result.0)) }
+        ensures kind { IsSeenOfKind row.now (seen_of (option_copied result.0)) }
+        ensures comparisons { IsWithinDigitsOf result.1 (length (links_in (value_in self.now row.now))) }
+        ensures order { AreInOrder (links_in (value_in self.now row.now)) }
+    {
+        match self.number_of(row, numbers) {
+            Some(number) => self.nearest_at(number, index),
+            None => (None, 0),
+        }
+    }
+
+    // Makes room for one more entry of the row with this number.
+    fn reserve_at(&mut self, number: usize) -> Result<(), AllocError>
+        requires { number < length self.old }
+        ensures stands { (r : RowKey) (i : ℕ) → stands self.new r i ≡ stands self.old r i }
+        ensures room { (r : RowKey) → row_at self.old number ≡ Some r → OnOk result (0 < room_of self.new r) }
+        ensures others { (r : RowKey) → 0 < room_of self.old r → 0 < room_of self.new r }
+        ensures numbers { (n : ℕ) (r : RowKey) → row_at self.old n ≡ Some r → row_at self.new n ≡ Some r }
+        ensures once { IsOnceEach self.old → IsOnceEach self.new }
+    {
+        let Some(chain) = self.rows.get_index_mut(number) else {
+            unreachable!();
+        };
+        chain.reserve()
+    }
+
+    // Makes the chain of a row that has none, and room in it for an entry.
+    fn add(&mut self, alloc: Global, row: &RowKey) -> Result<(), AllocError>
+        requires { value_in self.old row.now ≡ None }
         ensures stands { (r : RowKey) (i : ℕ) → stands self.new r i ≡ stands self.old r i }
         ensures room { OnOk result (0 < room_of self.new row.now) }
         ensures others { (r : RowKey) → 0 < room_of self.old r → 0 < room_of self.new r }
         ensures numbers { (n : ℕ) (r : RowKey) → row_at self.old n ≡ Some r → row_at self.new n ≡ Some r }
-        ensures once { IsOnceEach self.new }
+        ensures once { IsOnceEach self.old → IsOnceEach self.new }
     {
-        if let Some(number) = self.rows.get_index_of(row) {
-            let Some(chain) = self.rows.get_index_mut(number) else {
-                unreachable!();
-            };
-            return chain.reserve();
-        }
         let mut chain = Chain::new(alloc);
         chain.reserve()?;
         self.rows.insert(*row, chain)?;
         Ok(())
     }
 
-    /// Puts an entry of the row, over the one that its index has. Answers the row's number, and whether its index had
-    /// none.
-    pub(crate) fn put(&mut self, row: &RowKey, link: Link) -> (usize, bool)
+    /// Makes the row's chain, if it has none, and room in it for one more entry. The chain is looked for among these
+    /// numbers first. Answers the row's number.
+    pub(crate) fn reserve(
+        &mut self,
+        alloc: Global,
+        row: &RowKey,
+        numbers: &[usize],
+    ) -> Result<usize, AllocError>
+        ensures stands { (r : RowKey) (i : ℕ) → stands self.new r i ≡ stands self.old r i }
+        ensures room { OnOk result (0 < room_of self.new row.now) }
+        ensures others { (r : RowKey) → 0 < room_of self.old r → 0 < room_of self.new r }
+        ensures numbers { (n : ℕ) (r : RowKey) → row_at self.old n ≡ Some r → row_at self.new n ≡ Some r }
+        ensures once { IsOnceEach self.old → IsOnceEach self.new }
+    {
+        match self.number_of(row, numbers) {
+            Some(number) => {
+                self.reserve_at(number)?;
+                Ok(number)
+            }
+            None => {
+                let number = self.rows.len();
+                self.add(alloc, row)?;
+                Ok(number)
+            }
+        }
+    }
+
+    /// Puts an entry of the row, over the one that its index has. The row's chain is looked for among these numbers
+    /// first. Answers the row's number, and whether its index had none.
+    pub(crate) fn put(&mut self, row: &RowKey, numbers: &[usize], link: Link) -> (usize, bool)
         requires room { 0 < room_of self.old row.now }
         requires kind { IfSome link.value (IsOfKind row.now) }
         ensures changed { IsChangedAt self.old self.new row.now link.index (Some (held_of link)) }
@@ -102,7 +183,7 @@ impl Chains {
         ensures rows { rows_of self.new ≡ rows_of self.old }
         ensures others { (r : RowKey) → r ≢ row.now → room_of self.new r ≡ room_of self.old r }
     {
-        let Some(number) = self.rows.get_index_of(row) else {
+        let Some(number) = self.number_of(row, numbers) else {
             unreachable!();
         };
         let Some(chain) = self.rows.get_index_mut(number) else {

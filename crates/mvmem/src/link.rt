@@ -1,12 +1,37 @@
+ghost use Rattle.std.specs.Prelude.{◌≡◌};
+ghost use Rattle.std.specs.Option.{option_copied};
+ghost use Rattle.mvmem.specs.Chains.{seen_of};
+
+use crate::seen::Seen;
+use crate::version::Version;
 use rows::RowVal;
 
 /// An entry in the chain of its row.
 #[derive(Clone, Copy, Debug)]
-pub(crate) struct Link {
-    // The message that put it.
-    pub(crate) index: u32,
-    // That message's execution.
-    pub(crate) incarnation: u32,
-    // What it put; `None` is an estimate.
-    pub(crate) value: Option<RowVal>,
+pub struct Link {
+    /// The message that put it.
+    pub index: u32,
+    /// That message's execution.
+    pub incarnation: u32,
+    /// What it put; `None` is an estimate.
+    pub value: Option<RowVal>,
+}
+
+/// What is seen where this entry is the nearest one.
+pub(crate) fn seen_of(link: Option<&Link>) -> Seen
+    ensures { result ≡ seen_of (option_copied link.entry) }
+{
+    let Some(link) = link else {
+        return Seen::Base;
+    };
+    match link.value {
+        Some(value) => {
+            let version = Version {
+                index: link.index,
+                incarnation: link.incarnation,
+            };
+            Seen::Value(version, value)
+        }
+        None => Seen::Estimate(link.index),
+    }
 }

@@ -3,13 +3,14 @@ ghost use Rattle.std.specs.FinMap as map;
 ghost use Rattle.rows.specs.declared.row_key.RowKey.{RowKey};
 ghost use Rattle.rows.specs.declared.row_val.RowVal.{RowVal};
 ghost use Rattle.view.specs.RowSets.{value_in, IsOnceEach};
-ghost use Rattle.mvmem.specs.Chains.{stands, rows_of, room_of, row_at};
+ghost use Rattle.std.specs.Option.{option_copied};
+ghost use Rattle.mvmem.specs.Chains.{seen_of, stands, rows_of, room_of, row_at};
 ghost use Rattle.mvmem.specs.Entries.{held, value_at, estimate_of, AreReplaced, AreEstimated, IsNewLocation};
 ghost use Rattle.mvmem.specs.Memory.{HasRoom, AreListed, list_at};
 ghost use Rattle.mvmem.specs.Resolves.{Resolves, IsSeenOfKind, IsWithinDigitsOf, row_count, IsLaidOver};
 
 use crate::chains::Chains;
-use crate::link::Link;
+use crate::link::{Link, seen_of};
 use crate::row_list::RowList;
 use crate::seen::Seen;
 use crate::version::Version;
@@ -29,6 +30,8 @@ use view::WriteSet;
 pub struct MvMem {
     chains: Chains,
     lists: Vec<RowList>,
+    // Where the chains stand for which room was made last.
+    numbers: Vec<usize>,
 }
 
 impl Model for MvMem {
@@ -53,6 +56,7 @@ impl MvMem {
         MvMem {
             chains: Chains::new(alloc),
             lists: Vec::new(alloc),
+            numbers: Vec::new(alloc),
         }
     }
 
@@ -71,21 +75,43 @@ impl MvMem {
         ensures kind { IsSeenOfKind row.now result.0 }
         ensures comparisons { IsWithinDigitsOf result.1 (row_count self.now.entries row.now) }
     {
-        self.chains.seen_below(row, index)
+        let (link, comparisons) = self.chains.nearest_below(row, &[], index);
+        (seen_of(link), comparisons)
     }
 
-    /// Makes room for what these writes put as the message at this index. No entry changes.
+    /// The entry of the row that the message at this index sees, if there is one, where it stands; and a number for `look_at`.
+    pub fn look(&self, row: &RowKey, index: u32) -> (Option<&Link>, usize)
+        ensures seen { Resolves (held self.now.entries) row.now index (seen_of (option_copied result.0)) }
+        ensures kind { IsSeenOfKind row.now (seen_of (option_copied result.0)) }
+    {
+        match self.chains.number_of(row, &[]) {
+            Some(number) => (self.chains.nearest_at(number, index).0, number),
+            None => (None, usize::MAX),
+        }
+    }
+
+    /// The same entry. With the number that `look` answered for the row nothing is hashed.
+    pub fn look_at(&self, row: &RowKey, number: usize, index: u32) -> Option<&Link>
+        ensures seen { Resolves (held self.now.entries) row.now index (seen_of (option_copied result)) }
+        ensures kind { IsSeenOfKind row.now (seen_of (option_copied result)) }
+    {
+        self.chains.nearest_below(row, &[number], index).0
+    }
+
+    /// Makes room for what these writes put as the message at this index. No entry changes. A row to which `look`
+    /// answered one of these numbers is not hashed.
     pub fn reserve(
         &mut self,
         alloc: Global,
         index: u32,
         writes: &WriteSet,
+        numbers: &[usize],
     ) -> Result<(), AllocError>
         ensures entries { self.new.entries ≡ self.old.entries }
         ensures room { OnOk result (HasRoom self.new.room index writes.now) }
     {
         reserve_list(&mut self.lists, alloc, index as usize, writes.len())?;
-        reserve_chains(&mut self.chains, alloc, writes)
+        reserve_chains(&mut self.chains, alloc, writes, numbers, &mut self.numbers)
     }
 
     /// Puts what this version wrote in place of all entries of its index. Answers whether a row was written that had
@@ -97,7 +123,7 @@ impl MvMem {
     {
         let list = &mut self.lists[version.index as usize];
         take_out_others(&mut self.chains, list, version.index, writes);
-        put_all(&mut self.chains, list, version, writes)
+        put_all(&mut self.chains, list, version, writes, &self.numbers)
     }
 
     /// All entries of the index are estimates from now on.
@@ -116,7 +142,8 @@ impl MvMem {
         let mut laid = book.copy()?;
         for number in 0..self.chains.len() {
             let row = self.chains.row(number);
-            let (seen, _comparisons) = self.chains.seen_below(row, index);
+            let (link, _comparisons) = self.chains.nearest_at(number, index);
+            let seen = seen_of(link);
             if let Seen::Value(_, value) = seen {
                 laid.put(*row, value)?;
             }
@@ -141,16 +168,25 @@ fn reserve_list(
     lists[index].reserve(count)
 }
 
-// Makes the written rows' chains, where they have none, and room for one more entry in each.
-fn reserve_chains(chains: &mut Chains, alloc: Global, writes: &WriteSet) -> Result<(), AllocError>
+// Makes the written rows' chains, where they have none, and room for one more entry in each. They are looked for among
+// these numbers first; `found` has their numbers then.
+fn reserve_chains(
+    chains: &mut Chains,
+    alloc: Global,
+    writes: &WriteSet,
+    numbers: &[usize],
+    found: &mut Vec<usize>,
+) -> Result<(), AllocError>
     ensures stands { (r : RowKey) (i : ℕ) → stands chains.new r i ≡ stands chains.old r i }
     ensures room { OnOk result ((row : RowKey) → IsSome (value_in writes.now row) → 0 < room_of chains.new row) }
     ensures numbers { (n : ℕ) (r : RowKey) → row_at chains.old n ≡ Some r → row_at chains.new n ≡ Some r }
     ensures once { IsOnceEach chains.old → IsOnceEach chains.new }
 {
+    found.clear();
     for place in 0..writes.len() {
-        let (row, _) = writes.at(place);
-        chains.reserve(alloc, &row)?;
+        let (row, _) = writes.row(place);
+        let number = chains.reserve(alloc, row, numbers)?;
+        found.push(number)?;
     }
     Ok(())
 }
@@ -178,8 +214,15 @@ fn take_out_others(chains: &mut Chains, list: &mut RowList, index: u32, writes: 
     }
 }
 
-// Puts what the version wrote. Answers whether a row was written that had no entry of its index.
-fn put_all(chains: &mut Chains, list: &mut RowList, version: Version, writes: &WriteSet) -> bool
+// Puts what the version wrote. The chain of a row is looked for at the number that stands at the row's place first.
+// Answers whether a row was written that had no entry of its index.
+fn put_all(
+    chains: &mut Chains,
+    list: &mut RowList,
+    version: Version,
+    writes: &WriteSet,
+    numbers: &[usize],
+) -> bool
     requires listed { AreListed chains.old list.old.numbers version.index }
     requires room { (row : RowKey) → IsSome (value_in writes.now row) → 0 < room_of chains.old row }
     requires list { length writes.now ≤ list.old.room }
@@ -192,13 +235,14 @@ fn put_all(chains: &mut Chains, list: &mut RowList, version: Version, writes: &W
 {
     let mut is_new = false;
     for place in 0..writes.len() {
-        let (row, value) = writes.at(place);
+        let (row, value) = writes.row(place);
         let link = Link {
             index: version.index,
             incarnation: version.incarnation,
-            value: Some(value),
+            value: Some(*value),
         };
-        let (number, had_none) = chains.put(&row, link);
+        let rest = numbers.get(place..).unwrap_or(&[]);
+        let (number, had_none) = chains.put(row, rest, link);
         if had_none {
             list.push(number);
             is_new = true;

@@ -2,7 +2,7 @@
 use Rattle.std.proofs.Common.{◌≡◌, ◌≢◌, ℕ, ◌<◌, ◌+◌, inl, inr, refl, sym, ap, ◌∙◌, subst, slice_get, take, Option, Some, None, IsSome, All, arith}
 use Rattle.std.proofs.lemmas.Bool.{cases_eq, false≢true}
 use Rattle.std.proofs.lemmas.List.Elements.{All-more}
-use Rattle.std.proofs.lemmas.Option.{none-some, get_or_from_slice_get, slice_get_within}
+use Rattle.std.proofs.lemmas.Option.{none-some, same_Some, get_or_from_slice_get, slice_get_within}
 use Rattle.std.specs.FinMap as finite
 use Rattle.rows.proofs.KeyLaws.{key_cmp_total, key_cmp_antisymmetric}
 use Rattle.rows.specs.Agreement.{Reads}
@@ -14,6 +14,8 @@ use Rattle.mvmem.proofs.ListLaws.{standing, valued, written_is}
 use Rattle.mvmem.specs.Entries.{Entries, Held, IsNewLocation, Shelf, held}
 use Rattle.mvmem.specs.Resolves.{Resolves, IsLaidOver}
 use Rattle.view.specs.RowSets.{IsOnceEach}
+use Rattle.mvmem.specs.Chains.{seen_by, seen_of}
+use Rattle.mvmem.specs.declared.link.Link.{Link}
 use Rattle.mvmem.specs.declared.seen.Seen.{Seen}
 use Rattle.mvmem.specs.declared.seen.Seen.TheVariants.{Base, Value, Estimate}
 use Rattle.mvmem.specs.declared.version.Version.{Version}
@@ -40,6 +42,30 @@ origin_there shelf row j (Estimate at) origin r u = absurd u
 pub origin_only : (shelf : Shelf) (row : RowKey) (j : ℕ) (seen : Seen) (origin : Option Version) → Resolves shelf row j seen → ResolvesAs shelf row j origin → IsOrigin seen origin
 origin_only shelf row j seen None r is = subst (λ (s : Seen). IsOrigin s None) (Resolves-unique shelf row j Base seen is r) tt
 origin_only shelf row j seen (Some w) r is = subst (λ (s : Seen). IsOrigin s (Some w)) (Resolves-unique shelf row j (Value w is.0) seen is.1 r) refl
+
+-- a link isn't the opening book
+pub link_not_base : (link : Link) → IsOrigin (seen_of (Some link)) None → ⊥
+link_not_base link is = elim link.value as (λ v. IsOrigin (seen_by link.index link.incarnation v) None → ⊥) [ None ↦ λ u. u | Some value ↦ λ u. u ] is
+
+-- whose value is seen
+seen_version : Seen → Option Version
+seen_version Base = None
+seen_version (Value version value) = Some version
+seen_version (Estimate at) = None
+
+-- a link with a value is seen as its version's
+pub value_seen : (link : Link) (version : Version) (value : RowVal) → link.value ≡ Some value → ((record { index = link.index; incarnation = link.incarnation } ≡ version) → (x : RowVal) × (seen_of (Some link) ≡ Value version x)) × (((x : RowVal) × (seen_of (Some link) ≡ Value version x)) → record { index = link.index; incarnation = link.incarnation } ≡ version)
+unfolding seen_version
+value_seen link version value is =
+    let seen : seen_of (Some link) ≡ Value (record { index = link.index; incarnation = link.incarnation }) value = ap (seen_by link.index link.incarnation) is in (
+      λ same. (value, seen ∙ ap (λ (v : Version). Value v value) same),
+      λ some. same_Some (record { index = link.index; incarnation = link.incarnation }) version (ap seen_version (sym seen ∙ some.1)),
+    )
+
+-- an estimate is no value
+pub estimate_seen : (link : Link) (version : Version) → link.value ≡ None → ((x : RowVal) × (seen_of (Some link) ≡ Value version x)) → ⊥
+unfolding seen_version
+estimate_seen link version none some = none-some version (ap seen_version (sym (ap (seen_by link.index link.incarnation) none) ∙ some.1))
 
 -- what is seen from the next index stands at this one
 abbrev pub IsEntryAt : Seen → ℕ → Type 0

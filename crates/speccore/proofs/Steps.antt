@@ -196,7 +196,7 @@ begin_step s e x seat v kept check l opened here is =
     ((l, (opened, ap is_at_end same, ap (λ (c : Check). with_check s seat (Some c)) same)), (refl, refl))
 
 -- the read that stands at a place of a log
-pub read_at : (log : Log) (k : ℕ) (origin : RowKey × Option Version) → IsFirstOf (slice_get log k) origin → (read : RowKey × Logged) × IsAt log k read × (origin.0 ≡ read.0) × (origin.1 ≡ read.1.origin)
+pub read_at : (log : Log) (k : ℕ) (origin : RowKey × Option Version × ℕ) → IsFirstOf (slice_get log k) origin → (read : RowKey × Logged) × IsAt log k read × (origin.0 ≡ read.0) × (origin.1 ≡ read.1.origin)
 read_at log k origin is =
     elim (slice_get log k) as (λ o. slice_get log k ≡ o → IsFirstOf o origin → (read : RowKey × Logged) × IsAt log k read × (origin.0 ≡ read.0) × (origin.1 ≡ read.1.origin)) [
       | None ↦ λ none f. absurd f
@@ -204,7 +204,7 @@ read_at log k origin is =
     ] refl is
 
 -- a check goes one read on
-pub check_step : (s : State) (e x seat : ℕ) (c next : Check) (kept : Slot) (origin : RowKey × Option Version) (stays : Bool) → seat < seats → check_of s seat ≡ Some c → is_at_end c ≡ false → IsOpen s.board c.version → kept ≡ slot s c.version.index → IsFirstOf (slice_get kept.log c.place) origin
+pub check_step : (s : State) (e x seat : ℕ) (c next : Check) (kept : Slot) (origin : RowKey × Option Version × ℕ) (stays : Bool) → seat < seats → check_of s seat ≡ Some c → is_at_end c ≡ false → IsOpen s.board c.version → kept ≡ slot s c.version.index → IsFirstOf (slice_get kept.log c.place) origin
     → (IsTrue stays → ResolvesAs (shelf s) origin.0 c.version.index origin.1) → (ResolvesAs (shelf s) origin.0 c.version.index origin.1 → IsTrue stays) → next ≡ (if stays then passed_one c else failed_one c)
     → PlayStep (play s e x) (CheckOne seat (Ok (is_at_end next))) (play (record s { checks = set s.checks seat (Some next) }) e x)
 check_step s e x seat c next kept origin true l has ended opened here at is_so only is =

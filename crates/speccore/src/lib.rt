@@ -6,6 +6,7 @@ mod checks;
 mod frames;
 mod log;
 mod logging;
+mod read;
 mod slot;
 mod slots;
 mod speculative;

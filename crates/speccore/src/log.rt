@@ -1,9 +1,11 @@
-ghost use Rattle.std.specs.Prelude.{◌≡◌, ◌↔◌, ◌<◌, ◌++◌, [], ◌∷◌, None, length, slice_get, IsTrue, IfSome, OnOk, OnErr};
+ghost use Rattle.std.specs.Prelude.{◌≡◌, ◌↔◌, ◌<◌, ◌++◌, [], ◌∷◌, Some, None, length, slice_get, IsTrue, IfSome, OnOk, OnErr};
+ghost use Rattle.std.specs.Option.{option_copied, option_map};
 ghost use Rattle.rows.specs.RowVal.{IsOfKind};
 ghost use Rattle.view.specs.RowSets.{value_in};
 ghost use Rattle.speccore_laws.specs.Log.{logged_in, AreLogged};
 ghost use Rattle.speccore.specs.Origin.{IsFirstOf};
 
+use crate::read::Read;
 use indexmap::IndexMap;
 use mvmem::Version;
 use rows::{RowKey, RowVal};
@@ -12,21 +14,31 @@ use std::alloc::{AllocError, Global};
 use std::marker::Model;
 use view::ReadSet;
 
+/// So many rows are found by comparing keys, without hashing.
+pub(crate) const FEW: usize = 8;
+
+// So many rows are asked for where a request is approved.
+const USUAL: usize = 5;
+
 /// What an incarnation was answered, each row once, in the order of asking (Block-STM: read set).
+///
+/// A decision mostly asks for a handful of rows. Comparing these keys costs less than hashing one, so a map has only the rows
+/// that come after them.
 #[derive(Drop)]
 pub(crate) struct Log {
-    rows: IndexMap<RowKey, Logged>,
+    few: Vec<Read>,
+    more: IndexMap<RowKey, Logged>,
 }
 
 impl Model for Log {
     ghost use Rattle.speccore_laws.specs.State.{Log};
-    ghost use Rattle.speccore.specs.Origin.{AreOfKind};
+    ghost use Rattle.speccore.specs.Origin.{log_of, AreOfKind};
 
     ghost Value = { Log };
 
-    ghost view = { λ l. l.rows.entries };
+    ghost view = { λ l. log_of l.few.items l.more.entries };
 
-    ghost invariant = { λ l. AreOfKind l.rows.entries };
+    ghost invariant = { λ l. AreOfKind (log_of l.few.items l.more.entries) };
 }
 
 impl Log {
@@ -35,7 +47,8 @@ impl Log {
         ensures { result ≡ [] }
     {
         Log {
-            rows: IndexMap::new(alloc),
+            few: Vec::new(alloc),
+            more: IndexMap::new(alloc),
         }
     }
 
@@ -43,14 +56,32 @@ impl Log {
     pub(crate) fn clear(&mut self)
         ensures { self.new ≡ [] }
     {
-        self.rows.clear();
+        self.few.clear();
+        self.more.clear();
     }
 
     /// How many rows were asked for.
     pub(crate) fn len(&self) -> usize
         ensures { result ≡ length self.now }
     {
-        self.rows.len()
+        self.few.len() + self.more.len()
+    }
+
+    // What was logged of the row, if it was asked for.
+    fn find(&self, row: &RowKey) -> Option<&Logged>
+        ensures value { option_copied result ≡ value_in self.now row.now }
+        ensures kind { IfSome result (λ logged. IfSome logged.now.value (IsOfKind row.now)) }
+    {
+        for place in 0..self.few.len() {
+            let read = &self.few[place];
+            if *row == read.row {
+                return Some(&read.logged);
+            }
+        }
+        if self.more.is_empty() {
+            return None;
+        }
+        self.more.get(row)
     }
 
     /// What was answered for the row, if it was asked for.
@@ -58,32 +89,66 @@ impl Log {
         ensures value { result ≡ logged_in self.now row.now }
         ensures kind { IfSome result (λ value. IfSome value (IsOfKind row.now)) }
     {
-        match self.rows.get(row).copied() {
+        match self.find(row) {
             Some(logged) => Some(logged.value),
             None => None,
         }
     }
 
-    /// The row that was asked for at this place, and which execution its answer came from.
-    pub(crate) fn at(&self, place: usize) -> (RowKey, Option<Version>)
+    /// The row that was asked for at this place, which execution its answer came from, and a number at which the memory of
+    /// versions may find the row.
+    pub(crate) fn at(&self, place: usize) -> (RowKey, Option<Version>, usize)
         requires { place < length self.now }
         ensures { IsFirstOf (slice_get self.now place) result }
     {
-        match self.rows.get_index(place) {
-            Some((row, logged)) => (*row, logged.origin),
+        if place < self.few.len() {
+            let read = &self.few[place];
+            return (read.row, read.logged.origin, read.number);
+        }
+        match self.more.get_index(place - self.few.len()) {
+            Some((row, logged)) => (*row, logged.origin, usize::MAX),
             None => unreachable!(),
         }
     }
 
-    /// Logs one more answer.
-    pub(crate) fn push(&mut self, row: &RowKey, logged: Logged) -> Result<(), AllocError>
+    /// The numbers of the first rows; there are no others than they, or they are eight.
+    pub(crate) fn numbers(&self) -> [usize; FEW] {
+        let mut numbers = [usize::MAX; FEW];
+        for place in 0..FEW {
+            if let Some(read) = self.few.get(place) {
+                numbers[place] = read.number;
+            }
+        }
+        numbers
+    }
+
+    /// Logs one more answer, and the number at which the memory of versions found the row.
+    pub(crate) fn push(
+        &mut self,
+        row: &RowKey,
+        logged: Logged,
+        number: usize,
+    ) -> Result<(), AllocError>
         requires absent { value_in self.old row.now ≡ None }
         requires kind { IfSome logged.value (IsOfKind row.now) }
         ensures ok { OnOk result (self.new ≡ self.old ++ (row.now, logged) ∷ []) }
         ensures err { OnErr result (self.new ≡ self.old) }
     {
+        let row = *row;
         let Logged { origin, value } = logged;
-        self.rows.insert(*row, Logged { origin, value })?;
+        let logged = Logged { origin, value };
+        if self.more.is_empty() && self.few.len() < FEW {
+            if self.few.is_empty() {
+                self.few.reserve_exact(USUAL)?;
+            }
+            self.few.push(Read {
+                row,
+                logged,
+                number,
+            })?;
+        } else {
+            self.more.insert(row, logged)?;
+        }
         Ok(())
     }
 
@@ -93,7 +158,7 @@ impl Log {
     {
         for index in 0..reads.len() {
             let (row, value) = reads.at(index);
-            if !is_answer(self.get(&row), value) {
+            if !is_answer(self.find(&row), &value) {
                 return false;
             }
         }
@@ -101,13 +166,23 @@ impl Log {
     }
 }
 
-// Whether a row was answered so.
-fn is_answer(logged: Option<Option<RowVal>>, value: Option<RowVal>) -> bool
-    ensures { IsTrue result ↔ (logged ≡ Some value) }
+// Whether this was logged, with this value.
+fn is_answer(logged: Option<&Logged>, value: &Option<RowVal>) -> bool
+    ensures { IsTrue result ↔ (option_map (λ l. l.value) (option_copied logged.entry) ≡ Some value.now) }
 {
-    match (logged, value) {
-        (Some(Some(mine)), Some(theirs)) => mine.is_same(&theirs),
-        (Some(None), None) => true,
+    match logged {
+        Some(logged) => are_same(&logged.value, value),
+        None => false,
+    }
+}
+
+// Whether both are the same value, or both are none.
+fn are_same(mine: &Option<RowVal>, theirs: &Option<RowVal>) -> bool
+    ensures { IsTrue result ↔ (mine.now ≡ theirs.now) }
+{
+    match (mine, theirs) {
+        (Some(mine), Some(theirs)) => mine.is_same(theirs),
+        (None, None) => true,
         _ => false,
     }
 }

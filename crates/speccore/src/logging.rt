@@ -1,43 +1,73 @@
 ghost use Rattle.std.specs.Prelude.{◌≡◌, ◌↔◌, ◌<◌, ◌+◌, ◌^◌, Some, IsSome, IsTrue, IfOk, IfErr, IfSome};
+ghost use Rattle.std.specs.Option.{option_copied};
 ghost use Rattle.rows.specs.RowVal.{IsOfKind};
+ghost use Rattle.rows.specs.declared.row_val.RowVal.{RowVal};
 ghost use Rattle.mvmem.specs.Entries.{held, IsNewLocation};
 ghost use Rattle.mvmem.specs.Resolves.{IsSeenOfKind};
-ghost use Rattle.mvmem.specs.declared.seen.Seen.TheVariants.{Estimate};
+ghost use Rattle.mvmem.specs.Chains.{seen_of};
+ghost use Rattle.mvmem.specs.declared.seen.Seen.TheVariants.{Estimate, Value};
 ghost use Rattle.speccore_laws.specs.Log.{logged_of, ResolvesAs};
 
-use mvmem::{MvMem, Seen, Version};
+use mvmem::{Link, MvMem, Seen, Version};
 use rows::{Book, RowKey};
 use speccore_laws::Logged;
 use view::WriteSet;
 
-/// What is logged of a row that is seen so; the message whose estimate it is, if it is one.
-pub(crate) fn logged_of(opening: &Book, row: &RowKey, seen: Seen) -> Result<Logged, u32>
-    requires { IsSeenOfKind row.now seen }
-    ensures ok { IfOk result (λ logged. logged_of opening.now row.now seen ≡ Some logged) }
+/// What is logged of a row whose nearest entry is this one; the message whose estimate it is, if it is one.
+pub(crate) fn logged_of(opening: &Book, row: &RowKey, link: Option<&Link>) -> Result<Logged, u32>
+    requires { IsSeenOfKind row.now (seen_of (option_copied link)) }
+    ensures ok { IfOk result (λ logged. logged_of opening.now row.now (seen_of (option_copied link.entry)) ≡ Some logged) }
     ensures kind { IfOk result (λ logged. IfSome logged.value (IsOfKind row.now)) }
-    ensures estimate { IfErr result (λ at. seen ≡ Estimate at) }
+    ensures estimate { IfErr result (λ at. seen_of (option_copied link.entry) ≡ Estimate at) }
 {
-    match seen {
-        Seen::Base => Ok(Logged {
+    let Some(link) = link else {
+        return Ok(Logged {
             origin: None,
             value: opening.get(row),
-        }),
-        Seen::Value(version, value) => Ok(Logged {
+        });
+    };
+    let version = Version {
+        index: link.index,
+        incarnation: link.incarnation,
+    };
+    match link.value {
+        Some(value) => Ok(Logged {
             origin: Some(version),
             value: Some(value),
         }),
-        Seen::Estimate(at) => Err(at),
+        None => Err(link.index),
     }
 }
 
-/// Whether the message at this index sees of the row what this execution put, or the opening book where it is none.
-pub(crate) fn resolves_as(memory: &MvMem, row: &RowKey, index: u32, origin: Option<Version>) -> bool
+/// Whether the message at this index sees of the row what this execution put, or the opening book where it is none. The row
+/// is looked for at this number first.
+pub(crate) fn resolves_as(
+    memory: &MvMem,
+    row: &RowKey,
+    number: usize,
+    index: u32,
+    origin: Option<Version>,
+) -> bool
     ensures { IsTrue result ↔ ResolvesAs (held memory.now.entries) row.now index origin }
 {
-    match (memory.read(row, index), origin) {
-        (Seen::Base, None) => true,
-        (Seen::Value(version, _), Some(logged)) => version == logged,
+    match (memory.look_at(row, number, index), origin) {
+        (None, None) => true,
+        (Some(link), Some(version)) => is_value_of(link, version),
         _ => false,
+    }
+}
+
+// Whether the entry is a value that this execution put.
+fn is_value_of(link: &Link, version: Version) -> bool
+    ensures { IsTrue result ↔ ((value : RowVal) × (seen_of (Some link.now) ≡ Value version value)) }
+{
+    let own = Version {
+        index: link.index,
+        incarnation: link.incarnation,
+    };
+    match link.value {
+        Some(_) => own == version,
+        None => false,
     }
 }
 

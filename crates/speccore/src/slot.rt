@@ -5,7 +5,7 @@ ghost use Rattle.speccore_laws.specs.Log.{logged_in, AreLogged};
 ghost use Rattle.speccore_laws.specs.State.{empty_slot};
 ghost use Rattle.speccore.specs.Origin.{IsFirstOf};
 
-use crate::log::Log;
+use crate::log::{FEW, Log};
 use mvmem::Version;
 use rows::{ReplyBody, RowKey, RowVal};
 use speccore_laws::Logged;
@@ -61,12 +61,18 @@ impl Slot {
         self.log.get(row)
     }
 
-    /// The row that it asked for at this place, and which execution its answer came from.
-    pub(crate) fn origin_at(&self, place: usize) -> (RowKey, Option<Version>)
+    /// The row that it asked for at this place, which execution its answer came from, and a number at which the memory of
+    /// versions may find the row.
+    pub(crate) fn origin_at(&self, place: usize) -> (RowKey, Option<Version>, usize)
         requires { place < length self.now.log }
         ensures { IsFirstOf (slice_get self.now.log place) result }
     {
         self.log.at(place)
+    }
+
+    /// The numbers of the rows that it asked for first.
+    pub(crate) fn numbers(&self) -> [usize; FEW] {
+        self.log.numbers()
     }
 
     /// Whether each of these reads was answered so.
@@ -76,14 +82,19 @@ impl Slot {
         self.log.has_logged(reads)
     }
 
-    /// Logs one more answer.
-    pub(crate) fn log(&mut self, row: &RowKey, logged: Logged) -> Result<(), AllocError>
+    /// Logs one more answer, and the number at which the memory of versions found the row.
+    pub(crate) fn log(
+        &mut self,
+        row: &RowKey,
+        logged: Logged,
+        number: usize,
+    ) -> Result<(), AllocError>
         requires absent { value_in self.old.log row.now ≡ None }
         requires kind { IfSome logged.value (IsOfKind row.now) }
         ensures ok { OnOk result (self.new ≡ record (self.old) { log = self.old.log ++ (row.now, logged) ∷ [] }) }
         ensures err { OnErr result (self.new ≡ self.old) }
     {
-        self.log.push(row, logged)
+        self.log.push(row, logged, number)
     }
 
     /// Keeps the reply of the execution that finished.

@@ -118,12 +118,12 @@ impl Core {
         if let Some(value) = slot.logged(row) {
             return Ok(Got::Row(value));
         }
-        let seen = self.memory.read(row, version.index);
-        match logged_of(&self.opening, row, seen) {
+        let (link, number) = self.memory.look(row, version.index);
+        match logged_of(&self.opening, row, link) {
             Ok(logged) => {
                 let value = logged.value;
                 let slot = &mut self.slots[version.index as usize];
-                slot.log(row, logged)?;
+                slot.log(row, logged, number)?;
                 Ok(Got::Row(value))
             }
             Err(at) => Ok(Got::Estimate(at)),
@@ -186,7 +186,9 @@ impl Core {
         {
             return Err(CoreFault::Worn);
         }
-        self.memory.reserve(alloc, version.index, writes)?;
+        let numbers = slot.numbers();
+        self.memory
+            .reserve(alloc, version.index, writes, &numbers)?;
         let is_new = self.memory.record(version, writes);
         let slot = &mut self.slots[version.index as usize];
         slot.finish(execution.reply());
@@ -231,8 +233,9 @@ impl Core {
         }
         let index = check.version.index;
         let slot = &self.slots[index as usize];
-        let (row, origin) = slot.origin_at(check.place);
-        let next = after_read(check, resolves_as(&self.memory, &row, index, origin));
+        let (row, origin, number) = slot.origin_at(check.place);
+        let stays = resolves_as(&self.memory, &row, number, index, origin);
+        let next = after_read(check, stays);
         let is_ended = is_at_end(&next);
         self.checks[seat] = Some(next);
         Ok(is_ended)

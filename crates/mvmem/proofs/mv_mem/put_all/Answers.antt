@@ -22,7 +22,7 @@ loop-place-init c = record {
 
 pub loop-place-preserved : goal.loop-place-preserved
 loop-place-preserved c =
-    putting_more c.args.chains.now c.loop-place.chains c.put-number.new.self c.loop-place.list.numbers c.if-had_none.list.numbers c.loop-place.list.room c.if-had_none.list.room c.args.writes.now c.args.version.index c.args.version.incarnation c.loop-place.place c.put-number.result.0 c.loop-place.is_new c.put-number.result.1 c.at-row.result c.len-place-end.ensures.once c.loop-place.invariant c.at-row.ensures.entry c.put-number.ensures.changed c.put-number.ensures.number c.put-number.ensures.new.0 c.put-number.ensures.new.1 c.put-number.ensures.rows c.put-number.ensures.others
+    putting_more c.args.chains.now c.loop-place.chains c.put-number.new.self c.loop-place.list.numbers c.if-had_none.list.numbers c.loop-place.list.room c.if-had_none.list.room c.args.writes.now c.args.version.index c.args.version.incarnation c.loop-place.place c.put-number.result.0 c.loop-place.is_new c.put-number.result.1 (c.row.result.0.now, c.row.result.1.now) c.len-place-end.ensures.once c.loop-place.invariant c.row.ensures.entry c.put-number.ensures.changed c.put-number.ensures.number c.put-number.ensures.new.0 c.put-number.ensures.new.1 c.put-number.ensures.rows c.put-number.ensures.others
     (elim c.if-had_none.branch [
       | then-had_none w ↦ inl (w.if-had_none.true, ap (λ (l : RowList). l.numbers) w.list-is ∙ w.push.ensures.numbers, let used = w.push.ensures.room in let now = ap (λ (l : RowList). l.room) w.list-is in omega arith)
       | else-had_none w ↦ inr (λ t. false≢true (sym w.if-had_none.false ∙ t), ap (λ (l : RowList). l.numbers) w.list-is, ap (λ (l : RowList). l.room) w.list-is)
@@ -33,7 +33,7 @@ loop-place-preserved c =
     ])
 
 pub put-number-requires-clause-room : goal.put-number-requires-clause-room
-put-number-requires-clause-room c = let l = c.loop-place-test.true in c.loop-place.invariant.room c.loop-place.place c.at-row.result (omega arith) c.at-row.ensures.entry
+put-number-requires-clause-room c = let l = c.loop-place-test.true in c.loop-place.invariant.room c.loop-place.place (c.row.result.0.now, c.row.result.1.now) (omega arith) c.row.ensures.entry
 
 pub push-requires : goal.push-requires
 push-requires c =

@@ -1,12 +1,13 @@
-use Rattle.std.proofs.Common.{refl, sym, ◌∙◌, subst, take_all, arith}
+use Rattle.std.proofs.Common.{ap, option_map, refl, sym, ◌∙◌, subst, take_all, arith}
 use Rattle.speccore.proofs.Resolving.{AreLogged-more}
 use Rattle.speccore_laws.specs.Log.{AreLogged}
+use Rattle.speccore_laws.specs.declared.logged.Logged.{Logged}
 use Rattle.speccore.proofs.log.Log.has_logged.Goals as goal
 
 pub loop-index-preserved : goal.loop-index-preserved
 loop-index-preserved c =
     AreLogged-more c.args.self.now c.args.reads.now c.loop-index.index c.at-row.result c.at-row.ensures.entry c.loop-index.invariant
-    (sym c.get.ensures.value ∙ c.is_answer.ensures.0 c.if-not-is_answer.false)
+    (ap (option_map (λ (l : Logged). l.value)) (sym c.find.ensures.value) ∙ c.is_answer.ensures.0 c.if-not-is_answer.false)
 
 pub returns : goal.returns
 returns c =

@@ -77,8 +77,8 @@ invariant_of-self c =
     let next : Check = c.after_read-next.result in
     let after : Play = play (record s { checks = set s.checks seat (Some next) }) c.self.inside.sched.execution c.self.inside.sched.validation in
     let made : PlayStep (the_view c.self.inside) (CheckOne seat (Ok (is_at_end next))) after =
-    check_step s c.self.inside.sched.execution c.self.inside.sched.validation seat check next c.index-slot.result.now c.origin_at-row.result c.resolves_as.result c.number-seat.ensures.bound has (sym c.is_at_end.ensures ∙ c.if-is_at_end.false) opened
-    (at_slot s check.version.index c.index-slot.result.now l c.index-slot.ensures) c.origin_at-row.ensures c.resolves_as.ensures.0 c.resolves_as.ensures.1 c.after_read-next.ensures in
+    check_step s c.self.inside.sched.execution c.self.inside.sched.validation seat check next c.index-slot.result.now c.origin_at-row.result c.resolves_as-stays.result c.number-seat.ensures.bound has (sym c.is_at_end.ensures ∙ c.if-is_at_end.false) opened
+    (at_slot s check.version.index c.index-slot.result.now l c.index-slot.ensures) c.origin_at-row.ensures c.resolves_as-stays.ensures.0 c.resolves_as-stays.ensures.1 c.after_read-next.ensures in
     let step : PlayStep (the_view c.self.inside) (CheckOne c.args.seat (Ok c.is_at_end-is_ended.result)) after =
     subst (λ (n : ℕ). PlayStep (the_view c.self.inside) (CheckOne n (Ok c.is_at_end-is_ended.result)) after) c.number-seat.ensures.value
     (subst (λ (ended : Bool). PlayStep (the_view c.self.inside) (CheckOne seat (Ok ended)) after) (sym c.is_at_end-is_ended.ensures) made) in
@@ -95,8 +95,8 @@ returns c =
     let next : Check = c.after_read-next.result in
     let after : Play = play (record s { checks = set s.checks seat (Some next) }) c.self.inside.sched.execution c.self.inside.sched.validation in
     let made : PlayStep (the_view c.self.inside) (CheckOne seat (Ok (is_at_end next))) after =
-    check_step s c.self.inside.sched.execution c.self.inside.sched.validation seat check next c.index-slot.result.now c.origin_at-row.result c.resolves_as.result c.number-seat.ensures.bound has (sym c.is_at_end.ensures ∙ c.if-is_at_end.false) opened
-    (at_slot s check.version.index c.index-slot.result.now l c.index-slot.ensures) c.origin_at-row.ensures c.resolves_as.ensures.0 c.resolves_as.ensures.1 c.after_read-next.ensures in
+    check_step s c.self.inside.sched.execution c.self.inside.sched.validation seat check next c.index-slot.result.now c.origin_at-row.result c.resolves_as-stays.result c.number-seat.ensures.bound has (sym c.is_at_end.ensures ∙ c.if-is_at_end.false) opened
+    (at_slot s check.version.index c.index-slot.result.now l c.index-slot.ensures) c.origin_at-row.ensures c.resolves_as-stays.ensures.0 c.resolves_as-stays.ensures.1 c.after_read-next.ensures in
     let step : PlayStep (the_view c.self.inside) (CheckOne c.args.seat (Ok c.is_at_end-is_ended.result)) after =
     subst (λ (n : ℕ). PlayStep (the_view c.self.inside) (CheckOne n (Ok c.is_at_end-is_ended.result)) after) c.number-seat.ensures.value
     (subst (λ (ended : Bool). PlayStep (the_view c.self.inside) (CheckOne seat (Ok ended)) after) (sym c.is_at_end-is_ended.ensures) made) in

@@ -1,6 +1,8 @@
 use Rattle.std.proofs.Common.{◌≡◌, ◌<◌, length, set, get_or, inl, inr, refl, sym, ap, ◌∙◌, subst, Option, Some, None, Result, Ok, Err, arith}
 use Rattle.std.proofs.lemmas.Result.{err_from_is_err_and}
 use Rattle.rows.specs.declared.row_val.RowVal.{RowVal}
+use Rattle.std.specs.Option.{option_copied}
+use Rattle.mvmem.specs.Chains.{seen_of}
 use Rattle.mvmem.specs.declared.seen.Seen.TheVariants.{Estimate}
 use Rattle.sched.specs.Board.{IsRunning}
 use Rattle.speccore_laws.specs.Log.{logged_in}
@@ -53,10 +55,10 @@ step_there c =
     let s : State = (the_view c.self.inside).state in
     let within = c.is_running.ensures.within c.if-not-is_running.false in
     let here = at_slot s c.args.version.index c.index_mut-slot.result.now (slot_there s c.self.invariant.1 c.args.version.index within) c.index_mut-slot.ensures.value in (
-      read_step s c.self.invariant.1 c.args.version c.args.row.now c.read-seen.result c.in-Ok.logged c.index_mut-slot.result.now c.log.new.self
+      read_step s c.self.invariant.1 c.args.version c.args.row.now (seen_of (option_copied c.look-number.result.0)) c.in-Ok.logged c.index_mut-slot.result.now c.log.new.self
           (c.is_running.ensures.running.0 c.if-not-is_running.false) within c.index_mut-slot.ensures.value
           (ap (λ (k : Slot). logged_in k.log c.args.row.now) here ∙ unlogged s c.self.invariant.1 c.args.version c.args.row.now c.index-slot.result.now c.logged.result within c.index-slot.ensures c.logged.ensures.value c.in_default.is)
-          c.read-seen.ensures.seen (c.in-Ok.ensures.ok) c.in_ok-log-in-Ok.ensures.ok,
+          c.look-number.ensures.seen (c.in-Ok.ensures.ok) c.in_ok-log-in-Ok.ensures.ok,
       (refl, refl),
     )
 
@@ -78,6 +80,6 @@ returns-in_err-log-in-Ok-clause-step c =
     let back = slot_back s c.args.version.index c.index_mut-slot.result.now c.log.new.self c.index_mut-slot.ensures.value c.in_err-log-in-Ok.ensures.err in
     let fault = err_from_is_err_and c.from_residual.result c.from_residual.ensures.1 in
     let step : PlayStep (the_view c.self.inside) (Read c.args.version c.args.row.now (Err OutOfMemory)) (unchanged c) =
-    ((c.is_running.ensures.running.0 c.if-not-is_running.false, (c.read-seen.result, c.in-Ok.logged, (none, c.read-seen.ensures.seen), c.in-Ok.ensures.ok), back), (refl, refl)) in
+    ((c.is_running.ensures.running.0 c.if-not-is_running.false, ((seen_of (option_copied c.look-number.result.0)), c.in-Ok.logged, (none, c.look-number.ensures.seen), c.in-Ok.ensures.ok), back), (refl, refl)) in
     subst (λ (answer : Result Got CoreFault). PlayStep c.args.self.now (Read c.args.version c.args.row.now answer) (unchanged c)) (sym (fault.1 ∙ ap Err fault.2))
     (subst (λ (p : Play). PlayStep p (Read c.args.version c.args.row.now (Err OutOfMemory)) (unchanged c)) c.self.view_is step)

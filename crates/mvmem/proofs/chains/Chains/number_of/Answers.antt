@@ -1,0 +1,15 @@
+use Rattle.std.proofs.Common.{◌≡◌, Option, IfSome, IfNone, None, Some, ℕ, subst}
+use Rattle.mvmem.proofs.RowLaws.{number_found, number_missed}
+use Rattle.mvmem.specs.Chains.{Chains, row_at}
+use Rattle.view.specs.RowSets.{value_in}
+use Rattle.mvmem.proofs.chains.Chains.number_of.Goals as goal
+
+pub returns-clause-found : goal.returns-clause-found
+returns-clause-found c =
+    subst (λ (es : Chains). IfSome c.get_index_of.result (λ n. row_at es n ≡ Some c.args.row.now)) c.self.view_is
+    (number_found c.self.inside.rows.entries c.args.row.now c.get_index_of.result c.get_index_of.ensures.index)
+
+pub returns-clause-absent : goal.returns-clause-absent
+returns-clause-absent c =
+    subst (λ (es : Chains). IfNone c.get_index_of.result (value_in es c.args.row.now ≡ None)) c.self.view_is
+    (number_missed c.self.inside.rows.entries c.args.row.now c.get_index_of.result c.get_index_of.ensures.found)

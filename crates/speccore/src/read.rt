@@ -1,0 +1,13 @@
+use rows::RowKey;
+use speccore_laws::Logged;
+
+/// A row that an incarnation asked for.
+#[derive(Clone, Copy, Debug)]
+pub(crate) struct Read {
+    // The row.
+    pub(crate) row: RowKey,
+    // What was answered.
+    pub(crate) logged: Logged,
+    // The number at which the memory of versions found the row's chain.
+    pub(crate) number: usize,
+}
