@@ -4,7 +4,7 @@ ghost use Rattle.rows.specs.RowVal.{IsOfKind};
 ghost use Rattle.view.specs.Recording.{AsksOnce};
 ghost use Rattle.view.specs.RowSets.{value_in, logged, IsOnceEach};
 
-use crate::few::{FEW, place_of};
+use crate::few::{FEW, insert_copy, place_of, push_copy};
 use crate::row_source::RowSource;
 use crate::stop::Stop;
 use indexmap::IndexMap;
@@ -112,9 +112,8 @@ impl ReadSet {
         if self.few.len() < FEW {
             self.few.reserve(1)?;
             let row = source.read(key)?;
-            let answer = row;
-            self.few.push_reserved((*key, row));
-            return Ok(answer);
+            push_copy(&mut self.few, key, &row);
+            return Ok(row);
         }
         let row = ask_more(&mut self.more, key, source)?;
         Ok(row)
@@ -122,6 +121,7 @@ impl ReadSet {
 }
 
 // Makes room behind the first rows, asks the source for a row that was not read yet, and logs the answer.
+#[inline(never)]
 fn ask_more<S: RowSource>(
     more: &mut IndexMap<RowKey, Option<RowVal>>,
     key: &RowKey,
@@ -138,9 +138,8 @@ fn ask_more<S: RowSource>(
 {
     more.reserve(1)?;
     let answer = source.read(key)?;
-    let row = answer;
-    match more.insert(*key, row) {
-        Ok(_) => Ok(answer),
+    match insert_copy(more, key, &answer) {
+        Ok(()) => Ok(answer),
         Err(_) => unreachable!(),
     }
 }

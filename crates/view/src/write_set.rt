@@ -2,7 +2,7 @@ ghost use Rattle.std.specs.Prelude.{◌≡◌, ◌<◌, ◌↔◌, [], Some, len
 ghost use Rattle.rows.specs.RowVal.{IsOfKind};
 ghost use Rattle.view.specs.RowSets.{value_in, put, IsOnceEach};
 
-use crate::few::{FEW, place_of};
+use crate::few::{FEW, insert_copy, place_of, push_copy};
 use indexmap::IndexMap;
 use rows::{RowKey, RowVal};
 use std::alloc::{AllocError, Global};
@@ -108,18 +108,28 @@ impl WriteSet {
         ensures err { OnErr result (self.new ≡ self.old) }
         ensures absent { OnErr result (value_in self.old key ≡ None) }
     {
-        match place_of(&self.few, &key) {
+        self.put_copy(&key, &row)
+    }
+
+    /// Puts a copy of a row; one that is put already keeps its place.
+    pub fn put_copy(&mut self, key: &RowKey, row: &RowVal) -> Result<(), AllocError>
+        requires { IsOfKind key.now row.now }
+        ensures ok { OnOk result (self.new ≡ put self.old key.now row.now) }
+        ensures err { OnErr result (self.new ≡ self.old) }
+        ensures absent { OnErr result (value_in self.old key.now ≡ None) }
+    {
+        match place_of(&self.few, key) {
             Some(place) => {
-                self.few[place] = (key, row);
+                self.few[place] = (*key, *row);
                 Ok(())
             }
             None if self.few.len() < FEW => {
                 self.few.reserve(1)?;
-                self.few.push_reserved((key, row));
+                push_copy(&mut self.few, key, row);
                 Ok(())
             }
             None => {
-                self.more.insert(key, row)?;
+                insert_copy(&mut self.more, key, row)?;
                 Ok(())
             }
         }

@@ -25,7 +25,7 @@ invariant_of-self-then-len-lt-FEW g c =
     let more = c.self.inside.more.entries in
     let none = absent few more _ c.args.key.now c.self.view_is c.requires in
     let empty = c.self.invariant.2 (search rules) in
-    let last = c.push_reserved.ensures.items ∙ ap (λ (rows : Reads). rows ++ (c.args.key.now, c.in_ok-row.row) ∷ []) c.in_ok-reserve.ensures.items in
+    let last = c.push_copy.ensures ∙ ap (λ (rows : Reads). rows ++ (c.args.key.now, c.in_ok-row.row) ∷ []) c.in_ok-reserve.ensures.items in
     let all = all_read (few ++ more) _ c.args.key.now c.in_ok-row.row (put_among few more c.args.key.now c.in_ok-row.row none _ empty last) c.self.invariant.0 c.self.invariant.1 c.in_ok-row.ensures.kind in
     (all.0, all.1, λ _. empty)
 
