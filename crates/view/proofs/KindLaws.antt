@@ -1,5 +1,6 @@
 -- What is found or put in a list of rows is of its key's kind, where all that stands there is.
-use Rattle.std.proofs.Common.{◌≡◌, Bool, true, false, List, [], ◌∷◌, Option, Some, None, IfSome, refl, sym, subst, if◌then◌else◌, cond}
+use Rattle.std.proofs.Common.{ℕ, zero, suc, ◌++◌, slice_get, ◌≡◌, true, false, List, [], ◌∷◌, Some, IfSome, refl, sym, subst, if◌then◌else◌, cond}
+use Rattle.std.proofs.lemmas.Option.{none-some, same_Some}
 use Rattle.std.specs.List.{AllByRecursion}
 use Rattle.indexmap.specs.IndexMap.{insert_entry}
 use Rattle.rows.proofs.KeyLaws.{key_eq_decides}
@@ -28,3 +29,14 @@ module _ {V : Type 0} (Suits : RowKey → V → Type 0) where
         | true ↦ λ same. (subst (λ (k : RowKey). Suits k value) ((key_eq_decides key row.0).0 same) suits, all.1)
         | false ↦ λ _. (all.0, inserted_suits rows key value all.1 suits)
       ] refl
+
+  -- those behind others
+  pub suits_behind : (xs ys : List (RowKey × V)) → AllSuit (xs ++ ys) → AllSuit ys
+  suits_behind [] ys all = all
+  suits_behind (x ∷ xs) ys all = suits_behind xs ys all.1
+
+  -- a value at a place
+  pub standing_suits : (rows : List (RowKey × V)) (i : ℕ) (e : RowKey × V) → AllSuit rows → slice_get rows i ≡ Some e → Suits e.0 e.1
+  standing_suits [] i e all at = absurd (none-some e at)
+  standing_suits (row ∷ rows) zero e all at = subst (λ (y : RowKey × V). Suits y.0 y.1) (same_Some row e at) all.0
+  standing_suits (row ∷ rows) (suc i) e all at = standing_suits rows i e all.1 at

@@ -1,2 +1,3 @@
 pub mod KindLaws
+pub mod ListLaws
 pub mod LogLaws

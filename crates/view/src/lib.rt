@@ -3,6 +3,7 @@
 
 mod decide;
 mod execution;
+mod few;
 mod read_set;
 mod recorder;
 mod row_source;

@@ -4,6 +4,7 @@ ghost use Rattle.rows.specs.RowVal.{IsOfKind};
 ghost use Rattle.view.specs.Recording.{AsksOnce};
 ghost use Rattle.view.specs.RowSets.{value_in, logged, IsOnceEach};
 
+use crate::few::{FEW, insert_copy, place_of, push_copy};
 use crate::row_source::RowSource;
 use crate::stop::Stop;
 use indexmap::IndexMap;
@@ -15,18 +16,22 @@ use std::marker::Model;
 /// (Block-STM: read set).
 #[derive(Drop)]
 pub struct ReadSet {
-    rows: IndexMap<RowKey, Option<RowVal>>,
+    // The first rows, where one is found by comparing keys.
+    few: Vec<(RowKey, Option<RowVal>)>,
+    // All behind them, where one is found by its key's hash.
+    more: IndexMap<RowKey, Option<RowVal>>,
 }
 
 impl Model for ReadSet {
+    ghost use Rattle.std.specs.Prelude.{◌++◌};
     ghost use Rattle.rows.specs.Agreement.{Reads};
-    ghost use Rattle.view.specs.RowSets.{AreReadsOfKind};
+    ghost use Rattle.view.specs.RowSets.{AreReadsOfKind, IsOnceEach, IsFilled};
 
     ghost Value = { Reads };
 
-    ghost view = { λ set. set.rows.entries };
+    ghost view = { λ set. set.few.items ++ set.more.entries };
 
-    ghost invariant = { λ set. AreReadsOfKind set.rows.entries };
+    ghost invariant = { λ set. AreReadsOfKind (set.few.items ++ set.more.entries) × IsOnceEach (set.few.items ++ set.more.entries) × IsFilled set.few.items set.more.entries };
 }
 
 impl ReadSet {
@@ -35,7 +40,8 @@ impl ReadSet {
         ensures { result ≡ [] }
     {
         ReadSet {
-            rows: IndexMap::new(alloc),
+            few: Vec::new(alloc),
+            more: IndexMap::new(alloc),
         }
     }
 
@@ -43,7 +49,8 @@ impl ReadSet {
     pub fn clear(&mut self)
         ensures { self.new ≡ [] }
     {
-        self.rows.clear();
+        self.few.clear();
+        self.more.clear();
     }
 
     /// How many rows were read.
@@ -51,14 +58,14 @@ impl ReadSet {
         ensures len { result ≡ length self.now }
         ensures once { IsOnceEach self.now }
     {
-        self.rows.len()
+        self.few.len() + self.more.len()
     }
 
     /// Whether no row was read.
     pub fn is_empty(&self) -> bool
         ensures { IsTrue result ↔ (self.now ≡ []) }
     {
-        self.rows.is_empty()
+        self.len() == 0
     }
 
     /// The row that was read at this place, and what it was.
@@ -67,7 +74,10 @@ impl ReadSet {
         ensures entry { slice_get self.now index ≡ Some result }
         ensures kind { IfSome result.1 (IsOfKind result.0) }
     {
-        match self.rows.get_index(index) {
+        if index < self.few.len() {
+            return self.few[index];
+        }
+        match self.more.get_index(index - self.few.len()) {
             Some((key, row)) => (*key, *row),
             None => unreachable!(),
         }
@@ -78,7 +88,10 @@ impl ReadSet {
         ensures value { result ≡ value_in self.now key.now }
         ensures kind { IfSome result (λ row. IfSome row (IsOfKind key.now)) }
     {
-        self.rows.get(key).copied()
+        match place_of(&self.few, key) {
+            Some(place) => Some(self.few[place].1),
+            None => self.more.get(key).copied(),
+        }
     }
 
     // Makes room, asks the source for a row that was not read yet, and logs the answer.
@@ -96,12 +109,37 @@ impl ReadSet {
         ensures stops { IfSome (S.book source.old) (λ _. IfErr result (λ stop. stop ≡ Stop.OutOfMemory)) }
         ensures same { S.book source.new ≡ S.book source.old }
     {
-        self.rows.reserve(1)?;
-        let row = source.read(key)?;
-        let answer = row;
-        match self.rows.insert(*key, row) {
-            Ok(_) => Ok(answer),
-            Err(_) => unreachable!(),
+        if self.few.len() < FEW {
+            self.few.reserve(1)?;
+            let row = source.read(key)?;
+            push_copy(&mut self.few, key, &row);
+            return Ok(row);
         }
+        let row = ask_more(&mut self.more, key, source)?;
+        Ok(row)
+    }
+}
+
+// Makes room behind the first rows, asks the source for a row that was not read yet, and logs the answer.
+#[inline(never)]
+fn ask_more<S: RowSource>(
+    more: &mut IndexMap<RowKey, Option<RowVal>>,
+    key: &RowKey,
+    source: &mut S,
+) -> Result<Option<RowVal>, Stop>
+    requires { value_in more.old.entries key.now ≡ None }
+    ensures asked { AsksOnce S.answers source.old key.now result source.new }
+    ensures ok { IfOk result (λ row. more.new.entries ≡ logged more.old.entries key.now row) }
+    ensures err { OnErr result (more.new.entries ≡ more.old.entries) }
+    ensures kind { IfOk result (λ row. IfSome row (IsOfKind key.now)) }
+    ensures known { IfOk result (λ row. IfSome (S.book source.old) (λ rows. row ≡ map.get rows key.now)) }
+    ensures stops { IfSome (S.book source.old) (λ _. IfErr result (λ stop. stop ≡ Stop.OutOfMemory)) }
+    ensures same { S.book source.new ≡ S.book source.old }
+{
+    more.reserve(1)?;
+    let answer = source.read(key)?;
+    match insert_copy(more, key, &answer) {
+        Ok(()) => Ok(answer),
+        Err(_) => unreachable!(),
     }
 }

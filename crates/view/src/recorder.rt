@@ -109,7 +109,7 @@ impl<S: RowSource> Recorder<S> {
         ensures stop { IfErr result (λ stop. stop ≡ Stop.OutOfMemory) }
         ensures absent { OnErr result (value_in self.old.writes key ≡ None) }
     {
-        self.writes.put(key, row)?;
+        self.writes.put_copy(&key, &row)?;
         Ok(())
     }
 

@@ -2,6 +2,7 @@ ghost use Rattle.std.specs.Prelude.{◌≡◌, ◌<◌, ◌↔◌, [], Some, len
 ghost use Rattle.rows.specs.RowVal.{IsOfKind};
 ghost use Rattle.view.specs.RowSets.{value_in, put, IsOnceEach};
 
+use crate::few::{FEW, insert_copy, place_of, push_copy};
 use indexmap::IndexMap;
 use rows::{RowKey, RowVal};
 use std::alloc::{AllocError, Global};
@@ -10,18 +11,22 @@ use std::marker::Model;
 /// The rows that a decision puts, each once, in the order of first touch (Block-STM: write set).
 #[derive(Drop)]
 pub struct WriteSet {
-    rows: IndexMap<RowKey, RowVal>,
+    // The first rows, where one is found by comparing keys.
+    few: Vec<(RowKey, RowVal)>,
+    // All behind them, where one is found by its key's hash.
+    more: IndexMap<RowKey, RowVal>,
 }
 
 impl Model for WriteSet {
+    ghost use Rattle.std.specs.Prelude.{◌++◌};
     ghost use Rattle.rows.specs.Plan.{Writes};
-    ghost use Rattle.view.specs.RowSets.{AreWritesOfKind};
+    ghost use Rattle.view.specs.RowSets.{AreWritesOfKind, IsOnceEach, IsFilled};
 
     ghost Value = { Writes };
 
-    ghost view = { λ set. set.rows.entries };
+    ghost view = { λ set. set.few.items ++ set.more.entries };
 
-    ghost invariant = { λ set. AreWritesOfKind set.rows.entries };
+    ghost invariant = { λ set. AreWritesOfKind (set.few.items ++ set.more.entries) × IsOnceEach (set.few.items ++ set.more.entries) × IsFilled set.few.items set.more.entries };
 }
 
 impl WriteSet {
@@ -30,7 +35,8 @@ impl WriteSet {
         ensures { result ≡ [] }
     {
         WriteSet {
-            rows: IndexMap::new(alloc),
+            few: Vec::new(alloc),
+            more: IndexMap::new(alloc),
         }
     }
 
@@ -38,7 +44,8 @@ impl WriteSet {
     pub fn clear(&mut self)
         ensures { self.new ≡ [] }
     {
-        self.rows.clear();
+        self.few.clear();
+        self.more.clear();
     }
 
     /// How many rows are put.
@@ -46,14 +53,14 @@ impl WriteSet {
         ensures len { result ≡ length self.now }
         ensures once { IsOnceEach self.now }
     {
-        self.rows.len()
+        self.few.len() + self.more.len()
     }
 
     /// Whether no row is put.
     pub fn is_empty(&self) -> bool
         ensures { IsTrue result ↔ (self.now ≡ []) }
     {
-        self.rows.is_empty()
+        self.len() == 0
     }
 
     /// The row that is put at this place, and its value.
@@ -62,10 +69,8 @@ impl WriteSet {
         ensures entry { slice_get self.now index ≡ Some result }
         ensures kind { IsOfKind result.0 result.1 }
     {
-        match self.rows.get_index(index) {
-            Some((key, row)) => (*key, *row),
-            None => unreachable!(),
-        }
+        let (key, row) = self.row(index);
+        (*key, *row)
     }
 
     /// The row that is put at this place, and its value, where they stand.
@@ -75,7 +80,11 @@ impl WriteSet {
         ensures entry { slice_get self.now index ≡ Some (result.0.now, result.1.now) }
         ensures kind { IsOfKind result.0.now result.1.now }
     {
-        match self.rows.get_index(index) {
+        if index < self.few.len() {
+            let (key, row) = &self.few[index];
+            return (key, row);
+        }
+        match self.more.get_index(index - self.few.len()) {
             Some(entry) => entry,
             None => unreachable!(),
         }
@@ -86,7 +95,10 @@ impl WriteSet {
         ensures value { result ≡ value_in self.now key.now }
         ensures kind { IfSome result (IsOfKind key.now) }
     {
-        self.rows.get(key).copied()
+        match place_of(&self.few, key) {
+            Some(place) => Some(self.few[place].1),
+            None => self.more.get(key).copied(),
+        }
     }
 
     /// Puts a row; one that is put already keeps its place.
@@ -96,7 +108,30 @@ impl WriteSet {
         ensures err { OnErr result (self.new ≡ self.old) }
         ensures absent { OnErr result (value_in self.old key ≡ None) }
     {
-        self.rows.insert(key, row)?;
-        Ok(())
+        self.put_copy(&key, &row)
+    }
+
+    /// Puts a copy of a row; one that is put already keeps its place.
+    pub fn put_copy(&mut self, key: &RowKey, row: &RowVal) -> Result<(), AllocError>
+        requires { IsOfKind key.now row.now }
+        ensures ok { OnOk result (self.new ≡ put self.old key.now row.now) }
+        ensures err { OnErr result (self.new ≡ self.old) }
+        ensures absent { OnErr result (value_in self.old key.now ≡ None) }
+    {
+        match place_of(&self.few, key) {
+            Some(place) => {
+                self.few[place] = (*key, *row);
+                Ok(())
+            }
+            None if self.few.len() < FEW => {
+                self.few.reserve(1)?;
+                push_copy(&mut self.few, key, row);
+                Ok(())
+            }
+            None => {
+                insert_copy(&mut self.more, key, row)?;
+                Ok(())
+            }
+        }
     }
 }

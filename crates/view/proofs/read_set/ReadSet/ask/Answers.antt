@@ -1,14 +1,46 @@
-use Rattle.std.proofs.Common.{◌∙◌}
-use Rattle.std.proofs.Common.{IfSome}
+use Rattle.std.proofs.Common.{◌≡◌, ◌++◌, ◌∷◌, [], Option, None, IfSome, sym, ap, subst, ◌∙◌, rules}
+use Rattle.rows.specs.Agreement.{Reads}
+use Rattle.rows.specs.RowKey.{key_eq}
 use Rattle.rows.specs.RowVal.{IsOfKind}
+use Rattle.rows.specs.declared.row_key.RowKey.{RowKey}
+use Rattle.rows.specs.declared.row_val.RowVal.{RowVal}
+use Rattle.indexmap.specs.IndexMap.{insert_entry}
 use Rattle.view.proofs.KindLaws.{inserted_suits}
-use Rattle.view.proofs.LogLaws.{logged_last}
+use Rattle.view.proofs.ListLaws.{inserted_once, put_among, put_after, absent_front, found_behind}
+use Rattle.view.specs.RowSets.{value_in, AreReadsOfKind, IsOnceEach}
 use Rattle.view.proofs.read_set.ReadSet.ask.Goals as goal
 
-pub returns-clause-ok : goal.returns-clause-ok
-returns-clause-ok g c = logged_last c.reserve.new.self _ _ _ _ (c.in_ok-reserve.ensures.entries ∙ c.self.view_is) c.requires c.in-Ok.ensures.entries
+-- rows with one more that was read are of their kinds, each once
+all_read : (rows now : Reads) (k : RowKey) (v : Option RowVal) → insert_entry key_eq rows k v ≡ now → AreReadsOfKind rows → IsOnceEach rows → IfSome v (IsOfKind k) → AreReadsOfKind now × IsOnceEach now
+all_read rows now k v is kinds once kind =
+    subst (λ (rows : Reads). AreReadsOfKind rows × IsOnceEach rows) is (inserted_suits (λ k row. IfSome row (IsOfKind k)) rows k v kinds kind, inserted_once rows k v once)
+
+-- the row was not read yet, neither among the first ones nor behind them
+absent : (few more now : Reads) (key : RowKey) → few ++ more ≡ now → value_in now key ≡ None → value_in few key ≡ None
+absent few more now key is none = absent_front few more key (ap (λ (rows : Reads). value_in rows key) is ∙ none)
+
+pub invariant_of-self-then-len-lt-FEW : goal.invariant_of-self-then-len-lt-FEW
+invariant_of-self-then-len-lt-FEW g c =
+    let few = c.self.inside.few.items in
+    let more = c.self.inside.more.entries in
+    let none = absent few more _ c.args.key.now c.self.view_is c.requires in
+    let empty = c.self.invariant.2 (search rules) in
+    let last = c.push_copy.ensures ∙ ap (λ (rows : Reads). rows ++ (c.args.key.now, c.in_ok-row.row) ∷ []) c.in_ok-reserve.ensures.items in
+    let all = all_read (few ++ more) _ c.args.key.now c.in_ok-row.row (put_among few more c.args.key.now c.in_ok-row.row none _ empty last) c.self.invariant.0 c.self.invariant.1 c.in_ok-row.ensures.kind in
+    (all.0, all.1, λ _. empty)
+
+pub ask_more-requires : goal.ask_more-requires
+ask_more-requires g c =
+    let few = c.self.inside.few.items in
+    let more = c.self.inside.more.entries in
+    sym (found_behind few more c.args.key.now (absent few more _ c.args.key.now c.self.view_is c.requires)) ∙ ap (λ (rows : Reads). value_in rows c.args.key.now) c.self.view_is ∙ c.requires
 
 pub invariant_of-self-2 : goal.invariant_of-self-2
 invariant_of-self-2 g c =
-    rw (c.in-Ok.ensures.entries, c.in_ok-reserve.ensures.entries)
-    (inserted_suits (λ k row. IfSome row (IsOfKind k)) c.self.inside.rows.entries c.args.key.now c.in_ok-row.row c.self.invariant c.in_ok-row.ensures.kind)
+    let few = c.self.inside.few.items in
+    let more = c.self.inside.more.entries in
+    let none = absent few more _ c.args.key.now c.self.view_is c.requires in
+    let nowhere = ap (λ (rows : Reads). value_in rows c.args.key.now) c.self.view_is ∙ c.requires in
+    let is = put_after few more c.args.key.now c.in_ok-row-2.row none nowhere ∙ ap (λ (rest : Reads). few ++ rest) (sym c.in_ok-row-2.ensures.ok) in
+    let all = all_read (few ++ more) _ c.args.key.now c.in_ok-row-2.row is c.self.invariant.0 c.self.invariant.1 c.in_ok-row-2.ensures.kind in
+    (all.0, all.1, λ small. absurd (search rules))

@@ -1,0 +1,10 @@
+use Rattle.std.proofs.Common.{IfSome, sym}
+use Rattle.rows.specs.RowVal.{IsOfKind}
+use Rattle.view.proofs.KindLaws.{suits_behind, standing_suits}
+use Rattle.view.proofs.read_set.ReadSet.at.Goals as goal
+
+pub returns-clause-kind : goal.returns-clause-kind
+returns-clause-kind c =
+    standing_suits (λ k row. IfSome row (IsOfKind k)) c.self.inside.more.entries _ _
+    (suits_behind (λ k row. IfSome row (IsOfKind k)) c.self.inside.few.items c.self.inside.more.entries c.self.invariant.0)
+    (sym c.in-Some.ensures.entry)
