@@ -8,7 +8,8 @@ mod traced;
 
 pub use journal_laws::{Answer, played_entries_are_decided, plays_are_determined};
 pub use journal_text::{
-    Entry, Event, ReplayFault, no_two_journals_have_one_text, read_journal, write_journal, write_key,
+    Entry, Event, ReplayFault, no_two_journals_have_one_text, read_journal, write_journal,
+    write_key,
 };
 pub use replaying::replay;
 pub use traced::Traced;

@@ -1,7 +1,7 @@
 //! Journals that are kept, and played again: to the same core.
 ghost use Rattle.std.specs.Prelude.{None};
 
-use crate::scripts::{COMES_LATE, Script, WAITS, journal_of};
+use crate::scripts::{COMES_LATE, Script, WAITS, journal_of, text_of};
 use fixtures::{answer_text, body, first_book_with, has_row};
 use journal::{Answer, Entry, Event, Traced, read_journal, replay, write_journal};
 use mvmem::Version;
@@ -49,12 +49,7 @@ fn execution_of(
 }
 
 // Does what the entry says, on a core that keeps its journal.
-fn ask(
-    alloc: Global,
-    traced: &mut Traced,
-    frames: &[Frame],
-    entry: Entry,
-) -> Result<Answer, Fail> {
+fn ask(alloc: Global, traced: &mut Traced, frames: &[Frame], entry: Entry) -> Result<Answer, Fail> {
     let Entry { seat, event } = entry;
     if let Event::Finish(version) = event {
         let execution = execution_of(alloc, traced.core(), frames, version)?;
@@ -96,10 +91,19 @@ fn assert_kept(
 ) -> Result<(), Fail> {
     let frames = frames_of(script)?;
     assert!(rt; traced.entries().is_empty());
+    let mut tasks = script.tasks.iter();
+    let mut refusals = script.refusals.iter();
     for entry in entries {
-        let answer = ask(alloc, traced, &frames, *entry)?;
-        assert!(rt; !matches!(answer, Answer::Blocked) || matches!(entry.event, Event::Block(..)));
+        match ask(alloc, traced, &frames, *entry)? {
+            Answer::Claimed(task) => {
+                let text = text_of(alloc, &task)?;
+                assert_eq!(rt; Some(&text.as_str()), tasks.next());
+            }
+            Answer::Refused(fault) => assert_eq!(rt; Some(&fault), refusals.next()),
+            _ => {}
+        }
     }
+    assert!(rt; tasks.next().is_none() && refusals.next().is_none());
     assert_eq!(rt; traced.entries(), entries);
     assert!(rt; !traced.stopped());
     traced.stop();

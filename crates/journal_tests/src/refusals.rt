@@ -30,9 +30,23 @@ fn a_row_that_was_not_logged(rt: HostRuntime) -> Result<(), Fail> {
     let book = first_book_with(alloc, &[])?;
     let frames = frames_of(&WAITS)?;
     let early = ["0 n", "0 r 0.0 card:4111110000000005", "0 f 0.0"];
-    assert_eq!(rt; fault_of(alloc, &book, &frames, &early)?, Some(ReplayFault::Unlogged(3)));
-    let twice = ["0 n", "0 R 0.0 000001", "0 f 0.0", "1 n", "1 n", "1 f 1.0", "2 f 2.0"];
-    assert_eq!(rt; fault_of(alloc, &book, &frames, &twice)?, Some(ReplayFault::Unlogged(10)));
+    assert_eq!(rt;
+        fault_of(alloc, &book, &frames, &early)?,
+        Some(ReplayFault::Unlogged(3))
+    );
+    let twice = [
+        "0 n",
+        "0 R 0.0 000001",
+        "0 f 0.0",
+        "1 n",
+        "1 n",
+        "1 f 1.0",
+        "2 f 2.0",
+    ];
+    assert_eq!(rt;
+        fault_of(alloc, &book, &frames, &twice)?,
+        Some(ReplayFault::Unlogged(10))
+    );
     Ok(())
 }
 
@@ -43,7 +57,15 @@ fn foolish_entries_play(rt: HostRuntime) -> Result<(), Fail> {
     let book = first_book_with(alloc, &[])?;
     let frames = frames_of(&WAITS)?;
     let foolish = [
-        "0 f 0.0", "1 f 7.0", "2 r 0.0 budget:411111", "3 b 1.0 0", "4 c 0.0", "5 o", "63 e", "0 k", "0 n",
+        "0 f 0.0",
+        "1 f 7.0",
+        "2 r 0.0 budget:411111",
+        "3 b 1.0 0",
+        "4 c 0.0",
+        "5 o",
+        "63 e",
+        "0 k",
+        "0 n",
     ];
     assert_eq!(rt; fault_of(alloc, &book, &frames, &foolish)?, None);
     assert_eq!(rt; fault_of(alloc, &book, &frames, &[])?, None);

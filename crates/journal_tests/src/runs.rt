@@ -44,9 +44,9 @@ impl Gate for HoldingGate {
 
 // Where in the journal the message at this index first finishes.
 fn finish_of(entries: &[Entry], index: u32) -> Option<usize> {
-    entries
-        .iter()
-        .position(|entry| matches!(entry.event, Event::Finish(version) if version.index == index))
+    entries.iter().position(
+        |entry| matches!(entry.event, Event::Finish(version) if version.index == index),
+    )
 }
 
 // The journal plays to a core that committed what the run did.
@@ -82,8 +82,7 @@ fn the_journal_has_the_order_of_finishing(rt: HostRuntime) -> Result<(), Fail> {
     let gate = HoldingGate {
         recorded: AtomicU64::new(0),
     };
-    let (outcome, entries) =
-        run_traced(&rt, alloc, &book, &frames, workers, &Shipped, &gate)?;
+    let (outcome, entries) = run_traced(&rt, alloc, &book, &frames, workers, &Shipped, &gate)?;
     let before = finish_of(&entries, 1).ok_or("a finish")?;
     let after = finish_of(&entries, 0).ok_or("a finish")?;
     assert!(rt; before < after);
@@ -142,13 +141,27 @@ fn assert_run<R: Abort + Threads + Wait + Sync>(
     assert_longest(rt, alloc, &outcome)
 }
 
-// The longest batch, with 1, 4 and 64 workers: the same replies each time.
-#[test]
-fn runs_the_longest_batch(rt: HostRuntime) -> Result<(), Fail> {
-    let alloc = rt.alloc();
+// The longest batch: the same replies with each number of workers.
+fn assert_runs_the_longest<R: Abort + Threads + Wait + Sync>(
+    rt: &R,
+    alloc: Global,
+    workers: u32,
+) -> Result<(), Fail> {
     let frames = requests(alloc, 65_536)?;
-    for workers in [1, 4, 64] {
-        assert_run(&rt, alloc, &frames, workers)?;
-    }
-    Ok(())
+    assert_run(rt, alloc, &frames, workers)
+}
+
+#[test]
+fn one_worker_runs_the_longest_batch(rt: HostRuntime) -> Result<(), Fail> {
+    assert_runs_the_longest(&rt, rt.alloc(), 1)
+}
+
+#[test]
+fn four_workers_run_the_longest_batch(rt: HostRuntime) -> Result<(), Fail> {
+    assert_runs_the_longest(&rt, rt.alloc(), 4)
+}
+
+#[test]
+fn sixty_four_workers_run_the_longest_batch(rt: HostRuntime) -> Result<(), Fail> {
+    assert_runs_the_longest(&rt, rt.alloc(), 64)
 }

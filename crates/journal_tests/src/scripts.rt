@@ -1,6 +1,8 @@
 //! Journals of three requests on card A, a line an entry; `R` stands for the five reads of a request, and `C` for a whole check that
 //! passes.
 
+use sched::Task;
+use speccore_laws::CoreFault;
 use std::alloc::Global;
 use std::test::Fail;
 
@@ -11,7 +13,11 @@ pub struct Script {
     pub bodies: [&'static str; 3],
     /// The entries.
     pub lines: &'static [&'static str],
-    /// The epoch, the floors of three messages and one more, and the stamps.
+    /// What the claims are answered, in order.
+    pub tasks: &'static [&'static str],
+    /// What is refused, in order.
+    pub refusals: &'static [CoreFault],
+    /// The epoch, the floors of three messages and one more, and the stamps, at the end.
     pub epoch: u64,
     pub floors: [u64; 4],
     pub stamps: [Option<u64>; 3],
@@ -62,6 +68,18 @@ pub const WAITS: Script = Script {
         "0 k",
         "0 n",
     ],
+    tasks: &[
+        "execute 0.0",
+        "execute 1.0",
+        "check 0.0",
+        "check 1.0",
+        "execute 1.1",
+        "execute 2.0",
+        "execute 2.1",
+        "check 2.1",
+        "done",
+    ],
+    refusals: &[],
     epoch: 5,
     floors: [0, 3, 4, 5],
     stamps: [Some(3), Some(4), Some(5)],
@@ -109,12 +127,37 @@ pub const COMES_LATE: Script = Script {
         "0 k",
         "2 e",
     ],
+    tasks: &[
+        "execute 0.0",
+        "execute 1.0",
+        "execute 2.0",
+        "check 0.0",
+        "check 1.0",
+        "check 2.0",
+        "execute 1.1",
+        "check 2.0",
+    ],
+    refusals: &[CoreFault::Outdated],
     epoch: 5,
     floors: [0, 2, 5, 3],
     stamps: [Some(4), Some(5), Some(5)],
     answers: ["000/000001", "116", "116"],
     account: "account A 0 978",
 };
+
+/// The task, as a script has it.
+pub fn text_of(alloc: Global, task: &Task) -> Result<String, Fail> {
+    Ok(match task {
+        Task::Execute(version) => {
+            format!(in alloc; "execute {}.{}", version.index, version.incarnation)?
+        }
+        Task::Validate(version) => {
+            format!(in alloc; "check {}.{}", version.index, version.incarnation)?
+        }
+        Task::Idle => format!(in alloc; "idle")?,
+        Task::Done => format!(in alloc; "done")?,
+    })
+}
 
 /// The journal's text.
 pub fn journal_of(alloc: Global, lines: &[&str]) -> Result<String, Fail> {
@@ -133,7 +176,9 @@ fn push_line(alloc: Global, text: &mut String, line: &str) -> Result<(), Fail> {
     let version = words.next().unwrap_or("");
     let lines = match event {
         "R" => reads(alloc, seat, version, words.next().unwrap_or(""))?,
-        "C" => format!(in alloc; "{seat} c {version}\n{seat} o\n{seat} o\n{seat} o\n{seat} o\n{seat} o\n{seat} e\n")?,
+        "C" => format!(in alloc;
+            "{seat} c {version}\n{seat} o\n{seat} o\n{seat} o\n{seat} o\n{seat} o\n{seat} e\n"
+        )?,
         _ => format!(in alloc; "{line}\n")?,
     };
     text.push_str(lines.as_str())?;
