@@ -1,11 +1,13 @@
 ghost use Rattle.std.specs.Prelude.{◌≡◌, ◌≢◌, ◌↔◌, ℕ, ◌<◌, ◌≤◌, [], length, slice_index_or, Some, None, IsTrue, OnOk, IfOk, IfErr, option_map};
 ghost use Rattle.std.specs.Option.{option_copied};
-ghost use Rattle.mvmem.specs.Chains.{found, held_of, seen_of, AreInOrder, StandsAt, FitsAt};
-ghost use Rattle.mvmem.specs.Entries.{estimate_of};
+ghost use Rattle.mvmem.specs.Chains.{found, seen_of, AreInOrder, StandsAt, FitsAt};
+ghost use Rattle.mvmem.specs.Entries.{estimate_of, value_at};
 ghost use Rattle.mvmem.specs.Resolves.{IsNearestBelow, IsWithinDigitsOf};
 ghost use Rattle.mvmem.specs.declared.link.Link.{Link};
 
 use crate::link::Link;
+use crate::version::Version;
+use rows::RowVal;
 use std::alloc::{AllocError, Global};
 use std::marker::Model;
 
@@ -62,24 +64,19 @@ impl Chain {
         (Some(&self.links[place - 1]), comparisons)
     }
 
-    /// Puts an entry, over the one that its index has. Answers whether its index had none.
-    pub(crate) fn put(&mut self, link: Link) -> bool
+    /// Puts this value as the version's entry, over the one that its index has. Answers whether its index had none.
+    pub(crate) fn put(&mut self, version: Version, value: &RowVal) -> bool
         requires { 0 < self.old.room }
-        ensures own { found self.new.links link.index ≡ Some (held_of link) }
-        ensures others { (i : ℕ) → i ≢ link.index → found self.new.links i ≡ found self.old.links i }
-        ensures new { IsTrue result ↔ (found self.old.links link.index ≡ None) }
+        ensures own { found self.new.links version.index ≡ Some (value_at version.incarnation value.now) }
+        ensures others { (i : ℕ) → i ≢ version.index → found self.new.links i ≡ found self.old.links i }
+        ensures new { IsTrue result ↔ (found self.old.links version.index ≡ None) }
     {
-        let Link {
-            index,
-            incarnation,
-            value,
-        } = link;
         let link = Link {
-            index,
-            incarnation,
-            value,
+            index: version.index,
+            incarnation: version.incarnation,
+            value: Some(*value),
         };
-        match place_of(&self.links, index) {
+        match place_of(&self.links, version.index) {
             Ok(place) => {
                 self.links[place] = link;
                 false

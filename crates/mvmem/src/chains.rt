@@ -3,14 +3,15 @@ ghost use Rattle.rows.specs.RowVal.{IsOfKind};
 ghost use Rattle.rows.specs.declared.row_key.RowKey.{RowKey};
 ghost use Rattle.view.specs.RowSets.{value_in, IsOnceEach};
 ghost use Rattle.std.specs.Option.{option_copied};
-ghost use Rattle.mvmem.specs.Chains.{stands, held_of, seen_of, row_at, rows_of, room_of, links_in, AreInOrder, IsChangedAt};
-ghost use Rattle.mvmem.specs.Entries.{estimate_of};
+ghost use Rattle.mvmem.specs.Chains.{stands, seen_of, row_at, rows_of, room_of, links_in, AreInOrder, IsChangedAt};
+ghost use Rattle.mvmem.specs.Entries.{estimate_of, value_at};
 ghost use Rattle.mvmem.specs.Resolves.{Resolves, IsSeenOfKind, IsWithinDigitsOf};
 
 use crate::chain::Chain;
 use crate::link::Link;
 use indexmap::IndexMap;
-use rows::RowKey;
+use crate::version::Version;
+use rows::{RowKey, RowVal};
 use std::alloc::{AllocError, Global};
 use std::marker::Model;
 
@@ -172,14 +173,20 @@ impl Chains {
         }
     }
 
-    /// Puts an entry of the row, over the one that its index has. The row's chain is looked for among these numbers
-    /// first. Answers the row's number, and whether its index had none.
-    pub(crate) fn put(&mut self, row: &RowKey, numbers: &[usize], link: Link) -> (usize, bool)
+    /// Puts this value as the version's entry of the row, over the one that its index has. The row's chain is looked for
+    /// among these numbers first. Answers the row's number, and whether its index had none.
+    pub(crate) fn put(
+        &mut self,
+        row: &RowKey,
+        numbers: &[usize],
+        version: Version,
+        value: &RowVal,
+    ) -> (usize, bool)
         requires room { 0 < room_of self.old row.now }
-        requires kind { IfSome link.value (IsOfKind row.now) }
-        ensures changed { IsChangedAt self.old self.new row.now link.index (Some (held_of link)) }
+        requires kind { IsOfKind row.now value.now }
+        ensures changed { IsChangedAt self.old self.new row.now version.index (Some (value_at version.incarnation value.now)) }
         ensures number { row_at self.new result.0 ≡ Some row.now }
-        ensures new { IsTrue result.1 ↔ (stands self.old row.now link.index ≡ None) }
+        ensures new { IsTrue result.1 ↔ (stands self.old row.now version.index ≡ None) }
         ensures rows { rows_of self.new ≡ rows_of self.old }
         ensures others { (r : RowKey) → r ≢ row.now → room_of self.new r ≡ room_of self.old r }
     {
@@ -189,7 +196,7 @@ impl Chains {
         let Some(chain) = self.rows.get_index_mut(number) else {
             unreachable!();
         };
-        let is_new = chain.put(link);
+        let is_new = chain.put(version, value);
         (number, is_new)
     }
 

@@ -236,13 +236,8 @@ fn put_all(
     let mut is_new = false;
     for place in 0..writes.len() {
         let (row, value) = writes.row(place);
-        let link = Link {
-            index: version.index,
-            incarnation: version.incarnation,
-            value: Some(*value),
-        };
         let rest = numbers.get(place..).unwrap_or(&[]);
-        let (number, had_none) = chains.put(row, rest, link);
+        let (number, had_none) = chains.put(row, rest, version, value);
         if had_none {
             list.push(number);
             is_new = true;
