@@ -27,4 +27,12 @@ impl RowSource for PlainRows<'_> {
     fn read(&mut self, key: &RowKey) -> Result<Option<RowVal>, Stop> {
         Ok(self.book.get(key))
     }
+
+    fn read_into(&mut self, key: &RowKey, row: &mut Option<RowVal>) -> Result<(), Stop> {
+        match self.book.row(key) {
+            Some(val) => *row = Some(*val),
+            None => *row = None,
+        }
+        Ok(())
+    }
 }

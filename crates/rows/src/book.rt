@@ -1,4 +1,4 @@
-ghost use Rattle.std.specs.Prelude.{◌≡◌, ◌↔◌, OnOk, OnErr, IfOk, IfSome, IsTrue, None};
+ghost use Rattle.std.specs.Prelude.{◌≡◌, ◌↔◌, option_copied, OnOk, OnErr, IfOk, IfSome, IsTrue, None};
 ghost use Rattle.std.specs.FinMap as map;
 ghost use Rattle.rows.specs.RowVal.{IsOfKind};
 ghost use Rattle.rows.specs.RowKey.{key_cmp};
@@ -55,6 +55,15 @@ impl Book {
         ensures kind { IfSome result (IsOfKind key.now) }
     {
         self.rows.get(key).copied()
+    }
+
+    /// The row's value where it stands, if there is such a row.
+    #[tactic(auto, using(crate::proofs::BookLaws::get_seen))]
+    pub fn row(&self, key: &RowKey) -> Option<&RowVal>
+        ensures value { option_copied result ≡ map.get self.now key.now }
+        ensures kind { IfSome result (λ val. IsOfKind key.now val.now) }
+    {
+        self.rows.get(key)
     }
 
     /// Puts the value at the key, over what was there. Only a row that wasn't there takes memory.

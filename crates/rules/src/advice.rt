@@ -27,7 +27,9 @@ pub(crate) fn decide_advice<S: RowSource>(
     ensures book { S.book rows.new.source ≡ S.book rows.old.source }
 {
     let key = RowKey::Original(advice.transaction.identity());
-    match original_in(&rows.ask(&key)?) {
+    let mut row = None;
+    rows.ask(&key, &mut row)?;
+    match original_in(&row) {
         Some(row) => answer_again(advice, &row, rows),
         None => decide_fresh(advice, rows),
     }
@@ -47,7 +49,9 @@ fn decide_fresh<S: RowSource>(advice: &Advice, rows: &mut Recorder<S>) -> Result
         return acknowledge(advice, rows);
     }
     let key = RowKey::Card(advice.transaction.pan);
-    let Some(card) = card_in(&rows.ask(&key)?) else {
+    let mut row = None;
+    rows.ask(&key, &mut row)?;
+    let Some(card) = card_in(&row) else {
         return acknowledge(advice, rows);
     };
     match card.accounts.account_of(&advice.account) {
@@ -70,8 +74,11 @@ fn decide_on_account<S: RowSource>(
     ensures stops { IfSome (S.book rows.old.source) (λ _. IfErr result (λ stop. stop ≡ Stop.OutOfMemory)) }
     ensures book { S.book rows.new.source ≡ S.book rows.old.source }
 {
-    let key = RowKey::Account(id);
-    let Some(account) = account_in(&rows.ask(&key)?) else {
+    let paying = id;
+    let key = RowKey::Account(paying);
+    let mut row = None;
+    rows.ask(&key, &mut row)?;
+    let Some(account) = account_in(&row) else {
         return acknowledge(advice, rows);
     };
     if advice.transaction.currency != account.currency {
@@ -96,7 +103,9 @@ fn decide_on_funds<S: RowSource>(
     ensures book { S.book rows.new.source ≡ S.book rows.old.source }
 {
     let key = RowKey::Budget(advice.transaction.pan.prefix());
-    let budget = budget_in(&rows.ask(&key)?);
+    let mut row = None;
+    rows.ask(&key, &mut row)?;
+    let budget = budget_in(&row);
     match advice_funds(&advice.transaction, id, account, &budget) {
         Some(paying) => accept(advice, &paying, rows),
         None => acknowledge(advice, rows),

@@ -41,7 +41,9 @@ fn decide_verdict<S: RowSource>(request: &Request, rows: &mut Recorder<S>) -> Re
     ensures book { S.book rows.new.source ≡ S.book rows.old.source }
 {
     let key = RowKey::Original(request.transaction.identity());
-    match original_in(&rows.ask(&key)?) {
+    let mut row = None;
+    rows.ask(&key, &mut row)?;
+    match original_in(&row) {
         Some(row) => answer_again(request, &row, rows),
         None => decide_fresh(request, rows),
     }
@@ -61,7 +63,9 @@ fn decide_fresh<S: RowSource>(request: &Request, rows: &mut Recorder<S>) -> Resu
         return decline(request, code, rows);
     }
     let key = RowKey::Card(request.transaction.pan);
-    let Some(card) = card_in(&rows.ask(&key)?) else {
+    let mut row = None;
+    rows.ask(&key, &mut row)?;
+    let Some(card) = card_in(&row) else {
         return decline(request, DeclineCode::NO_CARD_RECORD, rows);
     };
     match usable_account(request, &card) {
@@ -85,8 +89,11 @@ fn decide_on_account<S: RowSource>(
     ensures stops { IfSome (S.book rows.old.source) (λ _. IfErr result (λ stop. stop ≡ Stop.OutOfMemory)) }
     ensures book { S.book rows.new.source ≡ S.book rows.old.source }
 {
-    let key = RowKey::Account(id);
-    let Some(account) = account_in(&rows.ask(&key)?) else {
+    let paying = id;
+    let key = RowKey::Account(paying);
+    let mut row = None;
+    rows.ask(&key, &mut row)?;
+    let Some(account) = account_in(&row) else {
         return decline(request, DeclineCode::SYSTEM_MALFUNCTION, rows);
     };
     if request.transaction.currency != account.currency {
@@ -112,7 +119,9 @@ fn decide_on_day<S: RowSource>(
     ensures book { S.book rows.new.source ≡ S.book rows.old.source }
 {
     let key = RowKey::Velocity(request.transaction.pan, request.transaction.stamp.day());
-    let day = spent_in(velocity_in(&rows.ask(&key)?));
+    let mut row = None;
+    rows.ask(&key, &mut row)?;
+    let day = spent_in(velocity_in(&row));
     decide_on_limits(request, card, id, account, &day, rows)
 }
 
@@ -137,7 +146,9 @@ fn decide_on_limits<S: RowSource>(
         return decline(request, code, rows);
     }
     let key = RowKey::Budget(request.transaction.pan.prefix());
-    let budget = budget_in(&rows.ask(&key)?);
+    let mut row = None;
+    rows.ask(&key, &mut row)?;
+    let budget = budget_in(&row);
     match request_funds(&request.transaction, id, account, &budget) {
         Ok(paying) => approve(request, card, day, &paying, rows),
         Err(code) => decline(request, code, rows),

@@ -150,9 +150,9 @@ pub(crate) fn approve<S: RowSource>(
     let charged = CardRow { approvals, ..*card };
     let spent = VelocityRow { count, sum };
     let paid = paying.with_balance(balance);
-    rows.write(RowKey::Original(request.transaction.identity()), kept)?;
-    rows.write(card_key, RowVal::Card(charged))?;
-    rows.write(day_key, RowVal::Velocity(spent))?;
-    rows.write(paying.key(), paid.row())?;
+    rows.write_copy(&RowKey::Original(request.transaction.identity()), &kept)?;
+    rows.write_copy(&card_key, &RowVal::Card(charged))?;
+    rows.write_copy(&day_key, &RowVal::Velocity(spent))?;
+    rows.write_copy(&paying.key(), &paid.row())?;
     Ok(verdict)
 }

@@ -30,7 +30,9 @@ pub(crate) fn decide_reversal<S: RowSource>(
     ensures book { S.book rows.new.source ≡ S.book rows.old.source }
 {
     let key = RowKey::Original(reversal.original.identity);
-    match original_in(&rows.ask(&key)?) {
+    let mut row = None;
+    rows.ask(&key, &mut row)?;
+    match original_in(&row) {
         Some(row) => decide_on_row(reversal, &row, rows),
         None => mark_ahead(reversal, rows),
     }
@@ -120,8 +122,11 @@ fn decide_by_account<S: RowSource>(
     ensures stops { IfSome (S.book rows.old.source) (λ _. IfErr result (λ stop. stop ≡ Stop.OutOfMemory)) }
     ensures book { S.book rows.new.source ≡ S.book rows.old.source }
 {
-    let key = RowKey::Account(id);
-    let paid = account_funds(id, account_in(&rows.ask(&key)?));
+    let paying = id;
+    let key = RowKey::Account(paying);
+    let mut row = None;
+    rows.ask(&key, &mut row)?;
+    let paid = account_funds(id, account_in(&row));
     decide_on_paid(reversal, kept, &paid, rows)
 }
 
@@ -140,7 +145,9 @@ fn decide_by_budget<S: RowSource>(
     ensures book { S.book rows.new.source ≡ S.book rows.old.source }
 {
     let key = RowKey::Budget(kept.card().prefix());
-    let paid = budget_funds(kept.card().prefix(), budget_in(&rows.ask(&key)?));
+    let mut row = None;
+    rows.ask(&key, &mut row)?;
+    let paid = budget_funds(kept.card().prefix(), budget_in(&row));
     decide_on_paid(reversal, kept, &paid, rows)
 }
 
@@ -184,7 +191,9 @@ fn decide_on_day<S: RowSource>(
     ensures book { S.book rows.new.source ≡ S.book rows.old.source }
 {
     let key = RowKey::Velocity(kept.card(), reversal.original.identity.stamp.day());
-    match velocity_in(&rows.ask(&key)?) {
+    let mut row = None;
+    rows.ask(&key, &mut row)?;
+    match velocity_in(&row) {
         Some(day) => reverse_request(reversal, kept, paid, &day, rows),
         None => Ok(unchanged(reversal, Action::NOT_TRACED)),
     }

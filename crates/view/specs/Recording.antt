@@ -1,5 +1,5 @@
 -- What a recorder holds while a message is decided.
-use Rattle.std.specs.Prelude.{◌≡◌, ◌⊎◌, [], Option, Some, None, Result, Err, IfSome}
+use Rattle.std.specs.Prelude.{◌≡◌, ◌⊎◌, [], Option, Some, None, Result, Ok, Err, IfSome}
 use Rattle.std.specs.FinMap as map
 use Rattle.rows.specs.Agreement.{Reads, Agrees}
 use Rattle.rows.specs.Fold.{Rows}
@@ -40,3 +40,8 @@ AsksOnce answers old key result new = answers old key result new ⊎ ((result �
 -- the last question to the source was stopped so
 abbrev pub IsStopOf : {S : Type 0} → (S → RowKey → Result (Option RowVal) Stop → S → Type 0) → S → Stop → Type 0
 IsStopOf {S} answers new stop = (old : S) × (key : RowKey) × answers old key (Err stop) new
+
+-- the answer to a question whose row was written to this place
+abbrev pub answer_of : {T : Type 0} → Result T Stop → Option RowVal → Result (Option RowVal) Stop
+answer_of (Ok done) row = Ok row
+answer_of (Err stop) row = Err stop

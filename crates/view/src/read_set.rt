@@ -1,7 +1,7 @@
-ghost use Rattle.std.specs.Prelude.{◌≡◌, ◌↔◌, ◌<◌, [], Some, None, length, slice_get, IsTrue, IfOk, IfErr, IfSome, OnErr};
+ghost use Rattle.std.specs.Prelude.{◌≡◌, ◌↔◌, ◌<◌, [], Some, None, length, slice_get, IsTrue, IfErr, IfSome, OnOk, OnErr};
 ghost use Rattle.std.specs.FinMap as map;
 ghost use Rattle.rows.specs.RowVal.{IsOfKind};
-ghost use Rattle.view.specs.Recording.{AsksOnce};
+ghost use Rattle.view.specs.Recording.{answer_of, AsksOnce};
 ghost use Rattle.view.specs.RowSets.{value_in, logged, IsOnceEach};
 
 use crate::few::{FEW, insert_copy, place_of, push_copy};
@@ -94,29 +94,31 @@ impl ReadSet {
         }
     }
 
-    // Makes room, asks the source for a row that was not read yet, and logs the answer.
+    // Makes room, asks the source for a row that was not read yet, and logs the answer, which is written to a place of the
+    // caller's.
     pub(crate) fn ask<S: RowSource>(
         &mut self,
         key: &RowKey,
         source: &mut S,
-    ) -> Result<Option<RowVal>, Stop>
+        row: &mut Option<RowVal>,
+    ) -> Result<(), Stop>
         requires { value_in self.old key.now ≡ None }
-        ensures asked { AsksOnce S.answers source.old key.now result source.new }
-        ensures ok { IfOk result (λ row. self.new ≡ logged self.old key.now row) }
+        ensures asked { AsksOnce S.answers source.old key.now (answer_of result row.new) source.new }
+        ensures ok { OnOk result (self.new ≡ logged self.old key.now row.new) }
         ensures err { OnErr result (self.new ≡ self.old) }
-        ensures kind { IfOk result (λ row. IfSome row (IsOfKind key.now)) }
-        ensures known { IfOk result (λ row. IfSome (S.book source.old) (λ rows. row ≡ map.get rows key.now)) }
+        ensures kind { OnOk result (IfSome row.new (IsOfKind key.now)) }
+        ensures known { OnOk result (IfSome (S.book source.old) (λ rows. row.new ≡ map.get rows key.now)) }
         ensures stops { IfSome (S.book source.old) (λ _. IfErr result (λ stop. stop ≡ Stop.OutOfMemory)) }
         ensures same { S.book source.new ≡ S.book source.old }
     {
         if self.few.len() < FEW {
             self.few.reserve(1)?;
-            let row = source.read(key)?;
-            push_copy(&mut self.few, key, &row);
-            return Ok(row);
+            source.read_into(key, row)?;
+            push_copy(&mut self.few, key, row);
+            return Ok(());
         }
-        let row = ask_more(&mut self.more, key, source)?;
-        Ok(row)
+        ask_more(&mut self.more, key, source, row)?;
+        Ok(())
     }
 }
 
@@ -126,20 +128,21 @@ fn ask_more<S: RowSource>(
     more: &mut IndexMap<RowKey, Option<RowVal>>,
     key: &RowKey,
     source: &mut S,
-) -> Result<Option<RowVal>, Stop>
+    answer: &mut Option<RowVal>,
+) -> Result<(), Stop>
     requires { value_in more.old.entries key.now ≡ None }
-    ensures asked { AsksOnce S.answers source.old key.now result source.new }
-    ensures ok { IfOk result (λ row. more.new.entries ≡ logged more.old.entries key.now row) }
+    ensures asked { AsksOnce S.answers source.old key.now (answer_of result answer.new) source.new }
+    ensures ok { OnOk result (more.new.entries ≡ logged more.old.entries key.now answer.new) }
     ensures err { OnErr result (more.new.entries ≡ more.old.entries) }
-    ensures kind { IfOk result (λ row. IfSome row (IsOfKind key.now)) }
-    ensures known { IfOk result (λ row. IfSome (S.book source.old) (λ rows. row ≡ map.get rows key.now)) }
+    ensures kind { OnOk result (IfSome answer.new (IsOfKind key.now)) }
+    ensures known { OnOk result (IfSome (S.book source.old) (λ rows. answer.new ≡ map.get rows key.now)) }
     ensures stops { IfSome (S.book source.old) (λ _. IfErr result (λ stop. stop ≡ Stop.OutOfMemory)) }
     ensures same { S.book source.new ≡ S.book source.old }
 {
     more.reserve(1)?;
-    let answer = source.read(key)?;
-    match insert_copy(more, key, &answer) {
-        Ok(()) => Ok(answer),
+    source.read_into(key, answer)?;
+    match insert_copy(more, key, answer) {
+        Ok(()) => Ok(()),
         Err(_) => unreachable!(),
     }
 }

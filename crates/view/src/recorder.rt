@@ -1,7 +1,7 @@
 ghost use Rattle.std.specs.Prelude.{◌≡◌, ◌⊎◌, [], Some, None, IfOk, IfErr, IfSome, OnOk, OnErr};
 ghost use Rattle.std.specs.FinMap as map;
 ghost use Rattle.rows.specs.RowVal.{IsOfKind};
-ghost use Rattle.view.specs.Recording.{kept, AgreesWithBook, AsksOnce, IsStopOf};
+ghost use Rattle.view.specs.Recording.{answer_of, kept, AgreesWithBook, AsksOnce, IsStopOf};
 ghost use Rattle.view.specs.RowSets.{value_in, logged, put};
 
 use crate::read_set::ReadSet;
@@ -78,27 +78,30 @@ impl<S: RowSource> Recorder<S> {
         if let Some(row) = self.reads.get(key) {
             return Ok(row);
         }
-        self.reads.ask(key, &mut self.source)
+        let mut row = None;
+        self.reads.ask(key, &mut self.source, &mut row)?;
+        Ok(row)
     }
 
-    /// What a row is that was neither put nor read yet: as the source answers, which is then logged.
+    /// Writes to a place of the caller's what a row is that was neither put nor read yet: as the source answers, which is
+    /// then logged.
     #[inline(always)]
-    pub fn ask(&mut self, key: &RowKey) -> Result<Option<RowVal>, Stop>
+    pub fn ask(&mut self, key: &RowKey, row: &mut Option<RowVal>) -> Result<(), Stop>
         requires { kept self.old key.now ≡ None }
 
         // The source is asked once, and its answer is logged.
-        ensures asked { AsksOnce S.answers self.old.source key.now result self.new.source }
-        ensures logged { IfOk result (λ row. self.new.reads ≡ logged self.old.reads key.now row) }
+        ensures asked { AsksOnce S.answers self.old.source key.now (answer_of result row.new) self.new.source }
+        ensures logged { OnOk result (self.new.reads ≡ logged self.old.reads key.now row.new) }
         ensures err { OnErr result (self.new.reads ≡ self.old.reads) }
         ensures writes { self.new.writes ≡ self.old.writes }
-        ensures kind { IfOk result (λ row. IfSome row (IsOfKind key.now)) }
+        ensures kind { OnOk result (IfSome row.new (IsOfKind key.now)) }
 
         // It stops where the source does or memory runs out. A known book stays, and there want of memory is all that stops it.
         ensures stop { IfErr result (λ stop. (stop ≡ Stop.OutOfMemory) ⊎ IsStopOf S.answers self.new.source stop) }
         ensures stops { IfSome (S.book self.old.source) (λ _. IfErr result (λ stop. stop ≡ Stop.OutOfMemory)) }
         ensures book { S.book self.new.source ≡ S.book self.old.source }
     {
-        self.reads.ask(key, &mut self.source)
+        self.reads.ask(key, &mut self.source, row)
     }
 
     /// Puts a row, over the value that it has; a row that is put already takes no memory.
@@ -109,7 +112,18 @@ impl<S: RowSource> Recorder<S> {
         ensures stop { IfErr result (λ stop. stop ≡ Stop.OutOfMemory) }
         ensures absent { OnErr result (value_in self.old.writes key ≡ None) }
     {
-        self.writes.put_copy(&key, &row)?;
+        self.write_copy(&key, &row)
+    }
+
+    /// Puts a copy of a row, over the value that it has; a row that is put already takes no memory.
+    pub fn write_copy(&mut self, key: &RowKey, row: &RowVal) -> Result<(), Stop>
+        requires { IsOfKind key.now row.now }
+        ensures ok { OnOk result (self.new ≡ record self.old { writes = put self.old.writes key.now row.now }) }
+        ensures err { OnErr result (self.new ≡ self.old) }
+        ensures stop { IfErr result (λ stop. stop ≡ Stop.OutOfMemory) }
+        ensures absent { OnErr result (value_in self.old.writes key.now ≡ None) }
+    {
+        self.writes.put_copy(key, row)?;
         Ok(())
     }
 

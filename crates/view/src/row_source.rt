@@ -1,9 +1,10 @@
-ghost use Rattle.std.specs.Prelude.{◌≡◌, Option, Result, IfOk, IfErr, IfSome};
+ghost use Rattle.std.specs.Prelude.{◌≡◌, Option, Result, IfOk, IfErr, IfSome, OnOk};
 ghost use Rattle.std.specs.FinMap as map;
 ghost use Rattle.rows.specs.Fold.{Rows};
 ghost use Rattle.rows.specs.RowVal.{IsOfKind};
 ghost use Rattle.rows.specs.declared.row_key.RowKey.{RowKey};
 ghost use Rattle.rows.specs.declared.row_val.RowVal.{RowVal};
+ghost use Rattle.view.specs.Recording.{answer_of};
 ghost use Rattle.view.specs.declared.stop.Stop.{Stop};
 
 use crate::stop::Stop;
@@ -28,4 +29,16 @@ pub trait RowSource: Drop {
         ensures known { IfOk result (λ row. IfSome (book self.old) (λ rows. row ≡ map.get rows key.now)) }
         ensures stops { IfSome (book self.old) (λ _. IfErr result (λ stop. stop ≡ Stop.OutOfMemory)) }
         ensures same { book self.new ≡ book self.old };
+
+    /// Writes what the row is to a place of the caller's, so that it isn't copied from hand to hand.
+    fn read_into(&mut self, key: &RowKey, row: &mut Option<RowVal>) -> Result<(), Stop>
+        ensures answers { answers self.old key.now (answer_of result row.new) self.new }
+        ensures kind { OnOk result (IfSome row.new (IsOfKind key.now)) }
+        ensures known { OnOk result (IfSome (book self.old) (λ rows. row.new ≡ map.get rows key.now)) }
+        ensures stops { IfSome (book self.old) (λ _. IfErr result (λ stop. stop ≡ Stop.OutOfMemory)) }
+        ensures same { book self.new ≡ book self.old }
+    {
+        *row = self.read(key)?;
+        Ok(())
+    }
 }

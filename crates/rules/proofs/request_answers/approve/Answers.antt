@@ -10,26 +10,26 @@ use Rattle.rules.proofs.FollowingLaws.{follows_needs, concluded, concluded_needs
 use Rattle.rules.proofs.PutLaws.{four_puts, funds_of_kind}
 use Rattle.rules.proofs.request_answers.approve.Goals as goal
 
-pub returns-in_err-write-clause-so_far : goal.returns-in_err-write-clause-so_far
-returns-in_err-write-clause-so_far g c = follows_needs _ _ _ _ _ c.requires.follows (ap (λ (r : _). r.reads) c.in_err-write.ensures.err)
+pub returns-in_err-write_copy-clause-so_far : goal.returns-in_err-write_copy-clause-so_far
+returns-in_err-write_copy-clause-so_far g c = follows_needs _ _ _ _ _ c.requires.follows (ap (λ (r : _). r.reads) c.in_err-write_copy.ensures.err)
 
-pub returns-in_err-write-2-clause-so_far : goal.returns-in_err-write-2-clause-so_far
-returns-in_err-write-2-clause-so_far g c =
-    follows_needs _ _ _ _ _ c.requires.follows (ap (λ (r : _). r.reads) c.in_err-write-2.ensures.err ∙ ap (λ (r : _). r.reads) c.in_ok-write.ensures.ok)
+pub returns-in_err-write_copy-2-clause-so_far : goal.returns-in_err-write_copy-2-clause-so_far
+returns-in_err-write_copy-2-clause-so_far g c =
+    follows_needs _ _ _ _ _ c.requires.follows (ap (λ (r : _). r.reads) c.in_err-write_copy-2.ensures.err ∙ ap (λ (r : _). r.reads) c.in_ok-write_copy.ensures.ok)
 
-pub returns-in_err-write-3-clause-so_far : goal.returns-in_err-write-3-clause-so_far
-returns-in_err-write-3-clause-so_far g c =
+pub returns-in_err-write_copy-3-clause-so_far : goal.returns-in_err-write_copy-3-clause-so_far
+returns-in_err-write_copy-3-clause-so_far g c =
     follows_needs _ _ _ _ _ c.requires.follows
-    (ap (λ (r : _). r.reads) c.in_err-write-3.ensures.err ∙ ap (λ (r : _). r.reads) c.in_ok-write-2.ensures.ok ∙ ap (λ (r : _). r.reads) c.in_ok-write.ensures.ok)
+    (ap (λ (r : _). r.reads) c.in_err-write_copy-3.ensures.err ∙ ap (λ (r : _). r.reads) c.in_ok-write_copy-2.ensures.ok ∙ ap (λ (r : _). r.reads) c.in_ok-write_copy.ensures.ok)
 
-pub write-requires-4 : goal.write-requires-4
-write-requires-4 g c = rw (c.key.ensures, c.row.ensures, c.with_balance-paid.ensures) (funds_of_kind c.args.paying.now c.in-Some-Some-2.balance)
+pub write_copy-requires-4 : goal.write_copy-requires-4
+write_copy-requires-4 g c = rw (c.key.ensures, c.row.ensures, c.with_balance-paid.ensures) (funds_of_kind c.args.paying.now c.in-Some-Some-2.balance)
 
-pub returns-in_err-write-4-clause-so_far : goal.returns-in_err-write-4-clause-so_far
-returns-in_err-write-4-clause-so_far g c =
+pub returns-in_err-write_copy-4-clause-so_far : goal.returns-in_err-write_copy-4-clause-so_far
+returns-in_err-write_copy-4-clause-so_far g c =
     follows_needs _ _ _ _ _ c.requires.follows
-    (ap (λ (r : _). r.reads) c.in_err-write-4.ensures.err ∙ ap (λ (r : _). r.reads) c.in_ok-write-3.ensures.ok ∙ ap (λ (r : _). r.reads) c.in_ok-write-2.ensures.ok
-    ∙ ap (λ (r : _). r.reads) c.in_ok-write.ensures.ok)
+    (ap (λ (r : _). r.reads) c.in_err-write_copy-4.ensures.err ∙ ap (λ (r : _). r.reads) c.in_ok-write_copy-3.ensures.ok ∙ ap (λ (r : _). r.reads) c.in_ok-write_copy-2.ensures.ok
+    ∙ ap (λ (r : _). r.reads) c.in_ok-write_copy.ensures.ok)
 
 pub returns-clause-done : goal.returns-clause-done
 returns-clause-done g c =
@@ -44,8 +44,8 @@ returns-clause-done g c =
     let paid : c.with_balance-paid.result ≡ with_balance paying (balance_of paying - r.transaction.amount) = c.with_balance-paid.ensures ∙ ap (with_balance paying) balance in
     let row = c.row.ensures ∙ ap row_of_funds paid in
     let puts = four_puts c.args.rows.now _ _ _ _ _ _ _ _ _ _ _ paying _ _ c.requires.follows.unput
-    c.in_ok-write.ensures.ok c.in_ok-write-2.ensures.ok c.in_ok-write-3.ensures.ok c.in_ok-write-4.ensures.ok c.key.ensures in
-    let table : c.write-4.new.self.writes ≡ approved_writes r c.args.card.now c.args.day.now paying =
+    c.in_ok-write_copy.ensures.ok c.in_ok-write_copy-2.ensures.ok c.in_ok-write_copy-3.ensures.ok c.in_ok-write_copy-4.ensures.ok c.key.ensures in
+    let table : c.write_copy-4.new.self.writes ≡ approved_writes r c.args.card.now c.args.day.now paying =
     puts.1 ∙ (λ i. (key.Original (c.identity.ensures i), kept i)
     ∷ (key.Card r.transaction.pan, val.Card (record c.args.card.now { approvals = approvals i }))
     ∷ (key.Velocity r.transaction.pan (c.day.ensures i), val.Velocity (record { count = c.in-Some-Some.ensures'.1 i; sum = c.in-Some-Some-2.ensures.1 i }))

@@ -25,8 +25,8 @@ invariant_of-self-then-len-lt-FEW g c =
     let more = c.self.inside.more.entries in
     let none = absent few more _ c.args.key.now c.self.view_is c.requires in
     let empty = c.self.invariant.2 (search rules) in
-    let last = c.push_copy.ensures ∙ ap (λ (rows : Reads). rows ++ (c.args.key.now, c.in_ok-row.row) ∷ []) c.in_ok-reserve.ensures.items in
-    let all = all_read (few ++ more) _ c.args.key.now c.in_ok-row.row (put_among few more c.args.key.now c.in_ok-row.row none _ empty last) c.self.invariant.0 c.self.invariant.1 c.in_ok-row.ensures.kind in
+    let last = c.push_copy.ensures ∙ ap (λ (rows : Reads). rows ++ (c.args.key.now, c.read_into.new.row) ∷ []) c.in_ok-reserve.ensures.items in
+    let all = all_read (few ++ more) _ c.args.key.now c.read_into.new.row (put_among few more c.args.key.now c.read_into.new.row none _ empty last) c.self.invariant.0 c.self.invariant.1 c.in_ok-read_into.ensures.kind in
     (all.0, all.1, λ _. empty)
 
 pub ask_more-requires : goal.ask_more-requires
@@ -41,6 +41,6 @@ invariant_of-self-2 g c =
     let more = c.self.inside.more.entries in
     let none = absent few more _ c.args.key.now c.self.view_is c.requires in
     let nowhere = ap (λ (rows : Reads). value_in rows c.args.key.now) c.self.view_is ∙ c.requires in
-    let is = put_after few more c.args.key.now c.in_ok-row-2.row none nowhere ∙ ap (λ (rest : Reads). few ++ rest) (sym c.in_ok-row-2.ensures.ok) in
-    let all = all_read (few ++ more) _ c.args.key.now c.in_ok-row-2.row is c.self.invariant.0 c.self.invariant.1 c.in_ok-row-2.ensures.kind in
+    let is = put_after few more c.args.key.now c.ask_more.new.answer none nowhere ∙ ap (λ (rest : Reads). few ++ rest) (sym c.in_ok-ask_more.ensures.ok) in
+    let all = all_read (few ++ more) _ c.args.key.now c.ask_more.new.answer is c.self.invariant.0 c.self.invariant.1 c.in_ok-ask_more.ensures.kind in
     (all.0, all.1, λ small. absurd (search rules))
