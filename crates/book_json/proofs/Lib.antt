@@ -1,0 +1,2 @@
+pub mod ListLemmas
+pub mod Readings
