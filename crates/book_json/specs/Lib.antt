@@ -5,6 +5,8 @@ pub mod JsonFault
 pub mod Lists
 pub mod Originals
 pub mod Parts
+pub mod Ranges
 pub mod Reading
 pub mod Steps
+pub mod Text
 pub mod Words

@@ -4,6 +4,7 @@
 mod book_version;
 mod cards;
 mod entries;
+mod field_writers;
 mod fields;
 mod json_fault;
 mod lists;
@@ -15,7 +16,9 @@ mod paid;
 mod part;
 mod reading;
 mod row_list;
+mod row_writers;
 mod text_fault;
+mod tokens;
 mod word_fields;
 
 pub use json_fault::JsonFault;

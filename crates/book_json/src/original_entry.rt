@@ -1,6 +1,6 @@
 ghost use Rattle.std.specs.Prelude.{◌≡◌, ◌≤◌, Some, None, IfSome};
-ghost use Rattle.rows.specs.Kept.{payment_of_outcome, stay_of_payment};
-ghost use Rattle.book_json.specs.Originals.{payer_of, settlement_of, payment_by, payment_of, posted, unposted};
+ghost use Rattle.rows.specs.Kept.{approval_of_outcome, payment_of_outcome, stay_of_payment};
+ghost use Rattle.book_json.specs.Originals.{payer_of, settlement_of, payment_by, payment_of, posted, unposted, account_of_payment, paid_of_payment};
 
 use crate::old_card::own_account;
 use crate::paid::Paid;
@@ -35,7 +35,28 @@ pub(crate) struct OriginalEntry {
 }
 
 impl OriginalEntry {
-    ghost use Rattle.book_json.specs.Originals.{kept_of, outcome_by};
+    ghost use Rattle.book_json.specs.Originals.{kept_of, outcome_by, entry_of_kept};
+
+    /// What version 3 says of an original.
+    pub(crate) fn of(kept: &Kept) -> OriginalEntry
+        ensures entry { result ≡ entry_of_kept kept.now }
+        ensures back { kept_of result ≡ Some kept.now }
+    {
+        let outcome = kept.outcome();
+        let amount = kept.amount();
+        OriginalEntry {
+            account: account_of(&outcome),
+            action: outcome.action(),
+            amount,
+            approval: approval_of(&outcome),
+            kind: outcome.kind(),
+            paid: paid_of(&outcome),
+            pan: kept.card(),
+            processing: kept.processing(),
+            reversed: outcome.reversal(),
+            stay: outcome.stay(amount),
+        }
+    }
 
     /// What is kept of the original, if it can be.
     pub(crate) fn kept(&self) -> Option<Kept>
@@ -160,5 +181,38 @@ fn unposted(
     match kind {
         OriginalKind::Request => Some(Outcome::Declined(DeclineCode::new(action)?, reversed)),
         OriginalKind::Advice => Some(Outcome::Acknowledged(UnpostedAction::new(action)?, reversed)),
+    }
+}
+
+// The account that paid, if one did.
+fn account_of(outcome: &Outcome) -> Option<AccountId>
+    ensures { result ≡ account_of_payment (payment_of_outcome outcome.now) }
+{
+    match &outcome.payment()?.payer {
+        Payer::Account(id) => Some(*id),
+        Payer::Budget => None,
+    }
+}
+
+// The word for what paid.
+fn paid_of(outcome: &Outcome) -> Paid
+    ensures { result ≡ paid_of_payment (payment_of_outcome outcome.now) }
+{
+    let Some(payment) = outcome.payment() else {
+        return Paid::Nothing;
+    };
+    match &payment.payer {
+        Payer::Account(_) => Paid::Account,
+        Payer::Budget => Paid::Budget,
+    }
+}
+
+// The approval code of an approved request.
+fn approval_of(outcome: &Outcome) -> Option<Approval>
+    ensures { result ≡ approval_of_outcome outcome.now }
+{
+    match outcome {
+        Outcome::Approved(code, _) => Some(*code),
+        _ => None,
     }
 }
