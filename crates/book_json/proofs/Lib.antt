@@ -4,3 +4,6 @@ pub mod Readings
 pub mod WrittenTokens
 pub mod RowsAgain
 pub mod OriginalsAgain
+pub mod BookAgain
+pub mod ListNames
+pub mod RoundTrip

@@ -20,7 +20,9 @@ mod row_writers;
 mod text_fault;
 mod tokens;
 mod word_fields;
+mod writing;
 
 pub use json_fault::JsonFault;
 pub use part::Part;
 pub use reading::read_book;
+pub use writing::write_book;
