@@ -2,11 +2,10 @@
 
 ghost use Rattle.std.specs.Prelude.{◌≡◌, map};
 ghost use Rattle.serde_json.specs.View.{view};
-ghost use Rattle.book_json.specs.Fields.{has_keys, number_at, text_at, balance_at, amount_at, count_at, currency_at, expiry_at, pan_at, prefix_at, day_at, action_at, processing_at, acquirer_at, stan_at, stamp_at};
-ghost use Rattle.book_json.specs.Steps.{Gives};
+ghost use Rattle.book_json_laws.specs.Fields.{has_keys, number_at, text_at, balance_at, amount_at, count_at, currency_at, expiry_at, pan_at, prefix_at, day_at, action_at, processing_at, acquirer_at, stan_at, stamp_at};
+ghost use Rattle.book_json_laws.specs.Steps.{Gives};
 
-use crate::part::Part;
-use crate::text_fault::TextFault;
+use book_json_laws::{Part, TextFault};
 use iso8583::{
     Acquirer, Action, Amount, Currency, Day, Digits, LocalStamp, Pan, PanPrefix, Processing, Stan,
 };

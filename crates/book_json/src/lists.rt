@@ -3,18 +3,15 @@
 ghost use Rattle.std.specs.Prelude.{◌≡◌, IfOk};
 ghost use Rattle.rows.specs.RowVal.{IsOfKind};
 ghost use Rattle.serde_json.specs.View.{view, items_view};
-ghost use Rattle.book_json.specs.Cards.{migrated_card};
-ghost use Rattle.book_json.specs.Lists.{entry_of, card_row_of, has_old_cards, with_row, with_rows, add_entry, add_entries, add_list};
-ghost use Rattle.book_json.specs.Steps.{GivesOrMemory};
-ghost use Rattle.book_json.specs.declared.row_list.RowList.TheVariants.{Cards};
+ghost use Rattle.book_json_laws.specs.Cards.{migrated_card};
+ghost use Rattle.book_json_laws.specs.Lists.{entry_of, card_row_of, has_old_cards, with_row, with_rows, add_entry, add_entries, add_list};
+ghost use Rattle.book_json_laws.specs.Steps.{GivesOrMemory};
+ghost use Rattle.book_json_laws.specs.declared.row_list.RowList.TheVariants.{Cards};
 
-use crate::book_version::BookVersion;
 use crate::cards::{card_of, old_card_of};
 use crate::entries::{account_of, budget_of, day_of, mark_of};
-use crate::old_card::{OldCard, own_account};
 use crate::originals::original_of;
-use crate::row_list::RowList;
-use crate::text_fault::TextFault;
+use book_json_laws::{BookVersion, OldCard, RowList, TextFault, own_account};
 use rows::{Book, RowKey, RowVal};
 use serde_json::Value;
 
@@ -115,7 +112,7 @@ fn add_entries(
 }
 
 /// Puts the rows of a list of the top object into the book, if the version has it.
-#[tactic(auto, unfolding(crate::specs::Lists::add_list))]
+#[tactic(auto, unfolding(book_json_laws::specs::Lists::add_list))]
 pub(crate) fn add_list(
     version: BookVersion,
     list: RowList,

@@ -3,18 +3,15 @@
 ghost use Rattle.std.specs.Prelude.{◌≡◌, IfOk};
 ghost use Rattle.rows.specs.RowVal.{IsOfKind};
 ghost use Rattle.serde_json.specs.View.{view};
-ghost use Rattle.book_json.specs.Fields.{has_keys};
-ghost use Rattle.book_json.specs.Originals.{original_keys, paying_account_at, original_entry_of, original_of};
+ghost use Rattle.book_json_laws.specs.Fields.{has_keys};
+ghost use Rattle.book_json_laws.specs.Originals.{original_keys, paying_account_at, original_entry_of, original_of};
 
-use crate::book_version::BookVersion;
 use crate::fields::{
     acquirer_at, action_at, amount_at, has_keys, pan_at, processing_at, stamp_at, stan_at,
 };
 use crate::null_fields::{optional_account_id_at, optional_approval_at, optional_identity_at};
-use crate::original_entry::OriginalEntry;
-use crate::part::Part;
-use crate::text_fault::TextFault;
 use crate::word_fields::{kind_at, paid_at};
+use book_json_laws::{BookVersion, OriginalEntry, Part, TextFault};
 use iso8583::{AccountId, Identity};
 use rows::{RowKey, RowVal};
 use serde_json::Value;
@@ -69,7 +66,7 @@ fn paying_account_at(version: BookVersion, entry: &Value) -> Result<Option<Accou
 }
 
 /// An identity, and what is said of its original.
-#[tactic(auto, unfolding(crate::specs::Originals::original_entry_of))]
+#[tactic(auto, unfolding(book_json_laws::specs::Originals::original_entry_of))]
 fn original_entry_of(
     version: BookVersion,
     entry: &Value,
@@ -113,7 +110,7 @@ fn original_entry_of(
 }
 
 /// An original's row.
-#[tactic(auto, unfolding(crate::specs::Originals::original_of))]
+#[tactic(auto, unfolding(book_json_laws::specs::Originals::original_of))]
 pub(crate) fn original_of(
     version: BookVersion,
     entry: &Value,

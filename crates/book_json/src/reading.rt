@@ -2,16 +2,12 @@
 
 ghost use Rattle.std.specs.Prelude.{◌≡◌};
 ghost use Rattle.serde_json.specs.View.{view};
-ghost use Rattle.book_json.specs.Reading.{version_of_keys, version_of, add_lists, all_lists, book_of, reading, IsAnswer};
-ghost use Rattle.book_json.specs.Steps.{GivesOrMemory};
+ghost use Rattle.book_json_laws.specs.Reading.{version_of_keys, version_of, add_lists, all_lists, book_of, reading, IsAnswer};
+ghost use Rattle.book_json_laws.specs.Steps.{GivesOrMemory};
 
-use crate::book_version::BookVersion;
 use crate::fields::{has_keys, number_at};
-use crate::json_fault::JsonFault;
 use crate::lists::add_list;
-use crate::part::Part;
-use crate::row_list::RowList;
-use crate::text_fault::TextFault;
+use book_json_laws::{BookVersion, JsonFault, Part, RowList, TextFault};
 use rows::{Book, check_book};
 use serde_json::Value;
 use std::alloc::Global;
@@ -83,7 +79,7 @@ fn add_lists(
 }
 
 /// The book that a JSON value is.
-#[tactic(auto, unfolding(crate::specs::Reading::book_of))]
+#[tactic(auto, unfolding(book_json_laws::specs::Reading::book_of))]
 fn book_of(alloc: Global, top: &Value) -> Result<Book, TextFault>
     ensures { GivesOrMemory (λ book. book) result (book_of (view top.now)) }
 {

@@ -2,14 +2,11 @@
 
 ghost use Rattle.std.specs.Prelude.{◌≡◌};
 ghost use Rattle.serde_json.specs.View.{view};
-ghost use Rattle.book_json.specs.Fields.{status_at, mode_at, kind_at, paid_at};
-ghost use Rattle.book_json.specs.Words.{status_of, mode_of, kind_of, card_paid_of, account_paid_of, paid_of};
+ghost use Rattle.book_json_laws.specs.Fields.{status_at, mode_at, kind_at, paid_at};
+ghost use Rattle.book_json_laws.specs.Words.{status_of, mode_of, kind_of, card_paid_of, account_paid_of, paid_of};
 
-use crate::book_version::BookVersion;
 use crate::fields::text_at;
-use crate::paid::Paid;
-use crate::part::Part;
-use crate::text_fault::TextFault;
+use book_json_laws::{BookVersion, Paid, Part, TextFault};
 use iso8583::OriginalKind;
 use rows::{BudgetMode, CardStatus};
 use serde_json::Value;

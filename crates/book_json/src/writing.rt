@@ -5,13 +5,13 @@ ghost use Rattle.std.specs.FinMap as map;
 ghost use Rattle.std.specs.List.{AllByRecursion};
 ghost use Rattle.json.specs.Token.{key as key_token};
 ghost use Rattle.rows.specs.RowVal.{IsOfKind};
-ghost use Rattle.book_json.specs.Parts.{list_key, is_in};
-ghost use Rattle.book_json.specs.Reading.{reading};
-ghost use Rattle.book_json.specs.Text.{Adds, ReadsBack, tokens_of, entry_data, list_data, rows_of, book_text};
+ghost use Rattle.book_json_laws.specs.Parts.{list_key, is_in};
+ghost use Rattle.book_json_laws.specs.Reading.{reading};
+ghost use Rattle.book_json_laws.specs.Text.{Adds, ReadsBack, tokens_of, entry_data, list_data, rows_of, book_text};
 
-use crate::row_list::RowList;
 use crate::row_writers::write_entry;
 use crate::tokens::{begin_array, begin_object, end_array, end_object, key, number_field};
+use book_json_laws::RowList;
 use json::Writer;
 use rows::{Book, RowKey, RowVal};
 use std::alloc::{AllocError, Global};

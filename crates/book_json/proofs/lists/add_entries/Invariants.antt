@@ -1,6 +1,6 @@
 use Rattle.std.proofs.Common.{◌≡◌, drop}
 use Rattle.serde_json.specs.View.{items_view}
-use Rattle.book_json.specs.Lists.{add_entries}
+use Rattle.book_json_laws.specs.Lists.{add_entries}
 use Rattle.book_json.proofs.lists.add_entries.Given as goal
 
 -- what is left, put into the book as it is, gives what all gives

@@ -1,6 +1,6 @@
 use Rattle.std.proofs.Common.{◌≡◌, drop}
 use Rattle.serde_json.specs.View.{view}
-use Rattle.book_json.specs.Reading.{add_lists}
+use Rattle.book_json_laws.specs.Reading.{add_lists}
 use Rattle.book_json.proofs.reading.add_lists.Given as goal
 
 -- the lists that are left, put into the book as it is, give what all give

@@ -1,9 +1,9 @@
 use Rattle.std.proofs.Common.{subst, ◌≡◌, ap, sym, ◌∙◌, Some, Option}
 use Rattle.rows.specs.Kept.{KeptOriginal}
-use Rattle.book_json.specs.Originals.{kept_of}
-use Rattle.book_json.specs.Ranges.{IsOriginalEntry}
-use Rattle.book_json.specs.declared.original_entry.OriginalEntry.{OriginalEntry}
-use Rattle.book_json.proofs.OriginalsAgain.{original_again}
+use Rattle.book_json_laws.specs.Originals.{kept_of}
+use Rattle.book_json_laws.specs.Ranges.{IsOriginalEntry}
+use Rattle.book_json_laws.specs.declared.original_entry.OriginalEntry.{OriginalEntry}
+use Rattle.book_json_laws.proofs.OriginalsAgain.{original_again}
 use Rattle.book_json.proofs.row_writers.write_kept.Goals as goal
 
 pub returns-clause-back : goal.returns-clause-back

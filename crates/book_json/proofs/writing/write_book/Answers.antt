@@ -3,9 +3,9 @@ use Rattle.std.specs.Str.{IsUtf8}
 use Rattle.json.specs.Lex.{tokens}
 use Rattle.json.specs.Print.{print}
 use Rattle.json.specs.Token.{Token}
-use Rattle.book_json.specs.Text.{tokens_of, book_data}
-use Rattle.book_json.proofs.BookAgain.{AreReadBack, text_again}
-use Rattle.book_json.proofs.WrittenTokens.{then, printed}
+use Rattle.book_json_laws.specs.Text.{tokens_of, book_data}
+use Rattle.book_json_laws.proofs.BookAgain.{AreReadBack, text_again}
+use Rattle.book_json_laws.proofs.WrittenTokens.{then, printed}
 use Rattle.book_json.proofs.writing.write_book.Goals as goal
 
 pub returns-clause-text : goal.returns-clause-text

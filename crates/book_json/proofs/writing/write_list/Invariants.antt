@@ -1,8 +1,8 @@
 use Rattle.std.proofs.Common.{◌≡◌, ◌++◌}
 use Rattle.std.specs.List.{AllByRecursion}
 use Rattle.rows.specs.Book.{AllOfKind}
-use Rattle.book_json.specs.Text.{ReadsBack, rows_of}
-use Rattle.book_json.proofs.WrittenTokens.{rest_tokens}
+use Rattle.book_json_laws.specs.Text.{ReadsBack, rows_of}
+use Rattle.book_json_laws.proofs.WrittenTokens.{rest_tokens}
 use Rattle.book_json.proofs.writing.write_list.Given as goal
 
 -- what is written, with the rows that are left, is what all rows are

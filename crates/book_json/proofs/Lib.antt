@@ -1,9 +1,0 @@
-pub mod Characters
-pub mod ListLemmas
-pub mod Readings
-pub mod WrittenTokens
-pub mod RowsAgain
-pub mod OriginalsAgain
-pub mod BookAgain
-pub mod ListNames
-pub mod RoundTrip
