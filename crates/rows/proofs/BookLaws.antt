@@ -14,7 +14,7 @@ use Rattle.std.specs.Option.{option_to_list}
 use Rattle.std.specs.Ordering.{eq_by_cmp}
 use Rattle.indexmap.specs.IndexMap.{insert_entry}
 use Rattle.rows.proofs.KeyLaws.{key_cmp_total, key_cmp_antisymmetric, key_eq_decides, same_test}
-use Rattle.rows.specs.Book.{AreOfKind, AreThere, AreTheKeys, value_at, with_row, listed}
+use Rattle.rows.specs.Book.{AllOfKind, AreOfKind, AreThere, AreTheKeys, value_at, with_row, listed}
 use Rattle.rows.specs.Fold.{Rows}
 use Rattle.rows.specs.RowKey.{kind_of, key_cmp, key_eq}
 use Rattle.rows.specs.RowVal.{IsOfKind}
@@ -142,6 +142,15 @@ entries_seen es ks sorted are =
     map.same_map key_cmp_total key_cmp_antisymmetric _ _ (λ q.
     get_seen (listed es ks) q ∙ value_listed es ks q there ∙ covered (value_at es q) _ (are q) ∙ sym (get_seen es q)) in
     ap map.entries (sym same) ∙ ordered_entries (listed es ks) (subst (IsStrictlySortedBy key_cmp) (sym (keys_listed es ks there)) sorted)
+
+-- what is listed is of its keys' kinds
+pub kinds_listed : (es : List (RowKey × RowVal)) (ks : List RowKey) → AreOfKind es → AllOfKind (listed es ks)
+kinds_listed es [] kinds = tt
+kinds_listed es (k ∷ ks) kinds =
+    elim (value_at es k) as (λ o. IfSome o (IsOfKind k) → AllOfKind (with_row k o (listed es ks))) [
+      | Some v ↦ λ kind. (kind, kinds_listed es ks kinds)
+      | None ↦ λ _. kinds_listed es ks kinds
+    ] (kinds k)
 
 length_listed : (es : List (RowKey × RowVal)) (ks : List RowKey) → AreThere es ks → length (listed es ks) ≡ length ks
 length_listed es [] there = refl

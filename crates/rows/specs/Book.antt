@@ -16,6 +16,10 @@ value_at rows key = lookup (key_eq key) rows
 abbrev pub AreOfKind : List (RowKey × RowVal) → Type 0
 AreOfKind rows = (key : RowKey) → IfSome (value_at rows key) (IsOfKind key)
 
+-- each of these rows is of its key's kind
+abbrev pub AllOfKind : List (RowKey × RowVal) → Type 0
+AllOfKind rows = AllByRecursion (λ row. IsOfKind row.0 row.1) rows
+
 -- one more row in front, if the key has a value
 abbrev pub with_row : RowKey → Option RowVal → List (RowKey × RowVal) → List (RowKey × RowVal)
 with_row key (Some value) rest = (key, value) ∷ rest

@@ -1,5 +1,6 @@
 ghost use Rattle.std.specs.Prelude.{◌≡◌, ◌↔◌, option_copied, OnOk, OnErr, IfOk, IfSome, IsTrue, None};
 ghost use Rattle.std.specs.FinMap as map;
+ghost use Rattle.rows.specs.Book.{AllOfKind};
 ghost use Rattle.rows.specs.RowVal.{IsOfKind};
 ghost use Rattle.rows.specs.RowKey.{key_cmp};
 
@@ -133,7 +134,8 @@ impl Book {
 
     /// The rows in the order of their keys.
     pub fn rows(&self) -> BookRows<'_>
-        ensures { result ≡ map.entries self.now }
+        ensures rows { result ≡ map.entries self.now }
+        ensures kinds { AllOfKind (map.entries self.now) }
     {
         BookRows::new(self.keys.iter(), &self.rows)
     }

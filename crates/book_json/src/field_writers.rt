@@ -1,0 +1,281 @@
+//! Fields of an entry, as they are written.
+
+ghost use Rattle.std.specs.Prelude.{◌≡◌, ◌∷◌, [], ◌≤◌, ◌<◌, ◌^◌, length, decimal, OnOk, IfSome};
+ghost use Rattle.iso8583.specs.Calendar.{IsDay, IsLocalStamp};
+ghost use Rattle.iso8583.specs.Class.{IsDigits};
+ghost use Rattle.iso8583.specs.Number.{fixed_digits};
+ghost use Rattle.iso8583.specs.Padded.{HasDigits};
+ghost use Rattle.json.specs.Token.{key as key_token, string as string_token, number as number_token};
+ghost use Rattle.rows.specs.Expiry.{IsExpiry};
+ghost use Rattle.book_json_laws.specs.Ranges.{AreDigits, IsIdentity, IsAccountId, IsApproval};
+ghost use Rattle.book_json_laws.specs.Text.{Adds, tokens_of, optional_data, account_id_data, approval_data, identity_data};
+ghost use Rattle.book_json_laws.specs.Words.{status_word, mode_word, kind_word, paid_word};
+
+use crate::tokens::{
+    begin_object, bytes_field, end_object, key, null_field, number_field, text_field,
+};
+use book_json_laws::Paid;
+use iso8583::{
+    AccountId, Acquirer, Action, Amount, Approval, Currency, Day, Digits, Identity, LocalStamp,
+    OriginalKind, Pan, PanPrefix, Processing, Stan,
+};
+use json::Writer;
+use rows::{Balance, BudgetMode, CardStatus, Count, Expiry};
+use std::alloc::AllocError;
+
+pub(crate) fn balance_field(
+    out: &mut Writer,
+    name: &str,
+    balance: Balance,
+) -> Result<(), AllocError>
+    ensures text { OnOk result (Adds out.old out.new (key_token name.now ∷ number_token (decimal balance) ∷ [])) }
+    ensures bound { balance ≤ 10 ^ 15 }
+{
+    number_field(out, name, balance.minor())
+}
+
+pub(crate) fn amount_field(out: &mut Writer, name: &str, amount: Amount) -> Result<(), AllocError>
+    ensures text { OnOk result (Adds out.old out.new (key_token name.now ∷ number_token (decimal amount) ∷ [])) }
+    ensures bound { amount < 10 ^ 12 }
+{
+    number_field(out, name, amount.minor())
+}
+
+pub(crate) fn count_field(out: &mut Writer, name: &str, count: Count) -> Result<(), AllocError>
+    ensures text { OnOk result (Adds out.old out.new (key_token name.now ∷ number_token (decimal count) ∷ [])) }
+    ensures bound { count < 1000000 }
+{
+    number_field(out, name, u64::from(count.number()))
+}
+
+#[tactic(auto, using(iso8583::proofs::AsciiLaws::digits_utf8))]
+fn digits_field<const N: usize>(
+    out: &mut Writer,
+    name: &str,
+    digits: Digits<N>,
+) -> Result<(), AllocError>
+    ensures text { OnOk result (Adds out.old out.new (key_token name.now ∷ string_token digits.entry ∷ [])) }
+    ensures range { AreDigits N digits.entry }
+{
+    bytes_field(out, name, digits.as_slice())
+}
+
+pub(crate) fn currency_field(
+    out: &mut Writer,
+    name: &str,
+    currency: Currency,
+) -> Result<(), AllocError>
+    ensures text { OnOk result (Adds out.old out.new (key_token name.now ∷ string_token currency.0 ∷ [])) }
+    ensures range { AreDigits 3 currency.0 }
+{
+    digits_field(out, name, currency.0)
+}
+
+pub(crate) fn prefix_field(
+    out: &mut Writer,
+    name: &str,
+    prefix: PanPrefix,
+) -> Result<(), AllocError>
+    ensures text { OnOk result (Adds out.old out.new (key_token name.now ∷ string_token prefix.0 ∷ [])) }
+    ensures range { AreDigits 6 prefix.0 }
+{
+    digits_field(out, name, prefix.0)
+}
+
+pub(crate) fn processing_field(
+    out: &mut Writer,
+    name: &str,
+    processing: Processing,
+) -> Result<(), AllocError>
+    ensures text { OnOk result (Adds out.old out.new (key_token name.now ∷ string_token processing.0 ∷ [])) }
+    ensures range { AreDigits 6 processing.0 }
+{
+    digits_field(out, name, processing.0)
+}
+
+pub(crate) fn stan_field(out: &mut Writer, name: &str, stan: Stan) -> Result<(), AllocError>
+    ensures text { OnOk result (Adds out.old out.new (key_token name.now ∷ string_token stan.0 ∷ [])) }
+    ensures range { AreDigits 6 stan.0 }
+{
+    digits_field(out, name, stan.0)
+}
+
+pub(crate) fn action_field(out: &mut Writer, name: &str, action: Action) -> Result<(), AllocError>
+    ensures text { OnOk result (Adds out.old out.new (key_token name.now ∷ string_token (fixed_digits 3 action) ∷ [])) }
+    ensures bound { action < 1000 }
+    ensures range { AreDigits 3 (fixed_digits 3 action) }
+{
+    let _code = action.code();
+    digits_field(out, name, action.digits())
+}
+
+#[tactic(auto, using(iso8583::proofs::AsciiLaws::digits_utf8))]
+pub(crate) fn expiry_field(out: &mut Writer, name: &str, expiry: Expiry) -> Result<(), AllocError>
+    ensures text { OnOk result (Adds out.old out.new (key_token name.now ∷ string_token expiry ∷ [])) }
+    ensures range { IsExpiry expiry }
+{
+    bytes_field(out, name, expiry.as_slice())
+}
+
+#[tactic(auto, using(iso8583::proofs::AsciiLaws::digits_utf8))]
+pub(crate) fn day_field(out: &mut Writer, name: &str, day: Day) -> Result<(), AllocError>
+    ensures text { OnOk result (Adds out.old out.new (key_token name.now ∷ string_token day ∷ [])) }
+    ensures range { IsDay day }
+{
+    bytes_field(out, name, day.as_slice())
+}
+
+#[tactic(auto, using(iso8583::proofs::AsciiLaws::digits_utf8))]
+pub(crate) fn stamp_field(out: &mut Writer, name: &str, stamp: LocalStamp) -> Result<(), AllocError>
+    ensures text { OnOk result (Adds out.old out.new (key_token name.now ∷ string_token stamp ∷ [])) }
+    ensures range { IsLocalStamp stamp }
+{
+    bytes_field(out, name, stamp.as_slice())
+}
+
+#[tactic(auto, using(iso8583::proofs::AsciiLaws::digits_utf8))]
+pub(crate) fn pan_field(out: &mut Writer, name: &str, pan: Pan) -> Result<(), AllocError>
+    ensures text { OnOk result (Adds out.old out.new (key_token name.now ∷ string_token pan.0 ∷ [])) }
+    ensures range { HasDigits 12 19 pan.0 }
+{
+    bytes_field(out, name, pan.as_slice())
+}
+
+#[tactic(auto, using(iso8583::proofs::AsciiLaws::digits_utf8))]
+pub(crate) fn acquirer_field(
+    out: &mut Writer,
+    name: &str,
+    acquirer: Acquirer,
+) -> Result<(), AllocError>
+    ensures text { OnOk result (Adds out.old out.new (key_token name.now ∷ string_token acquirer.0 ∷ [])) }
+    ensures range { HasDigits 1 11 acquirer.0 }
+{
+    bytes_field(out, name, acquirer.as_slice())
+}
+
+#[tactic(auto, using(iso8583::proofs::AsciiLaws::printable_utf8))]
+pub(crate) fn account_id_field(
+    out: &mut Writer,
+    name: &str,
+    id: AccountId,
+) -> Result<(), AllocError>
+    ensures text { OnOk result (Adds out.old out.new (key_token name.now ∷ string_token id.0 ∷ [])) }
+    ensures range { IsAccountId id }
+{
+    bytes_field(out, name, id.as_slice())
+}
+
+pub(crate) fn optional_account_id_field(
+    out: &mut Writer,
+    name: &str,
+    id: Option<AccountId>,
+) -> Result<(), AllocError>
+    ensures text { OnOk result (Adds out.old out.new (key_token name.now ∷ tokens_of (optional_data account_id_data id))) }
+    ensures range { IfSome id IsAccountId }
+{
+    match id {
+        Some(id) => account_id_field(out, name, id),
+        None => null_field(out, name),
+    }
+}
+
+#[tactic(auto, using(book_json_laws::proofs::Characters::alphanumeric_utf8))]
+fn approval_field(out: &mut Writer, name: &str, code: Approval) -> Result<(), AllocError>
+    ensures text { OnOk result (Adds out.old out.new (key_token name.now ∷ string_token code.0 ∷ [])) }
+    ensures range { IsApproval code }
+{
+    bytes_field(out, name, code.0.as_slice())
+}
+
+pub(crate) fn optional_approval_field(
+    out: &mut Writer,
+    name: &str,
+    code: Option<Approval>,
+) -> Result<(), AllocError>
+    ensures text { OnOk result (Adds out.old out.new (key_token name.now ∷ tokens_of (optional_data approval_data code))) }
+    ensures range { IfSome code IsApproval }
+{
+    match code {
+        Some(code) => approval_field(out, name, code),
+        None => null_field(out, name),
+    }
+}
+
+pub(crate) fn identity_field(
+    out: &mut Writer,
+    name: &str,
+    identity: Identity,
+) -> Result<(), AllocError>
+    ensures text { OnOk result (Adds out.old out.new (key_token name.now ∷ tokens_of (identity_data identity))) }
+    ensures range { OnOk result (IsIdentity identity) }
+{
+    key(out, name)?;
+    begin_object(out)?;
+    acquirer_field(out, "acquirer", identity.acquirer)?;
+    stamp_field(out, "stamp", identity.stamp)?;
+    stan_field(out, "trace", identity.stan)?;
+    end_object(out)?;
+    Ok(())
+}
+
+pub(crate) fn optional_identity_field(
+    out: &mut Writer,
+    name: &str,
+    identity: Option<Identity>,
+) -> Result<(), AllocError>
+    ensures text { OnOk result (Adds out.old out.new (key_token name.now ∷ tokens_of (optional_data identity_data identity))) }
+    ensures range { OnOk result (IfSome identity IsIdentity) }
+{
+    match identity {
+        Some(identity) => identity_field(out, name, identity),
+        None => null_field(out, name),
+    }
+}
+
+pub(crate) fn status_field(
+    out: &mut Writer,
+    name: &str,
+    status: CardStatus,
+) -> Result<(), AllocError>
+    ensures { OnOk result (Adds out.old out.new (key_token name.now ∷ string_token (status_word status) ∷ [])) }
+{
+    let word = match status {
+        CardStatus::Active => "active",
+        CardStatus::Blocked => "blocked",
+        CardStatus::Lost => "lost",
+        CardStatus::Stolen => "stolen",
+    };
+    text_field(out, name, word)
+}
+
+pub(crate) fn mode_field(out: &mut Writer, name: &str, mode: BudgetMode) -> Result<(), AllocError>
+    ensures { OnOk result (Adds out.old out.new (key_token name.now ∷ string_token (mode_word mode) ∷ [])) }
+{
+    let word = match mode {
+        BudgetMode::Direct => "direct",
+        BudgetMode::StandIn => "stand-in",
+    };
+    text_field(out, name, word)
+}
+
+pub(crate) fn kind_field(out: &mut Writer, name: &str, kind: OriginalKind) -> Result<(), AllocError>
+    ensures { OnOk result (Adds out.old out.new (key_token name.now ∷ string_token (kind_word kind) ∷ [])) }
+{
+    let word = match kind {
+        OriginalKind::Request => "request",
+        OriginalKind::Advice => "advice",
+    };
+    text_field(out, name, word)
+}
+
+pub(crate) fn paid_field(out: &mut Writer, name: &str, paid: Paid) -> Result<(), AllocError>
+    ensures { OnOk result (Adds out.old out.new (key_token name.now ∷ string_token (paid_word paid) ∷ [])) }
+{
+    let word = match paid {
+        Paid::Nothing => "nothing",
+        Paid::Card => "card",
+        Paid::Account => "account",
+        Paid::Budget => "budget",
+    };
+    text_field(out, name, word)
+}

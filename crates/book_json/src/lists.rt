@@ -1,0 +1,131 @@
+//! The lists of rows in a book's text.
+
+ghost use Rattle.std.specs.Prelude.{◌≡◌, IfOk};
+ghost use Rattle.rows.specs.RowVal.{IsOfKind};
+ghost use Rattle.serde_json.specs.View.{view, items_view};
+ghost use Rattle.book_json_laws.specs.Cards.{migrated_card};
+ghost use Rattle.book_json_laws.specs.Lists.{entry_of, card_row_of, has_old_cards, with_row, with_rows, add_entry, add_entries, add_list};
+ghost use Rattle.book_json_laws.specs.Steps.{GivesOrMemory};
+ghost use Rattle.book_json_laws.specs.declared.row_list.RowList.TheVariants.{Cards};
+
+use crate::cards::{card_of, old_card_of};
+use crate::entries::{account_of, budget_of, day_of, mark_of};
+use crate::originals::original_of;
+use book_json_laws::{BookVersion, OldCard, RowList, TextFault, own_account};
+use rows::{Book, RowKey, RowVal};
+use serde_json::Value;
+
+fn card_row_of(entry: &Value) -> Result<(RowKey, RowVal), TextFault>
+    ensures value { result ≡ card_row_of (view entry.now) }
+    ensures kind { IfOk result (λ row. IsOfKind row.0 row.1) }
+{
+    let (pan, card) = card_of(entry)?;
+    Ok((RowKey::Card(pan), RowVal::Card(card)))
+}
+
+/// The row that an entry of a list is.
+fn entry_of(
+    version: BookVersion,
+    list: RowList,
+    entry: &Value,
+) -> Result<(RowKey, RowVal), TextFault>
+    ensures value { result ≡ entry_of version list (view entry.now) }
+    ensures kind { IfOk result (λ row. IsOfKind row.0 row.1) }
+{
+    match list {
+        RowList::Cards => card_row_of(entry),
+        RowList::Days => day_of(entry),
+        RowList::Budgets => budget_of(entry),
+        RowList::Originals => original_of(version, entry),
+        RowList::Ahead => mark_of(entry),
+        RowList::Accounts => account_of(entry),
+    }
+}
+
+/// Puts a row into the book, unless an earlier entry has its key.
+fn put_new(list: RowList, key: RowKey, val: RowVal, book: &mut Book) -> Result<(), TextFault>
+    requires { IsOfKind key val }
+    ensures { GivesOrMemory (λ _. book.new) result (with_row list book.old (key, val)) }
+{
+    if book.get(&key).is_some() {
+        return Err(TextFault::Shape(list.part()));
+    }
+    book.put(key, val)?;
+    Ok(())
+}
+
+/// Puts a card of versions 1 and 2 into the book, and its own account.
+fn put_old_card(card: &OldCard, book: &mut Book) -> Result<(), TextFault>
+    ensures { GivesOrMemory (λ _. book.new) result (with_rows Cards book.old (migrated_card card.now)) }
+{
+    let account = RowKey::Account(own_account(card.pan));
+    put_new(
+        RowList::Cards,
+        RowKey::Card(card.pan),
+        RowVal::Card(card.card_row()),
+        book,
+    )?;
+    book.put(account, RowVal::Account(card.account_row()))?;
+    Ok(())
+}
+
+/// Whether the list has cards with their own money.
+fn has_old_cards(version: BookVersion, list: RowList) -> bool
+    ensures { result ≡ has_old_cards version list }
+{
+    match list {
+        RowList::Cards => version.has_card_money(),
+        _ => false,
+    }
+}
+
+/// Puts an entry's rows into the book.
+fn add_entry(
+    version: BookVersion,
+    list: RowList,
+    entry: &Value,
+    book: &mut Book,
+) -> Result<(), TextFault>
+    ensures { GivesOrMemory (λ _. book.new) result (add_entry version list (view entry.now) book.old) }
+{
+    if has_old_cards(version, list) {
+        let card = old_card_of(entry)?;
+        return put_old_card(&card, book);
+    }
+    let (key, val) = entry_of(version, list, entry)?;
+    put_new(list, key, val, book)
+}
+
+/// Puts the rows of entries into the book.
+fn add_entries(
+    version: BookVersion,
+    list: RowList,
+    entries: &[Value],
+    book: &mut Book,
+) -> Result<(), TextFault>
+    ensures { GivesOrMemory (λ _. book.new) result (add_entries version list (items_view entries.now) book.old) }
+{
+    for entry in entries {
+        add_entry(version, list, entry, book)?;
+    }
+    Ok(())
+}
+
+/// Puts the rows of a list of the top object into the book, if the version has it.
+#[tactic(auto, unfolding(book_json_laws::specs::Lists::add_list))]
+pub(crate) fn add_list(
+    version: BookVersion,
+    list: RowList,
+    top: &Value,
+    book: &mut Book,
+) -> Result<(), TextFault>
+    ensures { GivesOrMemory (λ _. book.new) result (add_list version list (view top.now) book.old) }
+{
+    if !version.has_list(list) {
+        return Ok(());
+    }
+    let Some(entries) = top.get(list.key()).and_then(Value::as_array) else {
+        return Err(TextFault::Shape(list.part()));
+    };
+    add_entries(version, list, entries, book)
+}

@@ -1,0 +1,126 @@
+//! A book from its text.
+
+ghost use Rattle.std.specs.Prelude.{◌≡◌};
+ghost use Rattle.serde_json.specs.View.{view};
+ghost use Rattle.book_json_laws.specs.Reading.{version_of_keys, version_of, add_lists, all_lists, book_of, reading, IsAnswer};
+ghost use Rattle.book_json_laws.specs.Steps.{GivesOrMemory};
+
+use crate::fields::{has_keys, number_at};
+use crate::lists::add_list;
+use book_json_laws::{BookVersion, JsonFault, Part, RowList, TextFault};
+use rows::{Book, check_book};
+use serde_json::Value;
+use std::alloc::Global;
+
+const KEYS_OF_ONE: [&str; 5] = ["budgets", "cards", "days", "originals", "version"];
+
+const KEYS_OF_TWO: [&str; 6] = ["ahead", "budgets", "cards", "days", "originals", "version"];
+
+const KEYS_OF_THREE: [&str; 7] = [
+    "accounts",
+    "ahead",
+    "budgets",
+    "cards",
+    "days",
+    "originals",
+    "version",
+];
+
+/// The lists in the order of their parts.
+const LISTS: [RowList; 6] = [
+    RowList::Cards,
+    RowList::Days,
+    RowList::Budgets,
+    RowList::Originals,
+    RowList::Ahead,
+    RowList::Accounts,
+];
+
+/// The version whose keys the top object has.
+fn version_of_keys(top: &Value) -> Result<BookVersion, TextFault>
+    ensures { result ≡ version_of_keys (view top.now) }
+{
+    if has_keys(top, &KEYS_OF_THREE) {
+        Ok(BookVersion::Three)
+    } else if has_keys(top, &KEYS_OF_TWO) {
+        Ok(BookVersion::Two)
+    } else if has_keys(top, &KEYS_OF_ONE) {
+        Ok(BookVersion::One)
+    } else {
+        Err(TextFault::Shape(Part::Top))
+    }
+}
+
+/// The version: the one that is stated is that of the keys.
+fn version_of(top: &Value) -> Result<BookVersion, TextFault>
+    ensures { result ≡ version_of (view top.now) }
+{
+    let version = version_of_keys(top)?;
+    if number_at(Part::Version, top, "version")? == version.number() {
+        Ok(version)
+    } else {
+        Err(TextFault::Range)
+    }
+}
+
+/// Puts the rows of lists of the top object into the book.
+fn add_lists(
+    version: BookVersion,
+    lists: &[RowList],
+    top: &Value,
+    book: &mut Book,
+) -> Result<(), TextFault>
+    ensures { GivesOrMemory (λ _. book.new) result (add_lists version lists.now (view top.now) book.old) }
+{
+    for list in lists {
+        add_list(version, *list, top, book)?;
+    }
+    Ok(())
+}
+
+/// The book that a JSON value is.
+#[tactic(auto, unfolding(book_json_laws::specs::Reading::book_of))]
+fn book_of(alloc: Global, top: &Value) -> Result<Book, TextFault>
+    ensures { GivesOrMemory (λ book. book) result (book_of (view top.now)) }
+{
+    let version = version_of(top)?;
+    let mut book = Book::new(alloc);
+    add_lists(version, &LISTS, top, &mut book)?;
+    Ok(book)
+}
+
+/// The book that a text is, before it is asked whether it is sound.
+fn book_of_text(alloc: Global, bytes: &[u8]) -> Result<Book, TextFault>
+    ensures { GivesOrMemory (λ book. book) result (reading bytes.now) }
+{
+    match Value::from_slice(alloc, bytes) {
+        Ok(top) => book_of(alloc, &top),
+        Err(e) => {
+            if e.is_memory() {
+                Err(TextFault::OutOfMemory)
+            } else {
+                Err(TextFault::Syntax)
+            }
+        }
+    }
+}
+
+/// The book that a text is: JSON of version 1, 2 or 3, with a sound book in it. A book of version 1 or 2 is migrated first:
+/// each card gets an account that is named by its own digits and has its money, and what the card paid, that account paid.
+///
+/// # Errors
+///
+/// The first fault of this order: the text is no JSON (`Syntax`); the top object has the keys of no version (`Shape`); the
+/// version isn't a number (`Shape`) or not that of the keys (`Range`); then the lists in the order of their parts, and in
+/// each entry its keys (`Shape`), its fields in the order of their keys (`Shape` for another kind of value, `Range` for one
+/// outside its range), whether an original can be (`Range`), and whether an earlier entry has its row (`Shape`); then what
+/// `check_book` answers (`Invalid`). Or memory ran out (`OutOfMemory`).
+pub fn read_book(alloc: Global, bytes: &[u8]) -> Result<Book, JsonFault>
+    ensures { IsAnswer (reading bytes.now) result }
+{
+    let book = book_of_text(alloc, bytes)?;
+    match check_book(&book) {
+        Ok(()) => Ok(book),
+        Err(fault) => Err(JsonFault::Invalid(fault)),
+    }
+}

@@ -1,0 +1,68 @@
+//! The text of a book.
+
+ghost use Rattle.std.specs.Prelude.{◌≡◌, ◌∷◌, Ok, OnOk, IfOk, IsTrue};
+ghost use Rattle.std.specs.FinMap as map;
+ghost use Rattle.std.specs.List.{AllByRecursion};
+ghost use Rattle.json.specs.Token.{key as key_token};
+ghost use Rattle.rows.specs.RowVal.{IsOfKind};
+ghost use Rattle.book_json_laws.specs.Parts.{list_key, is_in};
+ghost use Rattle.book_json_laws.specs.Reading.{reading};
+ghost use Rattle.book_json_laws.specs.Text.{Adds, ReadsBack, tokens_of, entry_data, list_data, rows_of, book_text};
+
+use crate::row_writers::write_entry;
+use crate::tokens::{begin_array, begin_object, end_array, end_object, key, number_field};
+use book_json_laws::RowList;
+use json::Writer;
+use rows::{Book, RowKey, RowVal};
+use std::alloc::{AllocError, Global};
+
+// Writes the entry of a row that stands in the list.
+fn write_listed(
+    out: &mut Writer,
+    list: RowList,
+    key: &RowKey,
+    val: &RowVal,
+) -> Result<(), AllocError>
+    requires kind { IsOfKind key.now val.now }
+    requires listed { IsTrue (is_in list val.now) }
+    ensures text { OnOk result (Adds out.old out.new (tokens_of (entry_data key.now val.now))) }
+    ensures back { OnOk result (ReadsBack list (key.now, val.now)) }
+{
+    write_entry(out, key, val)?;
+    Ok(())
+}
+
+// Writes the rows of a list.
+fn write_list(out: &mut Writer, list: RowList, book: &Book) -> Result<(), AllocError>
+    ensures text { OnOk result (Adds out.old out.new (key_token (list_key list) ∷ tokens_of (list_data list (map.entries book.now)))) }
+    ensures back { OnOk result (AllByRecursion (ReadsBack list) (rows_of list (map.entries book.now))) }
+{
+    key(out, list.key())?;
+    begin_array(out)?;
+    for (key, val) in book.rows() {
+        if list.has(val) {
+            write_listed(out, list, key, val)?;
+        }
+    }
+    end_array(out)?;
+    Ok(())
+}
+
+/// The text of a book: JSON of version 3, without spaces, the keys of each object in byte order and the rows of each list
+/// in the order of their keys. It is read again as the book.
+pub fn write_book(alloc: Global, book: &Book) -> Result<Vec<u8>, AllocError>
+    ensures text { IfOk result (λ text. text.items ≡ book_text book.now) }
+    ensures back { IfOk result (λ text. reading text.items ≡ Ok book.now) }
+{
+    let mut out = Writer::new(Vec::new(alloc));
+    begin_object(&mut out)?;
+    write_list(&mut out, RowList::Accounts, book)?;
+    write_list(&mut out, RowList::Ahead, book)?;
+    write_list(&mut out, RowList::Budgets, book)?;
+    write_list(&mut out, RowList::Cards, book)?;
+    write_list(&mut out, RowList::Days, book)?;
+    write_list(&mut out, RowList::Originals, book)?;
+    number_field(&mut out, "version", 3)?;
+    end_object(&mut out)?;
+    Ok(out.into_inner())
+}

@@ -1,0 +1,4 @@
+pub mod Migrating
+pub mod OldOriginals
+pub mod Puts
+pub mod Shapes
