@@ -124,12 +124,13 @@ fn the_core_commits_every_message(rt: HostRuntime) -> Result<(), Fail> {
     assert_decided(&rt, rt.alloc(), &outcome)
 }
 
-// Where a decision finds no memory, the messages before it are committed and the rest is decided one after another.
+// Where a decision finds no memory its worker leaves. The caller then plays all messages alone, by the shipped decision and
+// without the gate, and the core that it plays on commits them.
 #[test]
-fn the_rest_is_decided_where_a_decision_stops(rt: HostRuntime) -> Result<(), Fail> {
+fn all_is_played_anew_where_a_decision_stops(rt: HostRuntime) -> Result<(), Fail> {
     let gate = gate();
     let outcome = outcome_of(&rt, rt.alloc(), &WithoutMemory, &gate)?;
-    assert_eq!(rt; (outcome.started, outcome.committed), (1, 1));
+    assert_eq!(rt; (outcome.started, outcome.committed), (1, 4));
     assert_eq!(rt; gate.calls.load(Ordering::SeqCst), 10_2011);
     assert_decided(&rt, rt.alloc(), &outcome)
 }
