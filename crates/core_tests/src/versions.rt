@@ -31,7 +31,7 @@ fn recorded(
 ) -> Result<bool, Fail> {
     let writes = writes_of(alloc, line)?;
     let (index, incarnation) = version;
-    memory.reserve(alloc, index, &writes)?;
+    memory.reserve(alloc, index, &writes, &[])?;
     Ok(memory.record(Version { index, incarnation }, &writes))
 }
 
