@@ -187,8 +187,7 @@ impl Core {
             return Err(CoreFault::Worn);
         }
         let numbers = slot.numbers();
-        self.memory
-            .reserve(alloc, version.index, writes, &numbers)?;
+        self.memory.reserve(alloc, version.index, writes, &numbers)?;
         let is_new = self.memory.record(version, writes);
         let slot = &mut self.slots[version.index as usize];
         slot.finish(execution.reply());

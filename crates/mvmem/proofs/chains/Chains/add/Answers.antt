@@ -8,4 +8,3 @@ use Rattle.mvmem.proofs.chains.Chains.add.Goals as goal
 pub returns-clause-numbers : goal.returns-clause-numbers
 returns-clause-numbers c n r at =
     appended_rows c.self.inside.rows c.args.self.now c.insert.new.self.entries c.args.row.now _ n r (ap is_some (sym (ap (λ (es : Chains). value_in es c.args.row.now) c.self.view_is ∙ c.requires))) c.in_ok-insert.ensures.entries c.self.view_is at
-
