@@ -9,8 +9,8 @@ ghost use Rattle.mvmem.specs.Resolves.{Resolves, IsSeenOfKind, IsWithinDigitsOf}
 
 use crate::chain::Chain;
 use crate::link::Link;
-use indexmap::IndexMap;
 use crate::version::Version;
+use indexmap::IndexMap;
 use rows::{RowKey, RowVal};
 use std::alloc::{AllocError, Global};
 use std::marker::Model;

@@ -1,5 +1,5 @@
 -- A log in two parts: the first reads, found by their keys, and those behind them.
-use Rattle.std.proofs.Common.{◌≡◌, ℕ, zero, suc, ◌<◌, Bool, true, false, cond, List, [], ◌∷◌, ◌++◌, length, get_or, Option, Some, None, IfSome, refl, sym, ap, ◌∙◌, subst, Bor, append_assoc, arith}
+use Rattle.std.proofs.Common.{◌≡◌, ℕ, zero, suc, ◌<◌, Bool, true, false, cond, List, [], ◌∷◌, length, get_or, Option, Some, None, IfSome, refl, sym, ap, ◌∙◌, subst, Bor, arith}
 use Rattle.std.proofs.lemmas.Option.{none-some}
 use Rattle.std.specs.Option.{option_copied}
 use Rattle.rows.specs.RowKey.{key_eq}
@@ -9,7 +9,7 @@ use Rattle.view.proofs.KindLaws.{found_suits}
 use Rattle.view.specs.RowSets.{value_in}
 use Rattle.speccore_laws.specs.State.{Log}
 use Rattle.speccore_laws.specs.declared.logged.Logged.{Logged}
-use Rattle.speccore.specs.Origin.{log_of, pair_of, AreOfKind}
+use Rattle.speccore.specs.Origin.{log_of, AreOfKind}
 use Rattle.speccore.specs.declared.read.Read.{Read}
 
 -- the first read of the row is found

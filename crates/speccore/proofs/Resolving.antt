@@ -1,5 +1,5 @@
 -- What is seen tells whether a logged read stands, and whether there is an entry.
-use Rattle.std.proofs.Common.{◌≡◌, ◌≢◌, ℕ, ◌<◌, ◌+◌, inl, inr, refl, sym, ap, ◌∙◌, subst, slice_get, take, Option, Some, None, IsSome, All, arith}
+use Rattle.std.proofs.Common.{◌≡◌, ℕ, ◌+◌, inl, inr, refl, sym, ap, ◌∙◌, subst, slice_get, take, Option, Some, None, IsSome, arith}
 use Rattle.std.proofs.lemmas.Bool.{cases_eq, false≢true}
 use Rattle.std.proofs.lemmas.List.Elements.{All-more}
 use Rattle.std.proofs.lemmas.Option.{none-some, same_Some, get_or_from_slice_get, slice_get_within}
@@ -11,7 +11,7 @@ use Rattle.rows.specs.Plan.{Writes}
 use Rattle.rows.specs.declared.row_key.RowKey.{RowKey}
 use Rattle.rows.specs.declared.row_val.RowVal.{RowVal}
 use Rattle.mvmem.proofs.ListLaws.{standing, valued, written_is}
-use Rattle.mvmem.specs.Entries.{Entries, Held, IsNewLocation, Shelf, held}
+use Rattle.mvmem.specs.Entries.{Entries, IsNewLocation, Shelf, held}
 use Rattle.mvmem.specs.Resolves.{Resolves, IsLaidOver}
 use Rattle.view.specs.RowSets.{IsOnceEach}
 use Rattle.mvmem.specs.Chains.{seen_by, seen_of}
@@ -19,7 +19,6 @@ use Rattle.mvmem.specs.declared.link.Link.{Link}
 use Rattle.mvmem.specs.declared.seen.Seen.{Seen}
 use Rattle.mvmem.specs.declared.seen.Seen.TheVariants.{Base, Value, Estimate}
 use Rattle.mvmem.specs.declared.version.Version.{Version}
-use Rattle.speccore_laws.proofs.Shelves.{option_cases}
 use Rattle.speccore_laws.proofs.Unique.{Resolves-some, Resolves-unique}
 use Rattle.speccore_laws.specs.Log.{AreLogged, ResolvesAs, logged_in}
 use Rattle.speccore_laws.specs.State.{Log}

@@ -1,5 +1,5 @@
 -- Each call of the core is a step.
-use Rattle.std.proofs.Common.{◌≡◌, ◌≢◌, ℕ, ◌<◌, ◌≤◌, ◌+◌, min, Bool, true, false, not, ◌&&◌, ◌||◌, nat_lt, nat_eq, if◌then◌else◌, List, [], ◌∷◌, ◌++◌, ◌⊎◌, inl, inr, length, map, max, replicate, take, filter_map, option_to_list, set, get_or, slice_get, option_map, refl, sym, ap, ap₂, ◌∙◌, subst, Option, Some, None, Ok, Err, IsTrue, IsFalse, arith, eq-eqb}
+use Rattle.std.proofs.Common.{◌≡◌, ◌≢◌, ℕ, ◌<◌, ◌+◌, min, Bool, true, false, not, ◌&&◌, ◌||◌, nat_lt, nat_eq, if◌then◌else◌, List, [], ◌∷◌, ◌++◌, ◌⊎◌, inl, inr, length, map, max, replicate, take, filter_map, option_to_list, set, get_or, slice_get, option_map, refl, sym, ap, ap₂, ◌∙◌, subst, Option, Some, None, Ok, IsTrue, IsFalse, arith, eq-eqb}
 use Rattle.std.proofs.lemmas.Bool.{cases_lt, cases_eq, false≢true}
 use Rattle.std.proofs.lemmas.List.{get_or_read, set-get_or, take_more}
 use Rattle.std.proofs.lemmas.List.Elements.{filter_map-append}
@@ -26,7 +26,7 @@ use Rattle.sched.specs.declared.task.Task.{Task}
 use Rattle.sched.specs.declared.task.Task.TheVariants.{Execute, Validate, Idle, Done}
 use Rattle.speccore_laws.proofs.Changed.{in_batch, executed_not_ready}
 use Rattle.speccore_laws.proofs.Checks.{next_read_there}
-use Rattle.speccore_laws.proofs.Reached.{Holds-reached, IsReached-Step, IsReached-start}
+use Rattle.speccore_laws.proofs.Reached.{Holds-reached, IsReached-Step}
 use Rattle.speccore_laws.specs.Holds.{Holds}
 use Rattle.speccore_laws.specs.Log.{AreLogged, ResolvesAs, logged_in, logged_of}
 use Rattle.speccore_laws.specs.Play.{Play, PlayStep}

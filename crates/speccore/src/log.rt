@@ -111,7 +111,7 @@ impl Log {
         }
     }
 
-    /// The numbers of the first rows; there are no others than they, or they are eight.
+    /// The numbers of the first rows, in their order; behind them stands what is no row's number.
     pub(crate) fn numbers(&self) -> [usize; FEW] {
         let mut numbers = [usize::MAX; FEW];
         for place in 0..FEW {

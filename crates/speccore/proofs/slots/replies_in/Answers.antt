@@ -1,4 +1,4 @@
-use Rattle.std.proofs.Common.{List, Option, sym, ap, ◌∙◌, ◌++◌, option_to_list, append-nil}
+use Rattle.std.proofs.Common.{Option, sym, ap, ◌∙◌, ◌++◌, option_to_list, append-nil}
 use Rattle.rows.specs.declared.reply_body.ReplyBody.{ReplyBody}
 use Rattle.speccore.proofs.Steps.{replies-more}
 use Rattle.speccore.proofs.slots.replies_in.Goals as goal

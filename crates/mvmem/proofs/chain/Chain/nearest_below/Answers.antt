@@ -1,4 +1,4 @@
-use Rattle.std.proofs.Common.{◌≡◌, ◌∙◌, ℕ, ◌<◌, ◌-◌, List, Option, Some, None, ap, get_or, refl, sym, subst, arith}
+use Rattle.std.proofs.Common.{◌≡◌, ◌∙◌, ℕ, ◌<◌, ◌-◌, List, None, ap, get_or, sym, subst, arith}
 use Rattle.mvmem.proofs.ChainLaws.{nothing_below, last_seen}
 use Rattle.mvmem.proofs.SeenLaws.{seen_link}
 use Rattle.mvmem.specs.Chains.{Chain, found, AreInOrder}

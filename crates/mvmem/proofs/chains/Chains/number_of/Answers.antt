@@ -1,4 +1,4 @@
-use Rattle.std.proofs.Common.{◌≡◌, Option, IfSome, IfNone, None, Some, ℕ, subst}
+use Rattle.std.proofs.Common.{◌≡◌, IfSome, IfNone, None, Some, subst}
 use Rattle.mvmem.proofs.RowLaws.{number_found, number_missed}
 use Rattle.mvmem.specs.Chains.{Chains, row_at}
 use Rattle.view.specs.RowSets.{value_in}

@@ -1,4 +1,4 @@
-use Rattle.std.proofs.Common.{◌≡◌, ◌<◌, ◌↔◌, ℕ, None, Option, IsTrue, Some, IfSome, refl, ap, sym, subst, ◌∙◌}
+use Rattle.std.proofs.Common.{◌≡◌, ◌<◌, ◌↔◌, None, Option, IsTrue, Some, IfSome, refl, ap, sym, subst, ◌∙◌}
 use Rattle.std.proofs.lemmas.Option.{same_Some}
 use Rattle.mvmem.proofs.RowLaws.{chain_at, changed, changed-sound, rows-set, set_other}
 use Rattle.mvmem.specs.Chains.{Chain, Chains, found, links_in, row_at, rows_of, room_in, room_of, stands}

@@ -1,4 +1,4 @@
-use Rattle.std.proofs.Common.{◌≡◌, Option, None, ap, sym, ◌∙◌}
+use Rattle.std.proofs.Common.{Option, ap, sym, ◌∙◌}
 use Rattle.mvmem.proofs.Placed.{held_placed}
 use Rattle.mvmem.proofs.SeenLaws.{seen_alike}
 use Rattle.std.specs.Option.{option_copied}

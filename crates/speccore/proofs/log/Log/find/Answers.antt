@@ -1,11 +1,8 @@
-use Rattle.std.proofs.Common.{◌≡◌, ℕ, ◌<◌, true, false, get_or, length, Option, None, Some, IfSome, refl, ap, sym, subst, ◌∙◌, arith, rules}
-use Rattle.std.proofs.lemmas.List.{get_or_default}
+use Rattle.std.proofs.Common.{◌≡◌, get_or, Some, ap, sym, ◌∙◌, arith}
 use Rattle.std.specs.Option.{option_copied}
 use Rattle.rows.specs.RowKey.{key_eq}
-use Rattle.rows.specs.RowVal.{IsOfKind}
 use Rattle.view.specs.RowSets.{value_in}
 use Rattle.speccore_laws.specs.State.{Log}
-use Rattle.speccore_laws.specs.declared.logged.Logged.{Logged}
 use Rattle.speccore.specs.Origin.{log_of}
 use Rattle.speccore.specs.declared.read.Read.{Read}
 use Rattle.speccore.proofs.Parts.{found_few, found_of_kind, kind_copied, nothing_in, passed_few}

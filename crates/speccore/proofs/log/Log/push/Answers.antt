@@ -2,11 +2,9 @@ use Rattle.std.proofs.Common.{◌≡◌, ◌++◌, ◌∷◌, [], List, Some, No
 use Rattle.indexmap.proofs.CallerLemmas.{insert_entry-new}
 use Rattle.rows.specs.RowKey.{key_eq}
 use Rattle.rows.specs.RowVal.{IsOfKind}
-use Rattle.rows.specs.declared.row_key.RowKey.{RowKey}
 use Rattle.view.proofs.KindLaws.{inserted_suits}
 use Rattle.view.specs.RowSets.{value_in}
 use Rattle.speccore_laws.specs.State.{Log}
-use Rattle.speccore_laws.specs.declared.logged.Logged.{Logged}
 use Rattle.speccore.specs.Origin.{log_of, pair_of}
 use Rattle.speccore.proofs.Parts.{kinds_behind, kinds_joined, none_behind}
 use Rattle.speccore.proofs.log.Log.push.Goals as goal

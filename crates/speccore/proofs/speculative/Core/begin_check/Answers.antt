@@ -1,8 +1,7 @@
-use Rattle.std.proofs.Common.{◌≡◌, ◌<◌, ℕ, Bool, false, length, set, sym, ap, ap₂, ◌∙◌, subst, Some, Ok, arith}
+use Rattle.std.proofs.Common.{◌≡◌, ℕ, Bool, false, length, set, sym, ap₂, subst, Some, Ok, arith}
 use Rattle.speccore_laws.specs.Play.{Play, PlayStep}
 use Rattle.speccore_laws.specs.Run.{Begin}
-use Rattle.speccore_laws.specs.State.{State, Slot, slot}
-use Rattle.speccore_laws.specs.Step.{is_at_end}
+use Rattle.speccore_laws.specs.State.{State}
 use Rattle.speccore_laws.specs.declared.check.Check.{Check}
 use Rattle.speccore.proofs.Steps.{at_slot, begin_step, play, play_kept, seat_there, slot_there}
 use Rattle.speccore.specs.contracts.speculative.Core.{the_view}

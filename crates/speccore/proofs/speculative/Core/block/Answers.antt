@@ -1,4 +1,4 @@
-use Rattle.std.proofs.Common.{◌≡◌, ◌≢◌, ◌<◌, set, sym, ap, subst, Ok, arith, ◌∙◌}
+use Rattle.std.proofs.Common.{set, Ok, arith}
 use Rattle.speccore_laws.proofs.Reached.{Holds-reached}
 use Rattle.speccore_laws.specs.Play.{Play, PlayStep}
 use Rattle.speccore_laws.specs.Run.{Block}

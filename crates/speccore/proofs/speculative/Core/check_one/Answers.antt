@@ -1,12 +1,12 @@
-use Rattle.std.proofs.Common.{◌≡◌, ◌≢◌, ◌<◌, ℕ, Bool, true, false, length, set, refl, sym, ap, ◌∙◌, subst, Some, None, Ok, Err, arith}
+use Rattle.std.proofs.Common.{◌≡◌, ◌<◌, ℕ, Bool, length, set, refl, sym, ◌∙◌, subst, Some, Ok, Err, arith}
 use Rattle.sched.specs.Board.{IsOpen}
 use Rattle.speccore_laws.proofs.Reached.{Holds-reached}
 use Rattle.speccore_laws.specs.Play.{Play, PlayStep}
 use Rattle.speccore_laws.specs.Run.{CheckOne}
-use Rattle.speccore_laws.specs.State.{State, Slot, slot, check_of}
+use Rattle.speccore_laws.specs.State.{State, Slot, check_of}
 use Rattle.speccore_laws.specs.Step.{is_at_end}
 use Rattle.speccore_laws.specs.declared.check.Check.{Check}
-use Rattle.speccore_laws.specs.declared.core_fault.CoreFault.TheVariants.{Outdated, Worn}
+use Rattle.speccore_laws.specs.declared.core_fault.CoreFault.TheVariants.{Outdated}
 use Rattle.speccore.proofs.Steps.{at_seat, at_slot, before_end, check_step, next_there, play, play_kept, seat_there, slot_there}
 use Rattle.speccore.specs.contracts.speculative.Core.{the_view}
 use Rattle.speccore.proofs.speculative.Core.check_one.Goals as goal

@@ -1,13 +1,12 @@
-use Rattle.std.proofs.Common.{◌≡◌, ◌≢◌, ◌<◌, ℕ, Bool, true, false, length, set, refl, sym, ap, ◌∙◌, subst, Some, None, Ok, Err, arith}
+use Rattle.std.proofs.Common.{◌≡◌, ◌≢◌, ℕ, true, false, set, refl, sym, ◌∙◌, subst, Some, None, Ok, Err, arith}
 use Rattle.sched.specs.Board.{IsOpen}
 use Rattle.speccore_laws.proofs.Reached.{Holds-reached}
 use Rattle.speccore_laws.specs.Play.{Play, PlayStep}
 use Rattle.speccore_laws.specs.Run.{End}
-use Rattle.speccore_laws.specs.State.{State, Slot, slot, check_of}
-use Rattle.speccore_laws.specs.Step.{is_at_end}
+use Rattle.speccore_laws.specs.State.{State, check_of}
 use Rattle.speccore_laws.specs.declared.check.Check.{Check}
 use Rattle.speccore_laws.specs.declared.core_fault.CoreFault.TheVariants.{Outdated, Worn}
-use Rattle.speccore.proofs.Steps.{at_seat, at_slot, fail_step, pass_step, play, play_kept, seat_there, slot_there}
+use Rattle.speccore.proofs.Steps.{at_seat, fail_step, pass_step, play, play_kept, seat_there, slot_there}
 use Rattle.speccore.specs.contracts.speculative.Core.{the_view}
 use Rattle.speccore.proofs.speculative.Core.end_check.Goals as goal
 use Rattle.speccore.proofs.speculative.Core.end_check.Goals.{then-check-self-via-then-check-self, then-check-self-via-else-check-self+then-epoch-self}

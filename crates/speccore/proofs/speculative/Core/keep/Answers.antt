@@ -1,4 +1,4 @@
-use Rattle.std.proofs.Common.{◌≡◌, ◌≢◌, ◌<◌, ◌↔◌, Bool, IsTrue, true, false, set, refl, sym, ap, ◌∙◌, subst, Some, Result, Ok, Err, arith}
+use Rattle.std.proofs.Common.{◌≡◌, ◌≢◌, Bool, IsTrue, set, refl, sym, ap, ◌∙◌, subst, Some, Result, Ok, Err, arith}
 use Rattle.std.proofs.lemmas.Bool.{false≢true}
 use Rattle.std.proofs.lemmas.Result.{err_from_is_err_and}
 use Rattle.rows.specs.Plan.{Writes}
@@ -7,7 +7,7 @@ use Rattle.sched.specs.Board.{IsRunning}
 use Rattle.speccore_laws.proofs.Reached.{Holds-reached}
 use Rattle.speccore_laws.specs.Play.{Play, PlayStep}
 use Rattle.speccore_laws.specs.Run.{Finish}
-use Rattle.speccore_laws.specs.State.{State, Slot, slot}
+use Rattle.speccore_laws.specs.State.{State}
 use Rattle.speccore_laws.specs.Step.{IsOfVersion}
 use Rattle.speccore_laws.specs.declared.core_fault.CoreFault.{CoreFault}
 use Rattle.speccore_laws.specs.declared.core_fault.CoreFault.TheVariants.{OtherReads, OutOfMemory, Worn}

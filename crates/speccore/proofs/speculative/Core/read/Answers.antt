@@ -1,10 +1,7 @@
-use Rattle.std.proofs.Common.{◌≡◌, ◌<◌, length, set, get_or, inl, inr, refl, sym, ap, ◌∙◌, subst, Option, Some, None, Result, Ok, Err, arith}
+use Rattle.std.proofs.Common.{◌≡◌, set, inl, refl, sym, ap, ◌∙◌, subst, Some, None, Result, Ok, Err, arith}
 use Rattle.std.proofs.lemmas.Result.{err_from_is_err_and}
-use Rattle.rows.specs.declared.row_val.RowVal.{RowVal}
 use Rattle.std.specs.Option.{option_copied}
 use Rattle.mvmem.specs.Chains.{seen_of}
-use Rattle.mvmem.specs.declared.seen.Seen.TheVariants.{Estimate}
-use Rattle.sched.specs.Board.{IsRunning}
 use Rattle.speccore_laws.specs.Log.{logged_in}
 use Rattle.speccore_laws.specs.Play.{Play, PlayStep}
 use Rattle.speccore_laws.specs.Run.{Read}

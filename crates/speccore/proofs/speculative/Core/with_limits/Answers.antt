@@ -1,11 +1,7 @@
-use Rattle.std.proofs.Common.{◌≡◌, ◌≤◌, ◌<◌, ℕ, List, length, max, sym, ap, subst, ◌∙◌, arith}
+use Rattle.std.proofs.Common.{◌≤◌, length, sym, subst, arith}
 use Rattle.speccore_laws.proofs.Reached.{IsReached-start}
-use Rattle.speccore_laws.specs.Play.{Play, opening_play}
 use Rattle.speccore_laws.specs.Run.{IsReached}
-use Rattle.speccore_laws.specs.State.{State, start}
-use Rattle.sched.specs.Cursors.{Schedule, open_schedule}
 use Rattle.speccore.proofs.Steps.{opened_state}
-use Rattle.speccore.specs.contracts.speculative.Core.{the_view}
 use Rattle.speccore.proofs.speculative.Core.with_limits.Goals as goal
 
 pub invariant_of-result : goal.invariant_of-result
