@@ -2,7 +2,7 @@
 
 use crate::plays::frames_of;
 use crate::scripts::{WAITS, journal_of};
-use fixtures::first_book_with;
+use fixtures::{body, first_book_with};
 use journal::{Answer, Event, ReplayFault, Traced, read_journal, replay};
 use mvmem::Version;
 use rows::{Book, Frame};
@@ -15,7 +15,7 @@ use std::test::Fail;
 fn fault_of(
     alloc: Global,
     book: &Book,
-    frames: &[Frame],
+    frames: &[Frame; 3],
     lines: &[&str],
 ) -> Result<Option<ReplayFault>, Fail> {
     let text = journal_of(alloc, lines)?;
@@ -92,12 +92,12 @@ fn assert_entered(rt: &impl Abort, traced: &mut Traced, seat: Seat) {
 fn an_idle_claim_enters_nothing(rt: HostRuntime) -> Result<(), Fail> {
     let alloc = rt.alloc();
     let book = first_book_with(alloc, &[])?;
-    let frames = frames_of(&WAITS)?;
+    let frames = [body(WAITS.bodies[0]).ok_or("request")?];
     let limits = Limits {
         incarnation: 4,
         epoch: 3,
     };
-    let mut traced = Traced::with_limits(alloc, &book, &frames[..1], limits)?;
+    let mut traced = Traced::with_limits(alloc, &book, &frames, limits)?;
     assert_eq!(rt; traced.core().limits(), limits);
     assert_entered(&rt, &mut traced, Seat::first());
     Ok(())
