@@ -230,7 +230,8 @@ fn put_original(out: &mut Vec<u8>, original: &Option<OriginalRef>)
 /// Appends element 102, if it is there.
 fn put_account(out: &mut Vec<u8>, account: &Option<AccountId>)
     requires { vec_len out.old + 30 ≤ vec_capacity out.old }
-    ensures { out.new.items ≡ out.old.items ++ flat_map field (with_field Element.Account (account_text account.now) []) }
+    ensures items { out.new.items ≡ out.old.items ++ flat_map field (with_field Element.Account (account_text account.now) []) }
+    ensures len { vec_len out.new ≤ vec_len out.old + 30 }
 {
     if let Some(account) = account {
         put_field(out, Element::Account, account.as_slice());
@@ -240,7 +241,8 @@ fn put_account(out: &mut Vec<u8>, account: &Option<AccountId>)
 /// Appends elements 56 and 102, each if it is there.
 fn put_last(out: &mut Vec<u8>, transaction: &Transaction, extras: &Extras)
     requires { vec_len out.old + 67 ≤ vec_capacity out.old }
-    ensures { out.new.items ≡ out.old.items ++ flat_map field (last_list (whole_content transaction.now extras.now)) }
+    ensures items { out.new.items ≡ out.old.items ++ flat_map field (last_list (whole_content transaction.now extras.now)) }
+    ensures len { vec_len out.new ≤ vec_len out.old + 67 }
 {
     put_original(out, &extras.original);
     put_account(out, &extras.account);
@@ -249,8 +251,9 @@ fn put_last(out: &mut Vec<u8>, transaction: &Transaction, extras: &Extras)
 /// Appends the elements from 24 on.
 fn put_tail(out: &mut Vec<u8>, transaction: &Transaction, extras: &Extras)
     requires { vec_len out.old + 153 ≤ vec_capacity out.old }
-    ensures { let x = whole_content transaction.now extras.now in out.new.items ≡ out.old.items
+    ensures items { let x = whole_content transaction.now extras.now in out.new.items ≡ out.old.items
         ++ (flat_map field (scope_list x) ++ (flat_map field (reference_list x) ++ (flat_map field (answer_list x) ++ (flat_map field (end_list x) ++ flat_map field (last_list x))))) }
+    ensures len { vec_len out.new ≤ vec_len out.old + 153 }
 {
     put_code(out, Element::Function, &extras.function);
     put_original_amount(out, &extras.original_amount);
@@ -264,7 +267,8 @@ fn put_tail(out: &mut Vec<u8>, transaction: &Transaction, extras: &Extras)
 /// Appends the spelling.
 fn put_spelling(out: &mut Vec<u8>, mti: Mti, transaction: &Transaction, extras: &Extras)
     requires { vec_len out.old + ROOM ≤ vec_capacity out.old }
-    ensures { out.new.items ≡ out.old.items ++ spelling mti (content_fields (whole_content transaction.now extras.now)) }
+    ensures items { out.new.items ≡ out.old.items ++ spelling mti (content_fields (whole_content transaction.now extras.now)) }
+    ensures len { vec_len out.new ≤ vec_len out.old + ROOM }
 {
     put(out, mti_text(mti));
     put_bitmap(out, bitmap_of(transaction, extras));
@@ -293,6 +297,8 @@ pub fn encode(message: &Message, out: &mut Vec<u8>) -> Result<(), CodecFault>
     ensures err { OnErr result (out.new.items ≡ out.old.items) }
     // Room for the longest message is enough.
     ensures room { vec_len out.old + ROOM ≤ vec_capacity out.old → IsOk result }
+    // No message is longer.
+    ensures length { OnOk result (vec_len out.new ≤ vec_len out.old + ROOM) }
     // So decoding what is appended gives the message again.
     ensures spells { Spells (message_spelling message.now) message.now }
 {
@@ -315,6 +321,8 @@ pub fn encode_reply(reply: &Reply, out: &mut Vec<u8>) -> Result<(), CodecFault>
     ensures err { OnErr result (out.new.items ≡ out.old.items) }
     // Room for the longest reply is enough.
     ensures room { vec_len out.old + ROOM ≤ vec_capacity out.old → IsOk result }
+    // No reply is longer.
+    ensures length { OnOk result (vec_len out.new ≤ vec_len out.old + ROOM) }
     // So decoding what is appended gives the reply again.
     ensures spells { SpellsReply (reply_spelling reply.now) reply.now }
 {
