@@ -1,0 +1,5 @@
+pub mod Parts
+pub mod Bodies
+pub mod Pieces
+
+-- pub mod Folds

@@ -1,0 +1,37 @@
+-- What calls of sources and sinks do.
+use Rattle.std.specs.Prelude.{◌≡◌, ℕ, zero, suc, ◌+◌, ◌<◌, List, [], ◌++◌, Option, Some, None, Result, Ok, Err}
+use Rattle.batch.specs.declared.broken.Broken.{Broken}
+use Rattle.batch_laws.specs.declared.batch_fault.BatchFault.{BatchFault}
+use Rattle.batch_laws.specs.declared.batch_fault.BatchFault.TheVariants.{Magic, Version, Count, Length, Ended, Trailing, Device, OutOfMemory, Body, Blocks}
+
+-- the bytes, where they are known
+abbrev pub known_bytes : Option (List ℕ) → List ℕ
+known_bytes (Some bytes) = bytes
+known_bytes None = []
+
+-- how often puts failed after one more: one that fails, or puts no byte, is a failure
+abbrev pub failures_after_put : Result ℕ Broken → ℕ → ℕ
+failures_after_put (Ok zero) failures = failures + 1
+failures_after_put (Ok (suc n)) failures = failures
+failures_after_put (Err broken) failures = failures + 1
+
+-- a beginning of the text was appended
+abbrev pub AppendsPart : List ℕ → List ℕ → List ℕ → Type 0
+AppendsPart old new text = (front : List ℕ) × (rest : List ℕ) × (new ≡ old ++ front) × (text ≡ front ++ rest)
+
+-- a front of what was to be put was appended, and the rest is still to be put
+abbrev pub Moves : List ℕ → List ℕ → List ℕ → List ℕ → Type 0
+Moves old new before after = (front : List ℕ) × (new ≡ old ++ front) × (before ≡ front ++ after)
+
+-- why so many bodies that fit are not written: they are too many, the device failed, or memory ran out
+abbrev pub IsWritingFault : ℕ → BatchFault → Type 0
+IsWritingFault count Count = 65536 < count
+IsWritingFault count Device = Unit {0}
+IsWritingFault count OutOfMemory = Unit {0}
+IsWritingFault count Magic = ⊥
+IsWritingFault count Version = ⊥
+IsWritingFault count Length = ⊥
+IsWritingFault count Ended = ⊥
+IsWritingFault count Trailing = ⊥
+IsWritingFault count (Body i) = ⊥
+IsWritingFault count Blocks = ⊥

@@ -1,0 +1,4 @@
+pub mod Devices
+pub mod Window
+
+-- pub mod Processing

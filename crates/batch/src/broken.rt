@@ -1,0 +1,3 @@
+/// A call of a source or a sink failed.
+#[derive(Clone, Copy, Debug, PartialEq, Eq)]
+pub struct Broken;

@@ -1,0 +1,98 @@
+ghost use Rattle.std.specs.Prelude.{◌≡◌, ◌+◌, ◌<◌, ◌≤◌, ◌^◌, [], length, vec_len, IfOk, OnOk};
+ghost use Rattle.batch_laws.specs.BatchFault.{failures_after};
+ghost use Rattle.batch_laws.specs.Reading.{GivesWhole, bodies_at, ended};
+ghost use Rattle.batch_laws.specs.Frames.{IsFrameOf, GivesFrames, GivesBatch};
+ghost use Rattle.batch.specs.Window.{ahead};
+
+use crate::source::Source;
+use crate::window::Window;
+use batch_laws::BatchFault;
+use codec::decode;
+use rows::{Frame, FrameFault};
+use std::alloc::Global;
+
+// The message that the body spells, or the fault of a body that spells none.
+fn frame_of(body: &[u8]) -> Frame
+    ensures { IsFrameOf body.now result }
+{
+    match decode(body) {
+        Ok(message) => Frame::Good(message),
+        Err(fault) => match FrameFault::new(fault) {
+            Some(fault) => Frame::Bad(fault),
+            None => unreachable!(),
+        },
+    }
+}
+
+impl Window {
+    /// Sees that nothing is left.
+    pub(crate) fn read_end<R: Source>(&mut self, source: &mut R) -> Result<(), BatchFault>
+        requires room { R.failures source.old + 1 < 2 ^ 64 }
+        ensures failures { R.failures source.new ≡ failures_after result (R.failures source.old) }
+        ensures known { R.is_known source.old → R.is_known source.new }
+        ensures gives { R.is_known source.old → GivesWhole (λ _. tt) result (ended (ahead self.old (R.remaining source.old))) }
+        ensures end { OnOk result (R.is_known source.old → R.remaining source.new ≡ []) }
+    {
+        match self.make_ready(source) {
+            Ok(()) => Err(BatchFault::Trailing),
+            Err(BatchFault::Ended) => Ok(()),
+            Err(fault) => Err(fault),
+        }
+    }
+
+    /// The frames of the next bodies, so many.
+    pub(crate) fn read_frames<R: Source>(
+        &mut self,
+        alloc: Global,
+        source: &mut R,
+        count: u32,
+    ) -> Result<Vec<Frame>, BatchFault>
+        requires room { R.failures source.old + 1 < 2 ^ 64 }
+        ensures failures { R.failures source.new ≡ failures_after result (R.failures source.old) }
+        ensures known { R.is_known source.old → R.is_known source.new }
+        ensures count { IfOk result (λ frames. vec_len frames ≡ count) }
+        ensures gives { R.is_known source.old → GivesFrames result
+            (ahead self.new (R.remaining source.new)) (bodies_at count (ahead self.old (R.remaining source.old))) }
+    {
+        let mut frames = Vec::new(alloc);
+        for _ in 0..count {
+            self.read_body(source)?;
+            frames.push(frame_of(&self.field))?;
+        }
+        Ok(frames)
+    }
+
+    #[tactic(auto, unfolding(batch_laws::specs::Reading::bodies_of))]
+    fn read_file<R: Source>(
+        &mut self,
+        alloc: Global,
+        source: &mut R,
+    ) -> Result<Vec<Frame>, BatchFault>
+        requires room { R.failures source.old + 1 < 2 ^ 64 }
+        ensures failures { R.failures source.new ≡ failures_after result (R.failures source.old) }
+        ensures known { R.is_known source.old → R.is_known source.new }
+        ensures count { IfOk result (λ frames. length frames.items ≤ 65536) }
+        ensures gives { R.is_known source.old → GivesBatch result (ahead self.old (R.remaining source.old)) }
+        ensures end { OnOk result (R.is_known source.old → R.remaining source.new ≡ []) }
+    {
+        let count = self.read_head(source, b"I83B")?;
+        let frames = self.read_frames(alloc, source, count)?;
+        self.read_end(source)?;
+        Ok(frames)
+    }
+}
+
+/// Reads a batch file, all of the source: `I83B`, version 1, the number of bodies, and each behind its length. The
+/// answer is a frame for each body, in order, or the first fault in reading order. The source is at its end then.
+/// `Device` is the fault exactly where a call of the source failed; and memory can run out.
+pub fn read_batch<R: Source>(alloc: Global, source: &mut R) -> Result<Vec<Frame>, BatchFault>
+    requires room { R.failures source.old + 1 < 2 ^ 64 }
+    ensures failures { R.failures source.new ≡ failures_after result (R.failures source.old) }
+    ensures known { R.is_known source.old → R.is_known source.new }
+    ensures count { IfOk result (λ frames. length frames.items ≤ 65536) }
+    ensures gives { R.is_known source.old → GivesBatch result (R.remaining source.old) }
+    ensures end { OnOk result (R.is_known source.old → R.remaining source.new ≡ []) }
+{
+    let mut window = Window::new(alloc)?;
+    window.read_file(alloc, source)
+}

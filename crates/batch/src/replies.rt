@@ -1,0 +1,69 @@
+ghost use Rattle.std.specs.Prelude.{◌≡◌, ◌+◌, ◌<◌, ◌≤◌, ◌^◌, ◌++◌, length, Err, IfErr, OnOk, OnErr};
+ghost use Rattle.batch_laws.specs.BatchFault.{failures_after};
+ghost use Rattle.batch_laws.specs.Files.{reply_text, framed, replies_text};
+ghost use Rattle.batch.specs.Devices.{AppendsPart, IsWritingFault};
+
+use crate::sink::Sink;
+use crate::writing::{PIECE, add_framed, add_head, put_all, put_piece};
+use batch_laws::BatchFault;
+use codec::encode_reply;
+use rows::ReplyBody;
+use std::alloc::{AllocError, Global};
+
+// The text of a reply.
+fn text_of(text: &mut Vec<u8>, reply: &ReplyBody) -> Result<(), AllocError>
+    ensures items { OnOk result (text.new.items ≡ reply_text reply.now) }
+    ensures length { OnOk result (length text.new.items < 2 ^ 16) }
+{
+    text.clear();
+    match reply {
+        ReplyBody::Reply(reply) => {
+            text.push(b'R')?;
+            encode_reply(reply, text).map_err(|_| AllocError)
+        }
+        ReplyBody::Fault(fault) => text.extend_from_slice(&fault.body()),
+    }
+}
+
+/// Appends a reply behind its length.
+pub(crate) fn add_reply(
+    out: &mut Vec<u8>,
+    text: &mut Vec<u8>,
+    reply: &ReplyBody,
+) -> Result<(), AllocError>
+    ensures { OnOk result (out.new.items ≡ out.old.items ++ framed (reply_text reply.now)) }
+{
+    text_of(text, reply)?;
+    add_framed(out, text)
+}
+
+/// Writes a reply file: `I83R`, version 1, the number of replies, and each behind its length, as `R` and its bytes or
+/// `F` and five digits of a fault. After `Ok` the sink has this text and nothing else, after a fault a beginning of
+/// it. `Device` is the fault exactly where a call of the sink failed; more than 65,536 replies are `Count`, before the
+/// first byte; and memory can run out.
+pub fn write_replies<W: Sink>(
+    alloc: Global,
+    replies: &[ReplyBody],
+    sink: &mut W,
+) -> Result<(), BatchFault>
+    requires room { W.failures sink.old + 1 < 2 ^ 64 }
+    ensures failures { W.failures sink.new ≡ failures_after result (W.failures sink.old) }
+    ensures known { W.is_known sink.old → W.is_known sink.new }
+    ensures ok { OnOk result (W.is_known sink.old → W.written sink.new ≡ W.written sink.old ++ replies_text replies.now) }
+    ensures err { OnErr result (W.is_known sink.old → AppendsPart (W.written sink.old) (W.written sink.new) (replies_text replies.now)) }
+    ensures many { 65536 < length replies.now → (result ≡ Err BatchFault.Count) × (sink.new ≡ sink.old) }
+    ensures fault { IfErr result (IsWritingFault (length replies.now)) }
+{
+    if replies.len() > 65_536 {
+        return Err(BatchFault::Count);
+    }
+    let mut out = Vec::with_capacity(alloc, PIECE)?;
+    let mut text = Vec::new(alloc);
+    add_head(&mut out, b"I83R", replies.len() as u32)?;
+    for reply in replies {
+        add_reply(&mut out, &mut text, reply)?;
+        put_piece(sink, &mut out)?;
+    }
+    put_all(sink, &out)?;
+    Ok(())
+}

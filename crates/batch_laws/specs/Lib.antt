@@ -1,0 +1,4 @@
+pub mod BatchFault
+pub mod Reading
+pub mod Files
+pub mod Frames
