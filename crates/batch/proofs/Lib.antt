@@ -1,5 +1,5 @@
 pub mod Parts
-pub mod Bodies
+pub mod ReadBodies
 pub mod Pieces
-
--- pub mod Folds
+pub mod Lengths
+pub mod Folds

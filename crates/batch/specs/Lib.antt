@@ -1,4 +1,4 @@
 pub mod Devices
 pub mod Window
-
--- pub mod Processing
+pub mod Bodies
+pub mod Processing

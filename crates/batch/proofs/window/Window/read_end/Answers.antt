@@ -2,7 +2,7 @@ use Rattle.std.proofs.Common.{◌≡◌, ◌<◌, ◌++◌, length, arith, ap, �
 use Rattle.std.proofs.lemmas.List.{length-append}
 use Rattle.batch_laws.specs.Reading.{ended}
 use Rattle.batch.specs.Window.{part}
-use Rattle.batch.proofs.Bodies.{ended_more}
+use Rattle.batch.proofs.ReadBodies.{ended_more}
 use Rattle.batch.proofs.Parts.{length_part}
 use Rattle.batch.proofs.window.Window.read_end.Goals as goal
 

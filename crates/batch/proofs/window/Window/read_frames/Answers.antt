@@ -2,7 +2,7 @@ use Rattle.std.proofs.Common.{rules, ◌≡◌, ◌-◌, ◌++◌, ◌∷◌, []
 use Rattle.std.proofs.lemmas.Result.{err_from_is_err_and}
 use Rattle.batch_laws.specs.Reading.{bodies_at}
 use Rattle.batch.specs.Window.{ahead}
-use Rattle.batch.proofs.Bodies.{starts, goes_on, ends, is_done}
+use Rattle.batch.proofs.ReadBodies.{starts, goes_on, ends, is_done}
 use Rattle.batch.proofs.window.Window.read_frames.Goals as goal
 
 pub loop-init : goal.loop-init

@@ -1,0 +1,53 @@
+ghost use Rattle.std.specs.Prelude.{◌≡◌, ◌↔◌, ◌+◌, ◌<◌, ◌≤◌, ◌^◌, ◌++◌, length, Err, IfErr, IsTrue, OnOk, OnErr, All};
+ghost use Rattle.std.specs.List.{AllByRecursion};
+ghost use Rattle.batch_laws.specs.BatchFault.{failures_after};
+ghost use Rattle.batch_laws.specs.Files.{IsBody, AreBodies, batch_text};
+ghost use Rattle.batch.specs.Bodies.{bytes_of};
+ghost use Rattle.batch.specs.Devices.{AppendsPart};
+
+use crate::sink::Sink;
+use crate::writing::{PIECE, add_framed, add_head, put_all, put_piece};
+use batch_laws::BatchFault;
+use std::alloc::Global;
+
+// Whether each body has 1 to 512 bytes.
+fn are_bodies(bodies: &[Vec<u8>]) -> bool
+    ensures { IsTrue result ↔ All (λ body. IsBody body.items) bodies.now }
+{
+    bodies.iter().all(|body| matches!(body.len(), 1..=512))
+}
+
+/// Writes a batch file: `I83B`, version 1, the number of bodies, and each behind its length. After `Ok` the sink has
+/// this text and nothing else. More than 65,536 bodies are `Count`, and else a body whose length is outside 1 to 512 is
+/// `Length`, before the first byte. After another fault the sink has a beginning of the text. `Device` is the fault
+/// exactly where a call of the sink failed; and memory can run out.
+#[tactic(auto, using(crate::proofs::Lengths::are_bodies, crate::proofs::Lengths::are_vecs))]
+pub fn write_batch<W: Sink>(
+    alloc: Global,
+    bodies: &[Vec<u8>],
+    sink: &mut W,
+) -> Result<(), BatchFault>
+    requires room { W.failures sink.old + 1 < 2 ^ 64 }
+    ensures failures { W.failures sink.new ≡ failures_after result (W.failures sink.old) }
+    ensures known { W.is_known sink.old → W.is_known sink.new }
+    ensures bodies { OnOk result (AreBodies (bytes_of bodies.now)) }
+    ensures ok { OnOk result (W.is_known sink.old → W.written sink.new ≡ W.written sink.old ++ batch_text (bytes_of bodies.now)) }
+    ensures err { OnErr result (W.is_known sink.old → AppendsPart (W.written sink.old) (W.written sink.new) (batch_text (bytes_of bodies.now))) }
+    ensures many { 65536 < length bodies.now → (result ≡ Err BatchFault.Count) × (sink.new ≡ sink.old) }
+    ensures length { length bodies.now ≤ 65536 → ¬ AllByRecursion IsBody (bytes_of bodies.now) → (result ≡ Err BatchFault.Length) × (sink.new ≡ sink.old) }
+{
+    if bodies.len() > 65_536 {
+        return Err(BatchFault::Count);
+    }
+    if !are_bodies(bodies) {
+        return Err(BatchFault::Length);
+    }
+    let mut out = Vec::with_capacity(alloc, PIECE)?;
+    add_head(&mut out, b"I83B", bodies.len() as u32)?;
+    for body in bodies {
+        add_framed(&mut out, body)?;
+        put_piece(sink, &mut out)?;
+    }
+    put_all(sink, &out)?;
+    Ok(())
+}
