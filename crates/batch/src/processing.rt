@@ -34,6 +34,7 @@ pub fn process<R: Source, W: Sink, E: Fn(&Book, &[Frame]) -> Result<Outcome, All
     requires called { (rows : _) (frames : _) → length frames.now ≤ 65536 → E.pre decide.now rows frames }
     requires fold { (rows : _) (frames : _) (answer : _) → E.post decide.now rows frames answer → AnswersFold rows.now frames.now answer }
     ensures failures { R.failures source.new + W.failures sink.new ≡ failures_after result (R.failures source.old + W.failures sink.old) }
+    ensures known { W.is_known sink.old → W.is_known sink.new }
     ensures ok { IfOk result (λ outcome. (frames : List Frame) × IsFold book.now frames outcome
         × (R.is_known source.old → IsBatchOf (R.remaining source.old) frames)
         × (W.is_known sink.old → W.written sink.new ≡ W.written sink.old ++ replies_text (replies_to book.now frames))) }

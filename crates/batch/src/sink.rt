@@ -42,6 +42,13 @@ impl<W: Write> IntoWrite<W> {
         }
     }
 
+    /// The writer, whatever failed.
+    pub fn into_writer(self) -> W
+        ensures { result ≡ self.writer }
+    {
+        self.writer
+    }
+
     /// The writer.
     pub fn writer(&self) -> &W
         ensures { result.now ≡ self.now.writer }

@@ -1,0 +1,99 @@
+use crate::files::Files;
+use batch::{Broken, FromRead, IntoWrite};
+use std::alloc::Global;
+use std::fs;
+use std::fs::OpenFile;
+use std::io;
+use std::io::{ErrorKind, Write};
+use std::rt;
+
+/// The host's files. What they hold is not known.
+pub struct HostFiles<'a, R> {
+    host: &'a R,
+    alloc: Global,
+}
+
+impl<'a, R: rt::Files> HostFiles<'a, R> {
+    /// The files of this host.
+    pub fn new(host: &'a R, alloc: Global) -> HostFiles<'a, R> {
+        HostFiles { host, alloc }
+    }
+
+    // Makes a file of this name, or empties it, and writes the bytes.
+    fn write(&self, name: &str, bytes: &[u8]) -> io::Result<R::File> {
+        let mut file = fs::create(self.host, name)?;
+        file.write_all(bytes)?;
+        Ok(file)
+    }
+
+    // Writes a file beside, and puts it in the place of the one of this name when it is on the disk.
+    fn write_beside(&self, name: &str, bytes: &[u8]) -> io::Result<()> {
+        let beside = format!(in self.alloc; "{name}.partial")?;
+        let written = self
+            .write_through(beside.as_str(), bytes)
+            .and_then(|()| fs::rename(self.host, beside.as_str(), name));
+        if written.is_err() {
+            // Nothing more can be done where this fails too.
+            let _ = fs::remove_file(self.host, beside.as_str());
+        }
+        written
+    }
+
+    // Writes the bytes until they are on the disk.
+    fn write_through(&self, name: &str, bytes: &[u8]) -> io::Result<()> {
+        self.write(name, bytes)?.sync_all()
+    }
+
+    // Whether another file can be renamed to this name: there is none, or a plain file.
+    fn can_be_renamed_over(&self, name: &str) -> io::Result<bool> {
+        match fs::symlink_metadata(self.host, name) {
+            Ok(metadata) => Ok(metadata.is_file()),
+            Err(error) if error.kind() == ErrorKind::NotFound => Ok(true),
+            Err(error) => Err(error),
+        }
+    }
+
+    fn replace_file(&self, name: &str, bytes: &[u8]) -> io::Result<()> {
+        if self.can_be_renamed_over(name)? {
+            self.write_beside(name, bytes)
+        } else {
+            self.write(name, bytes)?;
+            Ok(())
+        }
+    }
+}
+
+impl<'a, R: rt::Files> Files for HostFiles<'a, R> {
+    type Input = FromRead<R::File>;
+    type Output = IntoWrite<R::File>;
+
+    ghost is_known = { λ _. ⊥ };
+
+    ghost holds = { λ _ _ _. ⊥ };
+
+    fn open(&self, name: &str) -> Result<FromRead<R::File>, Broken> {
+        match fs::open(self.host, name) {
+            Ok(file) => Ok(FromRead::new(file)),
+            Err(_) => Err(Broken),
+        }
+    }
+
+    fn create(&mut self, name: &str) -> Result<IntoWrite<R::File>, Broken> {
+        match fs::create(self.host, name) {
+            Ok(file) => Ok(IntoWrite::new(file)),
+            Err(_) => Err(Broken),
+        }
+    }
+
+    fn close(&mut self, _name: &str, _output: IntoWrite<R::File>) -> Result<(), Broken> {
+        Ok(())
+    }
+
+    // A name that can't be renamed over, as a device or a link, is written as it is.
+    fn replace(&mut self, name: &str, bytes: &[u8]) -> Result<(), Broken> {
+        match self.replace_file(name, bytes) {
+            Ok(()) => Ok(()),
+            Err(_) => Err(Broken),
+        }
+    }
+}

@@ -1,0 +1,14 @@
+//! Files by name: the host's, or ones that are kept in memory.
+#![tactic(auto)]
+
+mod files;
+mod host;
+mod memory;
+mod read_fault;
+mod reading;
+
+pub use files::Files;
+pub use host::HostFiles;
+pub use memory::MemoryFiles;
+pub use read_fault::ReadFault;
+pub use reading::read_file;

@@ -1,0 +1,86 @@
+ghost use Rattle.std.specs.Prelude.{◌≡◌, ◌≢◌, ℕ, List, Some, OnOk, OnErr, IfOk, option_map};
+ghost use Rattle.files.specs.Held.{held};
+
+use crate::files::Files;
+use batch::{Broken, FromRead, IntoWrite};
+use std::alloc::Global;
+use std::collections::BTreeMap;
+use std::io::Cursor;
+
+/// Files that are kept in memory. A call fails where no file has the name, or memory runs out.
+#[derive(Drop)]
+pub struct MemoryFiles {
+    alloc: Global,
+    files: BTreeMap<String, Vec<u8>>,
+}
+
+impl MemoryFiles {
+    /// No file.
+    pub fn new(alloc: Global) -> MemoryFiles {
+        MemoryFiles {
+            alloc,
+            files: BTreeMap::new(alloc),
+        }
+    }
+
+    /// What the file of this name holds.
+    pub fn get(&self, name: &str) -> Option<&[u8]>
+        ensures { option_map (λ bytes. bytes.now) result ≡ held self.now.files name.now }
+    {
+        self.files.get(name).map(|bytes| bytes.as_slice())
+    }
+
+    /// Puts a file of these bytes under the name. The one that was there is lost.
+    pub fn put(&mut self, name: &str, bytes: Vec<u8>) -> Result<(), Broken>
+        ensures ok { OnOk result (held self.new.files name.now ≡ Some bytes.items) }
+        ensures err { OnErr result ((other : List ℕ) → held self.new.files other ≡ held self.old.files other) }
+        ensures others { (other : List ℕ) → other ≢ name.now → held self.new.files other ≡ held self.old.files other }
+    {
+        let Ok(name) = String::from_str(self.alloc, name) else {
+            return Err(Broken);
+        };
+        match self.files.insert(name, bytes) {
+            Ok(_) => Ok(()),
+            Err(_) => Err(Broken),
+        }
+    }
+
+    fn copied(&self, bytes: &[u8]) -> Result<Vec<u8>, Broken>
+        ensures { IfOk result (λ copy. copy.items ≡ bytes.now) }
+    {
+        let mut copy = Vec::new(self.alloc);
+        match copy.extend_from_slice(bytes) {
+            Ok(()) => Ok(copy),
+            Err(_) => Err(Broken),
+        }
+    }
+}
+
+impl Files for MemoryFiles {
+    type Input = FromRead<Cursor<Vec<u8>>>;
+    type Output = IntoWrite<Vec<u8>>;
+
+    ghost is_known = { λ _. Unit {0} };
+
+    ghost holds = { λ files name bytes. held files.files name ≡ Some bytes };
+
+    fn open(&self, name: &str) -> Result<FromRead<Cursor<Vec<u8>>>, Broken> {
+        match self.files.get(name) {
+            Some(bytes) => Ok(FromRead::new(Cursor::new(self.copied(bytes)?))),
+            None => Err(Broken),
+        }
+    }
+
+    fn create(&mut self, _name: &str) -> Result<IntoWrite<Vec<u8>>, Broken> {
+        Ok(IntoWrite::new(Vec::new(self.alloc)))
+    }
+
+    fn close(&mut self, name: &str, output: IntoWrite<Vec<u8>>) -> Result<(), Broken> {
+        self.put(name, output.into_writer())
+    }
+
+    fn replace(&mut self, name: &str, bytes: &[u8]) -> Result<(), Broken> {
+        let bytes = self.copied(bytes)?;
+        self.put(name, bytes)
+    }
+}

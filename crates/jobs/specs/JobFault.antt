@@ -1,0 +1,32 @@
+-- Faults of jobs: what they are of, and their numbers there.
+use Rattle.std.specs.Prelude.{ℕ, List, codes}
+use Rattle.batch_laws.specs.BatchFault.{number_of_fault}
+use Rattle.book_json_laws.specs.JsonFault.{number_of_json_fault}
+use Rattle.files.specs.declared.read_fault.ReadFault.{ReadFault}
+use Rattle.files.specs.declared.read_fault.ReadFault.TheVariants as read
+use Rattle.journal_text.specs.ReplayFault.{number_of_replay_fault}
+use Rattle.jobs.specs.declared.job_fault.JobFault.{JobFault}
+use Rattle.jobs.specs.declared.job_fault.JobFault.TheVariants.{Unreadable, Unwritable, Book, Batch, Journal, Text, OutOfMemory}
+
+abbrev pub part_of : JobFault → List ℕ
+part_of Unreadable = codes "file"
+part_of Unwritable = codes "file"
+part_of (Book fault) = codes "book"
+part_of (Batch fault) = codes "batch"
+part_of (Journal fault) = codes "journal"
+part_of (Text line) = codes "text"
+part_of OutOfMemory = codes "memory"
+
+abbrev pub number_of : JobFault → ℕ
+number_of Unreadable = 1
+number_of Unwritable = 2
+number_of (Book fault) = number_of_json_fault fault
+number_of (Batch fault) = number_of_fault fault
+number_of (Journal fault) = number_of_replay_fault fault
+number_of (Text line) = line
+number_of OutOfMemory = 1
+
+-- a file that isn't read is unreadable, or memory ran out
+abbrev pub fault_of_read : ReadFault → JobFault
+fault_of_read read.Unreadable = Unreadable
+fault_of_read read.OutOfMemory = OutOfMemory

@@ -1,0 +1,3 @@
+pub mod JobFault
+pub mod Opened
+pub mod Decided

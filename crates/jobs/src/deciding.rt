@@ -1,0 +1,92 @@
+ghost use Rattle.std.specs.Prelude.{◌≡◌, ◌≢◌, ◌≤◌, ℕ, List, Ok, Err, IfOk, IfErr, OnOk, OnErr, IsTrue, length, string_bytes};
+ghost use Rattle.batch.specs.Processing.{IsFold, AnswersFold};
+ghost use Rattle.batch_laws.specs.BatchFault.{is_of_bytes};
+ghost use Rattle.batch_laws.specs.Files.{replies_text};
+ghost use Rattle.batch_laws.specs.Frames.{IsBatchOf};
+ghost use Rattle.batch_laws.specs.Reading.{bodies_of, batch_magic};
+ghost use Rattle.book_json_laws.specs.Text.{book_text};
+ghost use Rattle.rows.specs.Fold.{replies_to};
+ghost use Rattle.rows.specs.declared.frame.Frame.{Frame};
+ghost use Rattle.jobs.specs.Decided.{IsDecided};
+
+use crate::batch_names::BatchNames;
+use crate::job_fault::JobFault;
+use crate::opening::open_book;
+use batch::{BatchFault, process};
+use book_json::write_book;
+use files::Files;
+use fold::Outcome;
+use rows::{Book, Frame};
+use std::alloc::{AllocError, Global};
+
+/// Decides the batch of one file on the book of another, and puts the replies and the new book into files. `decide` has to
+/// answer the fold. The answer is how many messages were decided. Until the batch is decided nothing is written but an empty file
+/// for the replies, and after a fault the file of the new book is as it was.
+pub fn decide_batch<F: Files, E: Fn(&Book, &[Frame]) -> Result<Outcome, AllocError>>(
+    alloc: Global,
+    files: &mut F,
+    names: &BatchNames,
+    decide: &E,
+) -> Result<usize, JobFault>
+    // It may be called with a batch, and what it answers is the fold.
+    requires called { (rows : _) (frames : _) → length frames.now ≤ 65536 → E.pre decide.now rows frames }
+    requires fold { (rows : _) (frames : _) (answer : _) → E.post decide.now rows frames answer → AnswersFold rows.now frames.now answer }
+    ensures decided { IfOk result (IsDecided (F.is_known files.old) (F.holds files.old) (F.holds files.new)
+        (string_bytes names.now.book) (string_bytes names.now.batch) (string_bytes names.now.replies) (string_bytes names.now.new_book)) }
+    ensures known { F.is_known files.old → F.is_known files.new }
+{
+    let book = open_book(alloc, files, names.book.as_str())?;
+    let outcome = answer_batch(alloc, files, names, &book, decide)?;
+    put_book(alloc, files, names.new_book.as_str(), &outcome.book)?;
+    Ok(outcome.replies.len())
+}
+
+// Decides the batch on a book, and puts the replies into their file.
+fn answer_batch<F: Files, E: Fn(&Book, &[Frame]) -> Result<Outcome, AllocError>>(
+    alloc: Global,
+    files: &mut F,
+    names: &BatchNames,
+    book: &Book,
+    decide: &E,
+) -> Result<Outcome, JobFault>
+    requires called { (rows : _) (frames : _) → length frames.now ≤ 65536 → E.pre decide.now rows frames }
+    requires fold { (rows : _) (frames : _) (answer : _) → E.post decide.now rows frames answer → AnswersFold rows.now frames.now answer }
+    ensures ok { IfOk result (λ outcome. (frames : List Frame) × IsFold book.now frames outcome
+        × ((bytes : List ℕ) → F.holds files.old (string_bytes names.now.batch) bytes → IsBatchOf bytes frames)
+        × (F.is_known files.old → F.holds files.new (string_bytes names.now.replies) (replies_text (replies_to book.now frames)))) }
+    ensures known { F.is_known files.old → F.is_known files.new }
+    ensures others { (other held : List ℕ) → other ≢ string_bytes names.now.replies → F.holds files.old other held → F.holds files.new other held }
+{
+    let Ok(mut batch) = files.open(names.batch.as_str()) else {
+        return Err(JobFault::Unreadable);
+    };
+    let Ok(mut replies) = files.create(names.replies.as_str()) else {
+        return Err(JobFault::Unwritable);
+    };
+    let processed = process(alloc, book, &mut batch, &mut replies, decide);
+    let closed = files.close(names.replies.as_str(), replies);
+    match (processed, closed) {
+        (Ok(outcome), Ok(())) => Ok(outcome),
+        (Ok(_), Err(_)) => Err(JobFault::Batch(BatchFault::Device)),
+        (Err(fault), _) => Err(JobFault::Batch(fault)),
+    }
+}
+
+/// Puts the text of a book into the file of this name.
+pub(crate) fn put_book<F: Files>(
+    alloc: Global,
+    files: &mut F,
+    name: &str,
+    book: &Book,
+) -> Result<(), JobFault>
+    ensures ok { OnOk result (F.is_known files.old → F.holds files.new name.now (book_text book.now)) }
+    ensures kept { OnErr result ((held : List ℕ) → F.holds files.old name.now held → F.holds files.new name.now held) }
+    ensures known { F.is_known files.old → F.is_known files.new }
+    ensures others { (other held : List ℕ) → other ≢ name.now → F.holds files.old other held → F.holds files.new other held }
+{
+    let text = write_book(alloc, book)?;
+    match files.replace(name, &text) {
+        Ok(()) => Ok(()),
+        Err(_) => Err(JobFault::Unwritable),
+    }
+}

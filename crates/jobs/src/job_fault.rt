@@ -1,0 +1,87 @@
+ghost use Rattle.std.specs.Prelude.{◌≡◌};
+ghost use Rattle.jobs.specs.JobFault.{part_of, number_of, fault_of_read};
+ghost use Rattle.jobs.specs.declared.job_fault.JobFault.TheVariants.{OutOfMemory};
+
+use batch::BatchFault;
+use book_json::JsonFault;
+use files::ReadFault;
+use journal_text::ReplayFault;
+use std::alloc::AllocError;
+use std::error::Error;
+use std::fmt;
+
+/// Why a job is not done. Its text is what it is of and its number there, as `batch 3`.
+#[derive(Clone, Copy, Debug, PartialEq, Eq)]
+pub enum JobFault {
+    /// A file can't be opened or read.
+    Unreadable,
+    /// A file can't be made or written.
+    Unwritable,
+    /// A book is none.
+    Book(JsonFault),
+    /// A batch or its replies are none, or are not written.
+    Batch(BatchFault),
+    /// A journal is none.
+    Journal(ReplayFault),
+    /// The line of this number, from 1, of a text of bodies is none.
+    Text(u32),
+    /// Memory ran out.
+    OutOfMemory,
+}
+
+impl JobFault {
+    /// What the fault is of.
+    pub fn part(&self) -> &'static str
+        ensures { result.now ≡ part_of self.now }
+    {
+        match self {
+            JobFault::Unreadable | JobFault::Unwritable => "file",
+            JobFault::Book(_) => "book",
+            JobFault::Batch(_) => "batch",
+            JobFault::Journal(_) => "journal",
+            JobFault::Text(_) => "text",
+            JobFault::OutOfMemory => "memory",
+        }
+    }
+
+    /// Its number there.
+    pub fn number(&self) -> u32
+        ensures { result ≡ number_of self.now }
+    {
+        match self {
+            JobFault::Unreadable | JobFault::OutOfMemory => 1,
+            JobFault::Unwritable => 2,
+            JobFault::Book(fault) => u32::from(fault.number()),
+            JobFault::Batch(fault) => u32::from(fault.number()),
+            JobFault::Journal(fault) => u32::from(fault.number()),
+            JobFault::Text(line) => *line,
+        }
+    }
+}
+
+impl fmt::Display for JobFault {
+    fn fmt<W: fmt::Write>(&self, f: &mut fmt::Formatter<W>) -> fmt::Result {
+        write!(f, "{} {}", self.part(), self.number())
+    }
+}
+
+impl Error for JobFault {}
+
+impl From<AllocError> for JobFault {
+    ghost from_gives = { λ _ fault. fault ≡ OutOfMemory };
+
+    fn from(_error: AllocError) -> JobFault {
+        JobFault::OutOfMemory
+    }
+}
+
+impl From<ReadFault> for JobFault {
+    ghost from_gives = { λ read fault. fault ≡ fault_of_read read };
+
+    fn from(fault: ReadFault) -> JobFault {
+        match fault {
+            ReadFault::Unreadable => JobFault::Unreadable,
+            ReadFault::OutOfMemory => JobFault::OutOfMemory,
+        }
+    }
+}
