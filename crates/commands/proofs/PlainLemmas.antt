@@ -1,5 +1,5 @@
 -- How plain words are read.
-use Rattle.std.proofs.Common.{◌≡◌, ◌==◌, ℕ, Bool, true, false, List, [], ◌∷◌, ◌%◌, length, Ok, Err, Some, inl, refl, codes, ap, arith, if◌then◌else◌}
+use Rattle.std.proofs.Common.{◌≡◌, ◌==◌, ℕ, Bool, true, false, List, [], ◌∷◌, ◌%◌, length, Ok, Err, inl, refl, codes, ap, ◌∙◌, arith, option_map, if◌then◌else◌}
 use Rattle.std.proofs.lemmas.Bool.Decides.{nat_tests}
 use Rattle.clap.proofs.OnLiterals.{clap_on_literals}
 use Rattle.clap.specs.Faults.{fault_of}
@@ -9,7 +9,10 @@ use Rattle.hex.specs.Hex.{decode_of, decode_pairs}
 use Rattle.hex.specs.declared.error.FromHexError.{FromHexError}
 use Rattle.answering.specs.Answers.{IsBodyInDigits}
 use Rattle.commands.specs.Plainly.{OneFrameIsRead, HelpIsRead, IsNoCommand}
-use Rattle.commands.specs.Words.{command_line, frame_in}
+use Rattle.commands.specs.Asked.{body_in, one}
+use Rattle.commands.specs.CommandLine.{command_line}
+use Rattle.commands.specs.Words.{asked_in}
+use Rattle.commands.proofs.WordsLemmas.{body_found}
 
 either_error : (odd : Bool) (x y : FromHexError) (body : List ℕ) → (if odd then Err x else Err y) ≡ Ok body → ⊥
 either_error true x y body h = cc
@@ -33,7 +36,8 @@ no_fault : (name : Text) (d : ℕ) (rest : Text) → (d == 45) ≡ false → fau
 unfolding clap_on_literals
 no_fault name d rest h = simp h refl
 
-is_frame : (name : Text) (d : ℕ) (rest : Text) → (d == 45) ≡ false → frame_in (name ∷ codes "one" ∷ (d ∷ rest) ∷ []) ≡ Some (d ∷ rest)
+is_frame : (name : Text) (d : ℕ) (rest : Text) → (d == 45) ≡ false
+    → asked_in (name ∷ codes "one" ∷ (d ∷ rest) ∷ []) ≡ option_map one (body_in (d ∷ rest))
 unfolding clap_on_literals
 is_frame name d rest h = simp h refl
 
@@ -42,7 +46,7 @@ unfolding decode_pairs
 one_frame name [] body h = let none : [] ≡ body = cc in absurd (omega (arith, h.1, ap length none))
 one_frame name (d ∷ rest) body h =
     let plain = not_hyphen d rest body h in
-    (no_fault name d rest plain, d ∷ rest, is_frame name d rest plain, h)
+    (no_fault name d rest plain, is_frame name d rest plain ∙ ap (option_map one) (body_found (d ∷ rest) body h))
 
 pub help : (name : Text) → HelpIsRead name
 unfolding clap_on_literals

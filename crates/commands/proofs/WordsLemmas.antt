@@ -1,18 +1,25 @@
 -- From the words' reader to what the words are read as.
-use Rattle.std.proofs.Common.{◌≡◌, ◌⊎◌, ℕ, List, Option, Some, None, codes, inl, inr, refl, sym, ◌∙◌, true, option_map, option_and_then, Result, Ok, Err}
+use Rattle.std.proofs.Common.{◌≡◌, ◌⊎◌, ◌≤◌, ◌&&◌, ℕ, List, [], Option, Some, None, codes, inl, inr, refl, sym, ◌∙◌, true, false, Bool, arith, nat_lt, length, string_bytes, option_map, option_and_then, Result, Ok, Err, if◌then◌else◌}
+use Rattle.std.proofs.lemmas.Bool.Decides.{nat_tests}
+use Rattle.std.specs.Option.{SomeIff}
 use Rattle.clap.proofs.OnLiterals.{clap_on_literals}
 use Rattle.clap.specs.Faults.{fault_of, is_simple_and_free}
 use Rattle.clap.specs.Kinds.{IsAmong}
-use Rattle.clap.specs.Simple.{is_simple}
+use Rattle.std.specs.Str.{bytes_eq}
+use Rattle.clap.specs.Simple.{is_simple, subcommand_of}
 use Rattle.clap.specs.Walk.{Row, Text, first_of}
 use Rattle.clap.specs.declared.error.kind.ErrorKind.{ErrorKind}
 use Rattle.clap.specs.declared.error.kind.ErrorKind.TheVariants as kinds
+use Rattle.hex.specs.Hex.{decode_of}
+use Rattle.hex.specs.declared.error.FromHexError.{FromHexError}
 use Rattle.answering.specs.Answers.{IsBodyInDigits}
-use Rattle.commands.specs.Words.{IsOne, IsRead, IsReadOfKind, IsUsageFault, IsFaultOf, command_line, frame_at, frame_in}
-use Rattle.commands.specs.declared.command_line.Command.{Command}
-use Rattle.commands.specs.declared.command_line.Command.TheVariants.{Help, One}
+use Rattle.commands.specs.Asked.{Names, asked, asked_of, body_in, body_of, help, names_in, one, one_in, run, run_in, serial, workers_in}
+use Rattle.commands.specs.CommandLine.{command_line}
+use Rattle.commands.specs.Words.{IsRead, IsReadOfKind, IsUsageFault, IsOfWords, asked_in}
+use Rattle.commands.specs.declared.command.Command.{Command}
+use Rattle.commands.specs.declared.command.Command.TheVariants.{Help, One, Serial, Run}
 use Rattle.commands.specs.declared.fault.Fault.{Fault}
-use Rattle.commands.specs.declared.fault.Fault.TheVariants.{Usage, OutOfMemory}
+use Rattle.commands.specs.declared.fault.Fault.TheVariants.{Usage, OutOfMemory, Job}
 
 -- the command line is one whose reading is known in both outcomes
 pub simple_line : is_simple command_line ≡ true
@@ -24,32 +31,38 @@ unfolding clap_on_literals
 free_line = refl
 
 -- the subcommand that was met is `one`
-pub frame_here : (met : Option (Text × List Row)) (name : Text) (rows : List Row) → Some name ≡ option_map (λ p. p.0) met → Some rows ≡ option_map (λ p. p.1) met
-    → name ≡ codes "one" → first_of (codes "FRAME") rows ≡ option_and_then frame_at met
-frame_here None name rows n r e = cc
-frame_here (Some (a, b)) name rows n r e =
+pub one_here : (met : Option (Text × List Row)) (name : Text) (rows : List Row) → Some name ≡ option_map (λ p. p.0) met → Some rows ≡ option_map (λ p. p.1) met
+    → name ≡ codes "one" → one_in rows ≡ option_and_then asked met
+one_here None name rows n r e = cc
+one_here (Some (a, b)) name rows n r e =
     let is_one : codes "one" ≡ a = cc in
     let same : rows ≡ b = cc in
     rw (← is_one, same) refl
 
-some_alike : (a b : Text) → Some a ≡ Some b → a ≡ b
-some_alike a b h = cc
+-- it is `run`
+pub run_here : (met : Option (Text × List Row)) (name : Text) (rows : List Row) → Some name ≡ option_map (λ p. p.0) met → Some rows ≡ option_map (λ p. p.1) met
+    → name ≡ codes "run" → run_in rows ≡ option_and_then asked met
+run_here None name rows n r e = cc
+run_here (Some (a, b)) name rows n r e =
+    let is_run : codes "run" ≡ a = cc in
+    let same : rows ≡ b = cc in
+    rw (← is_run, same) refl
 
--- FRAME stands for no body, or isn't there
-pub no_body : (words : List Text) (digits : Text) → Some digits ≡ frame_in words → ((body : List ℕ) → IsBodyInDigits digits body → ⊥)
-    → (body : List ℕ) → IsOne words body → ⊥
-no_body words digits there none body one =
-    let same : one.1 ≡ digits = some_alike _ _ (sym one.2 ∙ sym there) in
-    none body (rw (← same) one.3)
+-- it is `serial`
+pub serial_here : (met : Option (Text × List Row)) (name : Text) (rows : List Row) → Some name ≡ option_map (λ p. p.0) met → Some rows ≡ option_map (λ p. p.1) met
+    → name ≡ codes "serial" → option_map serial (names_in rows) ≡ option_and_then asked met
+serial_here None name rows n r e = cc
+serial_here (Some (a, b)) name rows n r e =
+    let is_serial : codes "serial" ≡ a = cc in
+    let same : rows ≡ b = cc in
+    rw (← is_serial, same) refl
 
-pub no_frame : (words : List Text) → None ≡ frame_in words → (body : List ℕ) → IsOne words body → ⊥
-no_frame words absent body one =
-    let both : Some one.1 ≡ None = sym one.2 ∙ sym absent in cc
-
--- a usage fault, or want of memory
-pub usage_of : (words : List Text) → IsUsageFault words → (fault : Fault) → IsFaultOf words fault
-usage_of words h (Usage text) = h
-usage_of words h OutOfMemory = tt
+-- digits that stand for a body, or for none
+pub body_found : (digits : Text) (body : List ℕ) → IsBodyInDigits digits body → body_in digits ≡ Some body
+body_found digits body h =
+    let low : nat_lt 0 (length body) ≡ true = grind (arith, nat_tests, h.1) in
+    let high : nat_lt (length body) 513 ≡ true = grind (arith, nat_tests, h.2) in
+    rw (h.0, low, high) refl
 
 -- what the words' reader says where it has an error of this kind
 pub read_of_kind : (words : List Text) (kind : ErrorKind) (result : Result Command Fault) → (kind ≡ kinds.OutOfMemory) ⊎ IsAmong kind (fault_of command_line words)
@@ -57,6 +70,66 @@ pub read_of_kind : (words : List Text) (kind : ErrorKind) (result : Result Comma
 read_of_kind words kind (Ok (Help text)) (inl memory) h = let both : kinds.DisplayHelp ≡ kinds.OutOfMemory = sym h ∙ memory in cc
 read_of_kind words kind (Ok (Help text)) (inr among) h = rw (← h) among
 read_of_kind words kind (Ok (One body)) among h = absurd h
+read_of_kind words kind (Ok (Serial names)) among h = absurd h
+read_of_kind words kind (Ok (Run names workers)) among h = absurd h
 read_of_kind words kind (Err (Usage text)) (inl memory) h = absurd (h.1 memory)
 read_of_kind words kind (Err (Usage text)) (inr among) h = inl (kind, h.0, among)
 read_of_kind words kind (Err OutOfMemory) among h = tt
+read_of_kind words kind (Err (Job fault)) among h = absurd h
+
+-- a usage fault, or want of memory
+pub usage_of : (words : List Text) → IsUsageFault words → (fault : Fault) → IsOfWords fault → IsRead words (Err fault)
+usage_of words h (Usage text) of_words = h
+usage_of words h OutOfMemory of_words = tt
+usage_of words h (Job fault) of_words = absurd of_words
+
+-- no subcommand asks for help
+no_help_one : (x : Option (List ℕ)) (text : Text) → option_map one x ≡ Some (help text) → ⊥
+no_help_one None text h = cc
+no_help_one (Some body) text h = cc
+
+no_help_serial : (x : Option Names) (text : Text) → option_map serial x ≡ Some (help text) → ⊥
+no_help_serial None text h = cc
+no_help_serial (Some names) text h = cc
+
+no_help_run : (x : Option Names) (w : Option ℕ) (text : Text) → option_and_then (λ names. option_map (run names) w) x ≡ Some (help text) → ⊥
+no_help_run None w text h = cc
+no_help_run (Some names) None text h = cc
+no_help_run (Some names) (Some n) text h = cc
+
+no_help : (a b c : Bool) (x : Option (List ℕ)) (y z : Option Names) (w : Option ℕ) (text : Text)
+    → (if a then option_map one x else (if b then option_and_then (λ names. option_map (run names) w) y else (if c then option_map serial z else None))) ≡ Some (help text) → ⊥
+no_help true b c x y z w text h = no_help_one x text h
+no_help false true c x y z w text h = no_help_run y w text h
+no_help false false true x y z w text h = no_help_serial z text h
+no_help false false false x y z w text h = cc
+
+asked_no_help : (met : Option (Text × List Row)) (text : Text) → option_and_then asked met ≡ Some (help text) → ⊥
+asked_no_help None text h = cc
+asked_no_help (Some (name, rows)) text h =
+    no_help (bytes_eq name (codes "one")) (bytes_eq name (codes "run")) (bytes_eq name (codes "serial"))
+    (option_and_then body_in (first_of (codes "FRAME") rows)) (names_in rows) (names_in rows)
+    (option_and_then workers_in (first_of (codes "workers") rows)) text h
+
+-- what a command is that the words ask for
+pub read_as : (words : List Text) (command : Command) → fault_of command_line words ≡ [] → Some (asked_of command) ≡ asked_in words → IsRead words (Ok command)
+read_as words (Help text) fault h = absurd (asked_no_help (subcommand_of command_line words) (string_bytes text) (sym h))
+read_as words (One body) fault h = (fault, sym h)
+read_as words (Serial names) fault h = (fault, sym h)
+read_as words (Run names workers) fault h = (fault, sym h)
+
+-- a number of workers
+pub workers_are : (n : ℕ) (r : Option ℕ) → SomeIff r ((1 ≤ n) × (n ≤ 64)) n → r ≡ (if nat_lt 0 n && nat_lt n 65 then Some n else None)
+workers_are n (Some x) h =
+    let low : nat_lt 0 n ≡ true = grind (arith, nat_tests, h.0.0) in
+    let high : nat_lt n 65 ≡ true = grind (arith, nat_tests, h.0.1) in
+    rw (low, high, h.1) refl
+workers_are n None h = go (nat_lt 0 n) (nat_lt n 65) refl refl
+  where
+    go : (a b : Bool) → nat_lt 0 n ≡ a → nat_lt n 65 ≡ b → None ≡ (if a && b then Some n else None)
+    go false b e f = refl
+    go true false e f = refl
+    go true true e f =
+        let low : 1 ≤ n = grind (arith, nat_tests, e) in
+        let high : n ≤ 64 = grind (arith, nat_tests, f) in
+        absurd (h (low, high))

@@ -1,4 +1,6 @@
 pub mod Answered
+pub mod Asked
+pub mod CommandLine
 pub mod Fault
 pub mod Plainly
 pub mod Printed

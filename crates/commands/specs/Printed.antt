@@ -1,5 +1,5 @@
 -- What was printed.
-use Rattle.std.specs.Prelude.{◌≡◌, ℕ, List, [], ◌∷◌, ◌++◌, Option, None, IfSome, if◌then◌else◌}
+use Rattle.std.specs.Prelude.{◌≡◌, ℕ, List, [], ◌∷◌, ◌++◌, Option, None, IfSome, decimal, if◌then◌else◌}
 use Rattle.commands.specs.declared.printer.Printer.{Printer}
 
 -- what the printer's writer holds, where that is known and the writer took every line
@@ -9,3 +9,7 @@ printed contents printer = if printer.is_stuck then None else contents printer.w
 -- the line and a line feed stand behind what was printed before, where the writer took it
 abbrev pub PrintsLine : Option (List ℕ) → Option (List ℕ) → List ℕ → Type 0
 PrintsLine old new line = IfSome new (λ now. IfSome old (λ before. now ≡ before ++ line ++ 10 ∷ []))
+
+-- a word, a space and a number
+abbrev pub numbered : List ℕ → ℕ → List ℕ
+numbered word number = word ++ 32 ∷ decimal number

@@ -1,64 +1,59 @@
--- What the program's words are read as, by the command line that the program has: `one FRAME`, or a call for help.
-use Rattle.std.specs.Prelude.{◌≡◌, ◌≢◌, ◌⊎◌, ⊤, ℕ, List, [], true, Option, Some, None, Result, Ok, Err, codes, option_and_then, if◌then◌else◌}
-use Rattle.std.specs.Str.{bytes_eq}
+-- What the program's words are read as, by the command line that the program has: a subcommand with its words, or a call for help.
+use Rattle.std.specs.Prelude.{◌≡◌, ◌≢◌, ◌⊎◌, ⊤, ℕ, List, [], Option, Some, None, Result, Ok, Err, option_and_then}
 use Rattle.clap.specs.Faults.{fault_of}
 use Rattle.clap.specs.Kinds.{IsAmong}
-use Rattle.clap.specs.Simple.{App, new_app, new_rule, on_top, subcommand_of, with_rule, with_subcommand}
-use Rattle.clap.specs.Walk.{Row, Text, first_of}
+use Rattle.clap.specs.Simple.{subcommand_of}
+use Rattle.clap.specs.Walk.{Text}
 use Rattle.clap.specs.declared.error.kind.ErrorKind.{ErrorKind}
 use Rattle.clap.specs.declared.error.kind.ErrorKind.TheVariants.{DisplayHelp}
 use Rattle.clap.specs.declared.error.kind.ErrorKind.TheVariants as kinds
-use Rattle.answering.specs.Answers.{IsBodyInDigits}
-use Rattle.commands.specs.declared.command_line.Command.{Command}
-use Rattle.commands.specs.declared.command_line.Command.TheVariants.{Help, One}
+use Rattle.commands.specs.Asked.{Asked, asked, asked_of}
+use Rattle.commands.specs.CommandLine.{command_line}
+use Rattle.commands.specs.declared.command.Command.{Command}
+use Rattle.commands.specs.declared.command.Command.TheVariants.{Help, One, Serial, Run}
 use Rattle.commands.specs.declared.fault.Fault.{Fault}
-use Rattle.commands.specs.declared.fault.Fault.TheVariants.{Usage, OutOfMemory}
+use Rattle.commands.specs.declared.fault.Fault.TheVariants.{Usage, OutOfMemory, Job}
 
--- `one`, with its one word FRAME
-abbrev pub one_line : App
-one_line = with_rule (new_app (codes "one")) (record (new_rule (codes "FRAME")) { required = true })
+-- what the words ask for
+abbrev pub asked_in : List Text → Option Asked
+asked_in words = option_and_then asked (subcommand_of command_line words)
 
--- the command line: a subcommand has to be there, and `one` is the one there is
-abbrev pub command_line : App
-command_line =
-    let top = on_top (λ s. record s { subcommand_required = true; arg_required_else_help = true }) (new_app (codes "switch")) in
-    with_subcommand top one_line.top
-
-abbrev pub frame_at : Text × List Row → Option Text
-frame_at (name, rows) = if bytes_eq name (codes "one") then first_of (codes "FRAME") rows else None
-
--- the word FRAME behind `one`
-abbrev pub frame_in : List Text → Option Text
-frame_in words = option_and_then frame_at (subcommand_of command_line words)
-
--- the words have no fault, and the word FRAME stands for this body
-abbrev pub IsOne : List Text → List ℕ → Type 0
-IsOne words body = (fault_of command_line words ≡ []) × (digits : Text) × (frame_in words ≡ Some digits) × IsBodyInDigits digits body
+-- the words have no fault, and ask for this
+abbrev pub Asks : List Text → Asked → Type 0
+Asks words what = (fault_of command_line words ≡ []) × (asked_in words ≡ Some what)
 
 -- the words ask for help
 abbrev pub IsHelp : List Text → Type 0
 IsHelp words = IsAmong DisplayHelp (fault_of command_line words)
 
--- the words have a fault that is no call for help, or FRAME stands for no body
+-- the words have a fault that is no call for help, or ask for nothing
 abbrev pub IsUsageFault : List Text → Type 0
 IsUsageFault words =
     ((kind : ErrorKind) × (kind ≢ DisplayHelp) × IsAmong kind (fault_of command_line words))
-    ⊎ ((fault_of command_line words ≡ []) × ((body : List ℕ) → ¬ IsOne words body))
+    ⊎ ((fault_of command_line words ≡ []) × (asked_in words ≡ None))
 
--- the words may have this fault; memory may run out at any words
-abbrev pub IsFaultOf : List Text → Fault → Type 0
-IsFaultOf words (Usage text) = IsUsageFault words
-IsFaultOf words OutOfMemory = ⊤
+-- a fault of words: they are no command, or memory ran out
+abbrev pub IsOfWords : Fault → Type 0
+IsOfWords (Usage text) = ⊤
+IsOfWords OutOfMemory = ⊤
+IsOfWords (Job fault) = ⊥
 
--- the words are read as this command or fault
+-- the words are read as this command, or as a usage fault; or memory ran out
 abbrev pub IsRead : List Text → Result Command Fault → Type 0
 IsRead words (Ok (Help text)) = IsHelp words
-IsRead words (Ok (One body)) = IsOne words body.items
-IsRead words (Err fault) = IsFaultOf words fault
+IsRead words (Ok (One body)) = Asks words (asked_of (One body))
+IsRead words (Ok (Serial names)) = Asks words (asked_of (Serial names))
+IsRead words (Ok (Run names workers)) = Asks words (asked_of (Run names workers))
+IsRead words (Err (Usage text)) = IsUsageFault words
+IsRead words (Err OutOfMemory) = ⊤
+IsRead words (Err (Job fault)) = ⊥
 
 -- what the words' reader says where it reads no command, by the kind of its error
 abbrev pub IsReadOfKind : ErrorKind → Result Command Fault → Type 0
 IsReadOfKind kind (Ok (Help text)) = kind ≡ DisplayHelp
 IsReadOfKind kind (Ok (One body)) = ⊥
+IsReadOfKind kind (Ok (Serial names)) = ⊥
+IsReadOfKind kind (Ok (Run names workers)) = ⊥
 IsReadOfKind kind (Err (Usage text)) = (kind ≢ DisplayHelp) × (kind ≢ kinds.OutOfMemory)
 IsReadOfKind kind (Err OutOfMemory) = ⊤
+IsReadOfKind kind (Err (Job fault)) = ⊥

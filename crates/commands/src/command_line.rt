@@ -1,78 +1,109 @@
-ghost use Rattle.std.specs.Prelude.{◌≡◌, IfOk, map, option_map, option_and_then, string_bytes};
-ghost use Rattle.clap.specs.Simple.{app_of, subcommand_rows_of};
-ghost use Rattle.clap.specs.Values.{kind_of};
-ghost use Rattle.commands.specs.Words.{IsRead, IsReadOfKind, command_line, frame_at};
+ghost use Rattle.std.specs.Prelude.{◌≡◌, IfOk, codes};
+ghost use Rattle.clap.specs.Simple.{app_of};
+ghost use Rattle.commands.specs.CommandLine.{IsLine, IsWord, batch_line, command_line, one_line, operand, run_line, workers_option};
 
-use crate::fault::{Fault, usage};
-use answering::body_of_digits;
-use clap::error::ErrorKind;
-use clap::{Arg, ArgMatches, Error};
+use clap::{Arg, Command};
 use std::alloc::{AllocError, Global};
 
-/// What the words ask for.
-#[derive(Debug, Drop)]
-pub enum Command {
-    /// This help.
-    Help(String),
-    /// Decide this one body on the sample book.
-    One(Vec<u8>),
-}
+// What the program's help says behind its subcommands.
+const AFTER_HELP: &str = "Exit status: 0 done, 1 fault, 2 words that are no command.
 
-/// Reads the program's words, of which the first is its name. Words that are no command are a usage fault.
-pub fn read_words(alloc: Global, words: &[String]) -> Result<Command, Fault>
-    ensures { IsRead (map string_bytes words.now) result }
-{
-    let matches = match command_line(alloc)?.try_get_matches_from(words) {
-        Ok(matches) => matches,
-        Err(error) => return help_of(alloc, &error),
-    };
-    let Some(frame) = frame_of(&matches) else {
-        return Err(usage(alloc, "expected one FRAME; see --help"));
-    };
-    match body_of_digits(alloc, frame)? {
-        Some(body) => Ok(Command::One(body)),
-        None => Err(usage(
-            alloc,
-            "FRAME: expected 1 to 512 pairs of hexadecimal digits; see --help",
-        )),
-    }
-}
+A fault is printed on standard error as what it is of and its number there:
+  file 1    a file can't be opened or read
+  file 2    a file can't be made or written
+  book N    BOOK is no book: 1 no JSON, 2 another shape, 3 a value out of range, 4 not sound, 5 out of memory
+  batch N   BATCH is no batch: 1 other letters, 2 another version, 3 more than 65,536 bodies, 4 a body of 0 or over
+            512 bytes, 5 it ends within a field, 6 a byte after the last body; 7 a device failed, 8 out of memory
+  memory 1  memory ran out";
 
-// The word FRAME behind `one`.
-fn frame_of<'a>(matches: &ArgMatches<'a>) -> Option<&'a str>
-    ensures { option_map (λ s. s.now) result ≡ option_and_then frame_at (subcommand_rows_of matches.now) }
-{
-    match matches.subcommand() {
-        Some(("one", one)) => one.get_str("FRAME"),
-        _ => None,
-    }
-}
-
-// The words that the program has.
-fn command_line<'a>(alloc: Global) -> Result<clap::Command<'a>, AllocError>
+/// The words that the program has.
+pub(crate) fn command_line<'a>(alloc: Global) -> Result<Command<'a>, AllocError>
     ensures { IfOk result (λ command. app_of command ≡ command_line) }
 {
-    let frame = Arg::new(alloc, "FRAME").required(true).help(
-        "The body of a message: 1 to 512 pairs of hexadecimal digits",
-    );
-    let one = clap::Command::new(alloc, "one")
-        .about("Decides one message on the sample book, and prints its reply in hexadecimal")
-        .arg(frame)?;
-    clap::Command::new(alloc, "switch")
+    let top = Command::new(alloc, "switch")
         .about("Decides ISO 8583:1993 card messages for an issuer")
-        .after_help("Exit status: 0 done, 1 fault, 2 words that are no command.")
+        .after_help(AFTER_HELP)
         .subcommand_required(true)
-        .arg_required_else_help(true)
-        .subcommand(one)
+        .arg_required_else_help(true);
+    let one = top.subcommand(one_line(alloc)?)?;
+    let run = one.subcommand(run_line(alloc)?)?;
+    run.subcommand(serial_line(alloc)?)
 }
 
-// Help that was asked for is a command; all else that the words' reader says is a fault.
-fn help_of(alloc: Global, error: &Error) -> Result<Command, Fault>
-    ensures { IsReadOfKind (kind_of error.now) result }
+// `one FRAME`.
+fn one_line<'a>(alloc: Global) -> Result<Command<'a>, AllocError>
+    ensures { IfOk result (IsLine one_line) }
 {
-    match error.kind() {
-        ErrorKind::DisplayHelp => Ok(Command::Help(error.to_string(alloc)?)),
-        ErrorKind::OutOfMemory => Err(Fault::OutOfMemory),
-        _ => Err(Fault::Usage(error.to_string(alloc)?)),
-    }
+    let frame = operand(
+        alloc,
+        "FRAME",
+        "The body of a message: 1 to 512 pairs of hexadecimal digits",
+    );
+    Command::new(alloc, "one")
+        .about("Decides one message on the sample book, and prints its reply in hexadecimal")
+        .arg(frame)
+}
+
+// `run BOOK BATCH REPLIES NEWBOOK [--workers N]`.
+fn run_line<'a>(alloc: Global) -> Result<Command<'a>, AllocError>
+    ensures { IfOk result (IsLine run_line) }
+{
+    let line = batch_line(
+        alloc,
+        "run",
+        "Decides a batch on several threads; the answers are those of deciding one message after another",
+    )?;
+    line.arg(workers_option(alloc))
+}
+
+// `serial BOOK BATCH REPLIES NEWBOOK`.
+fn serial_line<'a>(alloc: Global) -> Result<Command<'a>, AllocError>
+    ensures { IfOk result (IsLine (batch_line (codes "serial"))) }
+{
+    batch_line(alloc, "serial", "Decides a batch one message after another")
+}
+
+// A subcommand with the operands of a batch that is decided.
+fn batch_line<'a>(alloc: Global, name: &'a str, about: &'a str) -> Result<Command<'a>, AllocError>
+    ensures { IfOk result (IsLine (batch_line name.now)) }
+{
+    let line = Command::new(alloc, name).about(about);
+    let book = line.arg(operand(
+        alloc,
+        "BOOK",
+        "The book that the batch is decided on: JSON of version 1, 2 or 3",
+    ))?;
+    let batch = book.arg(operand(
+        alloc,
+        "BATCH",
+        "The batch: I83B, version 1, the number of bodies, and each behind its length",
+    ))?;
+    let replies = batch.arg(operand(
+        alloc,
+        "REPLIES",
+        "The file for the replies: I83R, version 1, their number, and each behind its length",
+    ))?;
+    replies.arg(operand(
+        alloc,
+        "NEWBOOK",
+        "The file for the book after the batch: JSON of version 3",
+    ))
+}
+
+// `--workers N`.
+fn workers_option<'a>(alloc: Global) -> Arg<'a>
+    ensures { IsWord workers_option result }
+{
+    Arg::new(alloc, "workers")
+        .long("workers")
+        .value_name("N")
+        .default_value("4")
+        .help("How many threads decide: 1 to 64")
+}
+
+// An operand, which has to be there.
+fn operand<'a>(alloc: Global, id: &'a str, help: &'a str) -> Arg<'a>
+    ensures { IsWord (operand id.now) result }
+{
+    Arg::new(alloc, id).required(true).help(help)
 }

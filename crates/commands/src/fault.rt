@@ -1,6 +1,8 @@
 ghost use Rattle.std.specs.Prelude.{◌≡◌};
-ghost use Rattle.commands.specs.declared.fault.Fault.TheVariants.{OutOfMemory};
+ghost use Rattle.commands.specs.Words.{IsOfWords};
+ghost use Rattle.commands.specs.declared.fault.Fault.TheVariants.{Job, OutOfMemory};
 
+use jobs::JobFault;
 use std::alloc::{AllocError, AllocFailed, Global};
 use thiserror::Error;
 
@@ -13,20 +15,13 @@ pub enum Fault {
     /// Memory ran out.
     #[error("memory 1")]
     OutOfMemory,
+    /// The files are none that can be decided, or can't be read or written.
+    #[error("{0}")]
+    Job(JobFault),
 }
 
 impl Fault {
-    ghost use Rattle.commands.specs.Fault.{status_of, text_of};
-
-    /// What the program prints on standard error.
-    pub fn text(&self) -> &str
-        ensures { result.now ≡ text_of self.now }
-    {
-        match self {
-            Fault::Usage(text) => text.as_str(),
-            Fault::OutOfMemory => "memory 1",
-        }
-    }
+    ghost use Rattle.commands.specs.Fault.{status_of};
 
     /// The exit status: 2 for words that are no command, else 1.
     pub fn status(&self) -> u8
@@ -34,7 +29,7 @@ impl Fault {
     {
         match self {
             Fault::Usage(_) => 2,
-            Fault::OutOfMemory => 1,
+            Fault::OutOfMemory | Fault::Job(_) => 1,
         }
     }
 }
@@ -55,8 +50,18 @@ impl<T: Drop> From<AllocFailed<T>> for Fault {
     }
 }
 
+impl From<JobFault> for Fault {
+    ghost from_gives = { λ job fault. fault ≡ Job job };
+
+    fn from(fault: JobFault) -> Fault {
+        Fault::Job(fault)
+    }
+}
+
 /// A usage fault with this text.
-pub(crate) fn usage(alloc: Global, text: &str) -> Fault {
+pub(crate) fn usage(alloc: Global, text: &str) -> Fault
+    ensures { IsOfWords result }
+{
     match String::from_str(alloc, text) {
         Ok(text) => Fault::Usage(text),
         Err(_) => Fault::OutOfMemory,

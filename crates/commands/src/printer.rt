@@ -1,7 +1,8 @@
 ghost use Rattle.std.specs.Prelude.{◌≡◌, ◌++◌, ◌∷◌, [], None, OnOk, if◌then◌else◌};
 ghost use Rattle.std.specs.Io.KnownBytes.{Appends};
-ghost use Rattle.commands.specs.Printed.{printed, PrintsLine};
+ghost use Rattle.commands.specs.Printed.{numbered, printed, PrintsLine};
 
+use itoa::Buffer;
 use std::io;
 use std::io::Write;
 
@@ -32,6 +33,15 @@ impl<W: Write> Printer<W> {
         }
     }
 
+    /// Prints the word, a space, the number and a line feed.
+    pub fn numbered(&mut self, word: &str, number: u64)
+        ensures { PrintsLine (printed W.contents self.old) (printed W.contents self.new) (numbered word.now number) }
+    {
+        if !self.is_stuck {
+            self.is_stuck = write_numbered(&mut self.writer, word, number).is_err();
+        }
+    }
+
     /// The writer, and whether it took all that was printed.
     pub fn into_parts(self) -> (W, bool)
         ensures { printed W.contents self ≡ (if result.1 then W.contents result.0 else None) }
@@ -44,5 +54,21 @@ fn write_line<W: Write>(writer: &mut W, text: &str) -> io::Result<()>
     ensures { OnOk result (Appends (W.contents writer.old) (W.contents writer.new) (text.now ++ 10 ∷ [])) }
 {
     writer.write_all(text.as_bytes())?;
+    end_line(writer)
+}
+
+fn write_numbered<W: Write>(writer: &mut W, word: &str, number: u64) -> io::Result<()>
+    ensures { OnOk result (Appends (W.contents writer.old) (W.contents writer.new) (numbered word.now number ++ 10 ∷ [])) }
+{
+    let mut digits = Buffer::new();
+    writer.write_all(word.as_bytes())?;
+    writer.write_all(b" ")?;
+    writer.write_all(digits.format(number).as_bytes())?;
+    end_line(writer)
+}
+
+fn end_line<W: Write>(writer: &mut W) -> io::Result<()>
+    ensures { OnOk result (Appends (W.contents writer.old) (W.contents writer.new) (10 ∷ [])) }
+{
     writer.write_all(b"\n")
 }

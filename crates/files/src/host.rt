@@ -1,11 +1,9 @@
 use crate::files::Files;
 use batch::{Broken, FromRead, IntoWrite};
 use std::alloc::Global;
-use std::fs;
 use std::fs::OpenFile;
-use std::io;
 use std::io::{ErrorKind, Write};
-use std::rt;
+use std::{fs, io, rt};
 
 /// The host's files. What they hold is not known.
 pub struct HostFiles<'a, R> {
@@ -65,6 +63,7 @@ impl<'a, R: rt::Files> HostFiles<'a, R> {
 
 impl<'a, R: rt::Files> Files for HostFiles<'a, R> {
     type Input = FromRead<R::File>;
+
     type Output = IntoWrite<R::File>;
 
     ghost is_known = { λ _. ⊥ };

@@ -58,6 +58,7 @@ impl MemoryFiles {
 
 impl Files for MemoryFiles {
     type Input = FromRead<Cursor<Vec<u8>>>;
+
     type Output = IntoWrite<Vec<u8>>;
 
     ghost is_known = { λ _. Unit {0} };

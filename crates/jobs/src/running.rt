@@ -1,0 +1,64 @@
+ghost use Rattle.std.specs.Prelude.{◌≡◌, ◌≤◌, IfOk, length, string_bytes};
+ghost use Rattle.batch.specs.Processing.{AnswersFold};
+ghost use Rattle.jobs.specs.Decided.{IsDecided};
+
+use crate::batch_names::BatchNames;
+use crate::deciding::decide_batch;
+use crate::job_fault::JobFault;
+use engine::{OpenGate, Workers, run};
+use files::Files;
+use fold::{Outcome, Prefix, decide_all};
+use rows::{Book, Frame};
+use rules::Shipped;
+use std::alloc::{AllocError, Global};
+use std::sync::Wait;
+use std::thread::Threads;
+
+/// Decides a batch by so many workers, files to files. Whatever their number, the files hold what deciding one message after
+/// another comes to.
+pub fn run_batch<R: Threads + Wait + Sync, F: Files>(
+    rt: &R,
+    alloc: Global,
+    files: &mut F,
+    names: &BatchNames,
+    workers: Workers,
+) -> Result<usize, JobFault>
+    ensures decided { IfOk result (IsDecided (F.is_known files.old) (F.holds files.old) (F.holds files.new)
+        (string_bytes names.now.book) (string_bytes names.now.batch) (string_bytes names.now.replies) (string_bytes names.now.new_book)) }
+{
+    let decide = |book: &Book, frames: &[Frame]| -> Result<Outcome, AllocError>
+        requires { length frames.now ≤ 65536 }
+        ensures { AnswersFold book.entry.now frames.entry.now result }
+    { run(rt, alloc, book, frames, workers, &Shipped, &OpenGate) };
+    decide_batch(alloc, files, names, &decide)
+}
+
+/// Decides a batch one message after another, files to files.
+pub fn serial_batch<F: Files>(
+    alloc: Global,
+    files: &mut F,
+    names: &BatchNames,
+) -> Result<usize, JobFault>
+    ensures decided { IfOk result (IsDecided (F.is_known files.old) (F.holds files.old) (F.holds files.new)
+        (string_bytes names.now.book) (string_bytes names.now.batch) (string_bytes names.now.replies) (string_bytes names.now.new_book)) }
+{
+    let decide = |book: &Book, frames: &[Frame]| -> Result<Outcome, AllocError>
+        requires { length frames.now ≤ 65536 }
+        ensures { AnswersFold book.entry.now frames.entry.now result }
+    { decide_serially(alloc, book, frames) };
+    decide_batch(alloc, files, names, &decide)
+}
+
+// Decides a batch one message after another on a copy of the book.
+fn decide_serially(alloc: Global, book: &Book, frames: &[Frame]) -> Result<Outcome, AllocError>
+    requires { length frames.now ≤ 65536 }
+    ensures { AnswersFold book.now frames.now result }
+{
+    let decided = decide_all(alloc, Prefix::new(alloc, book.copy()?), frames)?;
+    Ok(Outcome {
+        replies: decided.replies,
+        book: decided.book,
+        started: 1,
+        committed: 0,
+    })
+}
