@@ -13,6 +13,7 @@ use indexmap::map::Entry;
 use std::alloc::{AllocError, Global};
 use std::collections::BTreeSet;
 use std::marker::Model;
+use std::slice;
 
 /// The issuer's rows: a finite map from row keys to row values, each of its key's kind.
 #[derive(Drop)]
@@ -174,12 +175,11 @@ fn put_entry(
     }
 }
 
-// Writes a copy of a value over another, once: where the two could be one, it is copied by way of a third place.
-#[inline(never)]
+// Writes a copy of a value over another: as a slice of one, so that it is copied once and not by way of a third place.
 fn copy_over(there: &mut RowVal, val: &RowVal)
     ensures { there.new ≡ val.now }
 {
-    *there = *val;
+    slice::from_mut(there).copy_from_slice(slice::from_ref(val));
 }
 
 // Whether the rows that are left of the two are the same.
