@@ -112,7 +112,8 @@ impl ReadSet {
         ensures same { S.book source.new ≡ S.book source.old }
     {
         if self.few.len() < FEW {
-            self.few.reserve(1)?;
+            // Room for all first rows at once, so that the list grows once.
+            self.few.reserve(FEW - self.few.len())?;
             source.read_into(key, row)?;
             push_copy(&mut self.few, key, row);
             return Ok(());
