@@ -112,8 +112,7 @@ impl ReadSet {
         ensures same { S.book source.new ≡ S.book source.old }
     {
         if self.few.len() < FEW {
-            // Room for all first rows at once, so that the list grows once.
-            self.few.reserve(FEW - self.few.len())?;
+            self.few.reserve(1)?;
             source.read_into(key, row)?;
             push_copy(&mut self.few, key, row);
             return Ok(());
