@@ -1,16 +1,19 @@
-ghost use Rattle.std.specs.Prelude.{◌≡◌, ◌↔◌, option_copied, OnOk, OnErr, IfOk, IfSome, IsTrue, None};
+ghost use Rattle.std.specs.Prelude.{◌≡◌, ◌↔◌, option_copied, OnOk, OnErr, IfOk, IfSome, IsTrue, None, Some, is_some};
 ghost use Rattle.std.specs.FinMap as map;
-ghost use Rattle.rows.specs.Book.{AllOfKind};
+ghost use Rattle.indexmap.specs.IndexMap.{insert_entry, Updates};
+ghost use Rattle.rows.specs.Book.{AllOfKind, value_at};
 ghost use Rattle.rows.specs.RowVal.{IsOfKind};
-ghost use Rattle.rows.specs.RowKey.{key_cmp};
+ghost use Rattle.rows.specs.RowKey.{key_cmp, key_eq};
 
 use crate::book_rows::BookRows;
 use crate::row_key::RowKey;
 use crate::row_val::RowVal;
 use indexmap::IndexMap;
+use indexmap::map::Entry;
 use std::alloc::{AllocError, Global};
 use std::collections::BTreeSet;
 use std::marker::Model;
+use std::slice;
 
 /// The issuer's rows: a finite map from row keys to row values, each of its key's kind.
 #[derive(Drop)]
@@ -84,21 +87,9 @@ impl Book {
         ensures err { OnErr result (self.new ≡ self.old) }
         ensures full { OnErr result (map.get self.old key.now ≡ None) }
     {
-        if let Some(there) = self.rows.get_mut(key) {
-            *there = *val;
+        if put_entry(&mut self.rows, key, val)? {
             return Ok(());
         }
-        self.put_new(key, val)
-    }
-
-    // Puts a row that isn't there.
-    fn put_new(&mut self, key: &RowKey, val: &RowVal) -> Result<(), AllocError>
-        requires kind { IsOfKind key.now val.now }
-        requires absent { map.get self.old key.now ≡ None }
-        ensures ok { OnOk result (self.new ≡ map.insert self.old key.now val.now) }
-        ensures err { OnErr result (self.new ≡ self.old) }
-    {
-        self.rows.insert(*key, *val)?;
         match self.keys.insert(*key) {
             Ok(_) => Ok(()),
             Err(_) => {
@@ -157,6 +148,38 @@ impl Book {
     {
         are_same_rows(self.rows(), other.rows())
     }
+}
+
+// Puts a copy of a row, by one look-up, and answers whether it was there. An entry takes the value without handing one
+// back.
+fn put_entry(
+    rows: &mut IndexMap<RowKey, RowVal>,
+    key: &RowKey,
+    val: &RowVal,
+) -> Result<bool, AllocError>
+    ensures found { IfOk result (λ found. found ≡ is_some (value_at rows.old.entries key.now)) }
+    ensures updates { OnOk result (Updates key_eq rows.old rows.new key.now (Some val.now)) }
+    ensures entries { OnOk result (rows.new.entries ≡ insert_entry key_eq rows.old.entries key.now val.now) }
+    ensures err { OnErr result (rows.new.entries ≡ rows.old.entries) }
+    ensures absent { OnErr result (value_at rows.old.entries key.now ≡ None) }
+{
+    match rows.entry(*key)? {
+        Entry::Occupied(entry) => {
+            copy_over(entry.into_mut(), val);
+            Ok(true)
+        }
+        Entry::Vacant(entry) => {
+            entry.insert(*val);
+            Ok(false)
+        }
+    }
+}
+
+// Writes a copy of a value over another: as a slice of one, so that it is copied once and not by way of a third place.
+fn copy_over(there: &mut RowVal, val: &RowVal)
+    ensures { there.new ≡ val.now }
+{
+    slice::from_mut(there).copy_from_slice(slice::from_ref(val));
 }
 
 // Whether the rows that are left of the two are the same.
