@@ -1,0 +1,5 @@
+pub mod Blocks
+pub mod Difference
+pub mod Finding
+pub mod FirstKey
+pub mod PlayFinding
