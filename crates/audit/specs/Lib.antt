@@ -3,3 +3,4 @@ pub mod Difference
 pub mod Finding
 pub mod FirstKey
 pub mod PlayFinding
+pub mod Texts
