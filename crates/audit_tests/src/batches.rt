@@ -39,7 +39,13 @@ fn a_reply_of_another_action_is_named(rt: HostRuntime) -> Result<(), Fail> {
     let other = declined_with_914(&replies[0]).ok_or("a reply")?;
     replies[2] = other;
     // The rows of the book aren't looked at then.
-    found(&rt, alloc, &replies, &["account A 1 978"], "reply 2 differs")
+    found(
+        &rt,
+        alloc,
+        &replies,
+        &["account A 1 978"],
+        "reply 2 differs",
+    )
 }
 
 #[test]
@@ -55,14 +61,38 @@ fn the_least_row_that_differs_is_named(rt: HostRuntime) -> Result<(), Fail> {
     let alloc = rt.alloc();
     let replies = replies_to(&rt, alloc, &frames_of(alloc, BODIES)?)?;
     let other_value = "account A 4001 978";
-    found(&rt, alloc, &replies, &[other_value], "row acct:34313131313130303030303030303035 differs")?;
+    found(
+        &rt,
+        alloc,
+        &replies,
+        &[other_value],
+        "row acct:34313131313130303030303030303035 differs",
+    )?;
     let two = ["account A 4001 978", "day A 260110 1 5999"];
-    found(&rt, alloc, &replies, &two, "row day:4111110000000005:260110 differs")?;
+    found(
+        &rt,
+        alloc,
+        &replies,
+        &two,
+        "row day:4111110000000005:260110 differs",
+    )?;
     let too_many = "budget 411111 direct 1 1";
-    found(&rt, alloc, &replies, &[too_many], "row budget:411111 differs")?;
+    found(
+        &rt,
+        alloc,
+        &replies,
+        &[too_many],
+        "row budget:411111 differs",
+    )?;
     // A mark in place of what was kept.
     let mark = "ahead 000002 A request 000003";
-    found(&rt, alloc, &replies, &[mark], "row orig:123456:000002:260110120000 differs")
+    found(
+        &rt,
+        alloc,
+        &replies,
+        &[mark],
+        "row orig:123456:000002:260110120000 differs",
+    )
 }
 
 #[test]
@@ -74,7 +104,10 @@ fn a_row_that_is_missing_is_named(rt: HostRuntime) -> Result<(), Fail> {
     let book = opening(alloc)?;
     let found = audit(alloc, &book, &frames, &replies, &book)?;
     let printed = audit_text(alloc, &found)?;
-    assert_eq!(rt; printed.as_slice(), b"row card:4111110000000005 differs".as_slice());
+    assert_eq!(rt;
+        printed.as_slice(),
+        b"row card:4111110000000005 differs".as_slice()
+    );
     assert!(rt; !matches!(found, Audit::Same));
     Ok(())
 }

@@ -77,5 +77,11 @@ fn a_block_of_fewer_replies_is_a_count_that_differs(rt: HostRuntime) -> Result<(
 #[test]
 fn a_row_is_named_behind_all_blocks(rt: HostRuntime) -> Result<(), Fail> {
     let alloc = rt.alloc();
-    found(&rt, alloc, &replies(&rt, alloc)?, &["day A 260110 2 6000"], "row day:4111110000000005:260110 differs")
+    found(
+        &rt,
+        alloc,
+        &replies(&rt, alloc)?,
+        &["day A 260110 2 6000"],
+        "row day:4111110000000005:260110 differs",
+    )
 }

@@ -16,7 +16,15 @@ fn journal<R: Threads + Wait + Abort + Sync>(rt: &R, alloc: Global) -> Result<Ve
     let frames = frames_of(alloc, BODIES)?;
     assert!(rt; frames.len() <= 64);
     let workers = Workers::new(2).ok_or("a number of workers")?;
-    let (_, entries) = run_traced(rt, alloc, &opening(alloc)?, &frames, workers, &Shipped, &OpenGate)?;
+    let (_, entries) = run_traced(
+        rt,
+        alloc,
+        &opening(alloc)?,
+        &frames,
+        workers,
+        &Shipped,
+        &OpenGate,
+    )?;
     Ok(entries)
 }
 
@@ -56,7 +64,9 @@ fn a_journal_without_reads_is_unlogged(rt: HostRuntime) -> Result<(), Fail> {
     assert!(rt; frames.len() <= 64);
     let replies = replies_to(&rt, alloc, &frames)?;
     let (book, after) = (opening(alloc)?, book_after(alloc, &[])?);
-    let entries = journal::read_journal(alloc, b"0 n\n0 f 0.0\n").map_err(|_| Fail::new("a journal"))?;
+    let entries = journal::read_journal(alloc, b"0 n\n0 f 0.0\n").map_err(|_| Fail::new(
+        "a journal",
+    ))?;
     let found = audit_journal(alloc, &book, &frames, &entries, &replies, &after);
     assert!(rt; matches!(found, Err(ReplayFault::Unlogged(2))));
     Ok(())
