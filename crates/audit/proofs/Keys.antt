@@ -6,7 +6,7 @@ use Rattle.std.specs.Ordering.{ordering_reverse}
 use Rattle.rows.specs.RowKey.{key_cmp}
 use Rattle.rows.specs.declared.row_key.RowKey.{RowKey}
 use Rattle.rows.specs.declared.row_val.RowVal.{RowVal}
-use Rattle.audit.specs.FirstKey.{HaveOneFront, BeginsWithLesser, IsFirstDifferingKey}
+use Rattle.audit.specs.FirstKey.{HaveOneFront, IsFirstDifferingKey}
 
 pub starts : (mine theirs : List (RowKey × RowVal)) → HaveOneFront mine theirs mine theirs
 starts mine theirs = record { front = []; are_mine = refl; are_theirs = refl }

@@ -1,5 +1,5 @@
 -- The first key at which the listed rows part is the least whose row differs.
-use Rattle.std.proofs.Common.{◌≡◌, ◌≢◌, Bool, true, false, ◌&&◌, ◌⊎◌, T, inl, inr, List, [], ◌∷◌, ◌++◌, Option, Some, None, cond, Ordering, Less, Equal, Greater, refl, sym, ap, subst, ◌∙◌}
+use Rattle.std.proofs.Common.{◌≡◌, ◌≢◌, Bool, true, false, ◌&&◌, T, inl, inr, List, [], ◌∷◌, ◌++◌, Option, Some, None, cond, Ordering, Less, Equal, Greater, refl, sym, ap, subst, ◌∙◌}
 use Rattle.std.proofs.lemmas.Option.{none-some, same_Some}
 use Rattle.std.proofs.lemmas.Cmp.{tied_itself}
 use Rattle.std.specs.FinMap as map
@@ -10,7 +10,7 @@ use Rattle.rows.specs.RowKey.{key_cmp}
 use Rattle.rows.specs.declared.row_key.RowKey.{RowKey}
 use Rattle.rows.specs.declared.row_val.RowVal.{RowVal}
 use Rattle.audit.specs.Difference.{IsLeastDifference}
-use Rattle.audit.specs.FirstKey.{HaveOneFront, BeginsWithLesser, IsFirstDifferingKey}
+use Rattle.audit.specs.FirstKey.{BeginsWithLesser, IsFirstDifferingKey}
 
 first_of_both : (a b : Bool) → T (a && b) → T a
 first_of_both true b p = tt

@@ -1,5 +1,5 @@
 -- The first pair of two lists of one length that isn't twice the same.
-use Rattle.std.proofs.Common.{◌≡◌, ◌≢◌, ℕ, zero, suc, ◌+◌, ◌≤◌, ◌<◌, List, [], ◌∷◌, length, take, Some, refl, sym, ap, ◌∙◌, zip, arith}
+use Rattle.std.proofs.Common.{◌≡◌, ◌≢◌, ℕ, zero, suc, ◌<◌, List, [], ◌∷◌, length, take, refl, zip, arith}
 use Rattle.std.proofs.lemmas.Option.{same_Some}
 use Rattle.std.specs.List.{AllWithin, HoldsAt, slice_get}
 use Rattle.rows.specs.declared.reply_body.ReplyBody.{ReplyBody}

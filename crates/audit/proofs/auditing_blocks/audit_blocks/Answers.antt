@@ -1,8 +1,7 @@
-use Rattle.std.proofs.Common.{rules, ◌≡◌, ◌≤◌, ◌<◌, ℕ, List, length, map, sym, ap, subst, ◌∙◌, arith}
+use Rattle.std.proofs.Common.{rules, ◌≡◌, ◌≤◌, ◌<◌, ℕ, length, map, sym, ap, subst, ◌∙◌, arith}
 use Rattle.std.proofs.lemmas.Bool.{false≢true}
 use Rattle.fold.proofs.FoldLaws.{length-replies_to}
-use Rattle.rows.specs.Fold.{Rows, replies_to, rows_after}
-use Rattle.audit.specs.Blocks.{counts, replies_to_blocks, rows_after_blocks}
+use Rattle.rows.specs.Fold.{Rows, replies_to}
 use Rattle.audit.specs.Difference.{IsFirstDifference, IsLeastDifference}
 use Rattle.audit.proofs.BlockSteps.{goes_on, ends, differs, counts_of_replies, same_lengths, same_count}
 use Rattle.audit.proofs.auditing_blocks.audit_blocks.Goals as goal

@@ -1,4 +1,4 @@
-use Rattle.std.proofs.Common.{rules, tests, ◌≡◌, ◌↔◌, ◌==◌, Bool, IsTrue, List, length, map, zip, sym, subst}
+use Rattle.std.proofs.Common.{rules, tests, ◌≡◌, ◌↔◌, ◌==◌, Bool, IsTrue, length, map, zip, sym, subst}
 use Rattle.std.proofs.lemmas.Iterator.{YieldsList-from_slice, YieldsList-from_zip}
 use Rattle.std.proofs.lemmas.Iterator.Search.{all_from_yields_List}
 use Rattle.std.specs.List.{list_all}

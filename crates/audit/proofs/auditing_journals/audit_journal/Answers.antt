@@ -1,6 +1,6 @@
-use Rattle.std.proofs.Common.{rules, ◌≡◌, ◌≢◌, Result, Ok, Err, inl, inr, ℕ, List, length, refl, sym, ap, subst, ◌∙◌}
+use Rattle.std.proofs.Common.{◌≡◌, Result, Err, inl, inr, List, length, refl, sym, ap, subst, ◌∙◌}
 use Rattle.journal_text.specs.declared.replay_fault.ReplayFault.{ReplayFault}
-use Rattle.rows.specs.Fold.{Rows, rows_after, replies_to}
+use Rattle.rows.specs.Fold.{Rows, rows_after}
 use Rattle.rows.specs.declared.reply_body.ReplyBody.{ReplyBody}
 use Rattle.audit.specs.Finding.{Finds}
 use Rattle.audit.proofs.Counts.{few_replies}

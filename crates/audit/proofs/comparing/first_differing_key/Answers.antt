@@ -1,4 +1,4 @@
-use Rattle.std.proofs.Common.{rules, sym, ◌∙◌}
+use Rattle.std.proofs.Common.{sym, ◌∙◌}
 use Rattle.std.proofs.lemmas.Bool.{false≢true}
 use Rattle.audit.proofs.Keys.{goes_on, theirs_lesser, other_value}
 use Rattle.audit.proofs.comparing.first_differing_key.Goals as goal

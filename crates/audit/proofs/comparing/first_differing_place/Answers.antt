@@ -1,4 +1,4 @@
-use Rattle.std.proofs.Common.{rules, ◌≡◌, ◌≢◌, List, ℕ, ◌<◌, length, Option, Some, None, IfSome, IfNone, zip, sym, ap, subst, ◌∙◌}
+use Rattle.std.proofs.Common.{rules, ◌≡◌, ◌≢◌, List, ℕ, ◌<◌, length, Option, Some, None, IfSome, IfNone, zip}
 use Rattle.std.proofs.lemmas.Iterator.{YieldsList-from_slice, YieldsList-from_zip, IsFirst-from_position}
 use Rattle.std.specs.List.{AllWithin, HoldsAt}
 use Rattle.std.specs.Option.{MatchOption}

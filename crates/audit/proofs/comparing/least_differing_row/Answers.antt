@@ -1,4 +1,4 @@
-use Rattle.std.proofs.Common.{◌≡◌, Option, Some, None, IfSome, IfNone, List, sym, ap, subst, ◌∙◌}
+use Rattle.std.proofs.Common.{◌≡◌, Option, Some, None, IfSome, IfNone, List, sym, subst, ◌∙◌}
 use Rattle.std.specs.FinMap as map
 use Rattle.rows.specs.Fold.{Rows}
 use Rattle.rows.specs.declared.row_key.RowKey.{RowKey}
