@@ -1,0 +1,7 @@
+mod BlockSteps
+mod Counts
+mod Keys
+mod LeastKey
+mod Played
+mod SameCounts
+mod Zipped

@@ -1,0 +1,68 @@
+use Rattle.std.proofs.Common.{rules, ◌≡◌, ◌≤◌, ◌<◌, ℕ, length, map, sym, ap, subst, ◌∙◌, arith}
+use Rattle.std.proofs.lemmas.Bool.{false≢true}
+use Rattle.fold.proofs.FoldLaws.{length-replies_to}
+use Rattle.rows.specs.Fold.{Rows, replies_to}
+use Rattle.audit.specs.Difference.{IsFirstDifference, IsLeastDifference}
+use Rattle.audit.proofs.BlockSteps.{goes_on, ends, differs, counts_of_replies, same_lengths, same_count}
+use Rattle.audit.proofs.auditing_blocks.audit_blocks.Goals as goal
+
+pub returns-then-not-have_same_counts : goal.returns-then-not-have_same_counts
+returns-then-not-have_same_counts c =
+    λ same. false≢true (sym c.if-not-have_same_counts.true ∙ c.have_same_counts.ensures.1 (sym (same ∙ counts_of_replies c.args.book.now (map (λ b. b.items) c.args.blocks.now))))
+
+pub bounds-replies-block : goal.bounds-replies-block
+bounds-replies-block c =
+    subst (λ (n : ℕ). c.loop-block.block < n)
+    (same_lengths (λ b. b.items) (λ b. b.items) c.args.blocks.now c.args.replies.now (c.have_same_counts.ensures.0 c.if-not-have_same_counts.false)) c.loop-block-test.true
+
+pub first_differing_reply-requires-clause-count : goal.first_differing_reply-requires-clause-count
+first_differing_reply-requires-clause-count c =
+    let v = c.index-blocks-block.result in
+    let w = c.index-replies-block.result in
+    let counted = c.have_same_counts.ensures.0 c.if-not-have_same_counts.false in
+    let within : c.loop-block.block < length c.args.replies.now = subst (λ (n : ℕ). c.loop-block.block < n) (same_lengths (λ b. b.items) (λ b. b.items) c.args.blocks.now c.args.replies.now counted) c.loop-block-test.true in
+    let right : c.in_ok-prefix.prefix.replies.items ≡ replies_to c.loop-block.right v.items = search rules in
+    ap length c.deref-in-loop-block.ensures.value
+    ∙ same_count (λ b. b.items) (λ b. b.items) c.args.blocks.now c.args.replies.now c.loop-block.block v w counted c.loop-block-test.true within c.index-blocks-block.is c.index-replies-block.is
+    ∙ sym (length-replies_to c.loop-block.right v.items) ∙ sym (ap length right) ∙ sym (ap length c.deref-in-loop-block-2.ensures.value)
+
+pub first_differing_reply-requires-clause-few : goal.first_differing_reply-requires-clause-few
+first_differing_reply-requires-clause-few c =
+    let v = c.index-blocks-block.result in
+    let right : c.in_ok-prefix.prefix.replies.items ≡ replies_to c.loop-block.right v.items = search rules in
+    let few : length v.items ≤ 65536 = subst (λ b. length b.items ≤ 65536) (sym c.index-blocks-block.is) (c.requires.frames c.loop-block.block v c.loop-block-test.true) in
+    subst (λ (n : ℕ). n ≤ 65536) (sym (ap length c.deref-in-loop-block-2.ensures.value ∙ ap length right ∙ length-replies_to c.loop-block.right v.items)) few
+
+pub returns-in-Some : goal.returns-in-Some
+returns-in-Some c =
+    let v = c.index-blocks-block.result in
+    let w = c.index-replies-block.result in
+    let counted = c.have_same_counts.ensures.0 c.if-not-have_same_counts.false in
+    let within : c.loop-block.block < length c.args.replies.now = subst (λ (n : ℕ). c.loop-block.block < n) (same_lengths (λ b. b.items) (λ b. b.items) c.args.blocks.now c.args.replies.now counted) c.loop-block-test.true in
+    let right : c.in_ok-prefix.prefix.replies.items ≡ replies_to c.loop-block.right v.items = search rules in
+    let here : IsFirstDifference w.items c.in_ok-prefix.prefix.replies.items c.in-Some.index =
+    rw (c.deref-in-loop-block.ensures.value, c.deref-in-loop-block-2.ensures.value) at c.in-Some.ensures.some in (
+      sym counted ∙ sym (counts_of_replies c.args.book.now (map (λ b. b.items) c.args.blocks.now)),
+      differs (λ b. b.items) (λ b. b.items) c.args.blocks.now c.args.replies.now c.args.book.now c.loop-block.right c.loop-block.block v w c.in_ok-prefix.prefix.replies.items c.in-Some.index
+          c.loop-block.invariant c.loop-block-test.true within c.index-blocks-block.is c.index-replies-block.is right here,
+    )
+
+pub loop-block-preserved : goal.loop-block-preserved
+loop-block-preserved c =
+    let v = c.index-blocks-block.result in
+    let w = c.index-replies-block.result in
+    let counted = c.have_same_counts.ensures.0 c.if-not-have_same_counts.false in
+    let within : c.loop-block.block < length c.args.replies.now = subst (λ (n : ℕ). c.loop-block.block < n) (same_lengths (λ b. b.items) (λ b. b.items) c.args.blocks.now c.args.replies.now counted) c.loop-block-test.true in
+    let right : c.in_ok-prefix.prefix.replies.items ≡ replies_to c.loop-block.right v.items = search rules in
+    let same : w.items ≡ replies_to c.loop-block.right v.items =
+    (rw (c.deref-in-loop-block.ensures.value, c.deref-in-loop-block-2.ensures.value) at c.in_default.ensures.none) ∙ right in
+    goes_on (λ b. b.items) (λ b. b.items) c.args.blocks.now c.args.replies.now c.args.book.now c.loop-block.right c.in_ok-prefix.prefix.book c.loop-block.block v w
+    c.loop-block.invariant c.loop-block-test.true within c.index-blocks-block.is c.index-replies-block.is same (search rules)
+
+pub returns-in-Some-least_differing_row : goal.returns-in-Some-least_differing_row
+returns-in-Some-least_differing_row c =
+    let counted = c.have_same_counts.ensures.0 c.if-not-have_same_counts.false in
+    let end : length c.args.blocks.now ≡ c.loop-block.block = omega (arith, c.loop-block-test.false) in
+    let done = ends (λ b. b.items) (λ b. b.items) c.args.blocks.now c.args.replies.now c.args.book.now c.loop-block.right c.loop-block.block
+    c.loop-block.invariant end (sym (same_lengths (λ b. b.items) (λ b. b.items) c.args.blocks.now c.args.replies.now counted) ∙ end) in
+    (done.0, subst (λ (rows : Rows). IsLeastDifference c.args.after.now rows c.in-Some-least_differing_row.key) done.1 c.in-Some-least_differing_row.ensures.some)

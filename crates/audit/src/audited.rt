@@ -1,0 +1,14 @@
+use rows::RowKey;
+
+/// What an audit finds first.
+#[derive(Clone, Copy, Debug, PartialEq, Eq)]
+pub enum Audit {
+    /// Replies and book are the right ones.
+    Same,
+    /// The reply at this place, from 0, is another.
+    ReplyDiffers(u32),
+    /// There are more replies or fewer.
+    CountDiffers,
+    /// The row of this key is another, or is on one side alone.
+    BookDiffers(RowKey),
+}

@@ -1,0 +1,45 @@
+//! Auditing a batch against deciding it one after another.
+
+ghost use Rattle.std.specs.Prelude.{◌≡◌, ◌≤◌, length, IfOk};
+ghost use Rattle.rows.specs.Fold.{rows_after, replies_to};
+ghost use Rattle.audit.specs.Finding.{Finds};
+
+use crate::audited::Audit;
+use crate::comparing::{first_differing_reply, least_differing_row};
+use fold::{Prefix, decide_all};
+use rows::{Book, Frame, ReplyBody};
+use std::alloc::{AllocError, Global};
+
+/// Whether these are the replies, and this is the book after them, that deciding the bodies one after another on the
+/// first book gives; else what differs first: the number of replies, then the least place of a reply, then the least key
+/// of a row. The only fault is want of memory.
+pub fn audit(
+    alloc: Global,
+    book: &Book,
+    frames: &[Frame],
+    replies: &[ReplyBody],
+    after: &Book,
+) -> Result<Audit, AllocError>
+    requires { length frames.now ≤ 65536 }
+    ensures { IfOk result (Finds replies.now after.now (replies_to book.now frames.now) (rows_after book.now frames.now)) }
+{
+    let right = decide_all(alloc, Prefix::new(alloc, book.copy()?), frames)?;
+    Ok(compared(replies, after, &right))
+}
+
+/// What differs first between these replies and this book and the right ones.
+pub(crate) fn compared(replies: &[ReplyBody], after: &Book, right: &Prefix) -> Audit
+    requires { length right.now.replies.items ≤ 65536 }
+    ensures { Finds replies.now after.now right.now.replies.items right.now.book result }
+{
+    if replies.len() != right.replies.len() {
+        return Audit::CountDiffers;
+    }
+    if let Some(place) = first_differing_reply(replies, &right.replies) {
+        return Audit::ReplyDiffers(place);
+    }
+    match least_differing_row(after, &right.book) {
+        Some(key) => Audit::BookDiffers(key),
+        None => Audit::Same,
+    }
+}

@@ -1,0 +1,54 @@
+//! Auditing blocks of bodies, which are decided one after another.
+
+ghost use Rattle.std.specs.Prelude.{◌≡◌, ◌≤◌, ◌↔◌, length, map, IfOk, IsTrue};
+ghost use Rattle.std.specs.List.{All};
+ghost use Rattle.audit.specs.Blocks.{FindsInBlocks, counts, replies_to_blocks, rows_after_blocks};
+
+use crate::block_audit::BlockAudit;
+use crate::comparing::{first_differing_reply, least_differing_row};
+use fold::{Prefix, decide_all};
+use rows::{Book, Frame, ReplyBody};
+use std::alloc::{AllocError, Global};
+
+/// Whether these are the replies to each block, and this is the book after all of them, that deciding the bodies of all
+/// blocks one after another on the first book gives; else what differs first: the number of blocks or of one's replies,
+/// then the least place of a reply, then the least key of a row. The only fault is want of memory.
+pub fn audit_blocks(
+    alloc: Global,
+    book: &Book,
+    blocks: &[Vec<Frame>],
+    replies: &[Vec<ReplyBody>],
+    after: &Book,
+) -> Result<BlockAudit, AllocError>
+    requires blocks { length blocks.now ≤ 1000 }
+    requires frames { All (λ block. length block.items ≤ 65536) blocks.now }
+    ensures { IfOk result (FindsInBlocks (map (λ block. block.items) replies.now) after.now (replies_to_blocks book.now (map (λ block. block.items) blocks.now)) (rows_after_blocks book.now (map (λ block. block.items) blocks.now))) }
+{
+    if !have_same_counts(blocks, replies) {
+        return Ok(BlockAudit::CountDiffers);
+    }
+    let mut right = book.copy()?;
+    for block in 0..blocks.len() {
+        let prefix = decide_all(alloc, Prefix::new(alloc, right), &blocks[block])?;
+        if let Some(index) = first_differing_reply(&replies[block], &prefix.replies) {
+            let block = block as u32;
+            return Ok(BlockAudit::ReplyDiffers { block, index });
+        }
+        right = prefix.book;
+    }
+    match least_differing_row(after, &right) {
+        Some(key) => Ok(BlockAudit::BookDiffers(key)),
+        None => Ok(BlockAudit::Same),
+    }
+}
+
+/// Whether there are as many blocks of replies as of bodies, and as many replies in each as bodies.
+fn have_same_counts(blocks: &[Vec<Frame>], replies: &[Vec<ReplyBody>]) -> bool
+    ensures { IsTrue result ↔ (counts (map (λ block. block.items) blocks.now) ≡ counts (map (λ block. block.items) replies.now)) }
+{
+    blocks.len() == replies.len()
+        && blocks
+            .iter()
+            .zip(replies)
+            .all(|(block, replies)| block.len() == replies.len())
+}

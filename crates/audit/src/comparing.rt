@@ -1,0 +1,60 @@
+//! What of two lists of replies, or of two books, differs first.
+
+ghost use Rattle.std.specs.Prelude.{◌≡◌, ◌≤◌, length, IfSome, IfNone};
+ghost use Rattle.audit.specs.Difference.{IsFirstDifference, IsLeastDifference};
+ghost use Rattle.audit.specs.FirstKey.{IsFirstDifferingKey};
+
+use rows::{Book, BookRows, ReplyBody, RowKey};
+use std::cmp::Ordering;
+
+/// The place of the first reply that isn't the right one.
+pub(crate) fn first_differing_reply(replies: &[ReplyBody], right: &[ReplyBody]) -> Option<u32>
+    requires count { length replies.now ≡ length right.now }
+    requires few { length right.now ≤ 65536 }
+    ensures some { IfSome result (IsFirstDifference replies.now right.now) }
+    ensures none { IfNone result (replies.now ≡ right.now) }
+{
+    let place = first_differing_place(replies, right)?;
+    Some(place as u32)
+}
+
+/// The place of the first reply that isn't the right one, in any number of replies.
+fn first_differing_place(replies: &[ReplyBody], right: &[ReplyBody]) -> Option<usize>
+    requires { length replies.now ≡ length right.now }
+    ensures some { IfSome result (IsFirstDifference replies.now right.now) }
+    ensures none { IfNone result (replies.now ≡ right.now) }
+{
+    replies
+        .iter()
+        .zip(right)
+        .position(|(mine, theirs)| !mine.is_same(theirs))
+}
+
+/// The least key whose row isn't the right one.
+pub(crate) fn least_differing_row(book: &Book, right: &Book) -> Option<RowKey>
+    ensures some { IfSome result (IsLeastDifference book.now right.now) }
+    ensures none { IfNone result (book.now ≡ right.now) }
+{
+    first_differing_key(book.rows(), right.rows())
+}
+
+/// The lesser key of the first two rows that differ; a row that the other side lacks differs.
+fn first_differing_key(mine: BookRows<'_>, theirs: BookRows<'_>) -> Option<RowKey>
+    ensures some { IfSome result (IsFirstDifferingKey mine.entry theirs.entry) }
+    ensures none { IfNone result (mine.entry ≡ theirs.entry) }
+{
+    let mut theirs = theirs;
+    for (key, val) in mine {
+        let Some((other_key, other_val)) = theirs.next() else {
+            return Some(*key);
+        };
+        match key.cmp(other_key) {
+            Ordering::Less => return Some(*key),
+            Ordering::Greater => return Some(*other_key),
+            Ordering::Equal if val.is_same(other_val) => {}
+            Ordering::Equal => return Some(*key),
+        }
+    }
+    let (key, _) = theirs.next()?;
+    Some(*key)
+}

@@ -1,0 +1,72 @@
+//! What an audit found, as text.
+
+ghost use Rattle.std.specs.Prelude.{◌≡◌, ◌++◌, IfOk, OnOk};
+ghost use Rattle.std.specs.Fmt.{decimal};
+ghost use Rattle.audit.specs.Texts.{audit_text, block_audit_text, reply_text, row_text};
+
+use crate::audited::Audit;
+use crate::block_audit::BlockAudit;
+use itoa::Buffer;
+use journal_text::write_key;
+use rows::RowKey;
+use std::alloc::{AllocError, Global};
+
+/// What an audit found, in ASCII: `same`, `count differs`, `reply 2 differs`, or `row KEY differs` with the key as a
+/// journal writes it.
+pub fn audit_text(alloc: Global, found: &Audit) -> Result<Vec<u8>, AllocError>
+    ensures { IfOk result (λ text. text.items ≡ audit_text found.now) }
+{
+    let mut text = Vec::new(alloc);
+    match found {
+        Audit::Same => text.extend_from_slice(b"same")?,
+        Audit::CountDiffers => text.extend_from_slice(b"count differs")?,
+        Audit::ReplyDiffers(place) => put_reply(&mut text, *place)?,
+        Audit::BookDiffers(key) => put_row(&mut text, key)?,
+    }
+    Ok(text)
+}
+
+/// What an audit of blocks found, in ASCII: as [`audit_text`], but `block 1 reply 2 differs`.
+pub fn block_audit_text(alloc: Global, found: &BlockAudit) -> Result<Vec<u8>, AllocError>
+    ensures { IfOk result (λ text. text.items ≡ block_audit_text found.now) }
+{
+    let mut text = Vec::new(alloc);
+    match found {
+        BlockAudit::Same => text.extend_from_slice(b"same")?,
+        BlockAudit::CountDiffers => text.extend_from_slice(b"count differs")?,
+        BlockAudit::ReplyDiffers { block, index } => {
+            text.extend_from_slice(b"block ")?;
+            put_number(&mut text, *block)?;
+            text.extend_from_slice(b" ")?;
+            put_reply(&mut text, *index)?;
+        }
+        BlockAudit::BookDiffers(key) => put_row(&mut text, key)?,
+    }
+    Ok(text)
+}
+
+/// Appends the number in decimal.
+fn put_number(text: &mut Vec<u8>, number: u32) -> Result<(), AllocError>
+    ensures { OnOk result (text.new.items ≡ text.old.items ++ decimal number) }
+{
+    let mut buffer = Buffer::new();
+    text.extend_from_slice(buffer.format(number).as_bytes())
+}
+
+/// Appends that the reply at this place differs.
+fn put_reply(text: &mut Vec<u8>, place: u32) -> Result<(), AllocError>
+    ensures { OnOk result (text.new.items ≡ text.old.items ++ reply_text place) }
+{
+    text.extend_from_slice(b"reply ")?;
+    put_number(text, place)?;
+    text.extend_from_slice(b" differs")
+}
+
+/// Appends that the row of this key differs.
+fn put_row(text: &mut Vec<u8>, key: &RowKey) -> Result<(), AllocError>
+    ensures { OnOk result (text.new.items ≡ text.old.items ++ row_text key.now) }
+{
+    text.extend_from_slice(b"row ")?;
+    write_key(key, text)?;
+    text.extend_from_slice(b" differs")
+}
