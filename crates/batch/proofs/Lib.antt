@@ -3,3 +3,5 @@ pub mod ReadBodies
 pub mod Pieces
 pub mod Lengths
 pub mod Folds
+pub mod FaultTexts
+pub mod ReadReplies

@@ -3,10 +3,12 @@
 
 mod bodies;
 mod broken;
+mod failing;
 mod fields;
 mod frames;
 mod processing;
 mod replies;
+mod reply_reading;
 mod sink;
 mod source;
 mod window;
@@ -15,8 +17,10 @@ mod writing;
 pub use batch_laws::BatchFault;
 pub use bodies::write_batch;
 pub use broken::Broken;
+pub use failing::{FailingSink, FailingSource};
 pub use frames::read_batch;
 pub use processing::process;
 pub use replies::write_replies;
+pub use reply_reading::read_replies;
 pub use sink::{IntoWrite, Sink};
 pub use source::{FromRead, Source};
