@@ -5,3 +5,4 @@ pub mod Lengths
 pub mod Folds
 pub mod FaultTexts
 pub mod ReadReplies
+pub mod Blocking

@@ -1,11 +1,13 @@
 //! Batch files and reply files, read and written over sources and sinks that can fail.
 #![tactic(auto)]
 
+mod blocks;
 mod bodies;
 mod broken;
 mod failing;
 mod fields;
 mod frames;
+mod kept;
 mod processing;
 mod replies;
 mod reply_reading;

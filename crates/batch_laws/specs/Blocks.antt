@@ -1,6 +1,6 @@
 -- Block files: lists of blocks, each read as a batch is, decided on the book after those before it, and answered by itself.
-use Rattle.std.specs.Prelude.{◌≡◌, ◌≤◌, ℕ, zero, suc, ◌+◌, List, [], ◌∷◌, ◌++◌, length, Result, Ok, Err, nat_lt, if◌then◌else◌, codes}
-use Rattle.std.specs.List.{flat_map, AllZip}
+use Rattle.std.specs.Prelude.{◌≡◌, ◌⊎◌, ◌<◌, ℕ, ◌+◌, List, [], ◌∷◌, ◌++◌, length, Result, Ok, Err, nat_lt, if◌then◌else◌, codes}
+use Rattle.std.specs.List.{flat_map}
 use Rattle.byteorder.specs.Endian.{big_bytes}
 use Rattle.rows.specs.Fold.{Rows, rows_after, replies_to}
 use Rattle.rows.specs.declared.frame.Frame.{Frame}
@@ -37,29 +37,22 @@ block_at bytes = do
   count ← count_at bytes
   bodies_at count.0 count.1
 
--- so many blocks
-unfoldable pub blocks_at : ℕ → List ℕ → Result (List (List (List ℕ)) × List ℕ) BatchFault
-blocks_at zero bytes = Ok ([], bytes)
-blocks_at (suc n) bytes = do
-  block ← block_at bytes
-  others ← blocks_at n block.1
-  Ok (block.0 ∷ others.0, others.1)
+-- the next block has these frames, and these bytes are left
+abbrev pub IsBlock : List ℕ → List Frame → List ℕ → Type 0
+IsBlock bytes block left = (bodies : List (List ℕ)) × (block_at bytes ≡ Ok (bodies, left)) × AreFramesOf bodies block
 
--- the blocks of a block file, or the first fault
-unfoldable pub blocks_of : List ℕ → Result (List (List (List ℕ))) BatchFault
-blocks_of bytes = do
-  count ← block_head_at blocks_magic bytes
-  blocks ← blocks_at count.0 count.1
-  _ ← ended blocks.1
-  Ok blocks.0
+-- the next blocks have these frames, one block after another, and these bytes are left
+abbrev pub AreBlocks : List ℕ → List (List Frame) → List ℕ → Type 0
+AreBlocks bytes [] left = bytes ≡ left
+AreBlocks bytes (block ∷ blocks) left = (next : List ℕ) × IsBlock bytes block next × AreBlocks next blocks left
 
--- frames for each block, in order
-abbrev pub AreBlocksOf : List (List (List ℕ)) → List (List Frame) → Type 0
-AreBlocksOf blocks frames = AllZip AreFramesOf blocks frames
+-- the bytes are a block file, and these are its blocks
+abbrev pub IsBlockFileOf : List ℕ → List (List Frame) → Type 0
+IsBlockFileOf bytes blocks = (behind : List ℕ) × (block_head_at blocks_magic bytes ≡ Ok (length blocks, behind)) × AreBlocks behind blocks []
 
--- the frames of so many blocks, with these bytes left
-abbrev pub FramesAt : ℕ → List ℕ → List (List Frame) → List ℕ → Type 0
-FramesAt count bytes frames left = (blocks : List (List (List ℕ))) × (blocks_at count bytes ≡ Ok (blocks, left)) × AreBlocksOf blocks frames
+-- behind some of so many blocks, reading stops with this fault: in the next block, or behind the last one
+abbrev pub FailsBehind : ℕ → ℕ → List ℕ → BatchFault → Type 0
+FailsBehind count read left fault = ((read < count) × (block_at left ≡ Err fault)) ⊎ ((read ≡ count) × (ended left ≡ Err fault))
 
 -- how many replies, and the replies
 abbrev pub block_text : List ReplyBody → List ℕ
@@ -75,7 +68,7 @@ abbrev pub replies_to_blocks : Rows → List (List Frame) → List (List ReplyBo
 replies_to_blocks rows [] = []
 replies_to_blocks rows (block ∷ blocks) = replies_to rows block ∷ replies_to_blocks (rows_after rows block) blocks
 
--- the texts of the replies of each block
+-- their texts, one after another
 abbrev pub blocks_text : List (List ReplyBody) → List ℕ
 blocks_text replies = flat_map block_text replies
 
@@ -87,3 +80,7 @@ messages_in (block ∷ blocks) = length block + messages_in blocks
 -- all messages, in order
 abbrev pub all_messages : List (List Frame) → List Frame
 all_messages blocks = flat_map (λ block. block) blocks
+
+-- the reply file of a block file whose blocks have these replies
+abbrev pub block_replies_text : List (List ReplyBody) → List ℕ
+block_replies_text replies = head_text block_replies_magic (length replies) ++ blocks_text replies
