@@ -10,7 +10,7 @@ use Rattle.batch_laws.specs.Files.{head_text}
 use Rattle.batch_laws.specs.Reading.{ended}
 use Rattle.rows.specs.declared.reply_body.ReplyBody.{ReplyBody}
 use Rattle.batch_laws.specs.declared.batch_fault.BatchFault.{BatchFault}
-use Rattle.batch.specs.Blocks.{AreDecided, AreAllDecided, BeginsBlock, StopsBehind, IsAnswered}
+use Rattle.batch.specs.Blocks.{AreDecided, AreAllDecided, BeginsBlock, StopsBehind, StopsBefore, StopsInHead, StopsInBlocks, IsAnswered}
 use Rattle.batch.specs.Devices.{AppendsPart}
 use Rattle.batch.specs.declared.kept.Kept.{Kept}
 
@@ -115,3 +115,38 @@ finishes opening rows count messages total reads bytes behind left puts old mid 
       read = λ known. (behind, subst (λ (n : ℕ). block_head_at blocks_magic bytes ≡ Ok (n, behind)) number (head known), subst (λ (l : List ℕ). AreBlocks behind blocks l) (nothing_left left (end known)) (so_far.read known));
       put = λ known. rw (so_far.put known, heading known, replies) (append_assoc old (head_text block_replies_magic total) (blocks_text (replies_to_blocks opening blocks)));
     }
+
+-- the same, seen from before the own head
+pub moved : (opening rows : Rows) (count messages : ℕ) (reads reads' : Type 0) (bytes left : List ℕ) (puts puts' : Type 0) (old old' new : List ℕ) → AreDecided opening rows count messages reads' bytes left puts' old' new
+    → (reads → reads') → (puts → puts') → (puts → old' ≡ old) → AreDecided opening rows count messages reads bytes left puts old new
+moved opening rows count messages reads reads' bytes left puts puts' old old' new so_far r p eq = record {
+  blocks = so_far.blocks;
+  number = so_far.number;
+  all = so_far.all;
+  book = so_far.book;
+  read = λ known. so_far.read (r known);
+  put = λ known. so_far.put (p known) ∙ ap (λ (x : List ℕ). x ++ blocks_text (replies_to_blocks opening so_far.blocks)) (eq known);
+}
+
+moved_begun : (rows : Rows) (reads reads' : Type 0) (left : List ℕ) (puts puts' : Type 0) (mid new : List ℕ) (failed failed' : Type 0) → (reads → reads') → (puts → puts') → (failed' → failed)
+    → (puts' → new ≡ mid) ⊎ BeginsBlock rows reads' left puts' mid new failed' → (puts → new ≡ mid) ⊎ BeginsBlock rows reads left puts mid new failed
+moved_begun rows reads reads' left puts puts' mid new failed failed' r p f (inl same) = inl (λ known. same (p known))
+moved_begun rows reads reads' left puts puts' mid new failed failed' r p f (inr b) = inr (f b.0, b.1, b.2, λ known. b.3 (r known), λ known. b.4 (p known))
+
+pub halts_moved : (total : ℕ) (opening rows : Rows) (count : ℕ) (reads reads' : Type 0) (bytes : List ℕ) (puts puts' : Type 0) (old old' new : List ℕ) (e : BatchFault) (failed failed' : Type 0)
+    → StopsBehind total opening rows count reads' bytes puts' old' new e failed' → (reads → reads') → (puts → puts') → (puts → old' ≡ old) → (failed' → failed)
+    → StopsBehind total opening rows count reads bytes puts old new e failed
+halts_moved total opening rows count reads reads' bytes puts puts' old old' new e failed failed' stops r p eq f = record {
+  messages = stops.messages;
+  left = stops.left;
+  mid = stops.mid;
+  kept = moved opening rows count stops.messages reads reads' bytes stops.left puts puts' old old' stops.mid stops.kept r p eq;
+  fails = λ known. stops.fails (r known);
+  begun = moved_begun rows reads reads' stops.left puts puts' stops.mid new failed failed' r p f stops.begun;
+}
+
+pub halts_in_head : (opening : Rows) (count : ℕ) (reads : Type 0) (bytes : List ℕ) (total : ℕ) (behind : List ℕ) (puts : Type 0) (old new : List ℕ) (e : BatchFault) (failed same : Type 0)
+    → count ≡ 0 → (reads → block_head_at blocks_magic bytes ≡ Ok (total, behind)) → ¬ IsTrue (is_of_bytes e) → same ⊎ (failed × (puts → AppendsPart old new (head_text block_replies_magic total)))
+    → StopsBefore opening opening count reads bytes e same ⊎ (StopsInHead opening opening count reads bytes puts old new failed ⊎ StopsInBlocks opening opening count reads bytes puts old new e failed)
+halts_in_head opening count reads bytes total behind puts old new e failed same none head other (inl s) = inl (none, refl, s, λ known of_bytes. absurd (other of_bytes))
+halts_in_head opening count reads bytes total behind puts old new e failed same none head other (inr p) = inr (inl (none, refl, p.0, total, behind, head, p.1))

@@ -4,7 +4,7 @@ ghost use Rattle.rows.specs.declared.frame.Frame.{Frame};
 ghost use Rattle.batch_laws.specs.BatchFault.{failures_after, is_of_bytes};
 ghost use Rattle.batch_laws.specs.Blocks.{IsBlock, block_text, block_at, block_replies_magic};
 ghost use Rattle.batch_laws.specs.Files.{head_text};
-ghost use Rattle.batch.specs.Blocks.{AreDecided, BeginsBlock, StopsBehind, StopsBefore, StopsInHead, StopsInBlocks, IsAnswered};
+ghost use Rattle.batch.specs.Blocks.{AreDecided, AreAllDecided, BeginsBlock, StopsBehind, StopsBefore, StopsInHead, StopsInBlocks, IsAnswered};
 ghost use Rattle.batch.specs.Devices.{AppendsPart};
 ghost use Rattle.batch.specs.Processing.{AnswersFold};
 ghost use Rattle.batch.specs.Window.{ahead};
@@ -115,6 +115,37 @@ impl Kept {
         for _ in 0..count {
             self.step(alloc, window, source, sink, decide)?;
         }
+        Ok(())
+    }
+
+    /// Reads a block file, and decides and answers one block after another. Its own head is put once the input's is
+    /// read.
+    pub(crate) fn process<
+        R: Source,
+        W: Sink,
+        E: Fn(&Book, &[Frame]) -> Result<Outcome, AllocError>,
+    >(&mut self, alloc: Global, source: &mut R, sink: &mut W, decide: &E) -> Result<(), BatchFault>
+        requires source { R.failures source.old + 1 < 2 ^ 64 }
+        requires sink { W.failures sink.old + 1 < 2 ^ 64 }
+        requires called { (rows : _) (frames : _) → length frames.now ≤ 65536 → E.pre decide.now rows frames }
+        requires fold { (rows : _) (frames : _) (answer : _) → E.post decide.now rows frames answer → AnswersFold rows.now frames.now answer }
+        requires none { (self.old.blocks ≡ 0) × (self.old.messages ≡ 0) }
+        ensures failures { R.failures source.new + W.failures sink.new ≡ failures_after result (R.failures source.old + W.failures sink.old) }
+        ensures end { OnOk result (R.is_known source.old → R.remaining source.new ≡ []) }
+        ensures ok { OnOk result (AreAllDecided self.old.book self.new.book self.new.blocks self.new.messages
+            (R.is_known source.old) (R.remaining source.old) (W.is_known sink.old) (W.written sink.old) (W.written sink.new)) }
+        ensures err { IfErr result (λ e.
+            StopsBefore self.old.book self.new.book self.new.blocks (R.is_known source.old) (R.remaining source.old) e (sink.new ≡ sink.old)
+            ⊎ (StopsInHead self.old.book self.new.book self.new.blocks (R.is_known source.old) (R.remaining source.old)
+            (W.is_known sink.old) (W.written sink.old) (W.written sink.new) (W.failures sink.new ≡ W.failures sink.old + 1)
+            ⊎ StopsInBlocks self.old.book self.new.book self.new.blocks (R.is_known source.old) (R.remaining source.old)
+            (W.is_known sink.old) (W.written sink.old) (W.written sink.new) e (W.failures sink.new ≡ W.failures sink.old + 1))) }
+    {
+        let mut window = Window::new(alloc)?;
+        let count = window.read_block_head(source, b"I83M")?;
+        write_head(alloc, count, sink)?;
+        self.decide_blocks(alloc, &mut window, source, sink, decide, count)?;
+        window.read_end(source)?;
         Ok(())
     }
 }

@@ -10,11 +10,11 @@ returns-in_err-step-clause-err g c =
     let before = c.loop.invariant in
     let sink = g.W.Sink.written in
     rw (p.1, p.2) (halts c.args.count c.args.self.now.book c.loop.self c.step.new.self (g.R.Source.is_known c.args.source.now) (g.R.Source.is_known c.loop.source)
-      (ahead c.args.window.now (g.R.Source.remaining c.args.source.now)) (ahead c.loop.window (g.R.Source.remaining c.loop.source))
-      (g.W.Sink.is_known c.args.sink.now) (g.W.Sink.is_known c.loop.sink) (sink c.args.sink.now) (sink c.loop.sink) (sink c.step.new.sink) c.in_err-step.field-0.0
-      (g.W.Sink.failures c.step.new.sink ≡ g.W.Sink.failures c.loop.sink + 1) (g.W.Sink.failures c.step.new.sink ≡ g.W.Sink.failures c.args.sink.now + 1) (c.step.new.sink ≡ c.loop.sink)
-      before.so_far c.in_err-step.ensures.kept (omega (arith, before.count, c.loop-test.true)) before.read_known before.put_known c.in_err-step.ensures.fault c.in_err-step.ensures.err
-      (λ same. ap sink same) (λ failed. failed ∙ ap (λ (n : ℕ). n + 1) before.sinks))
+    (ahead c.args.window.now (g.R.Source.remaining c.args.source.now)) (ahead c.loop.window (g.R.Source.remaining c.loop.source))
+    (g.W.Sink.is_known c.args.sink.now) (g.W.Sink.is_known c.loop.sink) (sink c.args.sink.now) (sink c.loop.sink) (sink c.step.new.sink) c.in_err-step.field-0.0
+    (g.W.Sink.failures c.step.new.sink ≡ g.W.Sink.failures c.loop.sink + 1) (g.W.Sink.failures c.step.new.sink ≡ g.W.Sink.failures c.args.sink.now + 1) (c.step.new.sink ≡ c.loop.sink)
+    before.so_far c.in_err-step.ensures.kept (omega (arith, before.count, c.loop-test.true)) before.read_known before.put_known c.in_err-step.ensures.fault c.in_err-step.ensures.err
+    (λ same. ap sink same) (λ failed. failed ∙ ap (λ (n : ℕ). n + 1) before.sinks))
 
 pub loop-preserved : goal.loop-preserved
 loop-preserved g c =

@@ -23,5 +23,5 @@ returns-in_err-write_block-clause-err g c =
     let rows = c.args.self.now.book in
     let folded : replies ≡ replies_to rows c.in_ok-frames.frames.items = (c.requires.fold _ _ _ c.in_ok-outcome.ensures).0 ∙ ap (replies_to rows) c.deref.ensures.value in
     rw p.1 (begun rows (g.R.Source.is_known c.args.source.now) (ahead c.args.window.now (g.R.Source.remaining c.args.source.now)) (ahead c.read_block.new.self (g.R.Source.remaining c.read_block.new.source))
-      (g.W.Sink.is_known c.args.sink.now) (g.W.Sink.written c.args.sink.now) (g.W.Sink.written c.write_block.new.sink) (g.W.Sink.failures c.write_block.new.sink ≡ g.W.Sink.failures c.args.sink.now + 1)
-      (c.write_block.new.sink ≡ c.args.sink.now) c.in_ok-frames.frames.items replies c.deref-2.result.now c.in_err-write_block.ensures.err c.deref-2.ensures.value folded c.in_ok-frames.ensures.gives)
+    (g.W.Sink.is_known c.args.sink.now) (g.W.Sink.written c.args.sink.now) (g.W.Sink.written c.write_block.new.sink) (g.W.Sink.failures c.write_block.new.sink ≡ g.W.Sink.failures c.args.sink.now + 1)
+    (c.write_block.new.sink ≡ c.args.sink.now) c.in_ok-frames.frames.items replies c.deref-2.result.now c.in_err-write_block.ensures.err c.deref-2.ensures.value folded c.in_ok-frames.ensures.gives)
