@@ -29,7 +29,7 @@ one_more_count : (blocks : List (List Frame)) (block : List Frame) → messages_
 one_more_count [] block = omega arith
 one_more_count (b ∷ blocks) block = omega (arith, one_more_count blocks block)
 
-one_more_read : (bytes : List ℕ) (blocks : List (List Frame)) (left : List ℕ) (block : List Frame) (after : List ℕ) → AreBlocks bytes blocks left → IsBlock left block after → AreBlocks bytes (blocks ++ block ∷ []) after
+pub one_more_read : (bytes : List ℕ) (blocks : List (List Frame)) (left : List ℕ) (block : List Frame) (after : List ℕ) → AreBlocks bytes blocks left → IsBlock left block after → AreBlocks bytes (blocks ++ block ∷ []) after
 one_more_read bytes [] left block after are next = (after, subst (λ (b : List ℕ). IsBlock b block after) (sym are) next, refl)
 one_more_read bytes (b ∷ blocks) left block after are next = (are.0, are.1, one_more_read are.0 blocks left block after are.2 next)
 
@@ -96,7 +96,7 @@ as_many : (rows : Rows) (blocks : List (List Frame)) → length (replies_to_bloc
 as_many rows [] = refl
 as_many rows (block ∷ blocks) = ap suc (as_many (rows_after rows block) blocks)
 
-nothing_left : (left : List ℕ) → ended left ≡ Ok tt → left ≡ []
+pub nothing_left : (left : List ℕ) → ended left ≡ Ok tt → left ≡ []
 nothing_left [] e = refl
 nothing_left (b ∷ bytes) e = absurd cc
 

@@ -6,3 +6,4 @@ pub mod Folds
 pub mod FaultTexts
 pub mod ReadReplies
 pub mod Blocking
+pub mod ReadBlocks

@@ -1,6 +1,7 @@
 //! Batch files and reply files, read and written over sources and sinks that can fail.
 #![tactic(auto)]
 
+mod block_files;
 mod block_processing;
 mod blocks;
 mod bodies;
@@ -18,6 +19,7 @@ mod window;
 mod writing;
 
 pub use batch_laws::BatchFault;
+pub use block_files::read_blocks;
 pub use block_processing::{BlocksOutcome, Halted, process_blocks};
 pub use bodies::write_batch;
 pub use broken::Broken;

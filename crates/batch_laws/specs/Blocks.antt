@@ -1,6 +1,6 @@
 -- Block files: lists of blocks, each read as a batch is, decided on the book after those before it, and answered by itself.
 use Rattle.std.specs.Prelude.{◌≡◌, ◌⊎◌, ◌<◌, ℕ, ◌+◌, List, [], ◌∷◌, ◌++◌, length, Result, Ok, Err, nat_lt, if◌then◌else◌, codes}
-use Rattle.std.specs.List.{flat_map}
+use Rattle.std.specs.List.{flat_map, AllZip}
 use Rattle.byteorder.specs.Endian.{big_bytes}
 use Rattle.rows.specs.Fold.{Rows, rows_after, replies_to}
 use Rattle.rows.specs.declared.frame.Frame.{Frame}
@@ -84,3 +84,11 @@ all_messages blocks = flat_map (λ block. block) blocks
 -- the reply file of a block file whose blocks have these replies
 abbrev pub block_replies_text : List (List ReplyBody) → List ℕ
 block_replies_text replies = head_text block_replies_magic (length replies) ++ blocks_text replies
+
+-- all replies, in order
+abbrev pub all_replies : List (List ReplyBody) → List ReplyBody
+all_replies replies = flat_map (λ block. block) replies
+
+-- the replies are cut as the blocks are: as many in each as it has messages
+abbrev pub AreCutAs : List (List ReplyBody) → List (List Frame) → Type 0
+AreCutAs replies blocks = AllZip (λ mine block. length mine ≡ length block) replies blocks
