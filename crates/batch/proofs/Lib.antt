@@ -3,3 +3,7 @@ pub mod ReadBodies
 pub mod Pieces
 pub mod Lengths
 pub mod Folds
+pub mod FaultTexts
+pub mod ReadReplies
+pub mod Blocking
+pub mod ReadBlocks

@@ -1,22 +1,32 @@
 //! Batch files and reply files, read and written over sources and sinks that can fail.
 #![tactic(auto)]
 
+mod block_files;
+mod block_processing;
+mod blocks;
 mod bodies;
 mod broken;
+mod failing;
 mod fields;
 mod frames;
+mod kept;
 mod processing;
 mod replies;
+mod reply_reading;
 mod sink;
 mod source;
 mod window;
 mod writing;
 
 pub use batch_laws::BatchFault;
+pub use block_files::read_blocks;
+pub use block_processing::{BlocksOutcome, Halted, process_blocks};
 pub use bodies::write_batch;
 pub use broken::Broken;
+pub use failing::{FailingSink, FailingSource};
 pub use frames::read_batch;
 pub use processing::process;
 pub use replies::write_replies;
+pub use reply_reading::read_replies;
 pub use sink::{IntoWrite, Sink};
 pub use source::{FromRead, Source};

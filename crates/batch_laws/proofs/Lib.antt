@@ -1,0 +1,2 @@
+pub mod FoldedBlocks
+pub mod Again

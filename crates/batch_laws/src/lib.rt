@@ -2,5 +2,7 @@
 #![tactic(auto)]
 
 mod batch_fault;
+mod laws;
 
 pub use batch_fault::BatchFault;
+pub use laws::{a_batch_is_read_as_its_bodies, blocks_are_one_fold};

@@ -1,0 +1,15 @@
+use Rattle.std.proofs.Common.{◌≡◌, ◌≤◌, length}
+use Rattle.batch_laws.specs.Blocks.{AreBlocks}
+use Rattle.batch.specs.BlockFiles.{frames_of}
+use Rattle.batch.specs.Window.{ahead}
+use Rattle.batch.proofs.window.Window.read_blocks_of.Given as goal
+
+-- the blocks so far
+abbrev pub invariant-loop : goal.invariant-loop
+invariant-loop g l = record {
+  kept : g.R.Source.failures l.source ≡ g.R.Source.failures l.fn.source;
+  known : g.R.Source.is_known l.fn.source → g.R.Source.is_known l.source;
+  within : l.counter ≤ l.count;
+  count : length l.blocks.items ≡ l.counter;
+  blocks : g.R.Source.is_known l.fn.source → AreBlocks (ahead l.fn.self (g.R.Source.remaining l.fn.source)) (frames_of l.blocks.items) (ahead l.self (g.R.Source.remaining l.source));
+}

@@ -1,0 +1,18 @@
+use Rattle.std.proofs.Common.{◌≡◌, inr}
+use Rattle.std.proofs.lemmas.Result.{err_from_is_err_and}
+use Rattle.batch.specs.Window.{ahead}
+use Rattle.batch.proofs.window.Window.read_reply_file.Goals as goal
+
+pub returns-in_err-read_end-clause-gives : goal.returns-in_err-read_end-clause-gives
+returns-in_err-read_end-clause-gives g c = λ known.
+    let p = err_from_is_err_and c.from_residual-in_err-read_end.result c.from_residual-in_err-read_end.ensures.1 in
+    let behind = ahead c.read_head.new.self (g.R.Source.remaining c.read_head.new.source) in
+    let left = ahead c.read_replies.new.self (g.R.Source.remaining c.read_replies.new.source) in
+    let in_head = c.in_ok-count.ensures.known known in
+    let in_replies = c.in_ok-replies.ensures.known in_head in
+    rw (p.1, p.2) (λ of_bytes. inr (
+      c.in_ok-count.count,
+      behind,
+      c.in_ok-count.ensures.gives known,
+      inr (c.in_ok-replies.replies.items, left, c.in_ok-replies.ensures.gives in_head, c.in_err-read_end.ensures.gives in_replies of_bytes),
+    ))

@@ -1,0 +1,27 @@
+-- Block files that are read whole.
+use Rattle.std.specs.Prelude.{◌≡◌, ◌⊎◌, ℕ, List, length, map, Result, Ok, Err, IsTrue}
+use Rattle.std.specs.Global.{Vec}
+use Rattle.rows.specs.declared.frame.Frame.{Frame}
+use Rattle.batch_laws.specs.BatchFault.{is_of_bytes}
+use Rattle.batch_laws.specs.Blocks.{AreBlocks, IsBlockFileOf, FailsBehind, block_head_at, blocks_magic, block_at}
+use Rattle.batch_laws.specs.Reading.{ended}
+use Rattle.batch_laws.specs.declared.batch_fault.BatchFault.{BatchFault}
+
+-- the frames of each block
+abbrev pub frames_of : List (Vec Frame) → List (List Frame)
+frames_of blocks = map (λ block. block.items) blocks
+
+-- some of so many blocks are read, and then reading stops with this fault
+abbrev pub FailsAmong : ℕ → List ℕ → BatchFault → Type 0
+FailsAmong count bytes fault = (blocks : List (List Frame)) × (left : List ℕ) × AreBlocks bytes blocks left × FailsBehind count (length blocks) left fault
+
+-- so many blocks, with these bytes left, or the first fault
+abbrev pub GivesBlocks : ℕ → List ℕ → Result (Vec (Vec Frame)) BatchFault → List ℕ → Type 0
+GivesBlocks count bytes (Ok blocks) left = AreBlocks bytes (frames_of blocks.items) left × (length blocks.items ≡ count)
+GivesBlocks count bytes (Err e) left = IsTrue (is_of_bytes e) → FailsAmong count bytes e
+
+-- the blocks of a block file, or its first fault: in the head, in a block, or behind the last one
+abbrev pub GivesBlockFile : List ℕ → Result (Vec (Vec Frame)) BatchFault → Type 0
+GivesBlockFile bytes (Ok blocks) = IsBlockFileOf bytes (frames_of blocks.items)
+GivesBlockFile bytes (Err e) = IsTrue (is_of_bytes e) → (block_head_at blocks_magic bytes ≡ Err e)
+    ⊎ ((count : ℕ) × (behind : List ℕ) × (block_head_at blocks_magic bytes ≡ Ok (count, behind)) × FailsAmong count behind e)

@@ -1,0 +1,21 @@
+//! Laws of batch files and of block files.
+
+ghost use Rattle.std.specs.Prelude.{◌≡◌, ℕ, List, Ok};
+ghost use Rattle.rows.specs.Fold.{Rows, rows_after, replies_to};
+ghost use Rattle.rows.specs.declared.frame.Frame.{Frame};
+ghost use Rattle.batch_laws.specs.Files.{IsBatch};
+ghost use Rattle.batch_laws.specs.Reading.{bodies_of, batch_magic};
+ghost use Rattle.batch_laws.specs.Blocks.{rows_after_blocks, replies_to_blocks, all_messages, all_replies, AreCutAs};
+
+/// Blocks that are decided one after another come to what deciding all their messages in order comes to: the same
+/// book, and the same replies, cut as the blocks are.
+pub fn blocks_are_one_fold()
+    ensures book { (rows : Rows) (blocks : List (List Frame)) → rows_after_blocks rows blocks ≡ rows_after rows (all_messages blocks) }
+    ensures replies { (rows : Rows) (blocks : List (List Frame)) → all_replies (replies_to_blocks rows blocks) ≡ replies_to rows (all_messages blocks) }
+    ensures cut { (rows : Rows) (blocks : List (List Frame)) → AreCutAs (replies_to_blocks rows blocks) blocks }
+{}
+
+/// A batch file of some bodies is read as these bodies, so it is a batch of no others.
+pub fn a_batch_is_read_as_its_bodies()
+    ensures { (bytes : List ℕ) (bodies : List (List ℕ)) → IsBatch bytes bodies → bodies_of batch_magic bytes ≡ Ok bodies }
+{}

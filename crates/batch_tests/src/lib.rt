@@ -1,0 +1,15 @@
+//! Tests of batch files, reply files and block files, over sources and sinks that fail.
+#![tactic(auto)]
+
+#[cfg(test)]
+mod block_files;
+#[cfg(test)]
+mod devices;
+#[cfg(test)]
+mod faults;
+#[cfg(test)]
+mod serial;
+#[cfg(test)]
+mod texts;
+#[cfg(test)]
+mod vectors;
