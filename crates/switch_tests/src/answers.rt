@@ -3,6 +3,7 @@
 use answering::{answer_on, body_of_digits, decide_one, sample_book};
 use commands::{Command, Printer, act, plain_words_are_read, read_words};
 use engine::Workers;
+use files::MemoryFiles;
 use std::alloc::Global;
 use std::io;
 use std::io::{ErrorKind, Write};
@@ -65,7 +66,9 @@ fn what_is_not_taken_is_dropped(rt: HostRuntime) -> Result<(), Fail> {
         let words = words(rt.alloc(), &["switch", "one", frame])?;
         let mut out = Printer::new(Closed);
         let mut err = Printer::new(Closed);
-        assert_eq!(rt; act(&rt, rt.alloc(), &words, &mut out, &mut err), status);
+        let mut files = MemoryFiles::new(rt.alloc());
+        let acted = act(&rt, rt.alloc(), &mut files, &words, &mut out, &mut err);
+        assert_eq!(rt; acted, status);
         let (_, all_out) = out.into_parts();
         let (_, all_err) = err.into_parts();
         assert_eq!(rt; (all_out, all_err), (status != 0, status == 0));

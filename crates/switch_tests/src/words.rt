@@ -1,4 +1,5 @@
 use commands::{Printer, act};
+use files::MemoryFiles;
 use std::alloc::Global;
 use std::process::Abort;
 use std::sync::Wait;
@@ -41,7 +42,8 @@ fn acted<R: Threads + Wait + Sync>(rt: &R, alloc: Global, words: &[&str]) -> Res
     }
     let mut out = Printer::new(Vec::new(alloc));
     let mut err = Printer::new(Vec::new(alloc));
-    let status = act(rt, alloc, &all, &mut out, &mut err);
+    let mut files = MemoryFiles::new(alloc);
+    let status = act(rt, alloc, &mut files, &all, &mut out, &mut err);
     let (out, err) = (taken(out)?, taken(err)?);
     Ok(Said { status, out, err })
 }
@@ -125,6 +127,19 @@ fn words_that_are_no_command_are_a_usage_fault(rt: HostRuntime) -> Result<(), Fa
     assert_usage(&rt, alloc, &["one", "3g"])?;
     assert_usage(&rt, alloc, &["one", "31", "31"])?;
     assert_usage(&rt, alloc, &["run"])?;
+    assert_usage(&rt, alloc, &["run", "book", "batch", "replies"])?;
+    for workers in ["0", "65", "four", "-1", ""] {
+        let words = [
+            "run",
+            "book",
+            "batch",
+            "replies",
+            "after",
+            "--workers",
+            workers,
+        ];
+        assert_usage(&rt, alloc, &words)?;
+    }
     let too_many = "00".repeat(alloc, 513)?;
     assert_usage(&rt, alloc, &["one", too_many.as_str()])?;
     let most = "00".repeat(alloc, 512)?;
@@ -188,7 +203,14 @@ fn help_says_what_there_is(rt: HostRuntime) -> Result<(), Fail> {
     let help = acted(&rt, rt.alloc(), &["--help"])?;
     assert_eq!(rt; help.status, 0);
     let text = str::from_utf8(&help.out).ok().ok_or("text")?;
-    for part in ["Usage: switch", "one", "Exit status"] {
+    for part in [
+        "Usage: switch",
+        "one",
+        "run",
+        "serial",
+        "Exit status",
+        "batch N",
+    ] {
         assert!(rt; text.contains(part), "{part}");
     }
     Ok(())

@@ -1,0 +1,177 @@
+//! Batches that are decided from files to files.
+
+use commands::{Printer, act};
+use files::MemoryFiles;
+use std::alloc::Global;
+use std::process::Abort;
+use std::sync::Wait;
+use std::test::Fail;
+use std::thread::Threads;
+
+// A card with 100.00 available.
+const BOOK: &str =
+    r#"{"accounts":[{"available":10000,"currency":"978","id":"4111110000000005"}],"ahead":[],"budgets":[],"cards":[{"account":"4111110000000005","approvals":0,"day_amount":20000,"day_count":3,"expiry":"2812","pan":"4111110000000005","second":null,"status":"active"}],"days":[],"originals":[],"version":3}"#;
+
+// It, after a request of 1.00 was approved.
+const AFTER: &str =
+    r#"{"accounts":[{"available":9900,"currency":"978","id":"4111110000000005"}],"ahead":[],"budgets":[],"cards":[{"account":"4111110000000005","approvals":1,"day_amount":20000,"day_count":3,"expiry":"2812","pan":"4111110000000005","second":null,"status":"active"}],"days":[{"count":1,"day":"260110","pan":"4111110000000005","sum":100}],"originals":[{"account":"4111110000000005","acquirer":"123456","action":"000","amount":100,"approval":"000001","kind":"request","paid":"account","pan":"4111110000000005","processing":"000000","reversed":null,"stamp":"260110120000","stay":100,"trace":"000001"}],"version":3}"#;
+
+// A batch of that request, and its replies.
+const BATCH: &[u8] =
+    b"I83B\x00\x01\x00\x00\x00\x01\x00\x621100\x72\x30\x01\x01\x00\x80\x80\x0016411111000000000500000000000000010001101200000000012601101200001000612345\x36TERM0001978";
+
+const REPLIES: &[u8] =
+    b"I83R\x00\x01\x00\x00\x00\x01\x00\x69R1110\x72\x30\x00\x01\x06\x80\x80\x00164111110000000005000000000000000100011012000000000126011012000006123456000001000TERM0001978";
+
+#[derive(Drop)]
+struct Said {
+    status: u8,
+    out: Vec<u8>,
+    err: Vec<u8>,
+}
+
+// The files that a name stands for.
+fn files_of(alloc: Global, files: &[(&str, &[u8])]) -> Result<MemoryFiles, Fail> {
+    let mut kept = MemoryFiles::new(alloc);
+    for (name, bytes) in files {
+        let mut held = Vec::new(alloc);
+        held.extend_from_slice(bytes)?;
+        kept.put(name, held).ok().ok_or("room for a file")?;
+    }
+    Ok(kept)
+}
+
+fn acted<R: Threads + Wait + Sync>(
+    rt: &R,
+    alloc: Global,
+    files: &mut MemoryFiles,
+    words: &[&str],
+) -> Result<Said, Fail> {
+    let mut all = Vec::new(alloc);
+    all.push(String::from_str(alloc, "switch")?)?;
+    for word in words {
+        all.push(String::from_str(alloc, word)?)?;
+    }
+    let mut out = Printer::new(Vec::new(alloc));
+    let mut err = Printer::new(Vec::new(alloc));
+    let status = act(rt, alloc, files, &all, &mut out, &mut err);
+    let ((out, _), (err, _)) = (out.into_parts(), err.into_parts());
+    Ok(Said { status, out, err })
+}
+
+// The words decide the batch on the book.
+fn assert_decided<R: Abort + Threads + Wait + Sync>(
+    rt: &R,
+    alloc: Global,
+    words: &[&str],
+) -> Result<(), Fail> {
+    let mut files = files_of(alloc, &[("book", BOOK.as_bytes()), ("batch", BATCH)])?;
+    let said = acted(rt, alloc, &mut files, words)?;
+    assert_eq!(rt; said.status, 0);
+    assert_eq!(rt; said.out.as_slice(), b"decided 1\n".as_slice());
+    assert!(rt; said.err.is_empty());
+    assert_eq!(rt; files.get("replies"), Some(REPLIES));
+    assert_eq!(rt; files.get("after"), Some(AFTER.as_bytes()));
+    assert_eq!(rt; files.get("book"), Some(BOOK.as_bytes()));
+    Ok(())
+}
+
+#[test]
+fn a_batch_is_decided_from_files_to_files(rt: HostRuntime) -> Result<(), Fail> {
+    let alloc = rt.alloc();
+    assert_decided(&rt, alloc, &["serial", "book", "batch", "replies", "after"])?;
+    assert_decided(&rt, alloc, &["run", "book", "batch", "replies", "after"])?;
+    assert_decided(
+        &rt,
+        alloc,
+        &["run", "book", "batch", "replies", "after", "--workers", "1"],
+    )?;
+    assert_decided(
+        &rt,
+        alloc,
+        &["run", "--workers=64", "book", "batch", "replies", "after"],
+    )
+}
+
+// A fault is one line of standard error; an older file of the new book stays.
+fn assert_fault<R: Abort + Threads + Wait + Sync>(
+    rt: &R,
+    alloc: Global,
+    book: &[u8],
+    batch: &[u8],
+    line: &[u8],
+) -> Result<(), Fail> {
+    for command in ["serial", "run"] {
+        let mut files = files_of(
+            alloc,
+            &[("book", book), ("batch", batch), ("after", b"older")],
+        )?;
+        let words = [command, "book", "batch", "replies", "after"];
+        let said = acted(rt, alloc, &mut files, &words)?;
+        assert_eq!(rt; said.status, 1);
+        assert!(rt; said.out.is_empty());
+        assert_eq!(rt; said.err.as_slice(), line);
+        assert_eq!(rt; files.get("after"), Some(b"older".as_slice()));
+    }
+    Ok(())
+}
+
+// Each bad file of a batch, and some bad books.
+#[test]
+fn a_bad_file_is_told_by_its_number(rt: HostRuntime) -> Result<(), Fail> {
+    let alloc = rt.alloc();
+    let book = BOOK.as_bytes();
+    let one_more = b"I83B\x00\x01\x00\x00\x00\x00!";
+    assert_fault(
+        &rt,
+        alloc,
+        book,
+        b"J83B\x00\x01\x00\x00\x00\x00",
+        b"batch 1\n",
+    )?;
+    assert_fault(
+        &rt,
+        alloc,
+        book,
+        b"I83B\x00\x02\x00\x00\x00\x00",
+        b"batch 2\n",
+    )?;
+    assert_fault(
+        &rt,
+        alloc,
+        book,
+        b"I83B\x00\x01\x00\x01\x00\x01",
+        b"batch 3\n",
+    )?;
+    assert_fault(
+        &rt,
+        alloc,
+        book,
+        b"I83B\x00\x01\x00\x00\x00\x01\x00\x00",
+        b"batch 4\n",
+    )?;
+    assert_fault(&rt, alloc, book, b"J", b"batch 5\n")?;
+    assert_fault(&rt, alloc, book, one_more, b"batch 6\n")?;
+    assert_fault(&rt, alloc, b"[", BATCH, b"book 1\n")?;
+    assert_fault(&rt, alloc, b"{}", BATCH, b"book 2\n")
+}
+
+#[test]
+fn a_file_that_is_not_there_is_told(rt: HostRuntime) -> Result<(), Fail> {
+    let alloc = rt.alloc();
+    for name in ["book", "batch"] {
+        let mut files = files_of(alloc, &[("book", BOOK.as_bytes()), ("batch", BATCH)])?;
+        let mut words = ["serial", "book", "batch", "replies", "after"];
+        if name == "book" {
+            words[1] = "none";
+        } else {
+            words[2] = "none";
+        }
+        let said = acted(&rt, alloc, &mut files, &words)?;
+        assert_eq!(rt; said.status, 1);
+        assert_eq!(rt; said.err.as_slice(), b"file 1\n".as_slice());
+        assert_eq!(rt; files.get("replies"), None);
+        assert_eq!(rt; files.get("after"), None);
+    }
+    Ok(())
+}
