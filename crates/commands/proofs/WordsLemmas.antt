@@ -13,11 +13,11 @@ use Rattle.clap.specs.declared.error.kind.ErrorKind.TheVariants as kinds
 use Rattle.hex.specs.Hex.{decode_of}
 use Rattle.hex.specs.declared.error.FromHexError.{FromHexError}
 use Rattle.answering.specs.Answers.{IsBodyInDigits}
-use Rattle.commands.specs.Asked.{Names, asked, asked_of, body_in, body_of, help, names_in, one, one_in, run, run_in, serial, workers_in}
+use Rattle.commands.specs.Asked.{Names, asked, asked_of, audit, body_in, body_of, help, names_in, one, one_in, pack, pack_in, run, run_in, serial, show, workers_in}
 use Rattle.commands.specs.CommandLine.{command_line}
 use Rattle.commands.specs.Words.{IsRead, IsReadOfKind, IsUsageFault, IsOfWords, asked_in}
 use Rattle.commands.specs.declared.command.Command.{Command}
-use Rattle.commands.specs.declared.command.Command.TheVariants.{Help, One, Serial, Run}
+use Rattle.commands.specs.declared.command.Command.TheVariants.{Help, One, Serial, Run, Audit, Show, Pack}
 use Rattle.commands.specs.declared.fault.Fault.{Fault}
 use Rattle.commands.specs.declared.fault.Fault.TheVariants.{Usage, OutOfMemory, Job}
 
@@ -72,6 +72,9 @@ read_of_kind words kind (Ok (Help text)) (inr among) h = rw (← h) among
 read_of_kind words kind (Ok (One body)) among h = absurd h
 read_of_kind words kind (Ok (Serial names)) among h = absurd h
 read_of_kind words kind (Ok (Run names workers)) among h = absurd h
+read_of_kind words kind (Ok (Audit names)) among h = absurd h
+read_of_kind words kind (Ok (Show file)) among h = absurd h
+read_of_kind words kind (Ok (Pack text batch)) among h = absurd h
 read_of_kind words kind (Err (Usage text)) (inl memory) h = absurd (h.1 memory)
 read_of_kind words kind (Err (Usage text)) (inr among) h = inl (kind, h.0, among)
 read_of_kind words kind (Err OutOfMemory) among h = tt
@@ -97,19 +100,39 @@ no_help_run None w text h = cc
 no_help_run (Some names) None text h = cc
 no_help_run (Some names) (Some n) text h = cc
 
-no_help : (a b c : Bool) (x : Option (List ℕ)) (y z : Option Names) (w : Option ℕ) (text : Text)
-    → (if a then option_map one x else (if b then option_and_then (λ names. option_map (run names) w) y else (if c then option_map serial z else None))) ≡ Some (help text) → ⊥
-no_help true b c x y z w text h = no_help_one x text h
-no_help false true c x y z w text h = no_help_run y w text h
-no_help false false true x y z w text h = no_help_serial z text h
-no_help false false false x y z w text h = cc
+no_help_audit : (x : Option Names) (text : Text) → option_map audit x ≡ Some (help text) → ⊥
+no_help_audit None text h = cc
+no_help_audit (Some names) text h = cc
+
+no_help_show : (x : Option Text) (text : Text) → option_map show x ≡ Some (help text) → ⊥
+no_help_show None text h = cc
+no_help_show (Some file) text h = cc
+
+no_help_pack : (x y : Option Text) (text : Text) → option_and_then (λ lines. option_map (pack lines) y) x ≡ Some (help text) → ⊥
+no_help_pack None y text h = cc
+no_help_pack (Some lines) None text h = cc
+no_help_pack (Some lines) (Some batch) text h = cc
+
+no_help : (a b c d e f : Bool) (rows : List Row) (text : Text)
+    → (if a then one_in rows
+    else (if b then run_in rows
+    else (if c then option_map serial (names_in rows)
+    else (if d then option_map audit (names_in rows)
+    else (if e then option_map show (first_of (codes "FILE") rows)
+    else (if f then pack_in rows else None)))))) ≡ Some (help text) → ⊥
+no_help true b c d e f rows text h = no_help_one (option_and_then body_in (first_of (codes "FRAME") rows)) text h
+no_help false true c d e f rows text h = no_help_run (names_in rows) (option_and_then workers_in (first_of (codes "workers") rows)) text h
+no_help false false true d e f rows text h = no_help_serial (names_in rows) text h
+no_help false false false true e f rows text h = no_help_audit (names_in rows) text h
+no_help false false false false true f rows text h = no_help_show (first_of (codes "FILE") rows) text h
+no_help false false false false false true rows text h = no_help_pack (first_of (codes "TEXT") rows) (first_of (codes "BATCH") rows) text h
+no_help false false false false false false rows text h = cc
 
 asked_no_help : (met : Option (Text × List Row)) (text : Text) → option_and_then asked met ≡ Some (help text) → ⊥
 asked_no_help None text h = cc
 asked_no_help (Some (name, rows)) text h =
-    no_help (bytes_eq name (codes "one")) (bytes_eq name (codes "run")) (bytes_eq name (codes "serial"))
-    (option_and_then body_in (first_of (codes "FRAME") rows)) (names_in rows) (names_in rows)
-    (option_and_then workers_in (first_of (codes "workers") rows)) text h
+    no_help (bytes_eq name (codes "one")) (bytes_eq name (codes "run")) (bytes_eq name (codes "serial")) (bytes_eq name (codes "audit"))
+    (bytes_eq name (codes "show")) (bytes_eq name (codes "pack")) rows text h
 
 -- what a command is that the words ask for
 pub read_as : (words : List Text) (command : Command) → fault_of command_line words ≡ [] → Some (asked_of command) ≡ asked_in words → IsRead words (Ok command)
@@ -117,6 +140,9 @@ read_as words (Help text) fault h = absurd (asked_no_help (subcommand_of command
 read_as words (One body) fault h = (fault, sym h)
 read_as words (Serial names) fault h = (fault, sym h)
 read_as words (Run names workers) fault h = (fault, sym h)
+read_as words (Audit names) fault h = (fault, sym h)
+read_as words (Show file) fault h = (fault, sym h)
+read_as words (Pack text batch) fault h = (fault, sym h)
 
 -- a number of workers
 pub workers_are : (n : ℕ) (r : Option ℕ) → SomeIff r ((1 ≤ n) × (n ≤ 64)) n → r ≡ (if nat_lt 0 n && nat_lt n 65 then Some n else None)

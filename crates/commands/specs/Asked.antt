@@ -5,7 +5,7 @@ use Rattle.clap.specs.Walk.{Row, Text, byte_or_zero, first_of}
 use Rattle.hex.specs.Hex.{decode_of}
 use Rattle.hex.specs.declared.error.FromHexError.{FromHexError}
 use Rattle.commands.specs.declared.command.Command.{Command}
-use Rattle.commands.specs.declared.command.Command.TheVariants.{Help, One, Serial, Run}
+use Rattle.commands.specs.declared.command.Command.TheVariants.{Help, One, Serial, Run, Audit, Show, Pack}
 use Rattle.commands.specs.declared.asked.BatchWords.{BatchWords}
 use Rattle.jobs.specs.declared.batch_names.BatchNames.{BatchNames}
 
@@ -16,12 +16,16 @@ pub record Names : Type 0 where
   pub replies : Text
   pub new_book : Text
 
--- help; one body on the sample book; a batch, one message after another, or by so many workers
+-- help; one body on the sample book; a batch, one message after another, or by so many workers; an audit of it; what a file
+-- holds; a batch of a text
 pub data Asked : Type 0 where
   help : Text → Asked
   one : List ℕ → Asked
   serial : Names → Asked
   run : Names → ℕ → Asked
+  audit : Names → Asked
+  show : Text → Asked
+  pack : Text → Text → Asked
 
 -- so many bytes as a body can have
 abbrev pub of_length : List ℕ → Option (List ℕ)
@@ -59,12 +63,19 @@ one_in rows = option_map one (option_and_then body_in (first_of (codes "FRAME") 
 abbrev pub run_in : List Row → Option Asked
 run_in rows = option_and_then (λ names. option_map (run names) (option_and_then workers_in (first_of (codes "workers") rows))) (names_in rows)
 
+-- the text and the batch behind `pack`
+abbrev pub pack_in : List Row → Option Asked
+pack_in rows = option_and_then (λ text. option_map (pack text) (first_of (codes "BATCH") rows)) (first_of (codes "TEXT") rows)
+
 -- what a subcommand of this name with these words asks for
 abbrev pub asked : Text × List Row → Option Asked
 asked (name, rows) =
     if bytes_eq name (codes "one") then one_in rows
     else (if bytes_eq name (codes "run") then run_in rows
-    else (if bytes_eq name (codes "serial") then option_map serial (names_in rows) else None))
+    else (if bytes_eq name (codes "serial") then option_map serial (names_in rows)
+    else (if bytes_eq name (codes "audit") then option_map audit (names_in rows)
+    else (if bytes_eq name (codes "show") then option_map show (first_of (codes "FILE") rows)
+    else (if bytes_eq name (codes "pack") then pack_in rows else None)))))
 
 abbrev pub names_of : BatchNames → Names
 names_of names = record {
@@ -88,3 +99,6 @@ asked_of (Help text) = help (string_bytes text)
 asked_of (One body) = one body.items
 asked_of (Serial names) = serial (names_of names)
 asked_of (Run names workers) = run (names_of names) workers
+asked_of (Audit names) = audit (names_of names)
+asked_of (Show file) = show (string_bytes file)
+asked_of (Pack text batch) = pack (string_bytes text) (string_bytes batch)

@@ -27,11 +27,20 @@ workers_option = record (new_rule (codes "workers")) { long = Some (codes "worke
 abbrev pub run_line : App
 run_line = with_rule (batch_line (codes "run")) workers_option
 
+-- `show FILE`
+abbrev pub show_line : App
+show_line = with_rule (new_app (codes "show")) (operand (codes "FILE"))
+
+-- `pack TEXT BATCH`
+abbrev pub pack_line : App
+pack_line = with_rule (with_rule (new_app (codes "pack")) (operand (codes "TEXT"))) (operand (codes "BATCH"))
+
 -- the command line: one of the subcommands has to be there
 abbrev pub command_line : App
 command_line =
     let top = on_top (λ s. record s { subcommand_required = true; arg_required_else_help = true }) (new_app (codes "switch")) in
-    with_subcommand (with_subcommand (with_subcommand top one_line.top) run_line.top) (batch_line (codes "serial")).top
+    let deciding = with_subcommand (with_subcommand (with_subcommand top one_line.top) run_line.top) (batch_line (codes "serial")).top in
+    with_subcommand (with_subcommand (with_subcommand deciding (batch_line (codes "audit")).top) show_line.top) pack_line.top
 
 -- the word has this rule, in its own subcommand alone
 abbrev pub IsWord : Rule → Arg → Type 0

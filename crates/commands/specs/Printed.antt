@@ -6,9 +6,13 @@ use Rattle.commands.specs.declared.printer.Printer.{Printer}
 abbrev pub printed : {W : Type 0} → (W → Option (List ℕ)) → Printer W → Option (List ℕ)
 printed contents printer = if printer.is_stuck then None else contents printer.writer
 
--- the line and a line feed stand behind what was printed before, where the writer took it
+-- the text stands behind what was printed before, where the writer took it
+abbrev pub Prints : Option (List ℕ) → Option (List ℕ) → List ℕ → Type 0
+Prints old new text = IfSome new (λ now. IfSome old (λ before. now ≡ before ++ text))
+
+-- the line and a line feed do
 abbrev pub PrintsLine : Option (List ℕ) → Option (List ℕ) → List ℕ → Type 0
-PrintsLine old new line = IfSome new (λ now. IfSome old (λ before. now ≡ before ++ line ++ 10 ∷ []))
+PrintsLine old new line = Prints old new (line ++ 10 ∷ [])
 
 -- a word, a space and a number
 abbrev pub numbered : List ℕ → ℕ → List ℕ

@@ -10,7 +10,7 @@ use Rattle.clap.specs.declared.error.kind.ErrorKind.TheVariants as kinds
 use Rattle.commands.specs.Asked.{Asked, asked, asked_of}
 use Rattle.commands.specs.CommandLine.{command_line}
 use Rattle.commands.specs.declared.command.Command.{Command}
-use Rattle.commands.specs.declared.command.Command.TheVariants.{Help, One, Serial, Run}
+use Rattle.commands.specs.declared.command.Command.TheVariants.{Help, One, Serial, Run, Audit, Show, Pack}
 use Rattle.commands.specs.declared.fault.Fault.{Fault}
 use Rattle.commands.specs.declared.fault.Fault.TheVariants.{Usage, OutOfMemory, Job}
 
@@ -44,6 +44,9 @@ IsRead words (Ok (Help text)) = IsHelp words
 IsRead words (Ok (One body)) = Asks words (asked_of (One body))
 IsRead words (Ok (Serial names)) = Asks words (asked_of (Serial names))
 IsRead words (Ok (Run names workers)) = Asks words (asked_of (Run names workers))
+IsRead words (Ok (Audit names)) = Asks words (asked_of (Audit names))
+IsRead words (Ok (Show file)) = Asks words (asked_of (Show file))
+IsRead words (Ok (Pack text batch)) = Asks words (asked_of (Pack text batch))
 IsRead words (Err (Usage text)) = IsUsageFault words
 IsRead words (Err OutOfMemory) = ⊤
 IsRead words (Err (Job fault)) = ⊥
@@ -54,6 +57,9 @@ IsReadOfKind kind (Ok (Help text)) = kind ≡ DisplayHelp
 IsReadOfKind kind (Ok (One body)) = ⊥
 IsReadOfKind kind (Ok (Serial names)) = ⊥
 IsReadOfKind kind (Ok (Run names workers)) = ⊥
+IsReadOfKind kind (Ok (Audit names)) = ⊥
+IsReadOfKind kind (Ok (Show file)) = ⊥
+IsReadOfKind kind (Ok (Pack text batch)) = ⊥
 IsReadOfKind kind (Err (Usage text)) = (kind ≢ DisplayHelp) × (kind ≢ kinds.OutOfMemory)
 IsReadOfKind kind (Err OutOfMemory) = ⊤
 IsReadOfKind kind (Err (Job fault)) = ⊥

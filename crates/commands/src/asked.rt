@@ -3,7 +3,7 @@ ghost use Rattle.clap.specs.Matches.{found_of};
 ghost use Rattle.clap.specs.Simple.{subcommand_rows_of};
 ghost use Rattle.clap.specs.Values.{kind_of};
 ghost use Rattle.clap.specs.Walk.{first_of, rows_of};
-ghost use Rattle.commands.specs.Asked.{asked, asked_of, names_in, names_of, names_of_words, one_in, run_in, serial, workers_in};
+ghost use Rattle.commands.specs.Asked.{asked, asked_of, audit, names_in, names_of, names_of_words, one_in, pack_in, run_in, serial, show, workers_in};
 ghost use Rattle.commands.specs.Words.{IsRead, IsReadOfKind};
 
 use crate::command::Command;
@@ -41,6 +41,9 @@ fn command_of(alloc: Global, matches: &ArgMatches<'_>) -> Result<Option<Command>
         Some(("one", one)) => one_of(alloc, one),
         Some(("run", run)) => run_of(alloc, run),
         Some(("serial", serial)) => serial_of(alloc, serial),
+        Some(("audit", audit)) => audit_of(alloc, audit),
+        Some(("show", show)) => show_of(alloc, show),
+        Some(("pack", pack)) => pack_of(alloc, pack),
         _ => Ok(None),
     }
 }
@@ -73,6 +76,42 @@ fn serial_of(alloc: Global, matches: &ArgMatches<'_>) -> Result<Option<Command>,
         Some(names) => Ok(Some(Command::Serial(names))),
         None => Ok(None),
     }
+}
+
+// The files behind `audit`.
+fn audit_of(alloc: Global, matches: &ArgMatches<'_>) -> Result<Option<Command>, AllocError>
+    ensures { IfOk result (λ command. option_map asked_of command ≡ option_map audit (names_in (rows_of (found_of matches.now)))) }
+{
+    match names_of(alloc, matches)? {
+        Some(names) => Ok(Some(Command::Audit(names))),
+        None => Ok(None),
+    }
+}
+
+// The file behind `show`.
+fn show_of(alloc: Global, matches: &ArgMatches<'_>) -> Result<Option<Command>, AllocError>
+    ensures { IfOk result (λ command. option_map asked_of command ≡ option_map show (first_of (codes "FILE") (rows_of (found_of matches.now)))) }
+{
+    match word(matches, "FILE") {
+        Some(file) => Ok(Some(Command::Show(String::from_str(alloc, file)?))),
+        None => Ok(None),
+    }
+}
+
+// The text and the batch behind `pack`.
+fn pack_of(alloc: Global, matches: &ArgMatches<'_>) -> Result<Option<Command>, AllocError>
+    ensures { IfOk result (λ command. option_map asked_of command ≡ pack_in (rows_of (found_of matches.now))) }
+{
+    let Some(text) = word(matches, "TEXT") else {
+        return Ok(None);
+    };
+    let Some(batch) = word(matches, "BATCH") else {
+        return Ok(None);
+    };
+    Ok(Some(Command::Pack {
+        text: String::from_str(alloc, text)?,
+        batch: String::from_str(alloc, batch)?,
+    }))
 }
 
 // The files and the workers behind `run`.

@@ -1,19 +1,21 @@
 ghost use Rattle.std.specs.Prelude.{◌≡◌, IfOk, codes};
 ghost use Rattle.clap.specs.Simple.{app_of};
-ghost use Rattle.commands.specs.CommandLine.{IsLine, IsWord, batch_line, command_line, one_line, operand, run_line, workers_option};
+ghost use Rattle.commands.specs.CommandLine.{IsLine, IsWord, batch_line, command_line, one_line, operand, pack_line, run_line, show_line, workers_option};
 
 use clap::{Arg, Command};
 use std::alloc::{AllocError, Global};
 
 // What the program's help says behind its subcommands.
-const AFTER_HELP: &str = "Exit status: 0 done, 1 fault, 2 words that are no command.
+const AFTER_HELP: &str =
+    "Exit status: 0 done, 1 fault, 2 words that are no command, 3 an audit found a difference.
 
 A fault is printed on standard error as what it is of and its number there:
   file 1    a file can't be opened or read
   file 2    a file can't be made or written
   book N    BOOK is no book: 1 no JSON, 2 another shape, 3 a value out of range, 4 not sound, 5 out of memory
   batch N   BATCH is no batch: 1 other letters, 2 another version, 3 more than 65,536 bodies, 4 a body of 0 or over
-            512 bytes, 5 it ends within a field, 6 a byte after the last body; 7 a device failed, 8 out of memory
+            512 bytes, 5 it ends within a field, 6 a byte after the last body; 7 a device failed, 8 out of memory, 9 a body is no reply
+  text N    line N of TEXT is no body
   memory 1  memory ran out";
 
 /// The words that the program has.
@@ -27,7 +29,10 @@ pub(crate) fn command_line<'a>(alloc: Global) -> Result<Command<'a>, AllocError>
         .arg_required_else_help(true);
     let one = top.subcommand(one_line(alloc)?)?;
     let run = one.subcommand(run_line(alloc)?)?;
-    run.subcommand(serial_line(alloc)?)
+    let serial = run.subcommand(serial_line(alloc)?)?;
+    let audit = serial.subcommand(audit_line(alloc)?)?;
+    let show = audit.subcommand(show_line(alloc)?)?;
+    show.subcommand(pack_line(alloc)?)
 }
 
 // `one FRAME`.
@@ -63,6 +68,42 @@ fn serial_line<'a>(alloc: Global) -> Result<Command<'a>, AllocError>
     batch_line(alloc, "serial", "Decides a batch one message after another")
 }
 
+// `audit BOOK BATCH REPLIES NEWBOOK`.
+fn audit_line<'a>(alloc: Global) -> Result<Command<'a>, AllocError>
+    ensures { IfOk result (IsLine (batch_line (codes "audit"))) }
+{
+    batch_line(
+        alloc,
+        "audit",
+        "Decides a batch one message after another, and says what differs first: same, count differs, reply I differs, row KEY differs",
+    )
+}
+
+// `show FILE`.
+fn show_line<'a>(alloc: Global) -> Result<Command<'a>, AllocError>
+    ensures { IfOk result (IsLine show_line) }
+{
+    let line = Command::new(alloc, "show").about(
+        "Prints a line for each message: its place, type, amount and trace number; or for each reply: its place, type, action, approval code and trace number",
+    );
+    line.arg(operand(alloc, "FILE", "A batch, or a file of replies"))
+}
+
+// `pack TEXT BATCH`.
+fn pack_line<'a>(alloc: Global) -> Result<Command<'a>, AllocError>
+    ensures { IfOk result (IsLine pack_line) }
+{
+    let line = Command::new(alloc, "pack").about(
+        "Makes a batch of bodies that are written in hexadecimal",
+    );
+    let text = line.arg(operand(
+        alloc,
+        "TEXT",
+        "One body a line, in hexadecimal digits; empty lines and lines that begin with # are passed over",
+    ))?;
+    text.arg(operand(alloc, "BATCH", "The file for the batch"))
+}
+
 // A subcommand with the operands of a batch that is decided.
 fn batch_line<'a>(alloc: Global, name: &'a str, about: &'a str) -> Result<Command<'a>, AllocError>
     ensures { IfOk result (IsLine (batch_line name.now)) }
@@ -81,12 +122,12 @@ fn batch_line<'a>(alloc: Global, name: &'a str, about: &'a str) -> Result<Comman
     let replies = batch.arg(operand(
         alloc,
         "REPLIES",
-        "The file for the replies: I83R, version 1, their number, and each behind its length",
+        "Its replies: I83R, version 1, their number, and each behind its length",
     ))?;
     replies.arg(operand(
         alloc,
         "NEWBOOK",
-        "The file for the book after the batch: JSON of version 3",
+        "The book after the batch: JSON of version 3",
     ))
 }
 

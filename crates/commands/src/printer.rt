@@ -1,6 +1,6 @@
 ghost use Rattle.std.specs.Prelude.{◌≡◌, ◌++◌, ◌∷◌, [], None, OnOk, if◌then◌else◌};
 ghost use Rattle.std.specs.Io.KnownBytes.{Appends};
-ghost use Rattle.commands.specs.Printed.{numbered, printed, PrintsLine};
+ghost use Rattle.commands.specs.Printed.{numbered, printed, Prints, PrintsLine};
 
 use itoa::Buffer;
 use std::io;
@@ -24,8 +24,17 @@ impl<W: Write> Printer<W> {
         }
     }
 
+    /// Prints the bytes as they are.
+    pub fn text(&mut self, bytes: &[u8])
+        ensures { Prints (printed W.contents self.old) (printed W.contents self.new) bytes.now }
+    {
+        if !self.is_stuck {
+            self.is_stuck = self.writer.write_all(bytes).is_err();
+        }
+    }
+
     /// Prints the text and a line feed.
-    pub fn line(&mut self, text: &str)
+    pub fn line(&mut self, text: &[u8])
         ensures { PrintsLine (printed W.contents self.old) (printed W.contents self.new) text.now }
     {
         if !self.is_stuck {
@@ -50,10 +59,10 @@ impl<W: Write> Printer<W> {
     }
 }
 
-fn write_line<W: Write>(writer: &mut W, text: &str) -> io::Result<()>
+fn write_line<W: Write>(writer: &mut W, text: &[u8]) -> io::Result<()>
     ensures { OnOk result (Appends (W.contents writer.old) (W.contents writer.new) (text.now ++ 10 ∷ [])) }
 {
-    writer.write_all(text.as_bytes())?;
+    writer.write_all(text)?;
     end_line(writer)
 }
 

@@ -1,3 +1,5 @@
+use audit::Audit;
+
 /// What the program says of what it did.
 #[derive(Drop)]
 pub(crate) enum Report {
@@ -5,4 +7,10 @@ pub(crate) enum Report {
     Text(String),
     /// So many messages were decided.
     Decided(usize),
+    /// So many bodies were packed.
+    Packed(usize),
+    /// The audit found this, in these words.
+    Audited(Audit, Vec<u8>),
+    /// These lines.
+    Lines(Vec<u8>),
 }

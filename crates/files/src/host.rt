@@ -6,6 +6,7 @@ use std::io::{ErrorKind, Write};
 use std::{fs, io, rt};
 
 /// The host's files. What they hold is not known.
+#[derive(Drop)]
 pub struct HostFiles<'a, R> {
     host: &'a R,
     alloc: Global,

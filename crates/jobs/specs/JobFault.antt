@@ -4,6 +4,9 @@ use Rattle.batch_laws.specs.BatchFault.{number_of_fault}
 use Rattle.book_json_laws.specs.JsonFault.{number_of_json_fault}
 use Rattle.files.specs.declared.read_fault.ReadFault.{ReadFault}
 use Rattle.files.specs.declared.read_fault.ReadFault.TheVariants as read
+use Rattle.batch_laws.specs.declared.batch_fault.BatchFault.TheVariants.{Count}
+use Rattle.listing.specs.declared.text_fault.TextFault.{TextFault}
+use Rattle.listing.specs.declared.text_fault.TextFault.TheVariants as text
 use Rattle.journal_text.specs.ReplayFault.{number_of_replay_fault}
 use Rattle.jobs.specs.declared.job_fault.JobFault.{JobFault}
 use Rattle.jobs.specs.declared.job_fault.JobFault.TheVariants.{Unreadable, Unwritable, Book, Batch, Journal, Text, OutOfMemory}
@@ -30,3 +33,9 @@ number_of OutOfMemory = 1
 abbrev pub fault_of_read : ReadFault → JobFault
 fault_of_read read.Unreadable = Unreadable
 fault_of_read read.OutOfMemory = OutOfMemory
+
+-- a text of bodies has a wrong line or too many bodies, or memory ran out
+abbrev pub fault_of_text : TextFault → JobFault
+fault_of_text (text.Line line) = Text line
+fault_of_text text.Count = Batch Count
+fault_of_text text.OutOfMemory = OutOfMemory

@@ -1,3 +1,6 @@
+pub mod Audited
+pub mod Decided
 pub mod JobFault
 pub mod Opened
-pub mod Decided
+pub mod Packed
+pub mod Shown

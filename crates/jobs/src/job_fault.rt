@@ -1,11 +1,12 @@
 ghost use Rattle.std.specs.Prelude.{◌≡◌};
-ghost use Rattle.jobs.specs.JobFault.{part_of, number_of, fault_of_read};
+ghost use Rattle.jobs.specs.JobFault.{part_of, number_of, fault_of_read, fault_of_text};
 ghost use Rattle.jobs.specs.declared.job_fault.JobFault.TheVariants.{OutOfMemory};
 
 use batch::BatchFault;
 use book_json::JsonFault;
 use files::ReadFault;
 use journal_text::ReplayFault;
+use listing::TextFault;
 use std::alloc::AllocError;
 use std::error::Error;
 use std::fmt;
@@ -24,7 +25,7 @@ pub enum JobFault {
     /// A journal is none.
     Journal(ReplayFault),
     /// The line of this number, from 1, of a text of bodies is none.
-    Text(u32),
+    Text(usize),
     /// Memory ran out.
     OutOfMemory,
 }
@@ -45,15 +46,15 @@ impl JobFault {
     }
 
     /// Its number there.
-    pub fn number(&self) -> u32
+    pub fn number(&self) -> usize
         ensures { result ≡ number_of self.now }
     {
         match self {
             JobFault::Unreadable | JobFault::OutOfMemory => 1,
             JobFault::Unwritable => 2,
-            JobFault::Book(fault) => u32::from(fault.number()),
-            JobFault::Batch(fault) => u32::from(fault.number()),
-            JobFault::Journal(fault) => u32::from(fault.number()),
+            JobFault::Book(fault) => usize::from(fault.number()),
+            JobFault::Batch(fault) => usize::from(fault.number()),
+            JobFault::Journal(fault) => usize::from(fault.number()),
             JobFault::Text(line) => *line,
         }
     }
@@ -82,6 +83,18 @@ impl From<ReadFault> for JobFault {
         match fault {
             ReadFault::Unreadable => JobFault::Unreadable,
             ReadFault::OutOfMemory => JobFault::OutOfMemory,
+        }
+    }
+}
+
+impl From<TextFault> for JobFault {
+    ghost from_gives = { λ text fault. fault ≡ fault_of_text text };
+
+    fn from(fault: TextFault) -> JobFault {
+        match fault {
+            TextFault::Line(line) => JobFault::Text(line),
+            TextFault::Count => JobFault::Batch(BatchFault::Count),
+            TextFault::OutOfMemory => JobFault::OutOfMemory,
         }
     }
 }

@@ -1,11 +1,14 @@
-ghost use Rattle.std.specs.Prelude.{◌≡◌, ℕ, List};
+ghost use Rattle.std.specs.Prelude.{◌≡◌, ◌≤◌, ℕ, List, IfOk, length};
+ghost use Rattle.batch_laws.specs.Frames.{IsBatchOf};
+ghost use Rattle.batch_laws.specs.Replies.{IsReplyFileOf};
 ghost use Rattle.book_json_laws.specs.Reading.{reading};
 ghost use Rattle.jobs.specs.Opened.{FindsBook};
 
 use crate::job_fault::JobFault;
+use batch::{BatchFault, read_batch, read_replies};
 use book_json::read_book;
 use files::{Files, read_file};
-use rows::Book;
+use rows::{Book, Frame, ReplyBody};
 use std::alloc::Global;
 
 /// The book of the file of this name.
@@ -16,5 +19,41 @@ pub(crate) fn open_book<F: Files>(alloc: Global, files: &F, name: &str) -> Resul
     match read_book(alloc, &text) {
         Ok(book) => Ok(book),
         Err(fault) => Err(JobFault::Book(fault)),
+    }
+}
+
+/// The messages of the batch of this name.
+pub(crate) fn open_batch<F: Files>(
+    alloc: Global,
+    files: &F,
+    name: &str,
+) -> Result<Vec<Frame>, JobFault>
+    ensures count { IfOk result (λ frames. length frames.items ≤ 65536) }
+    ensures frames { (bytes : List ℕ) → F.holds files.now name.now bytes → IfOk result (λ frames. IsBatchOf bytes frames.items) }
+{
+    let Ok(mut input) = files.open(name) else {
+        return Err(JobFault::Unreadable);
+    };
+    match read_batch(alloc, &mut input) {
+        Ok(frames) => Ok(frames),
+        Err(fault) => Err(JobFault::Batch(fault)),
+    }
+}
+
+/// The replies of the file of this name. A device that fails is an unreadable file.
+pub(crate) fn open_replies<F: Files>(
+    alloc: Global,
+    files: &F,
+    name: &str,
+) -> Result<Vec<ReplyBody>, JobFault>
+    ensures { (bytes : List ℕ) → F.holds files.now name.now bytes → IfOk result (λ replies. IsReplyFileOf bytes replies.items) }
+{
+    let Ok(mut input) = files.open(name) else {
+        return Err(JobFault::Unreadable);
+    };
+    match read_replies(alloc, &mut input) {
+        Ok(replies) => Ok(replies),
+        Err(BatchFault::Device) => Err(JobFault::Unreadable),
+        Err(fault) => Err(JobFault::Batch(fault)),
     }
 }

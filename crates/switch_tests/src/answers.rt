@@ -104,7 +104,7 @@ fn nothing_is_printed_behind_a_line_that_was_cut(rt: HostRuntime) -> Result<(), 
         taken: Vec::new(rt.alloc()),
     });
     for line in ["first", "second", ""] {
-        printer.line(line);
+        printer.line(line.as_bytes());
     }
     let (full, all) = printer.into_parts();
     assert!(rt; !all);

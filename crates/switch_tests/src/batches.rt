@@ -175,3 +175,117 @@ fn a_file_that_is_not_there_is_told(rt: HostRuntime) -> Result<(), Fail> {
     }
     Ok(())
 }
+
+// The request in hexadecimal, with a comment and an empty line before it.
+const TEXT: &[u8] =
+    b"# A request of 1.00.\n\n3131303072300101008080003136343131313131303030303030303030353030303030303030303030303030303130303031313031323030303030303030303132363031313031323030303031303030363132333435365445524D30303031393738\n";
+
+// What the words say over these files, and with which status.
+fn assert_said<R: Abort + Threads + Wait + Sync>(
+    rt: &R,
+    alloc: Global,
+    files: &mut MemoryFiles,
+    words: &[&str],
+    status: u8,
+    line: &[u8],
+) -> Result<(), Fail> {
+    let said = acted(rt, alloc, files, words)?;
+    assert_eq!(rt; said.status, status);
+    let (told, silent) = if status == 1 {
+        (said.err, said.out)
+    } else {
+        (said.out, said.err)
+    };
+    assert_eq!(rt; told.as_slice(), line);
+    assert!(rt; silent.is_empty());
+    Ok(())
+}
+
+#[test]
+fn a_text_is_packed(rt: HostRuntime) -> Result<(), Fail> {
+    let alloc = rt.alloc();
+    let mut files = files_of(alloc, &[("text", TEXT), ("wrong", b"# none\n3g\n")])?;
+    assert_said(
+        &rt,
+        alloc,
+        &mut files,
+        &["pack", "text", "batch"],
+        0,
+        b"packed 1\n",
+    )?;
+    assert_eq!(rt; files.get("batch"), Some(BATCH));
+    assert_said(
+        &rt,
+        alloc,
+        &mut files,
+        &["pack", "wrong", "none"],
+        1,
+        b"text 2\n",
+    )?;
+    assert_said(
+        &rt,
+        alloc,
+        &mut files,
+        &["pack", "lost", "none"],
+        1,
+        b"file 1\n",
+    )?;
+    assert_eq!(rt; files.get("none"), None);
+    Ok(())
+}
+
+#[test]
+fn files_are_shown(rt: HostRuntime) -> Result<(), Fail> {
+    let alloc = rt.alloc();
+    let mut files = files_of(
+        alloc,
+        &[("batch", BATCH), ("replies", REPLIES), ("text", TEXT)],
+    )?;
+    assert_said(
+        &rt,
+        alloc,
+        &mut files,
+        &["show", "batch"],
+        0,
+        b"0 1100 100 000001\n",
+    )?;
+    let line = b"0 1110 000 000001 000001\n";
+    assert_said(&rt, alloc, &mut files, &["show", "replies"], 0, line)?;
+    assert_said(&rt, alloc, &mut files, &["show", "text"], 1, b"batch 1\n")?;
+    assert_said(&rt, alloc, &mut files, &["show", "lost"], 1, b"file 1\n")
+}
+
+// The same files with one of them changed: what differs first is told.
+#[test]
+fn a_batch_is_audited(rt: HostRuntime) -> Result<(), Fail> {
+    let alloc = rt.alloc();
+    let words = ["audit", "book", "batch", "replies", "after"];
+    let none = b"I83R\x00\x01\x00\x00\x00\x00";
+    let (front, back) = REPLIES.split_at(102);
+    let mut other = Vec::new(alloc);
+    other.extend_from_slice(front)?;
+    other.extend_from_slice(b"2")?;
+    other.extend_from_slice(&back[1..])?;
+    let richer = AFTER.replace(alloc, "9900", "9901")?;
+    let row = b"row acct:34313131313130303030303030303035 differs\n";
+    for (replies, after, status, line) in [
+        (REPLIES, AFTER, 0, b"same\n".as_slice()),
+        (none.as_slice(), AFTER, 3, b"count differs\n".as_slice()),
+        (other.as_slice(), AFTER, 3, b"reply 0 differs\n".as_slice()),
+        (REPLIES, richer.as_str(), 3, row.as_slice()),
+        (b"I83R".as_slice(), AFTER, 1, b"batch 5\n".as_slice()),
+        (REPLIES, "", 1, b"book 1\n".as_slice()),
+    ] {
+        let mut files = files_of(
+            alloc,
+            &[
+                ("book", BOOK.as_bytes()),
+                ("batch", BATCH),
+                ("replies", replies),
+                ("after", after.as_bytes()),
+            ],
+        )?;
+        assert_said(&rt, alloc, &mut files, &words, status, line)?;
+    }
+    Ok(())
+}

@@ -128,6 +128,9 @@ fn words_that_are_no_command_are_a_usage_fault(rt: HostRuntime) -> Result<(), Fa
     assert_usage(&rt, alloc, &["one", "31", "31"])?;
     assert_usage(&rt, alloc, &["run"])?;
     assert_usage(&rt, alloc, &["run", "book", "batch", "replies"])?;
+    assert_usage(&rt, alloc, &["audit", "book", "batch", "replies"])?;
+    assert_usage(&rt, alloc, &["show"])?;
+    assert_usage(&rt, alloc, &["pack", "text"])?;
     for workers in ["0", "65", "four", "-1", ""] {
         let words = [
             "run",

@@ -29,4 +29,7 @@ returns c =
     ) in
     let one = with_line _ _ _ _ _ c.in_ok-one.ensures top c.in_ok-one_line.ensures in
     let run = with_line _ _ _ _ _ c.in_ok-run.ensures one c.in_ok-run_line.ensures in
-    IfOk-weaker c.subcommand-3.result _ _ (λ command adds. (with_line _ _ _ _ _ adds run c.in_ok-serial_line.ensures).0) c.subcommand-3.ensures
+    let serial = with_line _ _ _ _ _ c.in_ok-serial.ensures run c.in_ok-serial_line.ensures in
+    let audit = with_line _ _ _ _ _ c.in_ok-audit.ensures serial c.in_ok-audit_line.ensures in
+    let show = with_line _ _ _ _ _ c.in_ok-show.ensures audit c.in_ok-show_line.ensures in
+    IfOk-weaker c.subcommand-6.result _ _ (λ command adds. (with_line _ _ _ _ _ adds show c.in_ok-pack_line.ensures).0) c.subcommand-6.ensures

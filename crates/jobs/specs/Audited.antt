@@ -1,0 +1,23 @@
+-- What an audit of files finds.
+use Rattle.std.specs.Prelude.{◌≡◌, ℕ, List, Ok}
+use Rattle.audit.specs.Finding.{Finds}
+use Rattle.audit.specs.declared.audited.Audit.{Audit}
+use Rattle.batch_laws.specs.Frames.{IsBatchOf}
+use Rattle.batch_laws.specs.Replies.{IsReplyFileOf}
+use Rattle.book_json_laws.specs.Reading.{reading}
+use Rattle.rows.specs.Fold.{Rows, rows_after, replies_to}
+use Rattle.rows.specs.declared.frame.Frame.{Frame}
+use Rattle.rows.specs.declared.reply_body.ReplyBody.{ReplyBody}
+use Rattle.jobs.specs.Decided.{Holding}
+
+-- Replies and new book, as the files hold them, are compared with what deciding the batch on the book comes to.
+pub record IsAudited (old : Holding) (book batch replies new_book : List ℕ) (found : Audit) : Type 0 where
+  pub rows : Rows
+  pub frames : List Frame
+  pub answers : List ReplyBody
+  pub rows_after_it : Rows
+  pub opening : (bytes : List ℕ) → old book bytes → reading bytes ≡ Ok rows
+  pub messages : (bytes : List ℕ) → old batch bytes → IsBatchOf bytes frames
+  pub answered : (bytes : List ℕ) → old replies bytes → IsReplyFileOf bytes answers
+  pub after : (bytes : List ℕ) → old new_book bytes → reading bytes ≡ Ok rows_after_it
+  pub finds : Finds answers rows_after_it (replies_to rows frames) (rows_after rows frames) found

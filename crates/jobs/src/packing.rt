@@ -1,0 +1,31 @@
+ghost use Rattle.std.specs.Prelude.{◌≡◌, IfOk};
+ghost use Rattle.jobs.specs.Packed.{IsPacked};
+
+use crate::job_fault::JobFault;
+use batch::{BatchFault, write_batch};
+use files::{Files, read_file};
+use listing::read_bodies;
+use std::alloc::Global;
+
+/// Makes a batch file of the bodies of a text: one a line, in hexadecimal digits. The answer is how many there are.
+pub fn pack_batch<F: Files>(
+    alloc: Global,
+    files: &mut F,
+    text: &str,
+    batch: &str,
+) -> Result<usize, JobFault>
+    ensures { IfOk result (IsPacked (F.is_known files.old) (F.holds files.old) (F.holds files.new) text.now batch.now) }
+{
+    let lines = read_file(alloc, files, text)?;
+    let bodies = read_bodies(alloc, &lines)?;
+    let Ok(mut output) = files.create(batch) else {
+        return Err(JobFault::Unwritable);
+    };
+    let written = write_batch(alloc, &bodies, &mut output);
+    let closed = files.close(batch, output);
+    match (written, closed) {
+        (Ok(()), Ok(())) => Ok(bodies.len()),
+        (Ok(()), Err(_)) => Err(JobFault::Batch(BatchFault::Device)),
+        (Err(fault), _) => Err(JobFault::Batch(fault)),
+    }
+}
