@@ -62,7 +62,8 @@ fn a_batch_is_made_of_bodies(rt: HostRuntime) -> Result<(), Fail> {
     let alloc = rt.alloc();
     let batch = bytes_of(alloc, BATCH)?;
     let mut bodies = Vec::new(alloc);
-    bodies.push(Vec::from_slice(alloc, &batch[12..])?)?;
+    let body = batch.get(12..).ok_or("a body")?;
+    bodies.push(Vec::from_slice(alloc, body)?)?;
     let mut sink = IntoWrite::new(Vec::new(alloc));
     assert_eq!(rt; write_batch(alloc, &bodies, &mut sink), Ok(()));
     assert_eq!(rt; sink.writer().as_slice(), batch.as_slice());
@@ -94,7 +95,8 @@ fn a_reply_is_read_as_it_is_spelled(rt: HostRuntime) -> Result<(), Fail> {
     let Ok(replies) = read_replies(alloc, &mut source) else {
         return Err(Fail::new("a fault of the replies"));
     };
-    let Ok(reply) = decode_reply(&text[13..]) else {
+    let spelling = text.get(13..).ok_or("a spelling")?;
+    let Ok(reply) = decode_reply(spelling) else {
         return Err(Fail::new("a reply"));
     };
     match replies.first() {

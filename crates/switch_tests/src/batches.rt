@@ -94,18 +94,18 @@ fn a_batch_is_decided_from_files_to_files(rt: HostRuntime) -> Result<(), Fail> {
 }
 
 // A fault is one line of standard error; an older file of the new book stays.
-fn assert_fault<R: Abort + Threads + Wait + Sync>(
+fn assert_fault<'a, R: Abort + Threads + Wait + Sync>(
     rt: &R,
     alloc: Global,
-    book: &[u8],
-    batch: &[u8],
+    book: &'a [u8],
+    batch: &'a [u8],
     line: &[u8],
 ) -> Result<(), Fail> {
     for command in ["serial", "run"] {
-        let mut files = files_of(
-            alloc,
-            &[("book", book), ("batch", batch), ("after", b"older")],
-        )?;
+        let mut files = files_of(alloc, &[("book", book), ("batch", batch)])?;
+        let mut older = Vec::new(alloc);
+        older.extend_from_slice(b"older")?;
+        files.put("after", older).ok().ok_or("room for a file")?;
         let words = [command, "book", "batch", "replies", "after"];
         let said = acted(rt, alloc, &mut files, &words)?;
         assert_eq!(rt; said.status, 1);
