@@ -1,6 +1,6 @@
 //! Audits of a batch.
 
-use crate::worked::{BODIES, book_after, declined_with_914, frames_of, opening, replies_to};
+use crate::worked::{BODIES, book_after, frames_of, opening, replies_to};
 use audit::{Audit, audit, audit_text};
 use rows::ReplyBody;
 use std::alloc::Global;
@@ -29,23 +29,6 @@ fn right_replies_and_book_are_the_same(rt: HostRuntime) -> Result<(), Fail> {
     let alloc = rt.alloc();
     let replies = replies_to(&rt, alloc, &frames_of(alloc, BODIES)?)?;
     found(&rt, alloc, &replies, &[], "same")
-}
-
-#[test]
-fn a_reply_of_another_action_is_named(rt: HostRuntime) -> Result<(), Fail> {
-    let alloc = rt.alloc();
-    let frames = frames_of(alloc, BODIES)?;
-    let mut replies = replies_to(&rt, alloc, &frames)?;
-    let other = declined_with_914(&replies[0]).ok_or("a reply")?;
-    replies[2] = other;
-    // The rows of the book aren't looked at then.
-    found(
-        &rt,
-        alloc,
-        &replies,
-        &["account A 1 978"],
-        "reply 2 differs",
-    )
 }
 
 #[test]

@@ -1,6 +1,6 @@
 //! Audits of blocks.
 
-use crate::worked::{book_after, declined_with_914, frames_of, opening, replies_to};
+use crate::worked::{book_after, frames_of, opening, replies_to};
 use audit::{audit_blocks, block_audit_text};
 use rows::{Frame, ReplyBody};
 use std::alloc::Global;
@@ -53,25 +53,6 @@ fn found(
 fn right_blocks_are_the_same(rt: HostRuntime) -> Result<(), Fail> {
     let alloc = rt.alloc();
     found(&rt, alloc, &replies(&rt, alloc)?, &[], "same")
-}
-
-#[test]
-fn a_reply_is_named_by_its_block(rt: HostRuntime) -> Result<(), Fail> {
-    let alloc = rt.alloc();
-    let mut replies = replies(&rt, alloc)?;
-    let other = declined_with_914(&replies[0][0]).ok_or("a reply")?;
-    replies[1][0] = other;
-    found(&rt, alloc, &replies, &[], "block 1 reply 0 differs")
-}
-
-#[test]
-fn a_block_of_fewer_replies_is_a_count_that_differs(rt: HostRuntime) -> Result<(), Fail> {
-    let alloc = rt.alloc();
-    let mut replies = replies(&rt, alloc)?;
-    replies[1].pop();
-    found(&rt, alloc, &replies, &[], "count differs")?;
-    replies.pop();
-    found(&rt, alloc, &replies, &[], "count differs")
 }
 
 #[test]

@@ -1,6 +1,6 @@
 //! Audits against a journal.
 
-use crate::worked::{BODIES, book_after, declined_with_914, frames_of, opening, replies_to};
+use crate::worked::{BODIES, book_after, frames_of, opening, replies_to};
 use audit::{Audit, audit_journal};
 use engine::{OpenGate, Workers, run_traced};
 use journal::{Entry, ReplayFault};
@@ -34,14 +34,10 @@ fn the_journal_of_a_run_plays_to_its_replies_and_book(rt: HostRuntime) -> Result
     let entries = journal(&rt, alloc)?;
     let frames = frames_of(alloc, BODIES)?;
     assert!(rt; frames.len() <= 64);
-    let mut replies = replies_to(&rt, alloc, &frames)?;
+    let replies = replies_to(&rt, alloc, &frames)?;
     let (book, after) = (opening(alloc)?, book_after(alloc, &[])?);
     let found = audit_journal(alloc, &book, &frames, &entries, &replies, &after);
     assert!(rt; matches!(found, Ok(Audit::Same)));
-    let other = declined_with_914(&replies[0]).ok_or("a reply")?;
-    replies[2] = other;
-    let found = audit_journal(alloc, &book, &frames, &entries, &replies, &after);
-    assert!(rt; matches!(found, Ok(Audit::ReplyDiffers(2))));
     Ok(())
 }
 

@@ -2,7 +2,6 @@
 
 use fixtures::{body, first_book_with, with_rows};
 use fold::{Prefix, decide_all};
-use iso8583::{Action, Answer, DeclineCode, Reply, Verdict};
 use rows::{Book, Frame, ReplyBody};
 use std::alloc::Global;
 use std::process::Abort;
@@ -51,16 +50,4 @@ pub fn replies_to(
     let prefix = Prefix::new(alloc, opening(alloc)?);
     assert_eq!(rt; prefix.count, 0);
     Ok(decide_all(alloc, prefix, frames)?.replies)
-}
-
-// The reply to a request, declined with 914.
-pub fn declined_with_914(reply: &ReplyBody) -> Option<ReplyBody> {
-    let ReplyBody::Reply(reply) = reply else {
-        return None;
-    };
-    let code = DeclineCode::new(Action::new(914)?)?;
-    Some(ReplyBody::Reply(Reply {
-        transaction: reply.transaction,
-        answer: Answer::Request(Verdict::Declined(code), None),
-    }))
 }
