@@ -24,22 +24,27 @@ pub fn audit(
     ensures { IfOk result (Finds replies.now after.now (replies_to book.now frames.now) (rows_after book.now frames.now)) }
 {
     let right = decide_all(alloc, Prefix::new(alloc, book.copy()?), frames)?;
-    Ok(compared(replies, after, &right))
+    compared(alloc, replies, after, &right)
 }
 
 /// What differs first between these replies and this book and the right ones.
-pub(crate) fn compared(replies: &[ReplyBody], after: &Book, right: &Prefix) -> Audit
+pub(crate) fn compared(
+    alloc: Global,
+    replies: &[ReplyBody],
+    after: &Book,
+    right: &Prefix,
+) -> Result<Audit, AllocError>
     requires { length right.now.replies.items ≤ 65536 }
-    ensures { Finds replies.now after.now right.now.replies.items right.now.book result }
+    ensures { IfOk result (Finds replies.now after.now right.now.replies.items right.now.book) }
 {
     if replies.len() != right.replies.len() {
-        return Audit::CountDiffers;
+        return Ok(Audit::CountDiffers);
     }
     if let Some(place) = first_differing_reply(replies, &right.replies) {
-        return Audit::ReplyDiffers(place);
+        return Ok(Audit::ReplyDiffers(place));
     }
-    match least_differing_row(after, &right.book) {
-        Some(key) => Audit::BookDiffers(key),
-        None => Audit::Same,
+    match least_differing_row(alloc, after, &right.book)? {
+        Some(key) => Ok(Audit::BookDiffers(key)),
+        None => Ok(Audit::Same),
     }
 }

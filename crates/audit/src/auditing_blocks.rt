@@ -36,7 +36,7 @@ pub fn audit_blocks(
         }
         right = prefix.book;
     }
-    match least_differing_row(after, &right) {
+    match least_differing_row(alloc, after, &right)? {
         Some(key) => Ok(BlockAudit::BookDiffers(key)),
         None => Ok(BlockAudit::Same),
     }

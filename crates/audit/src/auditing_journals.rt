@@ -37,5 +37,5 @@ pub fn audit_journal(
     if prefix.count as usize != frames.len() {
         return Ok(Audit::CountDiffers);
     }
-    Ok(compared(replies, after, &prefix))
+    Ok(compared(alloc, replies, after, &prefix)?)
 }

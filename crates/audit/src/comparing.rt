@@ -1,10 +1,11 @@
 //! What of two lists of replies, or of two books, differs first.
 
-ghost use Rattle.std.specs.Prelude.{◌≡◌, ◌≤◌, length, IfSome, IfNone};
+ghost use Rattle.std.specs.Prelude.{◌≡◌, ◌≤◌, length, IfOk, IfSome, IfNone};
 ghost use Rattle.audit.specs.Difference.{IsFirstDifference, IsLeastDifference};
 ghost use Rattle.audit.specs.FirstKey.{IsFirstDifferingKey};
 
 use rows::{Book, BookRows, ReplyBody, RowKey};
+use std::alloc::{AllocError, Global};
 use std::cmp::Ordering;
 
 /// The place of the first reply that isn't the right one.
@@ -31,11 +32,17 @@ fn first_differing_place(replies: &[ReplyBody], right: &[ReplyBody]) -> Option<u
 }
 
 /// The least key whose row isn't the right one.
-pub(crate) fn least_differing_row(book: &Book, right: &Book) -> Option<RowKey>
-    ensures some { IfSome result (IsLeastDifference book.now right.now) }
-    ensures none { IfNone result (book.now ≡ right.now) }
+pub(crate) fn least_differing_row(
+    alloc: Global,
+    book: &Book,
+    right: &Book,
+) -> Result<Option<RowKey>, AllocError>
+    ensures some { IfOk result (λ key. IfSome key (IsLeastDifference book.now right.now)) }
+    ensures none { IfOk result (λ key. IfNone key (book.now ≡ right.now)) }
 {
-    first_differing_key(book.rows(), right.rows())
+    let mine = book.sorted_rows(alloc)?;
+    let theirs = right.sorted_rows(alloc)?;
+    Ok(first_differing_key(mine.iter(), theirs.iter()))
 }
 
 /// The lesser key of the first two rows that differ; a row that the other side lacks differs.

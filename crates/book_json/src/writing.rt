@@ -1,9 +1,9 @@
 //! The text of a book.
 
 ghost use Rattle.std.specs.Prelude.{◌≡◌, ◌∷◌, Ok, OnOk, IfOk, IsTrue};
-ghost use Rattle.std.specs.FinMap as map;
 ghost use Rattle.std.specs.List.{AllByRecursion};
 ghost use Rattle.json.specs.Token.{key as key_token};
+ghost use Rattle.rows.specs.Book.{AllOfKind};
 ghost use Rattle.rows.specs.RowVal.{IsOfKind};
 ghost use Rattle.book_json_laws.specs.Parts.{list_key, is_in};
 ghost use Rattle.book_json_laws.specs.Reading.{reading};
@@ -13,7 +13,7 @@ use crate::row_writers::write_entry;
 use crate::tokens::{begin_array, begin_object, end_array, end_object, key, number_field};
 use book_json_laws::RowList;
 use json::Writer;
-use rows::{Book, RowKey, RowVal};
+use rows::{Book, RowKey, RowVal, SortedRows};
 use std::alloc::{AllocError, Global};
 
 // Writes the entry of a row that stands in the list.
@@ -32,14 +32,15 @@ fn write_listed(
     Ok(())
 }
 
-// Writes the rows of a list.
-fn write_list(out: &mut Writer, list: RowList, book: &Book) -> Result<(), AllocError>
-    ensures text { OnOk result (Adds out.old out.new (key_token (list_key list) ∷ tokens_of (list_data list (map.entries book.now)))) }
-    ensures back { OnOk result (AllByRecursion (ReadsBack list) (rows_of list (map.entries book.now))) }
+// Writes those of the rows that stand in the list.
+fn write_list(out: &mut Writer, list: RowList, rows: &SortedRows<'_>) -> Result<(), AllocError>
+    requires { AllOfKind rows.now }
+    ensures text { OnOk result (Adds out.old out.new (key_token (list_key list) ∷ tokens_of (list_data list rows.now))) }
+    ensures back { OnOk result (AllByRecursion (ReadsBack list) (rows_of list rows.now)) }
 {
     key(out, list.key())?;
     begin_array(out)?;
-    for (key, val) in book.rows() {
+    for (key, val) in rows.iter() {
         if list.has(val) {
             write_listed(out, list, key, val)?;
         }
@@ -54,14 +55,15 @@ pub fn write_book(alloc: Global, book: &Book) -> Result<Vec<u8>, AllocError>
     ensures text { IfOk result (λ text. text.items ≡ book_text book.now) }
     ensures back { IfOk result (λ text. reading text.items ≡ Ok book.now) }
 {
+    let rows = book.sorted_rows(alloc)?;
     let mut out = Writer::new(Vec::new(alloc));
     begin_object(&mut out)?;
-    write_list(&mut out, RowList::Accounts, book)?;
-    write_list(&mut out, RowList::Ahead, book)?;
-    write_list(&mut out, RowList::Budgets, book)?;
-    write_list(&mut out, RowList::Cards, book)?;
-    write_list(&mut out, RowList::Days, book)?;
-    write_list(&mut out, RowList::Originals, book)?;
+    write_list(&mut out, RowList::Accounts, &rows)?;
+    write_list(&mut out, RowList::Ahead, &rows)?;
+    write_list(&mut out, RowList::Budgets, &rows)?;
+    write_list(&mut out, RowList::Cards, &rows)?;
+    write_list(&mut out, RowList::Days, &rows)?;
+    write_list(&mut out, RowList::Originals, &rows)?;
     number_field(&mut out, "version", 3)?;
     end_object(&mut out)?;
     Ok(out.into_inner())

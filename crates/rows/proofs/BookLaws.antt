@@ -1,25 +1,32 @@
--- Rows that are found by hash and listed by key, seen as a finite map.
-use Rattle.std.proofs.Common.{◌≡◌, Bool, true, false, not, ◌||◌, List, [], ◌∷◌, ◌++◌, Option, Some, None, IfSome, IsSome, is_some, if◌then◌else◌, cond, Less, Equal, Greater, sym, ap, subst, refl, ◌∙◌, length, suc, ◌<◌, take, arith}
+-- Rows that are found by hash and sorted by key, seen as a finite map.
+use Rattle.std.proofs.Common.{◌≡◌, ◌↔◌, Bool, true, false, List, [], ◌∷◌, Option, Some, None, IfSome, if◌then◌else◌, cond, Less, Equal, Greater, sym, ap, subst, refl, ◌∙◌, length, get_or, arith, IsPermutation}
+use Rattle.std.proofs.ByRecursion.{all_shuffled}
 use Rattle.std.proofs.lemmas.Bool.{false≢true}
-use Rattle.std.proofs.Math.Seq.{take-append_seam}
-use Rattle.std.proofs.lemmas.List.{length-append}
-use Rattle.std.proofs.lemmas.Option.{none-some}
-use Rattle.std.specs.BTreeMap.{is_at}
-use Rattle.std.specs.Cmp.{eq_by_cmp_equiv}
+use Rattle.std.proofs.lemmas.List.Elements.{recursion_from_All}
+use Rattle.std.proofs.lemmas.List.Kept.{IsStrictlySortedBy-dedup}
+use Rattle.std.proofs.lemmas.List.Sorted.{All-permutation, IsPermutation-cons, IsPermutation-map, IsPermutation-refl, IsPermutation-swap, IsPermutation-sym, IsPermutation-trans, length_permutation}
+use Rattle.std.proofs.lemmas.List.Sums.{AllPass-from_list_all, list_all-from_AllPass}
+use Rattle.std.proofs.lemmas.Map.Entries.{lookup_from_place}
+use Rattle.std.proofs.lemmas.Map.Keys.{IsDistinct-IsPermutation}
+use Rattle.std.proofs.lemmas.Option.{slice_get-get_or}
+use Rattle.std.specs.Cmp.{Equal-is, IsEquivalence, eq_by_cmp_equiv}
 use Rattle.std.specs.FinMap as map
-use Rattle.std.specs.List.{AllByRecursion, list_any}
-use Rattle.std.specs.List.Sorted.{IsStrictlySortedBy}
+use Rattle.std.specs.FinMap.Entries.{by_order}
+use Rattle.std.specs.List.{AllByRecursion, IsDistinct, dedup, dedup_from, list_all}
+use Rattle.std.specs.List.Sorted.{IsSorted, IsSortedBy, IsStrictlySortedBy}
 use Rattle.std.specs.Map.{keys_of}
-use Rattle.std.specs.Option.{option_to_list}
-use Rattle.std.specs.Ordering.{eq_by_cmp}
-use Rattle.indexmap.specs.IndexMap.{insert_entry}
+use Rattle.std.specs.Ordering.{eq_by_cmp, is_lt}
+use Rattle.indexmap.proofs.MapLemmas.{lookup_permutation, sorted_keys}
 use Rattle.rows.proofs.KeyLaws.{key_cmp_total, key_cmp_antisymmetric, key_eq_decides, same_test}
-use Rattle.rows.specs.Book.{AllOfKind, AreOfKind, AreThere, AreTheKeys, value_at, with_row, listed}
+use Rattle.rows.specs.Book.{AllOfKind, AreOfKind, IsWithin, value_at}
 use Rattle.rows.specs.Fold.{Rows}
-use Rattle.rows.specs.RowKey.{kind_of, key_cmp, key_eq}
+use Rattle.rows.specs.RowKey.{key_cmp, key_eq}
 use Rattle.rows.specs.RowVal.{IsOfKind}
 use Rattle.rows.specs.declared.row_key.RowKey.{RowKey}
 use Rattle.rows.specs.declared.row_val.RowVal.{RowVal}
+
+key_eq_equivalence : IsEquivalence key_eq
+key_eq_equivalence = subst IsEquivalence (λ i k q. same_test k q i) (eq_by_cmp_equiv key_cmp_total)
 
 find_is_value : (q : RowKey) (es : List (RowKey × RowVal)) → map.find key_cmp q es ≡ value_at es q
 find_is_value q [] = refl
@@ -46,37 +53,6 @@ remove_seen es ns k h =
     map.same_map key_cmp_total key_cmp_antisymmetric _ _ (λ q.
     get_seen ns q ∙ h q ∙ sym (map.get-remove key_cmp_total (map.from_entries es) k q ∙ rw (turned k q, get_seen es q) refl))
 
--- the keys that a row is put under
-pub keys_put : (es ns : List (RowKey × RowVal)) (k : RowKey) (v : RowVal) (before after : List RowKey) → AreTheKeys es before
-    → ((q : RowKey) → value_at ns q ≡ cond (key_eq k q) (Some v) (value_at es q))
-    → ((q : RowKey) → list_any (is_at (key_cmp q)) after ≡ cond (is_at (key_cmp k) q) true (list_any (is_at (key_cmp q)) before))
-    → AreTheKeys ns after
-keys_put es ns k v before after keys put added q =
-    added q ∙ rw (same_test k q, keys q, put q) (elim (key_eq k q) as (λ t. cond t true (is_some (value_at es q)) ≡ is_some (cond t (Some v) (value_at es q))) [ true ↦ refl | false ↦ refl ])
-
--- the keys of the rows, where one of them is put again
-pub keys_stay : (es ns : List (RowKey × RowVal)) (k : RowKey) (v : RowVal) (keys : List RowKey) → AreTheKeys es keys → is_some (value_at es k) ≡ true
-    → ((q : RowKey) → value_at ns q ≡ cond (key_eq k q) (Some v) (value_at es q))
-    → AreTheKeys ns keys
-keys_stay es ns k v keys are there put q =
-    are q ∙ rw (put q) (
-    elim (key_eq k q) as (λ t. key_eq k q ≡ t → is_some (value_at es q) ≡ is_some (cond t (Some v) (value_at es q))) [
-      | true ↦ λ same. subst (λ (x : RowKey). is_some (value_at es x) ≡ true) ((key_eq_decides k q).0 same) there
-      | false ↦ λ _. refl
-    ] refl)
-
--- the keys of the rows, where one is taken out
-pub keys_removed : (es ns : List (RowKey × RowVal)) (k : RowKey) (before after : List RowKey) → AreTheKeys es before
-    → ((q : RowKey) → value_at ns q ≡ cond (key_eq k q) None (value_at es q))
-    → ((q : RowKey) → list_any (is_at (key_cmp q)) after ≡ cond (is_at (key_cmp k) q) false (list_any (is_at (key_cmp q)) before))
-    → AreTheKeys ns after
-keys_removed es ns k before after keys gone taken q =
-    taken q ∙ rw (same_test k q, keys q, gone q) (elim (key_eq k q) as (λ t. cond t false (is_some (value_at es q)) ≡ is_some (cond t None (value_at es q))) [ true ↦ refl | false ↦ refl ])
-
--- a book without rows
-pub no_keys : AreTheKeys [] []
-no_keys q = refl
-
 no_length : {A : Type 0} (es : List A) → length es ≡ 0 → es ≡ []
 no_length [] h = refl
 no_length (e ∷ es) h = absurd (omega arith)
@@ -91,78 +67,6 @@ unfolding IsStrictlySortedBy
 ordered_entries [] h = no_length (map.entries (map.empty {X = RowVal} {R = key_cmp})) (sym (map.len-entries map.empty) ∙ map.len-empty key_cmp RowVal)
 ordered_entries (e ∷ es) h =
     map.entries-insert key_cmp_total (map.from_entries es) e.0 e.1 ∙ ap (map.put key_cmp e.0 e.1) (ordered_entries es h.1) ∙ put_front e es h.0
-
-or_right : (a b : Bool) → b ≡ true → (a || b) ≡ true
-or_right true b h = refl
-or_right false b h = h
-
--- each key that is listed is that of a row
-are_there : (es : List (RowKey × RowVal)) (ks : List RowKey) → ((q : RowKey) → list_any (is_at (key_cmp q)) ks ≡ true → is_some (value_at es q) ≡ true) → AreThere es ks
-are_there es [] h = tt
-are_there es (k ∷ ks) h = (
-  h k (rw (same_test k k, (key_eq_decides k k).1 refl) refl),
-  are_there es ks (λ q there. h q (or_right (is_at (key_cmp q) k) _ there)),
-)
-
-pub keys_there : (es : List (RowKey × RowVal)) (ks : List RowKey) → AreTheKeys es ks → AreThere es ks
-keys_there es ks are = are_there es ks (λ q there. sym (are q) ∙ there)
-
--- the keys of what is listed
-keys_listed : (es : List (RowKey × RowVal)) (ks : List RowKey) → AreThere es ks → keys_of (listed es ks) ≡ ks
-keys_listed es [] there = refl
-keys_listed es (k ∷ ks) there =
-    elim (value_at es k) as (λ o. IsSome o → keys_of (with_row k o (listed es ks)) ≡ k ∷ ks) [
-      | Some v ↦ λ _. ap (λ rest. k ∷ rest) (keys_listed es ks there.1)
-      | None ↦ λ none. absurd (false≢true none)
-    ] there.0
-
--- what is listed under a key
-value_listed : (es : List (RowKey × RowVal)) (ks : List RowKey) (q : RowKey) → AreThere es ks → value_at (listed es ks) q ≡ cond (list_any (is_at (key_cmp q)) ks) (value_at es q) None
-value_listed es [] q there = refl
-value_listed es (k ∷ ks) q there =
-    rw (same_test q k) (
-    elim (value_at es k) as (λ o. value_at es k ≡ o → IsSome o → value_at (with_row k o (listed es ks)) q ≡ cond (key_eq q k || list_any (is_at (key_cmp q)) ks) (value_at es q) None) [
-      | Some v ↦ λ is _.
-          elim (key_eq q k) as (λ t. key_eq q k ≡ t → cond t (Some v) (value_at (listed es ks) q) ≡ cond (t || list_any (is_at (key_cmp q)) ks) (value_at es q) None) [
-            | true ↦ λ same. sym (ap (value_at es) ((key_eq_decides q k).0 same) ∙ is)
-            | false ↦ λ _. value_listed es ks q there.1
-          ] refl
-      | None ↦ λ _ none. absurd (false≢true none)
-    ] refl there.0)
-
-covered : (o : Option RowVal) (t : Bool) → t ≡ is_some o → cond t o None ≡ o
-covered (Some v) t h = rw h refl
-covered None t h = rw h refl
-
--- the entries in order
-pub entries_seen : (es : List (RowKey × RowVal)) (ks : List RowKey) → IsStrictlySortedBy key_cmp ks → AreTheKeys es ks → map.entries (map.from_entries {R = key_cmp} es) ≡ listed es ks
-entries_seen es ks sorted are =
-    let there = keys_there es ks are in
-    let same : map.from_entries {R = key_cmp} (listed es ks) ≡ map.from_entries es =
-    map.same_map key_cmp_total key_cmp_antisymmetric _ _ (λ q.
-    get_seen (listed es ks) q ∙ value_listed es ks q there ∙ covered (value_at es q) _ (are q) ∙ sym (get_seen es q)) in
-    ap map.entries (sym same) ∙ ordered_entries (listed es ks) (subst (IsStrictlySortedBy key_cmp) (sym (keys_listed es ks there)) sorted)
-
--- what is listed is of its keys' kinds
-pub kinds_listed : (es : List (RowKey × RowVal)) (ks : List RowKey) → AreOfKind es → AllOfKind (listed es ks)
-kinds_listed es [] kinds = tt
-kinds_listed es (k ∷ ks) kinds =
-    elim (value_at es k) as (λ o. IfSome o (IsOfKind k) → AllOfKind (with_row k o (listed es ks))) [
-      | Some v ↦ λ kind. (kind, kinds_listed es ks kinds)
-      | None ↦ λ _. kinds_listed es ks kinds
-    ] (kinds k)
-
-length_listed : (es : List (RowKey × RowVal)) (ks : List RowKey) → AreThere es ks → length (listed es ks) ≡ length ks
-length_listed es [] there = refl
-length_listed es (k ∷ ks) there =
-    elim (value_at es k) as (λ o. IsSome o → length (with_row k o (listed es ks)) ≡ suc (length ks)) [
-      | Some v ↦ λ _. ap suc (length_listed es ks there.1)
-      | None ↦ λ none. absurd (false≢true none)
-    ] there.0
-
--- there are as many rows as keys
-pub len_seen : (es : List (RowKey × RowVal)) (ks : List RowKey) → IsStrictlySortedBy key_cmp ks → AreTheKeys es ks → map.len (map.from_entries {R = key_cmp} es) ≡ length ks
-len_seen es ks sorted are = map.len-entries (map.from_entries es) ∙ ap length (entries_seen es ks sorted are) ∙ length_listed es ks (keys_there es ks are)
 
 -- a row put among rows of their kinds
 pub kinds_put : (es ns : List (RowKey × RowVal)) (k : RowKey) (v : RowVal) → AreOfKind es → IsOfKind k v
@@ -179,27 +83,117 @@ pub kinds_removed : (es ns : List (RowKey × RowVal)) (k : RowKey) → AreOfKind
 kinds_removed es ns k kinds gone q =
     rw (gone q) (elim (key_eq k q) as (λ t. IfSome (cond t None (value_at es q)) (IsOfKind q)) [ true ↦ tt | false ↦ kinds q ])
 
--- a row that isn't there goes last
-inserted_last : (es : List (RowKey × RowVal)) (k : RowKey) (v : RowVal) → value_at es k ≡ None → insert_entry key_eq es k v ≡ es ++ (k, v) ∷ []
-inserted_last [] k v none = refl
-inserted_last (e ∷ es) k v none =
-    elim (key_eq k e.0) as (λ t. cond t (Some e.1) (value_at es k) ≡ None → (if t then (e.0, v) ∷ es else e ∷ insert_entry key_eq es k v) ≡ e ∷ (es ++ (k, v) ∷ [])) [
-      | true ↦ λ met. absurd (none-some e.1 (sym met))
-      | false ↦ λ rest. ap (λ done. e ∷ done) (inserted_last es k v rest)
-    ] none
+-- neighbours that differ all stay
+all_kept : (k : RowKey) (ks : List RowKey) → IsDistinct key_eq (k ∷ ks) → dedup_from key_eq k ks ≡ k ∷ ks
+unfolding IsDistinct
+all_kept k [] h = refl
+all_kept k (l ∷ ks) h = rw (key_eq_equivalence.symm l k ∙ h.0.0) (ap (λ rest. k ∷ rest) (all_kept l ks h.1))
 
-same_front : (xs ys : List (RowKey × RowVal)) (x y : RowKey × RowVal) → xs ++ x ∷ [] ≡ ys ++ y ∷ [] → xs ≡ ys
-same_front xs ys x y same =
-    let many : length xs ≡ length ys = omega (arith, sym (length-append xs (x ∷ [])) ∙ ap length same ∙ length-append ys (y ∷ [])) in
-    sym (take-append_seam xs (x ∷ [])) ∙ ap (take (length xs)) same ∙ ap (λ n. take n (ys ++ y ∷ [])) many ∙ take-append_seam ys (y ∷ [])
+none_dropped : (ks : List RowKey) → IsDistinct key_eq ks → dedup key_eq ks ≡ ks
+none_dropped [] h = refl
+none_dropped (k ∷ ks) h = all_kept k ks h
 
--- taking the last row out again leaves the rows as they were
-pub popped : (es ns ps : List (RowKey × RowVal)) (k : RowKey) (v : RowVal) (last : Option (RowKey × RowVal)) → value_at es k ≡ None
-    → ns ≡ insert_entry key_eq es k v → ns ≡ ps ++ option_to_list last → (0 < length ns → IsSome last) → ps ≡ es
-popped es ns ps k v (Some e) none put taken some = same_front ps es e (k, v) (sym taken ∙ put ∙ inserted_last es k v none)
-popped es ns ps k v None none put taken some =
-    absurd (false≢true (some (rw (put ∙ inserted_last es k v none, length-append es ((k, v) ∷ [])) (omega arith))))
+-- keys that differ and are sorted rise
+rising : (ks : List RowKey) → IsDistinct key_eq ks → IsSorted key_cmp ks → IsStrictlySortedBy key_cmp ks
+rising ks distinct sorted =
+    subst (IsStrictlySortedBy key_cmp) (none_dropped ks distinct)
+    (IsStrictlySortedBy-dedup key_cmp_total {E = key_eq} (λ k q. sym (same_test k q)) ks sorted)
 
--- books are the same exactly where their rows are
-pub same_rows_same_book : (m n : Rows) → map.entries m ≡ map.entries n → m ≡ n
-same_rows_same_book m n e = map.same_entries_map m n e
+-- rows of one map in another order
+same_shuffled : (es fs : List (RowKey × RowVal)) → IsPermutation es fs → IsDistinct key_eq (keys_of fs) → map.from_entries {R = key_cmp} fs ≡ map.from_entries es
+same_shuffled es fs moves distinct =
+    map.same_map key_cmp_total key_cmp_antisymmetric _ _ (λ q.
+    get_seen fs q ∙ lookup_permutation key_eq_equivalence es fs moves distinct (key_eq q) (key_eq_equivalence.congr q) ∙ sym (get_seen es q))
+
+distinct_shuffled : (es fs : List (RowKey × RowVal)) → IsPermutation es fs → IsDistinct key_eq (keys_of es) → IsDistinct key_eq (keys_of fs)
+distinct_shuffled es fs moves distinct = IsDistinct-IsPermutation key_eq key_eq_equivalence.symm (keys_of es) (keys_of fs) (IsPermutation-map (λ e. e.0) es fs moves) distinct
+
+-- the rows in order
+pub entries_sorted : (es fs : List (RowKey × RowVal)) → IsDistinct key_eq (keys_of es) → IsPermutation es fs → IsSortedBy (λ e f. is_lt (key_cmp e.0 f.0)) fs
+    → fs ≡ map.entries (map.from_entries {R = key_cmp} es)
+entries_sorted es fs distinct moves sorted =
+    let apart = distinct_shuffled es fs moves distinct in
+    sym (ordered_entries fs (rising (keys_of fs) apart (sorted_keys (λ k q. is_lt (key_cmp k q)) fs sorted))) ∙ ap map.entries (same_shuffled es fs moves apart)
+
+-- a row whose key is new is put somewhere among the others
+put_new : (k : RowKey) (v : RowVal) (es : List (RowKey × RowVal)) → AllByRecursion (λ y. key_eq k y ≡ false) (keys_of es) → IsPermutation ((k, v) ∷ es) (map.put key_cmp k v es)
+put_new k v [] h = IsPermutation-refl _
+put_new k v (e ∷ es) h =
+    elim (key_cmp k e.0) as (λ r. key_cmp k e.0 ≡ r → IsPermutation ((k, v) ∷ e ∷ es) (by_order r ((k, v) ∷ e ∷ es) ((e.0, v) ∷ es) (e ∷ map.put key_cmp k v es))) [
+      | Less ↦ λ _. IsPermutation-refl _
+      | Equal ↦ λ tie. absurd (false≢true (sym h.0 ∙ sym (same_test k e.0) ∙ (Equal-is (key_cmp k e.0)).1 tie))
+      | Greater ↦ λ _. IsPermutation-trans _ _ _ (IsPermutation-swap ((k, v) ∷ e ∷ es) (e ∷ (k, v) ∷ es) 0 1 (omega arith) (omega arith) refl) (IsPermutation-cons e _ _ (put_new k v es h.1))
+    ] refl
+
+-- the rows of a map, in the order in which they came
+pub entries_shuffled : (es : List (RowKey × RowVal)) → IsDistinct key_eq (keys_of es) → IsPermutation (map.entries (map.from_entries {R = key_cmp} es)) es
+unfolding IsDistinct
+entries_shuffled [] h =
+    subst (λ (none : List (RowKey × RowVal)). IsPermutation none []) (sym (no_length (map.entries (map.empty {X = RowVal} {R = key_cmp})) (sym (map.len-entries map.empty) ∙ map.len-empty key_cmp RowVal))) (IsPermutation-refl [])
+entries_shuffled (e ∷ es) h =
+    let rest = entries_shuffled es h.1 in
+    let back = IsPermutation-sym _ _ rest in
+    let apart : AllByRecursion (λ y. key_eq e.0 y ≡ false) (keys_of (map.entries (map.from_entries {R = key_cmp} es)))
+    = all_shuffled (λ y. key_eq e.0 y ≡ false) _ _ (IsPermutation-map (λ e. e.0) _ _ back) h.0 in
+    subst (λ (all : List (RowKey × RowVal)). IsPermutation all (e ∷ es)) (sym (map.entries-insert key_cmp_total (map.from_entries es) e.0 e.1))
+    (IsPermutation-trans _ _ _ (IsPermutation-sym _ _ (put_new e.0 e.1 _ apart)) (IsPermutation-cons e _ _ rest))
+
+-- there are as many rows as entries
+pub len_seen : (es : List (RowKey × RowVal)) → IsDistinct key_eq (keys_of es) → length es ≡ map.len (map.from_entries {R = key_cmp} es)
+len_seen es h = length_permutation _ _ (entries_shuffled es h) ∙ sym (map.len-entries (map.from_entries es))
+
+-- what holds of each key's value holds of each row
+rows_hold : (P : RowKey → RowVal → Type 0) (es : List (RowKey × RowVal)) → IsDistinct key_eq (keys_of es) → ((q : RowKey) → IfSome (value_at es q) (P q)) → AllByRecursion (λ row. P row.0 row.1) es
+rows_hold P es distinct h =
+    recursion_from_All (λ row. P row.0 row.1) es (λ i d inside.
+    let row = get_or es i d in
+    subst (λ (o : Option RowVal). IfSome o (P row.0)) (lookup_from_place key_eq_equivalence es i row.0 row.1 distinct (slice_get-get_or es i d inside)) (h row.0))
+
+-- what holds of each row holds of each key's value
+value_holds : (P : RowKey → RowVal → Type 0) (es : List (RowKey × RowVal)) (q : RowKey) → AllByRecursion (λ row. P row.0 row.1) es → IfSome (value_at es q) (P q)
+value_holds P [] q h = tt
+value_holds P (e ∷ es) q h =
+    elim (key_eq q e.0) as (λ t. key_eq q e.0 ≡ t → IfSome (cond t (Some e.1) (value_at es q)) (P q)) [
+      | true ↦ λ same. subst (λ (k : RowKey). P k e.1) (sym ((key_eq_decides q e.0).0 same)) h.0
+      | false ↦ λ _. value_holds P es q h.1
+    ] refl
+
+-- each row of a map is of its key's kind
+pub kinds_sorted : (es : List (RowKey × RowVal)) → IsDistinct key_eq (keys_of es) → AreOfKind es → AllOfKind (map.entries (map.from_entries {R = key_cmp} es))
+kinds_sorted es distinct kinds =
+    all_shuffled (λ row. IsOfKind row.0 row.1) _ _ (IsPermutation-sym _ _ (entries_shuffled es distinct)) (rows_hold IsOfKind es distinct kinds)
+
+-- each of these rows is a row of the other map
+pub within_rows : (es : List (RowKey × RowVal)) (theirs : Rows) → IsDistinct key_eq (keys_of es) → AllByRecursion (λ row. map.get theirs row.0 ≡ Some row.1) es ↔ IsWithin (map.from_entries es) theirs
+within_rows es theirs distinct = (
+  λ h q. subst (λ (o : Option RowVal). IfSome o (λ val. map.get theirs q ≡ Some val)) (sym (get_seen es q)) (value_holds (λ k v. map.get theirs k ≡ Some v) es q h),
+  λ h. rows_hold (λ k v. map.get theirs k ≡ Some v) es distinct (λ q. subst (λ (o : Option RowVal). IfSome o (λ val. map.get theirs q ≡ Some val)) (get_seen es q) (h q)),
+)
+
+same_values : (o p : Option RowVal) → IfSome o (λ v. p ≡ Some v) → IfSome p (λ v. o ≡ Some v) → o ≡ p
+same_values (Some v) p there back = sym there
+same_values None (Some v) there back = back
+same_values None None there back = refl
+
+own_value : (o : Option RowVal) → IfSome o (λ v. o ≡ Some v)
+own_value (Some v) = refl
+own_value None = tt
+
+-- maps are the same where each has the rows of the other
+pub same_both_ways : (m n : Rows) → (IsWithin m n × IsWithin n m) ↔ (m ≡ n)
+same_both_ways m n = (
+  λ h. map.same_map key_cmp_total key_cmp_antisymmetric m n (λ q. same_values (map.get m q) (map.get n q) (h.0 q) (h.1 q)),
+  λ same. (λ q. subst (λ (x : Rows). IfSome (map.get m q) (λ v. map.get x q ≡ Some v)) same (own_value (map.get m q)), λ q. subst (λ (x : Rows). IfSome (map.get x q) (λ v. map.get m q ≡ Some v)) same (own_value (map.get m q))),
+)
+
+both_ways : (s t : Bool) → (s ≡ true → t ≡ true) → (t ≡ true → s ≡ true) → s ≡ t
+both_ways true t f g = sym (f refl)
+both_ways false true f g = g refl
+both_ways false false f g = refl
+
+-- whether all rows pass a test doesn't depend on their order
+pub all_pass_shuffled : (p : RowKey × RowVal → Bool) (es fs : List (RowKey × RowVal)) → IsPermutation es fs → list_all p fs ≡ list_all p es
+all_pass_shuffled p es fs moves =
+    let carried : (xs ys : List (RowKey × RowVal)) → IsPermutation xs ys → list_all p xs ≡ true → list_all p ys ≡ true =
+    λ xs ys m h. list_all-from_AllPass p ys (All-permutation (λ x. p x ≡ true) xs ys m (AllPass-from_list_all p xs h)) in
+    both_ways _ _ (carried fs es (IsPermutation-sym es fs moves)) (carried es fs moves)

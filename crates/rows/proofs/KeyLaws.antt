@@ -1,17 +1,13 @@
 -- Keys that compare as equal are equal, and the test of equality decides it.
-use Rattle.std.proofs.Common.{◌≡◌, ℕ, zero, suc, Bool, true, false, ◌&&◌, ◌==◌, List, refl, sym, ap, subst, ◌∙◌, Ordering, Less, Equal, Greater, rules}
-use Rattle.std.proofs.lemmas.Bool.{false≢true}
-use Rattle.std.specs.Bool.{Decides}
+use Rattle.std.proofs.Common.{◌≡◌, ℕ, Bool, true, false, List, refl, sym, subst, Ordering, Less, Equal, Greater, rules}
 use Rattle.std.specs.Cmp.{IsTotalOrder, Equal-is}
 use Rattle.std.proofs.lemmas.Cmp.{tied_itself}
 use Rattle.std.specs.BTreeMap.{is_at}
-use Rattle.std.specs.Cmp.Derive.{both_true}
 use Rattle.std.specs.Cmp.Rules.{comparing}
 use Rattle.std.specs.FinMap as map
 use Rattle.std.specs.Ordering.{ordering_then, nat_cmp}
-use Rattle.rows.specs.RowKey.{kind_of, first_text, second_text, third_text, text_eq, text_cmp, key_cmp, key_eq}
+use Rattle.rows.specs.RowKey.{kind_of, first_text, second_text, third_text, text_cmp, key_cmp, key_eq}
 use Rattle.rows.specs.declared.row_key.RowKey.{RowKey}
-use Rattle.rows.specs.declared.row_key.RowKey.TheVariants as key
 pub use Rattle.rows.specs.SameKey.{same_texts, text_eq_decides, key_eq_decides}
 
 pub key_cmp_total : IsTotalOrder key_cmp

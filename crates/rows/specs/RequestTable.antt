@@ -1,13 +1,12 @@
 -- The decision table of an authorization request, 1100 and 1101. The first rule that applies decides; a row is looked at
 -- where the first rule that needs it is reached.
-use Rattle.std.specs.Prelude.{ℕ, ◌+◌, ◌-◌, Bool, ◌==◌, ◌&&◌, ◌||◌, not, nat_le, nat_lt, if◌then◌else◌, List, [], ◌∷◌, take, codes, Option, Some, None, Result, Ok, Err}
+use Rattle.std.specs.Prelude.{ℕ, ◌+◌, ◌-◌, Bool, ◌==◌, ◌&&◌, ◌||◌, not, nat_le, nat_lt, if◌then◌else◌, [], ◌∷◌, take, codes, Option, Some, None, Result, Ok, Err}
 use Rattle.iso8583.specs.Luhn.{passes_luhn}
 use Rattle.iso8583.specs.Number.{number_of, fixed_digits}
 use Rattle.iso8583.specs.declared.account_id.AccountId.{AccountId}
 use Rattle.iso8583.specs.declared.answer.Answer.TheVariants as answer
 use Rattle.iso8583.specs.declared.approval.Approval.{Approval}
 use Rattle.iso8583.specs.declared.original_kind.OriginalKind.TheVariants as kind
-use Rattle.iso8583.specs.declared.reply.Reply.{Reply}
 use Rattle.iso8583.specs.declared.request.Request.{Request}
 use Rattle.iso8583.specs.declared.transaction.Transaction.{Transaction}
 use Rattle.iso8583.specs.declared.verdict.Verdict.{Verdict}
@@ -15,7 +14,6 @@ use Rattle.iso8583.specs.declared.verdict.Verdict.TheVariants as verdict
 use Rattle.rows.specs.CardAccounts.{account_of}
 use Rattle.rows.specs.Facts.{identity_of, day_of, month_of, prefix_of, is_same_currency, is_marked, is_of_same}
 use Rattle.rows.specs.Funds.{balance_of, with_balance, key_of_funds, row_of_funds, paid_by}
-use Rattle.rows.specs.Kept.{KeptOriginal, action_of_outcome, approval_of_outcome}
 use Rattle.rows.specs.Plan.{Plan, Writes, Answer, Look}
 use Rattle.rows.specs.RowKey.{text_eq}
 use Rattle.rows.specs.Typed.{card_in, velocity_in, budget_in, original_in, account_in, spent_in}
@@ -35,7 +33,6 @@ use Rattle.rows.specs.declared.outcome.Outcome.{Outcome}
 use Rattle.rows.specs.declared.outcome.Outcome.TheVariants as outcome
 use Rattle.rows.specs.declared.reply_body.ReplyBody.{ReplyBody}
 use Rattle.rows.specs.declared.reply_body.ReplyBody.TheVariants as body
-use Rattle.rows.specs.declared.row_key.RowKey.{RowKey}
 use Rattle.rows.specs.declared.row_key.RowKey.TheVariants as key
 use Rattle.rows.specs.declared.row_val.RowVal.{RowVal}
 use Rattle.rows.specs.declared.row_val.RowVal.TheVariants as val

@@ -1,27 +1,23 @@
-ghost use Rattle.std.specs.Prelude.{◌≡◌, ◌↔◌, option_copied, OnOk, OnErr, IfOk, IfSome, IsTrue, None, Some, is_some};
+ghost use Rattle.std.specs.Prelude.{◌≡◌, ◌↔◌, option_copied, OnOk, OnErr, IfOk, IfSome, IsTrue, IsPermutation, None, Some};
 ghost use Rattle.std.specs.FinMap as map;
-ghost use Rattle.indexmap.specs.IndexMap.{insert_entry, Updates};
-ghost use Rattle.rows.specs.Book.{AllOfKind, value_at};
+ghost use Rattle.indexmap.specs.IndexMap.{IsUnchanged, Updates};
+ghost use Rattle.rows.specs.Book.{AllOfKind, IsWithin, value_at};
 ghost use Rattle.rows.specs.RowVal.{IsOfKind};
 ghost use Rattle.rows.specs.RowKey.{key_cmp, key_eq};
 
-use crate::book_rows::BookRows;
 use crate::row_key::RowKey;
 use crate::row_val::RowVal;
+use crate::sorted_rows::SortedRows;
 use indexmap::IndexMap;
-use indexmap::map::Entry;
+use indexmap::map::{Entry, Iter};
 use std::alloc::{AllocError, Global};
-use std::collections::BTreeSet;
 use std::marker::Model;
 use std::slice;
 
-/// The issuer's rows: a finite map from row keys to row values, each of its key's kind.
+/// The issuer's rows: a finite map from row keys to row values, each of its key's kind. A row is found by its key's hash.
 #[derive(Drop)]
 pub struct Book {
-    // A row is found by its key's hash.
     rows: IndexMap<RowKey, RowVal>,
-    // The keys of the rows, in their order.
-    keys: BTreeSet<RowKey>,
 }
 
 impl Model for Book {
@@ -30,7 +26,7 @@ impl Model for Book {
     ghost use Rattle.rows.specs.RowKey.{key_cmp};
     ghost use Rattle.rows.specs.contracts.row_key.RowKey.{the_row as key_row};
     ghost use Rattle.rows.specs.contracts.row_val.RowVal.{the_row as val_row};
-    ghost use Rattle.rows.specs.Book.{AreOfKind, AreTheKeys};
+    ghost use Rattle.rows.specs.Book.{AreOfKind};
 
     ghost Value = { map.FinMap key_cmp RowVal };
 
@@ -38,7 +34,7 @@ impl Model for Book {
 
     ghost view = { λ b. map.from_entries b.rows.entries };
 
-    ghost invariant = { λ b. AreOfKind b.rows.entries × AreTheKeys b.rows.entries b.keys.keys };
+    ghost invariant = { λ b. AreOfKind b.rows.entries };
 }
 
 impl Book {
@@ -48,7 +44,6 @@ impl Book {
     {
         Book {
             rows: IndexMap::new(alloc),
-            keys: BTreeSet::new(alloc),
         }
     }
 
@@ -87,16 +82,7 @@ impl Book {
         ensures err { OnErr result (self.new ≡ self.old) }
         ensures full { OnErr result (map.get self.old key.now ≡ None) }
     {
-        if put_entry(&mut self.rows, key, val)? {
-            return Ok(());
-        }
-        match self.keys.insert(*key) {
-            Ok(_) => Ok(()),
-            Err(_) => {
-                self.rows.pop();
-                Err(AllocError)
-            }
-        }
+        put_entry(&mut self.rows, key, val)
     }
 
     /// Takes the row out.
@@ -105,7 +91,6 @@ impl Book {
         ensures value { result ≡ map.get self.old key.now }
         ensures after { self.new ≡ map.remove self.old key.now }
     {
-        self.keys.remove(key);
         self.rows.swap_remove(key)
     }
 
@@ -113,7 +98,7 @@ impl Book {
     pub fn len(&self) -> usize
         ensures { result ≡ map.len self.now }
     {
-        self.keys.len()
+        self.rows.len()
     }
 
     /// Whether there is no row.
@@ -123,12 +108,19 @@ impl Book {
         self.len() == 0
     }
 
-    /// The rows in the order of their keys.
-    pub fn rows(&self) -> BookRows<'_>
-        ensures rows { result ≡ map.entries self.now }
+    /// The rows, sorted by their keys.
+    pub fn sorted_rows(&self, alloc: Global) -> Result<SortedRows<'_>, AllocError>
+        ensures rows { IfOk result (λ rows. rows ≡ map.entries self.now) }
         ensures kinds { AllOfKind (map.entries self.now) }
     {
-        BookRows::new(self.keys.iter(), &self.rows)
+        SortedRows::new(alloc, self.rows.iter())
+    }
+
+    // The rows, each once, in any order.
+    pub(crate) fn rows(&self) -> Iter<'_, RowKey, RowVal>
+        ensures { IsPermutation (map.entries self.now) result }
+    {
+        self.rows.iter()
     }
 
     /// An equal book of its own.
@@ -137,42 +129,59 @@ impl Book {
     {
         Ok(Book {
             rows: self.rows.clone()?,
-            keys: self.keys.clone()?,
         })
     }
 
     /// Whether the other book has the same rows.
-    #[tactic(auto, using(crate::proofs::BookLaws::same_rows_same_book))]
+    #[tactic(auto, using(crate::proofs::BookLaws::same_both_ways))]
     pub fn is_same(&self, other: &Book) -> bool
         ensures { IsTrue result ↔ (self.now ≡ other.now) }
     {
-        are_same_rows(self.rows(), other.rows())
+        self.is_within(other) && other.is_within(self)
+    }
+
+    // Whether the other book has each row of this one.
+    fn is_within(&self, other: &Book) -> bool
+        ensures { IsTrue result ↔ IsWithin self.now other.now }
+    {
+        for (key, val) in self.rows.iter() {
+            if !other.has(key, val) {
+                return false;
+            }
+        }
+        true
+    }
+
+    // Whether the row has this value.
+    fn has(&self, key: &RowKey, val: &RowVal) -> bool
+        ensures { IsTrue result ↔ (map.get self.now key.now ≡ Some val.now) }
+    {
+        match self.row(key) {
+            Some(found) => found.is_same(val),
+            None => false,
+        }
     }
 }
 
-// Puts a copy of a row, by one look-up, and answers whether it was there. An entry takes the value without handing one
-// back.
+// Puts a copy of a row, by one look-up. An entry takes the value without handing one back.
 fn put_entry(
     rows: &mut IndexMap<RowKey, RowVal>,
     key: &RowKey,
     val: &RowVal,
-) -> Result<bool, AllocError>
-    ensures found { IfOk result (λ found. found ≡ is_some (value_at rows.old.entries key.now)) }
+) -> Result<(), AllocError>
     ensures updates { OnOk result (Updates key_eq rows.old rows.new key.now (Some val.now)) }
-    ensures entries { OnOk result (rows.new.entries ≡ insert_entry key_eq rows.old.entries key.now val.now) }
     ensures err { OnErr result (rows.new.entries ≡ rows.old.entries) }
     ensures absent { OnErr result (value_at rows.old.entries key.now ≡ None) }
 {
     match rows.entry(*key)? {
         Entry::Occupied(entry) => {
             copy_over(entry.into_mut(), val);
-            Ok(true)
         }
         Entry::Vacant(entry) => {
             entry.insert(*val);
-            Ok(false)
         }
     }
+    Ok(())
 }
 
 // Writes a copy of a value over another: as a slice of one, so that it is copied once and not by way of a third place.
@@ -180,20 +189,4 @@ fn copy_over(there: &mut RowVal, val: &RowVal)
     ensures { there.new ≡ val.now }
 {
     slice::from_mut(there).copy_from_slice(slice::from_ref(val));
-}
-
-// Whether the rows that are left of the two are the same.
-fn are_same_rows(mine: BookRows<'_>, theirs: BookRows<'_>) -> bool
-    ensures { IsTrue result ↔ (mine ≡ theirs) }
-{
-    let mut theirs = theirs;
-    for (key, val) in mine {
-        let Some((other_key, other_val)) = theirs.next() else {
-            return false;
-        };
-        if key != other_key || !val.is_same(other_val) {
-            return false;
-        }
-    }
-    theirs.next().is_none()
 }

@@ -41,21 +41,36 @@ pub fn check_book(book: &Book) -> Result<(), BookFault>
 fn are_numbers_right(book: &Book) -> bool
     ensures { result ≡ are_numbers_right book.now }
 {
-    book.rows().all(|(key, _)| has_right_number(key))
+    for (key, _) in book.rows() {
+        if !has_right_number(key) {
+            return false;
+        }
+    }
+    true
 }
 
 // Whether each original that was paid from an account finds the account's row.
 fn have_paying_accounts(book: &Book) -> bool
     ensures { result ≡ have_paying_accounts book.now }
 {
-    book.rows().all(|(_, val)| has_paying_account(book, val))
+    for (_, val) in book.rows() {
+        if !has_paying_account(book, val) {
+            return false;
+        }
+    }
+    true
 }
 
 // Whether each card finds the rows of its accounts, which are not the same.
 fn have_accounts(book: &Book) -> bool
     ensures { result ≡ have_accounts book.now }
 {
-    book.rows().all(|(_, val)| has_accounts(book, val))
+    for (_, val) in book.rows() {
+        if !has_accounts(book, val) {
+            return false;
+        }
+    }
+    true
 }
 
 // Whether the number of a card passes the Luhn test.

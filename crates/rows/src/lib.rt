@@ -28,6 +28,7 @@ mod reply_body;
 mod row_key;
 mod row_val;
 mod settlement;
+mod sorted_rows;
 mod unposted_action;
 mod velocity_row;
 
@@ -57,5 +58,6 @@ pub use reply_body::ReplyBody;
 pub use row_key::RowKey;
 pub use row_val::RowVal;
 pub use settlement::Settlement;
+pub use sorted_rows::SortedRows;
 pub use unposted_action::UnpostedAction;
 pub use velocity_row::VelocityRow;

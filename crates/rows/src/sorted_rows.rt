@@ -1,0 +1,59 @@
+ghost use Rattle.std.specs.Prelude.{◌≡◌, IfOk};
+ghost use Rattle.std.specs.FinMap as map;
+ghost use Rattle.std.specs.List.{IsDistinct};
+ghost use Rattle.std.specs.Map.{keys_of};
+ghost use Rattle.rows.specs.RowKey.{key_cmp, key_eq};
+
+use crate::book_rows::BookRows;
+use crate::row_key::RowKey;
+use crate::row_val::RowVal;
+use indexmap::map::Iter;
+use std::alloc::{AllocError, Global};
+use std::cmp::Ordering;
+use std::marker::Model;
+
+/// The rows of a book, sorted by their keys.
+#[derive(Drop)]
+pub struct SortedRows<'a> {
+    rows: Vec<(&'a RowKey, &'a RowVal)>,
+}
+
+impl<'a> Model for SortedRows<'a> {
+    ghost use Rattle.std.specs.Prelude.{List, map};
+    ghost use Rattle.std.specs.Map.Iter.{deref_pair};
+    ghost use Rattle.rows.specs.declared.row_key.RowKey.{RowKey};
+    ghost use Rattle.rows.specs.declared.row_val.RowVal.{RowVal};
+
+    ghost Value = { List (RowKey × RowVal) };
+
+    ghost view = { λ s. map deref_pair s.rows.items };
+}
+
+impl<'a> SortedRows<'a> {
+    // Sorts rows, each of another key.
+    pub(crate) fn new(
+        alloc: Global,
+        rows: Iter<'a, RowKey, RowVal>,
+    ) -> Result<SortedRows<'a>, AllocError>
+        requires { IsDistinct key_eq (keys_of rows) }
+        ensures { IfOk result (λ sorted. sorted ≡ map.entries (map.from_entries {R = key_cmp} rows.entry)) }
+    {
+        let mut sorted: Vec<(&'a RowKey, &'a RowVal)> = rows.collect(alloc)?;
+        sorted.sort_by(by_key)?;
+        Ok(SortedRows { rows: sorted })
+    }
+
+    /// The rows, from the first on.
+    pub fn iter(&self) -> BookRows<'_>
+        ensures { result ≡ self.now }
+    {
+        BookRows::new(&self.rows)
+    }
+}
+
+// The order of two rows by their keys.
+fn by_key(mine: &(&RowKey, &RowVal), theirs: &(&RowKey, &RowVal)) -> Ordering
+    ensures { result ≡ key_cmp mine.now.0.now theirs.now.0.now }
+{
+    mine.0.cmp(theirs.0)
+}
