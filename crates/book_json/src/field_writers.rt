@@ -48,7 +48,6 @@ pub(crate) fn count_field(out: &mut Writer, name: &str, count: Count) -> Result<
     number_field(out, name, u64::from(count.number()))
 }
 
-#[tactic(auto, using(iso8583::proofs::AsciiLaws::digits_utf8))]
 fn digits_field<const N: usize>(
     out: &mut Writer,
     name: &str,
@@ -57,7 +56,7 @@ fn digits_field<const N: usize>(
     ensures text { OnOk result (Adds out.old out.new (key_token name.now ∷ string_token digits.entry ∷ [])) }
     ensures range { AreDigits N digits.entry }
 {
-    bytes_field(out, name, digits.as_slice())
+    text_field(out, name, digits.as_str())
 }
 
 pub(crate) fn currency_field(
@@ -109,39 +108,34 @@ pub(crate) fn action_field(out: &mut Writer, name: &str, action: Action) -> Resu
     digits_field(out, name, action.digits())
 }
 
-#[tactic(auto, using(iso8583::proofs::AsciiLaws::digits_utf8))]
 pub(crate) fn expiry_field(out: &mut Writer, name: &str, expiry: Expiry) -> Result<(), AllocError>
     ensures text { OnOk result (Adds out.old out.new (key_token name.now ∷ string_token expiry ∷ [])) }
     ensures range { IsExpiry expiry }
 {
-    bytes_field(out, name, expiry.as_slice())
+    text_field(out, name, expiry.as_str())
 }
 
-#[tactic(auto, using(iso8583::proofs::AsciiLaws::digits_utf8))]
 pub(crate) fn day_field(out: &mut Writer, name: &str, day: Day) -> Result<(), AllocError>
     ensures text { OnOk result (Adds out.old out.new (key_token name.now ∷ string_token day ∷ [])) }
     ensures range { IsDay day }
 {
-    bytes_field(out, name, day.as_slice())
+    text_field(out, name, day.as_str())
 }
 
-#[tactic(auto, using(iso8583::proofs::AsciiLaws::digits_utf8))]
 pub(crate) fn stamp_field(out: &mut Writer, name: &str, stamp: LocalStamp) -> Result<(), AllocError>
     ensures text { OnOk result (Adds out.old out.new (key_token name.now ∷ string_token stamp ∷ [])) }
     ensures range { IsLocalStamp stamp }
 {
-    bytes_field(out, name, stamp.as_slice())
+    text_field(out, name, stamp.as_str())
 }
 
-#[tactic(auto, using(iso8583::proofs::AsciiLaws::digits_utf8))]
 pub(crate) fn pan_field(out: &mut Writer, name: &str, pan: Pan) -> Result<(), AllocError>
     ensures text { OnOk result (Adds out.old out.new (key_token name.now ∷ string_token pan.0 ∷ [])) }
     ensures range { HasDigits 12 19 pan.0 }
 {
-    bytes_field(out, name, pan.as_slice())
+    text_field(out, name, pan.as_str())
 }
 
-#[tactic(auto, using(iso8583::proofs::AsciiLaws::digits_utf8))]
 pub(crate) fn acquirer_field(
     out: &mut Writer,
     name: &str,
@@ -150,10 +144,9 @@ pub(crate) fn acquirer_field(
     ensures text { OnOk result (Adds out.old out.new (key_token name.now ∷ string_token acquirer.0 ∷ [])) }
     ensures range { HasDigits 1 11 acquirer.0 }
 {
-    bytes_field(out, name, acquirer.as_slice())
+    text_field(out, name, acquirer.as_str())
 }
 
-#[tactic(auto, using(iso8583::proofs::AsciiLaws::printable_utf8))]
 pub(crate) fn account_id_field(
     out: &mut Writer,
     name: &str,
@@ -162,7 +155,7 @@ pub(crate) fn account_id_field(
     ensures text { OnOk result (Adds out.old out.new (key_token name.now ∷ string_token id.0 ∷ [])) }
     ensures range { IsAccountId id }
 {
-    bytes_field(out, name, id.as_slice())
+    text_field(out, name, id.as_str())
 }
 
 pub(crate) fn optional_account_id_field(

@@ -26,7 +26,8 @@ impl Acquirer {
 
     /// The text as characters.
     pub fn as_str(&self) -> &str
-        ensures { result.now ≡ self.now.0 }
+        ensures text { result.now ≡ self.now.0 }
+        ensures digits { HasDigits 1 11 result.now }
     {
         self.0.as_str()
     }

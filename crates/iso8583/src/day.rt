@@ -59,7 +59,8 @@ impl Day {
 
     /// The text as characters.
     pub fn as_str(&self) -> &str
-        ensures { result.now ≡ self.now }
+        ensures text { result.now ≡ self.now }
+        ensures day { IsDay result.now }
     {
         let _ = &self.digits;
         self.digits.as_str()

@@ -78,7 +78,9 @@ impl<const N: usize> Digits<N> {
     /// The text as characters.
     #[tactic(auto, using(crate::proofs::AsciiLaws::digits_utf8))]
     pub fn as_str(&self) -> &str
-        ensures { result.now ≡ self.now }
+        ensures text { result.now ≡ self.now }
+        ensures len { length result.now ≡ N }
+        ensures digits { IsDigits result.now }
     {
         let text = self.as_slice();
         // Text of this class is ASCII, so it is UTF-8.

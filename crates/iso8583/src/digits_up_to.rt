@@ -62,7 +62,8 @@ impl<const MIN: usize, const MAX: usize> DigitsUpTo<MIN, MAX> {
 
     /// The text as characters.
     pub fn as_str(&self) -> &str
-        ensures { result.now ≡ self.now }
+        ensures text { result.now ≡ self.now }
+        ensures digits { HasDigits MIN MAX result.now }
     {
         let _ = &self.text;
         self.text.as_str()

@@ -61,7 +61,8 @@ impl LocalStamp {
 
     /// The text as characters.
     pub fn as_str(&self) -> &str
-        ensures { result.now ≡ self.now }
+        ensures text { result.now ≡ self.now }
+        ensures stamp { IsLocalStamp result.now }
     {
         let _ = &self.digits;
         self.digits.as_str()

@@ -28,7 +28,8 @@ impl Pan {
 
     /// The text as characters.
     pub fn as_str(&self) -> &str
-        ensures { result.now ≡ self.now.0 }
+        ensures text { result.now ≡ self.now.0 }
+        ensures digits { HasDigits 12 19 result.now }
     {
         self.0.as_str()
     }

@@ -80,7 +80,8 @@ impl<const MIN: usize, const MAX: usize> PrintableUpTo<MIN, MAX> {
     /// The text as characters.
     #[tactic(auto, using(crate::proofs::AsciiLaws::printable_utf8))]
     pub fn as_str(&self) -> &str
-        ensures { result.now ≡ self.now }
+        ensures text { result.now ≡ self.now }
+        ensures class { HasPrintable MIN MAX result.now }
     {
         let text = self.as_slice();
         // Text of this class is ASCII, so it is UTF-8.

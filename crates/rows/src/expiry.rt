@@ -48,6 +48,15 @@ impl Expiry {
         self.digits.as_slice()
     }
 
+    /// The text as characters.
+    pub fn as_str(&self) -> &str
+        ensures text { result.now ≡ self.now }
+        ensures month { IsExpiry result.now }
+    {
+        let _ = &self.digits;
+        self.digits.as_str()
+    }
+
     /// Whether the month is before that of the date and time; years compare as two digits.
     pub fn is_before(&self, stamp: &LocalStamp) -> bool
         ensures { result ≡ nat_lt (number_of self.now) (number_of (month_of stamp.now)) }
