@@ -37,5 +37,8 @@ pub fn audit_journal(
     if prefix.count as usize != frames.len() {
         return Ok(Audit::CountDiffers);
     }
-    Ok(compared(alloc, replies, after, &prefix)?)
+    match compared(alloc, replies, after, &prefix) {
+        Ok(found) => Ok(found),
+        Err(_) => Err(ReplayFault::OutOfMemory),
+    }
 }

@@ -59,10 +59,11 @@ loop-block-preserved c =
     goes_on (λ b. b.items) (λ b. b.items) c.args.blocks.now c.args.replies.now c.args.book.now c.loop-block.right c.in_ok-prefix.prefix.book c.loop-block.block v w
     c.loop-block.invariant c.loop-block-test.true within c.index-blocks-block.is c.index-replies-block.is same (search rules)
 
-pub returns-in-Some-least_differing_row : goal.returns-in-Some-least_differing_row
-returns-in-Some-least_differing_row c =
+pub returns-in-Some-2 : goal.returns-in-Some-2
+returns-in-Some-2 c =
     let counted = c.have_same_counts.ensures.0 c.if-not-have_same_counts.false in
     let end : length c.args.blocks.now ≡ c.loop-block.block = omega (arith, c.loop-block-test.false) in
     let done = ends (λ b. b.items) (λ b. b.items) c.args.blocks.now c.args.replies.now c.args.book.now c.loop-block.right c.loop-block.block
     c.loop-block.invariant end (sym (same_lengths (λ b. b.items) (λ b. b.items) c.args.blocks.now c.args.replies.now counted) ∙ end) in
-    (done.0, subst (λ (rows : Rows). IsLeastDifference c.args.after.now rows c.in-Some-least_differing_row.key) done.1 c.in-Some-least_differing_row.ensures.some)
+    let least : IsLeastDifference c.args.after.now c.loop-block.right c.in-Some-2.key = search rules in
+    (done.0, subst (λ (rows : Rows). IsLeastDifference c.args.after.now rows c.in-Some-2.key) done.1 least)

@@ -33,8 +33,8 @@ compared-requires c =
     few_replies c.in_ok-prefix.prefix.replies.items c.args.book.now c.args.frames.now c.requires
     (c.in_ok-prefix.ensures.replies ∙ all_replies c.args.book.now c.args.frames.now c.args.entries.now c.in-Ok.core c.in-Ok.ensures.played (sym c.in_ok-prefix.ensures.count ∙ c.if-prefix-frames.false))
 
-pub returns-clause-finds : goal.returns-clause-finds
-returns-clause-finds c =
+pub returns-in-Ok-compared-clause-finds : goal.returns-in-Ok-compared-clause-finds
+returns-in-Ok-compared-clause-finds c =
     let count : c.in-Ok.core.state.board.committed ≡ length c.args.frames.now = sym c.in_ok-prefix.ensures.count ∙ c.if-prefix-frames.false in
     let replies = c.in_ok-prefix.ensures.replies ∙ all_replies c.args.book.now c.args.frames.now c.args.entries.now c.in-Ok.core c.in-Ok.ensures.played count in
     let book = c.in_ok-prefix.ensures.book ∙ all_rows c.args.book.now c.args.frames.now c.args.entries.now c.in-Ok.core c.in-Ok.ensures.played count in
@@ -42,10 +42,10 @@ returns-clause-finds c =
       core = c.in-Ok.core;
       plays = c.in-Ok.ensures.played;
       all = λ _.
-          subst (λ (rs : List ReplyBody). Finds c.args.replies.now c.args.after.now rs (rows_after c.args.book.now c.args.frames.now) c.compared.result) replies
-          (subst (λ (rows : Rows). Finds c.args.replies.now c.args.after.now c.in_ok-prefix.prefix.replies.items rows c.compared.result) book c.compared.ensures);
+          subst (λ (rs : List ReplyBody). Finds c.args.replies.now c.args.after.now rs (rows_after c.args.book.now c.args.frames.now) c.in-Ok-compared.found) replies
+          (subst (λ (rows : Rows). Finds c.args.replies.now c.args.after.now c.in_ok-prefix.prefix.replies.items rows c.in-Ok-compared.found) book c.in-Ok-compared.ensures);
       fewer = λ fewer. absurd (fewer count);
     }
 
-pub returns-clause-exact : goal.returns-clause-exact
-returns-clause-exact c n first = elim (c.in-Ok.ensures.exact n first) [ inl e ↦ absurd (cc e) | inr e ↦ absurd (cc e) ]
+pub returns-in-Ok-compared-clause-exact : goal.returns-in-Ok-compared-clause-exact
+returns-in-Ok-compared-clause-exact c n first = elim (c.in-Ok.ensures.exact n first) [ inl e ↦ absurd (cc e) | inr e ↦ absurd (cc e) ]

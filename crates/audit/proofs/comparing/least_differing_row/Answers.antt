@@ -18,7 +18,9 @@ missed None book right xs ys mine theirs h = map.same_entries_map book right (sy
 missed (Some key) book right xs ys mine theirs h = tt
 
 pub returns-clause-some : goal.returns-clause-some
-returns-clause-some c = found c.first_differing_key.result c.args.book.now c.args.right.now c.rows.result c.rows-2.result c.rows.ensures.rows c.rows-2.ensures.rows c.first_differing_key.ensures.some
+returns-clause-some c =
+    found c.first_differing_key.result c.args.book.now c.args.right.now c.iter.result c.iter-2.result (c.iter.ensures ∙ c.in_ok-mine.ensures.rows) (c.iter-2.ensures ∙ c.in_ok-theirs.ensures.rows) c.first_differing_key.ensures.some
 
 pub returns-clause-none : goal.returns-clause-none
-returns-clause-none c = missed c.first_differing_key.result c.args.book.now c.args.right.now c.rows.result c.rows-2.result c.rows.ensures.rows c.rows-2.ensures.rows c.first_differing_key.ensures.none
+returns-clause-none c =
+    missed c.first_differing_key.result c.args.book.now c.args.right.now c.iter.result c.iter-2.result (c.iter.ensures ∙ c.in_ok-mine.ensures.rows) (c.iter-2.ensures ∙ c.in_ok-theirs.ensures.rows) c.first_differing_key.ensures.none
