@@ -1,0 +1,3 @@
+pub mod LineLemmas
+pub mod PlainLemmas
+pub mod WordsLemmas
