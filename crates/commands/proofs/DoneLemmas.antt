@@ -1,7 +1,7 @@
 -- From what is asked for to what the words ask for.
 use Rattle.std.proofs.Common.{◌≡◌, ◌≢◌, ℕ, List, Option, Some, None, Result, Ok, Err, MatchResult, refl}
 use Rattle.batch_laws.specs.declared.batch_fault.BatchFault.{BatchFault}
-use Rattle.jobs.specs.Blocks.{AreBlocksKept}
+use Rattle.block_jobs.specs.Decided.{AreBlocksKept}
 use Rattle.jobs.specs.Decided.{Holding}
 use Rattle.jobs.specs.declared.job_fault.JobFault.{JobFault}
 use Rattle.jobs.specs.declared.job_fault.JobFault.TheVariants.{Batch}

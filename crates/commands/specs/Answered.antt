@@ -8,9 +8,9 @@ use Rattle.audit.specs.declared.audited.Audit.TheVariants as found
 use Rattle.audit.specs.declared.block_audit.BlockAudit.{BlockAudit}
 use Rattle.audit.specs.declared.block_audit.BlockAudit.TheVariants as block_found
 use Rattle.batch_laws.specs.declared.batch_fault.BatchFault.{BatchFault}
+use Rattle.block_jobs.specs.Audited.{AreBlocksAudited}
+use Rattle.block_jobs.specs.Decided.{AreBlocksDecided, AreBlocksKept}
 use Rattle.jobs.specs.Audited.{IsAudited}
-use Rattle.jobs.specs.AuditedBlocks.{AreBlocksAudited}
-use Rattle.jobs.specs.Blocks.{AreBlocksDecided, AreBlocksKept}
 use Rattle.jobs.specs.Decided.{Holding, IsDecided}
 use Rattle.jobs.specs.Journaled.{IsAuditedWithJournal, IsDecidedWithJournal}
 use Rattle.jobs.specs.Packed.{IsPacked}
@@ -89,13 +89,17 @@ IsHaltedAs known old new what fault kept = ⊥
 
 -- the file of the new book, where it is not that of the replies, holds what it held
 abbrev pub IsBookAsItWas : Holding → Holding → Names → Type 0
-IsBookAsItWas old new names = (held : List ℕ) → names.new_book ≢ names.replies → old names.new_book held → new names.new_book held
+IsBookAsItWas old new names = names.new_book ≢ names.replies → (held : List ℕ) → old names.new_book held → new names.new_book held
 
--- What is asked for is not done with the files. Of blocks none is kept.
+-- What is asked for is not done with the files, or not to its end; an older book under the name of the new one is not lost, where
+-- that is the name of no other file that is written.
 abbrev pub IsUndone : Holding → Holding → Asked → Type 0
 IsUndone old new (help text) = ⊥
 IsUndone old new version = ⊥
 IsUndone old new (one body) = ⊥
+IsUndone old new (serial names) = IsBookAsItWas old new names
+IsUndone old new (run names workers None) = IsBookAsItWas old new names
+IsUndone old new (run names workers (Some journal)) = names.new_book ≢ journal → IsBookAsItWas old new names
 IsUndone old new (blocks names workers) = IsBookAsItWas old new names
 IsUndone old new what = Unit {0}
 

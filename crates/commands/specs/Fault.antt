@@ -1,7 +1,7 @@
 -- Faults of the program: their texts and exit statuses.
 use Rattle.std.specs.Prelude.{ℕ, List, ◌∷◌, ◌++◌, Option, Some, None, codes, string_bytes}
 use Rattle.jobs.specs.JobFault.{part_of, number_of}
-use Rattle.jobs.specs.declared.halt.Halt.{Halt}
+use Rattle.block_jobs.specs.declared.halt.Halt.{Halt}
 use Rattle.jobs.specs.declared.job_fault.JobFault.{JobFault}
 use Rattle.words.specs.declared.line_fault.LineFault.{LineFault}
 use Rattle.words.specs.declared.line_fault.LineFault.TheVariants as line

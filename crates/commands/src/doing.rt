@@ -6,11 +6,12 @@ use crate::fault::Fault;
 use crate::report::Report;
 use answering::decide_one;
 use audit::{audit_text, block_audit_text};
+use block_jobs::{audit_block_files, run_blocks};
 use engine::Workers;
 use files::Files;
 use jobs::{
-    BatchNames, audit_batch, audit_batch_with_journal, audit_block_files, pack_batch, run_batch,
-    run_batch_with_journal, run_blocks, serial_batch, show_file,
+    BatchNames, audit_batch, audit_batch_with_journal, pack_batch, run_batch,
+    run_batch_with_journal, serial_batch, show_file,
 };
 use std::alloc::Global;
 use std::sync::Wait;
@@ -160,12 +161,7 @@ fn show<F: Files>(alloc: Global, files: &F, file: &str) -> Result<Report, Fault>
 }
 
 // A text is packed.
-fn pack<F: Files>(
-    alloc: Global,
-    files: &mut F,
-    text: &str,
-    batch: &str,
-) -> Result<Report, Fault>
+fn pack<F: Files>(alloc: Global, files: &mut F, text: &str, batch: &str) -> Result<Report, Fault>
     ensures { MatchResult result
         (IsDoneAs (F.is_known files.old) (F.holds files.old) (F.holds files.new) (pack text.now batch.now))
         (IsFaultIn (F.is_known files.old) (F.holds files.old) (F.holds files.new) (pack text.now batch.now)) }

@@ -2,7 +2,8 @@ ghost use Rattle.std.specs.Prelude.{◌≡◌};
 ghost use Rattle.commands.specs.Fault.{fault_of_halt, fault_of_line};
 ghost use Rattle.commands.specs.declared.fault.Fault.TheVariants.{Job, OutOfMemory};
 
-use jobs::{Halt, JobFault};
+use block_jobs::Halt;
+use jobs::JobFault;
 use std::alloc::AllocError;
 use thiserror::Error;
 use words::LineFault;

@@ -94,11 +94,7 @@ fn write_numbered<W: Write>(writer: &mut W, word: &str, number: u64) -> io::Resu
     end_line(writer)
 }
 
-fn write_twice<W: Write>(
-    writer: &mut W,
-    first: (&str, u64),
-    second: (&str, u64),
-) -> io::Result<()>
+fn write_twice<W: Write>(writer: &mut W, first: (&str, u64), second: (&str, u64)) -> io::Result<()>
     ensures { OnOk result (Appends (W.contents writer.old) (W.contents writer.new)
         ((numbered first.entry.0.now first.entry.1 ++ 10 ∷ numbered second.entry.0.now second.entry.1) ++ 10 ∷ [])) }
 {

@@ -1,5 +1,5 @@
 use audit::{Audit, BlockAudit};
-use jobs::BlockCount;
+use block_jobs::BlockCount;
 
 /// What the program says of what it did.
 #[derive(Drop)]

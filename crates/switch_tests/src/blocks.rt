@@ -28,8 +28,7 @@ fn block(alloc: Global, trace: &[u8]) -> Result<Vec<u8>, Fail> {
     joined(
         alloc,
         &[
-            b"\x00\x00\x00\x01\x00\x621100\x72\x30\x01\x01\x00\x80\x80\x00164111110000000005000000000000006000"
-                .as_slice(),
+            b"\x00\x00\x00\x01\x00\x621100\x72\x30\x01\x01\x00\x80\x80\x00164111110000000005000000000000006000".as_slice(),
             b"0110120000".as_slice(),
             trace,
             b"26011012000010006123456TERM0001978".as_slice(),
@@ -57,11 +56,9 @@ fn two_replies(alloc: Global) -> Result<Vec<u8>, Fail> {
         alloc,
         &[
             b"I83T\x00\x01\x00\x00\x00\x02".as_slice(),
-            b"\x00\x00\x00\x01\x00\x69R1110\x72\x30\x00\x01\x06\x80\x80\x00164111110000000005000000000000006000"
-                .as_slice(),
+            b"\x00\x00\x00\x01\x00\x69R1110\x72\x30\x00\x01\x06\x80\x80\x00164111110000000005000000000000006000".as_slice(),
             b"011012000000000126011012000006123456000001000TERM0001978".as_slice(),
-            b"\x00\x00\x00\x01\x00\x63R1110\x72\x30\x00\x01\x02\x80\x80\x00164111110000000005000000000000006000"
-                .as_slice(),
+            b"\x00\x00\x00\x01\x00\x63R1110\x72\x30\x00\x01\x02\x80\x80\x00164111110000000005000000000000006000".as_slice(),
             b"011012000000000226011012000006123456116TERM0001978".as_slice(),
         ],
     )
@@ -74,7 +71,10 @@ fn assert_decided<R: Abort + Threads + Wait + Sync>(
     words: &[&str],
 ) -> Result<(), Fail> {
     let file = two_blocks(alloc)?;
-    let mut files = files_of(alloc, &[("book", BOOK.as_bytes()), ("file", file.as_slice())])?;
+    let mut files = files_of(
+        alloc,
+        &[("book", BOOK.as_bytes()), ("file", file.as_slice())],
+    )?;
     let line = b"decided 2 in 2 blocks\n";
     assert_said(rt, alloc, &mut files, words, 0, line)?;
     let replies = two_replies(alloc)?;
@@ -91,12 +91,21 @@ fn blocks_are_decided_one_after_another(rt: HostRuntime) -> Result<(), Fail> {
     assert_decided(
         &rt,
         alloc,
-        &["blocks", "--workers=1", files[0], files[1], files[2], files[3]],
+        &[
+            "blocks",
+            "--workers=1",
+            files[0],
+            files[1],
+            files[2],
+            files[3],
+        ],
     )?;
     assert_decided(
         &rt,
         alloc,
-        &["blocks", files[0], files[1], files[2], files[3], "--engine", "locked"],
+        &[
+            "blocks", files[0], files[1], files[2], files[3], "--engine", "locked",
+        ],
     )
 }
 
@@ -146,9 +155,15 @@ fn a_fault_keeps_the_blocks_before_it(rt: HostRuntime) -> Result<(), Fail> {
     assert_kept(&rt, alloc, too_many, b"batch 10\nkept 0\n", b"", BOOK)?;
     assert_kept(&rt, alloc, b"I83B", b"batch 1\nkept 0\n", b"", BOOK)?;
     let body = BATCH.get(10..).ok_or("a body behind its length")?;
-    let one = [b"I83M\x00\x01\x00\x00\x00\x02\x00\x00\x00\x01".as_slice(), body];
+    let one = [
+        b"I83M\x00\x01\x00\x00\x00\x02\x00\x00\x00\x01".as_slice(),
+        body,
+    ];
     let reply = REPLIES.get(10..).ok_or("a reply behind its length")?;
-    let answered = [b"I83T\x00\x01\x00\x00\x00\x02\x00\x00\x00\x01".as_slice(), reply];
+    let answered = [
+        b"I83T\x00\x01\x00\x00\x00\x02\x00\x00\x00\x01".as_slice(),
+        reply,
+    ];
     let replies = joined(alloc, &answered)?;
     assert_eq!(rt; replies.len(), 121);
     let cut = joined(alloc, &one)?;
@@ -200,7 +215,12 @@ fn blocks_are_audited(rt: HostRuntime) -> Result<(), Fail> {
     let row = b"row acct:34313131313130303030303030303035 differs\n";
     for (replies, after, status, line) in [
         (right.as_slice(), AFTER_BOTH, 0, b"same\n".as_slice()),
-        (none.as_slice(), AFTER_BOTH, 3, b"count differs\n".as_slice()),
+        (
+            none.as_slice(),
+            AFTER_BOTH,
+            3,
+            b"count differs\n".as_slice(),
+        ),
         (
             turned.as_slice(),
             AFTER_BOTH,

@@ -113,7 +113,14 @@ fn bad_replies_are_told_by_their_number(rt: HostRuntime) -> Result<(), Fail> {
     }
     let last = b"I83R\x00\x01\x00\x00\x00\x01\x00\x02R!".as_slice();
     let mut files = files_of(alloc, &[("replies", last)])?;
-    assert_said(&rt, alloc, &mut files, &["show", "replies"], 1, b"batch 9\n")
+    assert_said(
+        &rt,
+        alloc,
+        &mut files,
+        &["show", "replies"],
+        1,
+        b"batch 9\n",
+    )
 }
 
 // A file that is not there.

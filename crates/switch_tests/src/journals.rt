@@ -7,11 +7,23 @@ use std::process::Abort;
 use std::test::Fail;
 
 const RUN: [&str; 7] = [
-    "run", "book", "batch", "replies", "after", "--journal", "journal",
+    "run",
+    "book",
+    "batch",
+    "replies",
+    "after",
+    "--journal",
+    "journal",
 ];
 
 const AUDIT: [&str; 7] = [
-    "audit", "book", "batch", "replies", "after", "--journal", "journal",
+    "audit",
+    "book",
+    "batch",
+    "replies",
+    "after",
+    "--journal",
+    "journal",
 ];
 
 // The batch with its replies and the book after it.
@@ -74,7 +86,13 @@ fn a_journal_that_is_not_there_is_told(rt: HostRuntime) -> Result<(), Fail> {
     assert_said(&rt, alloc, &mut files, &AUDIT, 1, b"book 1\n")?;
     let mut files = decided(alloc, b"")?;
     let words = [
-        "audit", "book", "batch", "replies", "after", "--journal", "none",
+        "audit",
+        "book",
+        "batch",
+        "replies",
+        "after",
+        "--journal",
+        "none",
     ];
     assert_said(&rt, alloc, &mut files, &words, 1, b"file 1\n")
 }

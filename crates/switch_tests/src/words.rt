@@ -136,12 +136,28 @@ fn words_that_are_no_command_are_a_usage_fault(rt: HostRuntime) -> Result<(), Fa
     assert_usage(
         &rt,
         alloc,
-        &["serial", "book", "batch", "replies", "after", "--journal", "journal"],
+        &[
+            "serial",
+            "book",
+            "batch",
+            "replies",
+            "after",
+            "--journal",
+            "journal",
+        ],
     )?;
     assert_usage(
         &rt,
         alloc,
-        &["blocks", "book", "file", "replies", "after", "--journal", "journal"],
+        &[
+            "blocks",
+            "book",
+            "file",
+            "replies",
+            "after",
+            "--journal",
+            "journal",
+        ],
     )?;
     assert_usage(
         &rt,
@@ -152,7 +168,15 @@ fn words_that_are_no_command_are_a_usage_fault(rt: HostRuntime) -> Result<(), Fa
         &rt,
         alloc,
         &[
-            "run", "book", "batch", "replies", "after", "--journal", "journal", "--engine", "split",
+            "run",
+            "book",
+            "batch",
+            "replies",
+            "after",
+            "--journal",
+            "journal",
+            "--engine",
+            "split",
         ],
     )?;
     for workers in ["0", "65", "four", "-1", ""] {

@@ -26,10 +26,7 @@ pub fn read_words(alloc: Global, words: &[String]) -> Result<Command, LineFault>
     };
     match command_of(alloc, &matches)? {
         Some(command) => Ok(command),
-        None => Err(LineFault::Usage(String::from_str(
-            alloc,
-            wrong_word(&matches),
-        )?)),
+        None => Err(LineFault::Usage(String::from_str(alloc, wrong_word(&matches))?)),
     }
 }
 
@@ -137,10 +134,7 @@ fn audit_of(alloc: Global, matches: &ArgMatches<'_>) -> Result<Option<Command>, 
 }
 
 // The files behind `audit-blocks`.
-fn audit_blocks_of(
-    alloc: Global,
-    matches: &ArgMatches<'_>,
-) -> Result<Option<Command>, AllocError>
+fn audit_blocks_of(alloc: Global, matches: &ArgMatches<'_>) -> Result<Option<Command>, AllocError>
     ensures { IfOk result (λ command. option_map asked_of command ≡ audit_blocks_in (rows_of (found_of matches.now))) }
 {
     match names_of(alloc, matches, "FILE")? {

@@ -185,18 +185,10 @@ fn files_line<'a>(
     ensures { IfOk result (IsLine (files_line name.now input.now)) }
 {
     let line = Command::new(alloc, name).about(about);
-    let book = line.arg(operand(
-        alloc,
-        "BOOK",
-        "The book before: JSON of version 1, 2 or 3",
-    ))?;
+    let book = line.arg(operand(alloc, "BOOK", "The book before: JSON of version 1, 2 or 3"))?;
     let batch = book.arg(operand(alloc, input, input_help))?;
     let replies = batch.arg(operand(alloc, "REPLIES", replies_help))?;
-    replies.arg(operand(
-        alloc,
-        "NEWBOOK",
-        "The book after it: JSON of version 3",
-    ))
+    replies.arg(operand(alloc, "NEWBOOK", "The book after it: JSON of version 3"))
 }
 
 // A subcommand that decides, with `[--workers N] [--engine ENGINE]`.
