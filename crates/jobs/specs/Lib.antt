@@ -1,6 +1,9 @@
 pub mod Audited
+pub mod AuditedBlocks
+pub mod Blocks
 pub mod Decided
 pub mod JobFault
+pub mod Journaled
 pub mod Opened
 pub mod Packed
 pub mod Shown

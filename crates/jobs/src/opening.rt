@@ -2,12 +2,14 @@ ghost use Rattle.std.specs.Prelude.{◌≡◌, ◌≤◌, ℕ, List, IfOk, lengt
 ghost use Rattle.batch_laws.specs.Frames.{IsBatchOf};
 ghost use Rattle.batch_laws.specs.Replies.{IsReplyFileOf};
 ghost use Rattle.book_json_laws.specs.Reading.{reading};
+ghost use Rattle.journal_text.specs.Journal.{AreEntries, journal_text};
 ghost use Rattle.jobs.specs.Opened.{FindsBook};
 
 use crate::job_fault::JobFault;
 use batch::{BatchFault, read_batch, read_replies};
 use book_json::read_book;
 use files::{Files, read_file};
+use journal_text::{Entry, read_journal};
 use rows::{Book, Frame, ReplyBody};
 use std::alloc::Global;
 
@@ -55,5 +57,21 @@ pub(crate) fn open_replies<F: Files>(
         Ok(replies) => Ok(replies),
         Err(BatchFault::Device) => Err(JobFault::Unreadable),
         Err(fault) => Err(JobFault::Batch(fault)),
+    }
+}
+
+/// The entries of the journal of this name.
+pub(crate) fn open_journal<F: Files>(
+    alloc: Global,
+    files: &F,
+    name: &str,
+) -> Result<Vec<Entry>, JobFault>
+    ensures are { IfOk result (λ entries. AreEntries entries.items) }
+    ensures entries { (bytes : List ℕ) → F.holds files.now name.now bytes → IfOk result (λ entries. bytes ≡ journal_text entries.items) }
+{
+    let text = read_file(alloc, files, name)?;
+    match read_journal(alloc, &text) {
+        Ok(entries) => Ok(entries),
+        Err(fault) => Err(JobFault::Journal(fault)),
     }
 }
