@@ -2,8 +2,8 @@ pub mod Audited
 pub mod AuditedBlocks
 pub mod Blocks
 pub mod Decided
+pub mod Faults
 pub mod JobFault
 pub mod Journaled
-pub mod Opened
 pub mod Packed
 pub mod Shown

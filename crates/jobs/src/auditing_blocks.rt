@@ -40,9 +40,7 @@ fn open_blocks<F: Files>(
     ensures each { IfOk result (λ blocks. All (λ block. length block.items ≤ 65536) blocks.items) }
     ensures blocks { (bytes : List ℕ) → F.holds files.now name.now bytes → IfOk result (λ blocks. IsBlockFileOf bytes (frames_of blocks.items)) }
 {
-    let Ok(mut input) = files.open(name) else {
-        return Err(JobFault::Unreadable);
-    };
+    let mut input = files.open(name)?;
     match read_blocks(alloc, &mut input) {
         Ok(blocks) => Ok(blocks),
         Err(fault) => Err(JobFault::Batch(fault)),
@@ -57,9 +55,7 @@ fn open_block_replies<F: Files>(
 ) -> Result<Vec<Vec<ReplyBody>>, JobFault>
     ensures { (bytes : List ℕ) → F.holds files.now name.now bytes → IfOk result (λ replies. IsBlockReplyFileOf bytes (replies_of replies.items)) }
 {
-    let Ok(mut input) = files.open(name) else {
-        return Err(JobFault::Unreadable);
-    };
+    let mut input = files.open(name)?;
     match read_block_replies(alloc, &mut input) {
         Ok(replies) => Ok(replies),
         Err(BatchFault::Device) => Err(JobFault::Unreadable),

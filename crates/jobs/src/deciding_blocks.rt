@@ -8,9 +8,9 @@ use crate::batch_names::BatchNames;
 use crate::block_count::BlockCount;
 use crate::deciding::put_book;
 use crate::halt::Halt;
-use crate::job_fault::JobFault;
+use crate::job_fault::{JobFault, fault_of_closing};
 use crate::opening::open_book;
-use batch::{BatchFault, BlocksOutcome, Halted, process_blocks};
+use batch::{BlocksOutcome, Halted, process_blocks};
 use files::Files;
 use fold::Outcome;
 use rows::{Book, Frame};
@@ -75,17 +75,13 @@ fn answer_blocks<F: Files, E: Fn(&Book, &[Frame]) -> Result<Outcome, AllocError>
     ensures known { F.is_known files.old → F.is_known files.new }
     ensures others { (other held : List ℕ) → other ≢ string_bytes names.now.replies → F.holds files.old other held → F.holds files.new other held }
 {
-    let Ok(mut blocks) = files.open(names.batch.as_str()) else {
-        return Err(JobFault::Unreadable);
-    };
-    let Ok(mut replies) = files.create(names.replies.as_str()) else {
-        return Err(JobFault::Unwritable);
-    };
+    let mut blocks = files.open(names.batch.as_str())?;
+    let mut replies = files.create(names.replies.as_str())?;
     let processed = process_blocks(alloc, book, &mut blocks, &mut replies, decide);
     let closed = files.close(names.replies.as_str(), replies);
     match (processed, closed) {
         (processed, Ok(())) => Ok(processed),
-        (Ok(_), Err(_)) => Err(JobFault::Batch(BatchFault::Device)),
+        (Ok(_), Err(fault)) => Err(fault_of_closing(fault)),
         (Err(halted), Err(_)) => Err(JobFault::Batch(halted.fault)),
     }
 }

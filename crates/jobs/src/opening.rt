@@ -1,9 +1,9 @@
-ghost use Rattle.std.specs.Prelude.{◌≡◌, ◌≤◌, ℕ, List, IfOk, length};
+ghost use Rattle.std.specs.Prelude.{◌≡◌, ◌≤◌, ℕ, List, IfOk, IfErr, length};
 ghost use Rattle.batch_laws.specs.Frames.{IsBatchOf};
 ghost use Rattle.batch_laws.specs.Replies.{IsReplyFileOf};
-ghost use Rattle.book_json_laws.specs.Reading.{reading};
+ghost use Rattle.files.specs.Failing.{HasFailed};
 ghost use Rattle.journal_text.specs.Journal.{AreEntries, journal_text};
-ghost use Rattle.jobs.specs.Opened.{FindsBook};
+ghost use Rattle.jobs.specs.Faults.{IsBatchFault, IsBookFault, IsBookOf};
 
 use crate::job_fault::JobFault;
 use batch::{BatchFault, read_batch, read_replies};
@@ -15,7 +15,8 @@ use std::alloc::Global;
 
 /// The book of the file of this name.
 pub(crate) fn open_book<F: Files>(alloc: Global, files: &F, name: &str) -> Result<Book, JobFault>
-    ensures { (bytes : List ℕ) → F.holds files.now name.now bytes → FindsBook (reading bytes) result }
+    ensures book { IfOk result (IsBookOf (F.holds files.now) name.now) }
+    ensures fault { IfErr result (IsBookFault (F.holds files.now) name.now (HasFailed F.Input.failures)) }
 {
     let text = read_file(alloc, files, name)?;
     match read_book(alloc, &text) {
@@ -31,11 +32,10 @@ pub(crate) fn open_batch<F: Files>(
     name: &str,
 ) -> Result<Vec<Frame>, JobFault>
     ensures count { IfOk result (λ frames. length frames.items ≤ 65536) }
+    ensures fault { IfErr result (IsBatchFault (F.holds files.now) name.now (HasFailed F.Input.failures) ⊥ ⊥) }
     ensures frames { (bytes : List ℕ) → F.holds files.now name.now bytes → IfOk result (λ frames. IsBatchOf bytes frames.items) }
 {
-    let Ok(mut input) = files.open(name) else {
-        return Err(JobFault::Unreadable);
-    };
+    let mut input = files.open(name)?;
     match read_batch(alloc, &mut input) {
         Ok(frames) => Ok(frames),
         Err(fault) => Err(JobFault::Batch(fault)),
@@ -50,9 +50,7 @@ pub(crate) fn open_replies<F: Files>(
 ) -> Result<Vec<ReplyBody>, JobFault>
     ensures { (bytes : List ℕ) → F.holds files.now name.now bytes → IfOk result (λ replies. IsReplyFileOf bytes replies.items) }
 {
-    let Ok(mut input) = files.open(name) else {
-        return Err(JobFault::Unreadable);
-    };
+    let mut input = files.open(name)?;
     match read_replies(alloc, &mut input) {
         Ok(replies) => Ok(replies),
         Err(BatchFault::Device) => Err(JobFault::Unreadable),

@@ -11,7 +11,7 @@ ghost use Rattle.jobs.specs.Journaled.{IsDecidedWithJournal, IsRunJournal};
 
 use crate::batch_names::BatchNames;
 use crate::deciding::put_book;
-use crate::job_fault::JobFault;
+use crate::job_fault::{JobFault, fault_of_closing};
 use crate::opening::open_book;
 use batch::{BatchFault, Sink, Source, read_batch, write_replies};
 use engine::{OpenGate, Workers, run_traced};
@@ -63,17 +63,13 @@ fn answer_traced<R: Threads + Wait + Sync, F: Files>(
     ensures known { F.is_known files.old → F.is_known files.new }
     ensures others { (other held : List ℕ) → other ≢ string_bytes names.now.replies → F.holds files.old other held → F.holds files.new other held }
 {
-    let Ok(mut batch) = files.open(names.batch.as_str()) else {
-        return Err(JobFault::Unreadable);
-    };
-    let Ok(mut replies) = files.create(names.replies.as_str()) else {
-        return Err(JobFault::Unwritable);
-    };
+    let mut batch = files.open(names.batch.as_str())?;
+    let mut replies = files.create(names.replies.as_str())?;
     let traced = trace_batch(rt, alloc, book, &mut batch, &mut replies, workers);
     let closed = files.close(names.replies.as_str(), replies);
     match (traced, closed) {
         (Ok(run), Ok(())) => Ok(run),
-        (Ok(_), Err(_)) => Err(JobFault::Batch(BatchFault::Device)),
+        (Ok(_), Err(fault)) => Err(fault_of_closing(fault)),
         (Err(fault), _) => Err(JobFault::Batch(fault)),
     }
 }
@@ -116,8 +112,5 @@ fn put_journal<F: Files>(
     ensures others { (other held : List ℕ) → other ≢ name.now → F.holds files.old other held → F.holds files.new other held }
 {
     let text = write_journal(alloc, entries)?;
-    match files.replace(name, &text) {
-        Ok(()) => Ok(()),
-        Err(_) => Err(JobFault::Unwritable),
-    }
+    Ok(files.replace(name, &text)?)
 }
