@@ -1,6 +1,4 @@
 pub mod Audited
-pub mod AuditedBlocks
-pub mod Blocks
 pub mod Decided
 pub mod Faults
 pub mod JobFault

@@ -82,7 +82,7 @@ fn answer_batch<F: Files, E: Fn(&Book, &[Frame]) -> Result<Outcome, AllocError>>
 }
 
 /// Puts the text of a book into the file of this name.
-pub(crate) fn put_book<F: Files>(
+pub fn put_book<F: Files>(
     alloc: Global,
     files: &mut F,
     name: &str,

@@ -99,7 +99,7 @@ impl From<WriteFault> for JobFault {
 }
 
 /// Why a file of a batch or its replies is not written, where it can't be closed.
-pub(crate) fn fault_of_closing(fault: WriteFault) -> JobFault
+pub fn fault_of_closing(fault: WriteFault) -> JobFault
     ensures { result ≡ fault_of_close fault }
 {
     match fault {

@@ -2,12 +2,8 @@
 #![tactic(auto)]
 
 mod auditing;
-mod auditing_blocks;
 mod batch_names;
-mod block_count;
 mod deciding;
-mod deciding_blocks;
-mod halt;
 mod job_fault;
 mod opening;
 mod packing;
@@ -16,14 +12,11 @@ mod showing;
 mod tracing;
 
 pub use auditing::{audit_batch, audit_batch_with_journal};
-pub use auditing_blocks::audit_block_files;
 pub use batch_names::BatchNames;
-pub use block_count::BlockCount;
-pub use deciding::decide_batch;
-pub use deciding_blocks::decide_blocks;
-pub use halt::Halt;
-pub use job_fault::JobFault;
+pub use deciding::{decide_batch, put_book};
+pub use job_fault::{JobFault, fault_of_closing};
+pub use opening::open_book;
 pub use packing::pack_batch;
-pub use running::{run_batch, run_blocks, serial_batch};
+pub use running::{run_batch, serial_batch};
 pub use showing::show_file;
 pub use tracing::run_batch_with_journal;

@@ -14,7 +14,7 @@ use rows::{Book, Frame, ReplyBody};
 use std::alloc::Global;
 
 /// The book of the file of this name.
-pub(crate) fn open_book<F: Files>(alloc: Global, files: &F, name: &str) -> Result<Book, JobFault>
+pub fn open_book<F: Files>(alloc: Global, files: &F, name: &str) -> Result<Book, JobFault>
     ensures book { IfOk result (IsBookOf (F.holds files.now) name.now) }
     ensures fault { IfErr result (IsBookFault (F.holds files.now) name.now (HasFailed F.Input.failures)) }
 {

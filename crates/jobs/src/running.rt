@@ -1,14 +1,11 @@
-ghost use Rattle.std.specs.Prelude.{◌≡◌, ◌≢◌, ◌≤◌, ℕ, List, Some, None, IfOk, IfErr, length, string_bytes};
+ghost use Rattle.std.specs.Prelude.{◌≡◌, ◌≢◌, ◌≤◌, ℕ, List, IfOk, IfErr, OnErr, length, string_bytes};
 ghost use Rattle.batch.specs.Processing.{AnswersFold};
-ghost use Rattle.batch_laws.specs.declared.batch_fault.BatchFault.{BatchFault};
-ghost use Rattle.jobs.specs.Blocks.{AreBlocksDecided, AreBlocksKept};
+ghost use Rattle.files.specs.Failing.{HasFailed, HasRefused};
 ghost use Rattle.jobs.specs.Decided.{IsDecided};
+ghost use Rattle.jobs.specs.Faults.{HoldsSameOrNothing, IsDecidingFault, IsOfBytes};
 
 use crate::batch_names::BatchNames;
-use crate::block_count::BlockCount;
 use crate::deciding::decide_batch;
-use crate::deciding_blocks::decide_blocks;
-use crate::halt::Halt;
 use crate::job_fault::JobFault;
 use engine::{OpenGate, Workers, run};
 use files::Files;
@@ -30,6 +27,13 @@ pub fn run_batch<R: Threads + Wait + Sync, F: Files>(
 ) -> Result<usize, JobFault>
     ensures decided { IfOk result (IsDecided (F.is_known files.old) (F.holds files.old) (F.holds files.new)
         (string_bytes names.now.book) (string_bytes names.now.batch) (string_bytes names.now.replies) (string_bytes names.now.new_book)) }
+    ensures fault { IfErr result (IsDecidingFault (F.holds files.old) (string_bytes names.now.book) (string_bytes names.now.batch)
+        (HasFailed F.Input.failures) (HasFailed F.Output.failures) (HasRefused F.refuses)) }
+    ensures kept { OnErr result (string_bytes names.now.new_book ≢ string_bytes names.now.replies → (held : List ℕ)
+        → F.holds files.old (string_bytes names.now.new_book) held → F.holds files.new (string_bytes names.now.new_book) held) }
+    ensures unanswered { IfErr result (λ fault. IsOfBytes fault → F.is_known files.old
+        → HoldsSameOrNothing (F.holds files.old) (F.holds files.new) (string_bytes names.now.replies)) }
+    ensures known { F.is_known files.old → F.is_known files.new }
 {
     let decide = |book: &Book, frames: &[Frame]| -> Result<Outcome, AllocError>
         requires { length frames.now ≤ 65536 }
@@ -46,37 +50,19 @@ pub fn serial_batch<F: Files>(
 ) -> Result<usize, JobFault>
     ensures decided { IfOk result (IsDecided (F.is_known files.old) (F.holds files.old) (F.holds files.new)
         (string_bytes names.now.book) (string_bytes names.now.batch) (string_bytes names.now.replies) (string_bytes names.now.new_book)) }
+    ensures fault { IfErr result (IsDecidingFault (F.holds files.old) (string_bytes names.now.book) (string_bytes names.now.batch)
+        (HasFailed F.Input.failures) (HasFailed F.Output.failures) (HasRefused F.refuses)) }
+    ensures kept { OnErr result (string_bytes names.now.new_book ≢ string_bytes names.now.replies → (held : List ℕ)
+        → F.holds files.old (string_bytes names.now.new_book) held → F.holds files.new (string_bytes names.now.new_book) held) }
+    ensures unanswered { IfErr result (λ fault. IsOfBytes fault → F.is_known files.old
+        → HoldsSameOrNothing (F.holds files.old) (F.holds files.new) (string_bytes names.now.replies)) }
+    ensures known { F.is_known files.old → F.is_known files.new }
 {
     let decide = |book: &Book, frames: &[Frame]| -> Result<Outcome, AllocError>
         requires { length frames.now ≤ 65536 }
         ensures { AnswersFold book.entry.now frames.entry.now result }
     { decide_serially(alloc, book, frames) };
     decide_batch(alloc, files, names, &decide)
-}
-
-/// Decides a block file by so many workers, block after block, files to files. Where a block can't be read, decided or answered,
-/// the blocks before it are kept.
-pub fn run_blocks<R: Threads + Wait + Sync, F: Files>(
-    rt: &R,
-    alloc: Global,
-    files: &mut F,
-    names: &BatchNames,
-    workers: Workers,
-) -> Result<BlockCount, Halt>
-    ensures decided { IfOk result (λ count. AreBlocksDecided (F.is_known files.old) (F.holds files.old) (F.holds files.new)
-        (string_bytes names.now.book) (string_bytes names.now.batch) (string_bytes names.now.replies) (string_bytes names.now.new_book) count.blocks count.messages) }
-    ensures halted { IfErr result (λ halt. (count : ℕ) → halt.kept ≡ Some count → (fault : BatchFault) × (halt.fault ≡ JobFault.Batch fault)
-        × AreBlocksKept (F.is_known files.old) (F.holds files.old) (F.holds files.new)
-        (string_bytes names.now.book) (string_bytes names.now.batch) (string_bytes names.now.replies) (string_bytes names.now.new_book) fault count) }
-    ensures kept { IfErr result (λ halt. halt.kept ≡ None → (held : List ℕ) → string_bytes names.now.new_book ≢ string_bytes names.now.replies
-        → F.holds files.old (string_bytes names.now.new_book) held → F.holds files.new (string_bytes names.now.new_book) held) }
-    ensures known { F.is_known files.old → F.is_known files.new }
-{
-    let decide = |book: &Book, frames: &[Frame]| -> Result<Outcome, AllocError>
-        requires { length frames.now ≤ 65536 }
-        ensures { AnswersFold book.entry.now frames.entry.now result }
-    { run(rt, alloc, book, frames, workers, &Shipped, &OpenGate) };
-    decide_blocks(alloc, files, names, &decide)
 }
 
 // Decides a batch one message after another on a copy of the book.

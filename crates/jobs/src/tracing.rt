@@ -1,12 +1,14 @@
 ghost use Rattle.std.specs.Prelude.{◌≡◌, ◌≢◌, ◌+◌, ◌<◌, ◌^◌, ◌++◌, ℕ, List, Ok, Err, IfOk, IfErr, OnOk, OnErr, IsTrue, length, string_bytes};
 ghost use Rattle.batch.specs.Processing.{IsFold};
-ghost use Rattle.batch_laws.specs.BatchFault.{is_of_bytes};
+ghost use Rattle.batch_laws.specs.BatchFault.{failures_after, is_of_bytes};
 ghost use Rattle.batch_laws.specs.Files.{replies_text};
 ghost use Rattle.batch_laws.specs.Frames.{IsBatchOf};
 ghost use Rattle.batch_laws.specs.Reading.{bodies_of, batch_magic};
+ghost use Rattle.files.specs.Failing.{HasFailed, HasRefused};
 ghost use Rattle.journal_text.specs.Journal.{AreEntries, journal_text};
 ghost use Rattle.rows.specs.Fold.{replies_to};
 ghost use Rattle.rows.specs.declared.frame.Frame.{Frame};
+ghost use Rattle.jobs.specs.Faults.{HoldsSameOrNothing, IsBatchFault, IsDecidingFault, IsOfBytes, IsPuttingFault};
 ghost use Rattle.jobs.specs.Journaled.{IsDecidedWithJournal, IsRunJournal};
 
 use crate::batch_names::BatchNames;
@@ -36,9 +38,13 @@ pub fn run_batch_with_journal<R: Threads + Wait + Sync, F: Files>(
 ) -> Result<usize, JobFault>
     ensures decided { IfOk result (IsDecidedWithJournal (F.is_known files.old) (F.holds files.old) (F.holds files.new)
         (string_bytes names.now.book) (string_bytes names.now.batch) (string_bytes names.now.replies) (string_bytes names.now.new_book) journal.now) }
+    ensures fault { IfErr result (IsDecidingFault (F.holds files.old) (string_bytes names.now.book) (string_bytes names.now.batch)
+        (HasFailed F.Input.failures) (HasFailed F.Output.failures) (HasRefused F.refuses)) }
     // Nothing of an older new book is lost.
-    ensures kept { OnErr result ((held : List ℕ) → string_bytes names.now.new_book ≢ string_bytes names.now.replies → string_bytes names.now.new_book ≢ journal.now
+    ensures kept { OnErr result (string_bytes names.now.new_book ≢ string_bytes names.now.replies → string_bytes names.now.new_book ≢ journal.now → (held : List ℕ)
         → F.holds files.old (string_bytes names.now.new_book) held → F.holds files.new (string_bytes names.now.new_book) held) }
+    ensures unanswered { IfErr result (λ fault. IsOfBytes fault → F.is_known files.old
+        → HoldsSameOrNothing (F.holds files.old) (F.holds files.new) (string_bytes names.now.replies)) }
     ensures known { F.is_known files.old → F.is_known files.new }
 {
     let book = open_book(alloc, files, names.book.as_str())?;
@@ -60,6 +66,10 @@ fn answer_traced<R: Threads + Wait + Sync, F: Files>(
     ensures ok { IfOk result (λ run. (frames : List Frame) × IsFold book.now frames run.0 × IsRunJournal book.now frames run.1.items run.0.committed
         × ((bytes : List ℕ) → F.holds files.old (string_bytes names.now.batch) bytes → IsBatchOf bytes frames)
         × (F.is_known files.old → F.holds files.new (string_bytes names.now.replies) (replies_text (replies_to book.now frames)))) }
+    ensures fault { IfErr result (IsBatchFault (F.holds files.old) (string_bytes names.now.batch)
+        (HasFailed F.Input.failures) (HasFailed F.Output.failures) (HasRefused F.refuses)) }
+    ensures unanswered { IfErr result (λ fault. IsOfBytes fault → F.is_known files.old
+        → HoldsSameOrNothing (F.holds files.old) (F.holds files.new) (string_bytes names.now.replies)) }
     ensures known { F.is_known files.old → F.is_known files.new }
     ensures others { (other held : List ℕ) → other ≢ string_bytes names.now.replies → F.holds files.old other held → F.holds files.new other held }
 {
@@ -86,6 +96,7 @@ fn trace_batch<R: Threads + Wait + Sync, S: Source, W: Sink>(
 ) -> Result<(Outcome, Vec<Entry>), BatchFault>
     requires source { S.failures source.old + 1 < 2 ^ 64 }
     requires sink { W.failures sink.old + 1 < 2 ^ 64 }
+    ensures failures { S.failures source.new + W.failures sink.new ≡ failures_after result (S.failures source.old + W.failures sink.old) }
     ensures known { W.is_known sink.old → W.is_known sink.new }
     ensures ok { IfOk result (λ run. (frames : List Frame) × IsFold book.now frames run.0 × IsRunJournal book.now frames run.1.items run.0.committed
         × (S.is_known source.old → IsBatchOf (S.remaining source.old) frames)
@@ -108,6 +119,7 @@ fn put_journal<F: Files>(
 ) -> Result<(), JobFault>
     ensures ok { OnOk result (F.is_known files.old → F.holds files.new name.now (journal_text entries.now)) }
     ensures are { OnOk result (AreEntries entries.now) }
+    ensures fault { IfErr result (IsPuttingFault (HasRefused F.refuses)) }
     ensures known { F.is_known files.old → F.is_known files.new }
     ensures others { (other held : List ℕ) → other ≢ name.now → F.holds files.old other held → F.holds files.new other held }
 {

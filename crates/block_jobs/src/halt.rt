@@ -1,6 +1,6 @@
 ghost use Rattle.std.specs.Prelude.{◌≡◌, None};
 
-use crate::job_fault::JobFault;
+use jobs::JobFault;
 
 /// Why not all blocks of a file were decided, and what is kept.
 #[derive(Clone, Copy, Debug, PartialEq, Eq)]

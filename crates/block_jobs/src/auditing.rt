@@ -2,14 +2,12 @@ ghost use Rattle.std.specs.Prelude.{◌≤◌, ℕ, List, IfOk, length, string_b
 ghost use Rattle.std.specs.List.{All};
 ghost use Rattle.batch.specs.BlockFiles.{frames_of, replies_of};
 ghost use Rattle.batch_laws.specs.Blocks.{IsBlockFileOf, IsBlockReplyFileOf};
-ghost use Rattle.jobs.specs.AuditedBlocks.{AreBlocksAudited};
+ghost use Rattle.block_jobs.specs.Audited.{AreBlocksAudited};
 
-use crate::batch_names::BatchNames;
-use crate::job_fault::JobFault;
-use crate::opening::open_book;
 use audit::{BlockAudit, audit_blocks};
 use batch::{BatchFault, read_block_replies, read_blocks};
 use files::Files;
+use jobs::{BatchNames, JobFault, open_book};
 use rows::{Frame, ReplyBody};
 use std::alloc::Global;
 

@@ -2,17 +2,14 @@ ghost use Rattle.std.specs.Prelude.{◌≡◌, ◌≢◌, ◌⊎◌, ◌≤◌, 
 ghost use Rattle.batch.specs.Processing.{AnswersFold};
 ghost use Rattle.batch_laws.specs.declared.batch_fault.BatchFault.{BatchFault};
 ghost use Rattle.book_json_laws.specs.Text.{book_text};
-ghost use Rattle.jobs.specs.Blocks.{AreBlocksDecided, AreBlocksKept, AreBlocksAnswered, AreFirstAnswered};
+ghost use Rattle.block_jobs.specs.Decided.{AreBlocksDecided, AreBlocksKept, AreBlocksAnswered, AreFirstAnswered};
 
-use crate::batch_names::BatchNames;
 use crate::block_count::BlockCount;
-use crate::deciding::put_book;
 use crate::halt::Halt;
-use crate::job_fault::{JobFault, fault_of_closing};
-use crate::opening::open_book;
 use batch::{BlocksOutcome, Halted, process_blocks};
 use files::Files;
 use fold::Outcome;
+use jobs::{BatchNames, JobFault, fault_of_closing, open_book, put_book};
 use rows::{Book, Frame};
 use std::alloc::{AllocError, Global};
 
@@ -79,10 +76,12 @@ fn answer_blocks<F: Files, E: Fn(&Book, &[Frame]) -> Result<Outcome, AllocError>
     let mut replies = files.create(names.replies.as_str())?;
     let processed = process_blocks(alloc, book, &mut blocks, &mut replies, decide);
     let closed = files.close(names.replies.as_str(), replies);
-    match (processed, closed) {
-        (processed, Ok(())) => Ok(processed),
-        (Ok(_), Err(fault)) => Err(fault_of_closing(fault)),
-        (Err(halted), Err(_)) => Err(JobFault::Batch(halted.fault)),
+    match closed {
+        Ok(()) => Ok(processed),
+        Err(fault) => match processed {
+            Ok(_) => Err(fault_of_closing(fault)),
+            Err(halted) => Err(JobFault::Batch(halted.fault)),
+        },
     }
 }
 
