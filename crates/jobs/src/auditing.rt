@@ -1,5 +1,7 @@
-ghost use Rattle.std.specs.Prelude.{IfOk, string_bytes};
+ghost use Rattle.std.specs.Prelude.{IfOk, IfErr, string_bytes};
+ghost use Rattle.files.specs.Failing.{HasFailed};
 ghost use Rattle.jobs.specs.Audited.{IsAudited};
+ghost use Rattle.jobs.specs.Faults.{IsAuditingFault};
 ghost use Rattle.jobs.specs.Journaled.{IsAuditedWithJournal};
 
 use crate::batch_names::BatchNames;
@@ -15,8 +17,10 @@ pub fn audit_batch<F: Files>(
     files: &F,
     names: &BatchNames,
 ) -> Result<Audit, JobFault>
-    ensures { IfOk result (IsAudited (F.holds files.now)
+    ensures audited { IfOk result (IsAudited (F.holds files.now)
         (string_bytes names.now.book) (string_bytes names.now.batch) (string_bytes names.now.replies) (string_bytes names.now.new_book)) }
+    ensures fault { IfErr result (IsAuditingFault (F.holds files.now)
+        (string_bytes names.now.book) (string_bytes names.now.batch) (string_bytes names.now.replies) (string_bytes names.now.new_book) (HasFailed F.Input.failures)) }
 {
     let book = open_book(alloc, files, names.book.as_str())?;
     let frames = open_batch(alloc, files, names.batch.as_str())?;

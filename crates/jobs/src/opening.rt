@@ -3,7 +3,7 @@ ghost use Rattle.batch_laws.specs.Frames.{IsBatchOf};
 ghost use Rattle.batch_laws.specs.Replies.{IsReplyFileOf};
 ghost use Rattle.files.specs.Failing.{HasFailed};
 ghost use Rattle.journal_text.specs.Journal.{AreEntries, journal_text};
-ghost use Rattle.jobs.specs.Faults.{IsBatchFault, IsBookFault, IsBookOf};
+ghost use Rattle.jobs.specs.Faults.{IsBatchFault, IsBookFault, IsBookOf, IsReplyFileFault};
 
 use crate::job_fault::JobFault;
 use batch::{BatchFault, read_batch, read_replies};
@@ -48,7 +48,8 @@ pub(crate) fn open_replies<F: Files>(
     files: &F,
     name: &str,
 ) -> Result<Vec<ReplyBody>, JobFault>
-    ensures { (bytes : List ℕ) → F.holds files.now name.now bytes → IfOk result (λ replies. IsReplyFileOf bytes replies.items) }
+    ensures fault { IfErr result (IsReplyFileFault (F.holds files.now) name.now (HasFailed F.Input.failures)) }
+    ensures replies { (bytes : List ℕ) → F.holds files.now name.now bytes → IfOk result (λ replies. IsReplyFileOf bytes replies.items) }
 {
     let mut input = files.open(name)?;
     match read_replies(alloc, &mut input) {
