@@ -1,5 +1,5 @@
 -- The text of a fault, read back.
-use Rattle.std.proofs.Common.{◌≡◌, ℕ, ◌<◌, ◌^◌, ◌-◌, List, ◌∷◌, ◌++◌, length, take, drop, refl, sym, ap, Bool, true, false, ◌∙◌, arith}
+use Rattle.std.proofs.Common.{◌≡◌, ℕ, ◌<◌, ◌^◌, ◌-◌, List, ◌∷◌, ◌++◌, length, take, drop, ap, Bool, true, false, ◌∙◌, arith}
 use Rattle.std.proofs.lemmas.List.{take_at, drop_at, take_all, length-append, length-drop}
 use Rattle.iso8583.proofs.NumberLaws.{length-fixed_digits, number_of-fixed_digits, is_digits-fixed_digits, is_digits-append}
 use Rattle.iso8583.specs.Class.{is_digits}

@@ -7,3 +7,4 @@ pub mod FaultTexts
 pub mod ReadReplies
 pub mod Blocking
 pub mod ReadBlocks
+pub mod ReadReplyBlocks

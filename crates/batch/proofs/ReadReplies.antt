@@ -1,5 +1,5 @@
 -- Reading replies one after the other, as a loop does.
-use Rattle.std.proofs.Common.{◌≡◌, ◌⊎◌, ℕ, zero, suc, ◌+◌, ◌≤◌, ◌<◌, List, [], ◌∷◌, ◌++◌, Result, Ok, Err, refl, sym, ap, subst, inl, inr, ◌∙◌, arith}
+use Rattle.std.proofs.Common.{◌≡◌, ℕ, zero, suc, ◌+◌, ◌<◌, List, [], ◌∷◌, ◌++◌, Result, Ok, Err, refl, ap, subst, inl, inr, ◌∙◌, arith}
 use Rattle.rows.specs.declared.reply_body.ReplyBody.{ReplyBody}
 use Rattle.std.specs.Prelude.{IsTrue}
 use Rattle.batch_laws.specs.BatchFault.{is_of_bytes}

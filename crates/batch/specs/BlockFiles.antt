@@ -2,9 +2,9 @@
 use Rattle.std.specs.Prelude.{◌≡◌, ◌⊎◌, ℕ, List, length, map, Result, Ok, Err, IsTrue}
 use Rattle.std.specs.Global.{Vec}
 use Rattle.rows.specs.declared.frame.Frame.{Frame}
+use Rattle.rows.specs.declared.reply_body.ReplyBody.{ReplyBody}
 use Rattle.batch_laws.specs.BatchFault.{is_of_bytes}
-use Rattle.batch_laws.specs.Blocks.{AreBlocks, IsBlockFileOf, FailsBehind, block_head_at, blocks_magic, block_at}
-use Rattle.batch_laws.specs.Reading.{ended}
+use Rattle.batch_laws.specs.Blocks.{AreBlocks, IsBlockFileOf, FailsBehind, block_head_at, blocks_magic, IsReplyBlock, AreReplyBlocks, IsBlockReplyFileOf, FailsInReplyBlock, FailsAmongReplies, FailsAsBlockReplies}
 use Rattle.batch_laws.specs.declared.batch_fault.BatchFault.{BatchFault}
 
 -- the frames of each block
@@ -25,3 +25,22 @@ abbrev pub GivesBlockFile : List ℕ → Result (Vec (Vec Frame)) BatchFault →
 GivesBlockFile bytes (Ok blocks) = IsBlockFileOf bytes (frames_of blocks.items)
 GivesBlockFile bytes (Err e) = IsTrue (is_of_bytes e) → (block_head_at blocks_magic bytes ≡ Err e)
     ⊎ ((count : ℕ) × (behind : List ℕ) × (block_head_at blocks_magic bytes ≡ Ok (count, behind)) × FailsAmong count behind e)
+
+-- the replies of each block
+abbrev pub replies_of : List (Vec ReplyBody) → List (List ReplyBody)
+replies_of blocks = map (λ block. block.items) blocks
+
+-- the replies of a block, with these bytes left, or the first fault; its bodies are counted from one on
+abbrev pub GivesReplyBlock : ℕ → List ℕ → Result (Vec ReplyBody) BatchFault → List ℕ → Type 0
+GivesReplyBlock from bytes (Ok block) left = IsReplyBlock bytes block.items left
+GivesReplyBlock from bytes (Err e) left = IsTrue (is_of_bytes e) → FailsInReplyBlock from bytes e
+
+-- the replies of so many blocks, with these bytes left, or the first fault
+abbrev pub GivesReplyBlocks : ℕ → List ℕ → Result (Vec (Vec ReplyBody)) BatchFault → List ℕ → Type 0
+GivesReplyBlocks count bytes (Ok blocks) left = AreReplyBlocks bytes (replies_of blocks.items) left × (length blocks.items ≡ count)
+GivesReplyBlocks count bytes (Err e) left = IsTrue (is_of_bytes e) → FailsAmongReplies count bytes e
+
+-- the replies of each block of a block file's reply file, or its first fault
+abbrev pub GivesBlockReplyFile : List ℕ → Result (Vec (Vec ReplyBody)) BatchFault → Type 0
+GivesBlockReplyFile bytes (Ok blocks) = IsBlockReplyFileOf bytes (replies_of blocks.items)
+GivesBlockReplyFile bytes (Err e) = IsTrue (is_of_bytes e) → FailsAsBlockReplies bytes e

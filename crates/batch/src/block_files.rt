@@ -1,6 +1,7 @@
 //! Block files and their replies, read whole.
 
 ghost use Rattle.std.specs.Prelude.{◌≡◌, ◌+◌, ◌*◌, ◌<◌, ◌≤◌, ◌^◌, [], length, vec_len, IfOk, OnOk};
+ghost use Rattle.std.specs.List.{All};
 ghost use Rattle.batch_laws.specs.BatchFault.{failures_after};
 ghost use Rattle.batch.specs.BlockFiles.{frames_of, GivesBlocks, GivesBlockFile};
 ghost use Rattle.batch.specs.Window.{ahead};
@@ -23,6 +24,7 @@ impl Window {
         ensures failures { R.failures source.new ≡ failures_after result (R.failures source.old) }
         ensures known { R.is_known source.old → R.is_known source.new }
         ensures count { IfOk result (λ blocks. vec_len blocks ≡ count) }
+        ensures each { IfOk result (λ blocks. All (λ block. length block.items ≤ 65536) blocks.items) }
         ensures gives { R.is_known source.old → GivesBlocks count (ahead self.old (R.remaining source.old)) result (ahead self.new (R.remaining source.new)) }
     {
         let mut blocks = Vec::new(alloc);
@@ -42,6 +44,7 @@ impl Window {
         ensures failures { R.failures source.new ≡ failures_after result (R.failures source.old) }
         ensures known { R.is_known source.old → R.is_known source.new }
         ensures count { IfOk result (λ blocks. length blocks.items ≤ 1000) }
+        ensures each { IfOk result (λ blocks. All (λ block. length block.items ≤ 65536) blocks.items) }
         ensures gives { R.is_known source.old → GivesBlockFile (ahead self.old (R.remaining source.old)) result }
         ensures end { OnOk result (R.is_known source.old → R.remaining source.new ≡ []) }
     {
@@ -60,6 +63,7 @@ pub fn read_blocks<R: Source>(alloc: Global, source: &mut R) -> Result<Vec<Vec<F
     ensures failures { R.failures source.new ≡ failures_after result (R.failures source.old) }
     ensures known { R.is_known source.old → R.is_known source.new }
     ensures count { IfOk result (λ blocks. length blocks.items ≤ 1000) }
+    ensures each { IfOk result (λ blocks. All (λ block. length block.items ≤ 65536) blocks.items) }
     ensures gives { R.is_known source.old → GivesBlockFile (R.remaining source.old) result }
     ensures end { OnOk result (R.is_known source.old → R.remaining source.new ≡ []) }
 {

@@ -3,6 +3,7 @@
 
 mod block_files;
 mod block_processing;
+mod block_replies;
 mod blocks;
 mod bodies;
 mod broken;
@@ -21,6 +22,7 @@ mod writing;
 pub use batch_laws::BatchFault;
 pub use block_files::read_blocks;
 pub use block_processing::{BlocksOutcome, Halted, process_blocks};
+pub use block_replies::read_block_replies;
 pub use bodies::write_batch;
 pub use broken::Broken;
 pub use failing::{FailingSink, FailingSource};

@@ -1,2 +1,3 @@
 pub mod FoldedBlocks
 pub mod Again
+pub mod Once

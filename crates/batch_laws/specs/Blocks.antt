@@ -8,6 +8,7 @@ use Rattle.rows.specs.declared.reply_body.ReplyBody.{ReplyBody}
 use Rattle.batch_laws.specs.Files.{framed, head_text, reply_text}
 use Rattle.batch_laws.specs.Frames.{AreFramesOf}
 use Rattle.batch_laws.specs.Reading.{◌>>=◌, magic_at, version_at, number_at, count_at, bodies_at, ended}
+use Rattle.batch_laws.specs.Replies.{AreRepliesOf, FailsAt}
 use Rattle.batch_laws.specs.declared.batch_fault.BatchFault.{BatchFault}
 use Rattle.batch_laws.specs.declared.batch_fault.BatchFault.TheVariants.{Blocks}
 
@@ -54,6 +55,44 @@ IsBlockFileOf bytes blocks = (behind : List ℕ) × (block_head_at blocks_magic 
 abbrev pub FailsBehind : ℕ → ℕ → List ℕ → BatchFault → Type 0
 FailsBehind count read left fault = ((read < count) × (block_at left ≡ Err fault)) ⊎ ((read ≡ count) × (ended left ≡ Err fault))
 
+-- all replies, in order
+abbrev pub all_replies : List (List ReplyBody) → List ReplyBody
+all_replies replies = flat_map (λ block. block) replies
+
+-- the next block has these replies, and these bytes are left
+abbrev pub IsReplyBlock : List ℕ → List ReplyBody → List ℕ → Type 0
+IsReplyBlock bytes block left = (bodies : List (List ℕ)) × (block_at bytes ≡ Ok (bodies, left)) × AreRepliesOf bodies block
+
+-- the next blocks have these replies, one block after another, and these bytes are left
+abbrev pub AreReplyBlocks : List ℕ → List (List ReplyBody) → List ℕ → Type 0
+AreReplyBlocks bytes [] left = bytes ≡ left
+AreReplyBlocks bytes (block ∷ blocks) left = (next : List ℕ) × IsReplyBlock bytes block next × AreReplyBlocks next blocks left
+
+-- the bytes are the reply file of a block file, and these are the replies of each block
+abbrev pub IsBlockReplyFileOf : List ℕ → List (List ReplyBody) → Type 0
+IsBlockReplyFileOf bytes blocks = (behind : List ℕ) × (block_head_at block_replies_magic bytes ≡ Ok (length blocks, behind)) × AreReplyBlocks behind blocks []
+
+-- the next block of replies has this fault: in its count, or in a body; its bodies are counted from one on
+abbrev pub FailsInReplyBlock : ℕ → List ℕ → BatchFault → Type 0
+FailsInReplyBlock from bytes fault =
+    (count_at bytes ≡ Err fault) ⊎ ((count : ℕ) × (behind : List ℕ) × (count_at bytes ≡ Ok (count, behind)) × FailsAt from count behind fault)
+
+-- behind some of so many blocks of replies, reading stops with this fault: in the next block, or behind the last one;
+-- bodies are counted over the whole file
+abbrev pub FailsBehindReplies : ℕ → List (List ReplyBody) → List ℕ → BatchFault → Type 0
+FailsBehindReplies count read left fault =
+    ((length read < count) × FailsInReplyBlock (length (all_replies read)) left fault) ⊎ ((length read ≡ count) × (ended left ≡ Err fault))
+
+-- some of so many blocks of replies are read, and then reading stops with this fault
+abbrev pub FailsAmongReplies : ℕ → List ℕ → BatchFault → Type 0
+FailsAmongReplies count bytes fault = (blocks : List (List ReplyBody)) × (left : List ℕ) × AreReplyBlocks bytes blocks left × FailsBehindReplies count blocks left fault
+
+-- the first fault of the reply file of a block file: in the head, in a block, or behind the last one
+abbrev pub FailsAsBlockReplies : List ℕ → BatchFault → Type 0
+FailsAsBlockReplies bytes fault =
+    (block_head_at block_replies_magic bytes ≡ Err fault)
+    ⊎ ((count : ℕ) × (behind : List ℕ) × (block_head_at block_replies_magic bytes ≡ Ok (count, behind)) × FailsAmongReplies count behind fault)
+
 -- how many replies, and the replies
 abbrev pub block_text : List ReplyBody → List ℕ
 block_text replies = big_bytes 4 (length replies) ++ flat_map (λ reply. framed (reply_text reply)) replies
@@ -84,10 +123,6 @@ all_messages blocks = flat_map (λ block. block) blocks
 -- the reply file of a block file whose blocks have these replies
 abbrev pub block_replies_text : List (List ReplyBody) → List ℕ
 block_replies_text replies = head_text block_replies_magic (length replies) ++ blocks_text replies
-
--- all replies, in order
-abbrev pub all_replies : List (List ReplyBody) → List ReplyBody
-all_replies replies = flat_map (λ block. block) replies
 
 -- the replies are cut as the blocks are: as many in each as it has messages
 abbrev pub AreCutAs : List (List ReplyBody) → List (List Frame) → Type 0

@@ -1,6 +1,7 @@
 //! Laws of batch files and of block files.
 
-ghost use Rattle.std.specs.Prelude.{◌≡◌, ℕ, List, Ok};
+ghost use Rattle.std.specs.Prelude.{◌≡◌, ◌<◌, ℕ, List, Ok};
+ghost use Rattle.std.specs.List.{All};
 ghost use Rattle.rows.specs.Fold.{Rows, rows_after, replies_to};
 ghost use Rattle.rows.specs.declared.frame.Frame.{Frame};
 ghost use Rattle.batch_laws.specs.Files.{IsBatch};
@@ -18,4 +19,10 @@ pub fn blocks_are_one_fold()
 /// A batch file of some bodies is read as these bodies, so it is a batch of no others.
 pub fn a_batch_is_read_as_its_bodies()
     ensures { (bytes : List ℕ) (bodies : List (List ℕ)) → IsBatch bytes bodies → bodies_of batch_magic bytes ≡ Ok bodies }
+{}
+
+/// A batch file that is read without a fault is the text of its bodies, which are bodies that a file can have. So a file
+/// is a batch of at most one list of bodies, and what reading takes for a batch is one.
+pub fn a_batch_that_is_read_is_its_text()
+    ensures { (bytes : List ℕ) (bodies : List (List ℕ)) → All (λ byte. byte < 256) bytes → bodies_of batch_magic bytes ≡ Ok bodies → IsBatch bytes bodies }
 {}

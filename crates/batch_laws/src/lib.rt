@@ -5,4 +5,6 @@ mod batch_fault;
 mod laws;
 
 pub use batch_fault::BatchFault;
-pub use laws::{a_batch_is_read_as_its_bodies, blocks_are_one_fold};
+pub use laws::{
+    a_batch_is_read_as_its_bodies, a_batch_that_is_read_is_its_text, blocks_are_one_fold,
+};

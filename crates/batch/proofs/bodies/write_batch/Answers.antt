@@ -1,13 +1,12 @@
-use Rattle.std.proofs.Common.{rules, ◌≡◌, ◌+◌, ◌++◌, ℕ, [], length, drop, arith, sym, ◌∙◌, refl, ap}
+use Rattle.std.proofs.Common.{rules, ◌≡◌, ◌+◌, ◌++◌, ℕ, length, drop, arith, sym, ◌∙◌, refl, ap}
 use Rattle.std.specs.Global.{Vec}
 use Rattle.std.specs.List.{flat_map}
-use Rattle.std.proofs.lemmas.List.{append-nil}
 use Rattle.std.proofs.lemmas.Result.{err_from_is_err_and}
 use Rattle.batch_laws.specs.Files.{framed, head_text, batch_text}
 use Rattle.batch_laws.specs.Reading.{batch_magic}
 use Rattle.batch.specs.Bodies.{bytes_of}
 use Rattle.batch.proofs.Lengths.{all_are_bodies, text_of_vecs}
-use Rattle.batch.proofs.Pieces.{so_many, begins, adds, moves, stops, halts, ends, one_more_at, the_rest, all_of_them}
+use Rattle.batch.proofs.Pieces.{so_many, adds, moves, stops, halts, ends, one_more_at, the_rest, all_of_them}
 use Rattle.batch.proofs.bodies.write_batch.Goals as goal
 
 pub returns-in_err-add_framed-clause-err : goal.returns-in_err-add_framed-clause-err

@@ -1,11 +1,10 @@
-use Rattle.std.proofs.Common.{rules, ◌≡◌, ◌+◌, ◌++◌, [], length, drop, arith, sym, ◌∙◌, refl, ap}
+use Rattle.std.proofs.Common.{rules, ◌≡◌, ◌+◌, ◌++◌, length, drop, ◌∙◌, ap}
 use Rattle.std.specs.List.{flat_map}
-use Rattle.std.proofs.lemmas.List.{append-nil}
 use Rattle.std.proofs.lemmas.Result.{err_from_is_err_and}
 use Rattle.rows.specs.declared.reply_body.ReplyBody.{ReplyBody}
 use Rattle.batch_laws.specs.Files.{framed, reply_text, head_text, replies_text}
 use Rattle.batch_laws.specs.Reading.{replies_magic}
-use Rattle.batch.proofs.Pieces.{so_many, begins, adds, moves, stops, halts, ends, one_more_at, the_rest, all_of_them}
+use Rattle.batch.proofs.Pieces.{so_many, adds, moves, stops, halts, ends, one_more_at, the_rest, all_of_them}
 use Rattle.batch.proofs.replies.write_replies.Goals as goal
 
 pub returns-in_err-add_reply-clause-err : goal.returns-in_err-add_reply-clause-err

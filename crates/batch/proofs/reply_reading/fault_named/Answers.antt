@@ -1,5 +1,5 @@
-use Rattle.std.proofs.Common.{rules, ◌≡◌, ◌<◌, ◌∙◌, sym, arith, ℕ}
-use Rattle.iso8583.specs.CodecFault.{number_of_fault, element_of_fault}
+use Rattle.std.proofs.Common.{◌≡◌, ◌∙◌, sym, arith}
+use Rattle.iso8583.specs.CodecFault.{element_of_fault}
 use Rattle.batch.proofs.FaultTexts.{text_length, text_digits, text_number, text_element, clash}
 use Rattle.batch.proofs.reply_reading.fault_named.Goals as goal
 use Rattle.batch.proofs.reply_reading.fault_named.Goals.{then-body-ne6-via-then-body-ne6, then-body-ne6-via-else-body-ne6+then-not-is_digits}

@@ -1,4 +1,4 @@
-use Rattle.std.proofs.Common.{◌≡◌, inr}
+use Rattle.std.proofs.Common.{inr}
 use Rattle.std.proofs.lemmas.Result.{err_from_is_err_and}
 use Rattle.batch.specs.Window.{ahead}
 use Rattle.batch.proofs.ReadBlocks.{fails_behind, is_file}

@@ -1,4 +1,5 @@
-use Rattle.std.proofs.Common.{rules, ◌≡◌, ◌+◌, ◌++◌, ◌∷◌, [], arith, refl}
+use Rattle.std.proofs.Common.{rules, ◌≡◌, ◌++◌, ◌∷◌, [], ◌≤◌, length, arith, refl}
+use Rattle.std.proofs.lemmas.List.Elements.{All-nil, All-push}
 use Rattle.std.proofs.lemmas.Result.{err_from_is_err_and}
 use Rattle.batch.specs.Window.{ahead}
 use Rattle.batch.proofs.ReadBlocks.{goes_on, fails}
@@ -10,6 +11,7 @@ loop-init g c = record {
   known = λ known. known;
   within = omega arith;
   count = search rules;
+  each = rw c.new-blocks.ensures.items (All-nil (λ block. length block.items ≤ 65536));
   blocks = λ known. rw c.new-blocks.ensures.items refl;
 }
 
@@ -29,6 +31,7 @@ loop-preserved g c =
       known = λ known. c.in_ok-block.ensures.known (c.loop.invariant.known known);
       within = omega (arith, c.loop-test.true);
       count = grind arith;
+      each = rw added (All-push (λ block. length block.items ≤ 65536) c.loop.blocks.items c.in_ok-block.block c.loop.invariant.each (omega (arith, c.in_ok-block.block.ok.0, c.in_ok-block.ensures.count)));
       blocks = λ known. rw added (goes_on (ahead c.args.self.now (g.R.Source.remaining c.args.source.now)) c.loop.blocks.items
           (ahead c.loop.self (g.R.Source.remaining c.loop.source)) c.in_ok-block.block (ahead after (g.R.Source.remaining c.read_block.new.source))
           (c.loop.invariant.blocks known) (c.in_ok-block.ensures.gives (c.loop.invariant.known known)));

@@ -1,4 +1,5 @@
 use Rattle.std.proofs.Common.{◌≡◌, ◌≤◌, length}
+use Rattle.std.specs.List.{All}
 use Rattle.batch_laws.specs.Blocks.{AreBlocks}
 use Rattle.batch.specs.BlockFiles.{frames_of}
 use Rattle.batch.specs.Window.{ahead}
@@ -11,5 +12,6 @@ invariant-loop g l = record {
   known : g.R.Source.is_known l.fn.source → g.R.Source.is_known l.source;
   within : l.counter ≤ l.count;
   count : length l.blocks.items ≡ l.counter;
+  each : All (λ block. length block.items ≤ 65536) l.blocks.items;
   blocks : g.R.Source.is_known l.fn.source → AreBlocks (ahead l.fn.self (g.R.Source.remaining l.fn.source)) (frames_of l.blocks.items) (ahead l.self (g.R.Source.remaining l.source));
 }
