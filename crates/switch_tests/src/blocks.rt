@@ -87,26 +87,12 @@ fn assert_decided<R: Abort + Threads + Wait + Sync>(
 fn blocks_are_decided_one_after_another(rt: HostRuntime) -> Result<(), Fail> {
     let alloc = rt.alloc();
     assert_decided(&rt, alloc, &BLOCKS)?;
-    let files = ["book", "file", "replies", "after"];
-    assert_decided(
-        &rt,
-        alloc,
-        &[
-            "blocks",
-            "--workers=1",
-            files[0],
-            files[1],
-            files[2],
-            files[3],
-        ],
-    )?;
-    assert_decided(
-        &rt,
-        alloc,
-        &[
-            "blocks", files[0], files[1], files[2], files[3], "--engine", "locked",
-        ],
-    )
+    let words = ["blocks", "--workers=1", "book", "file", "replies", "after"];
+    assert_decided(&rt, alloc, &words)?;
+    let words = [
+        "blocks", "book", "file", "replies", "after", "--engine", "locked",
+    ];
+    assert_decided(&rt, alloc, &words)
 }
 
 #[test]
