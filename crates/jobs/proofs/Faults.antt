@@ -1,5 +1,5 @@
 -- Faults of the parts of a job.
-use Rattle.std.proofs.Common.{◌≡◌, ◌⊎◌, ℕ, ◌+◌, ◌<◌, List, [], Result, Ok, Err, OnOk, OnErr, inl, inr, refl, arith, cc}
+use Rattle.std.proofs.Common.{◌≡◌, ◌⊎◌, ℕ, ◌+◌, ◌<◌, List, [], Result, Ok, Err, OnOk, OnErr, inl, inr, refl, arith}
 use Rattle.std.proofs.Math.Nat.{eq-zero-or-pos}
 use Rattle.files.specs.Failing.{HasFailed}
 use Rattle.files.specs.declared.read_fault.ReadFault.{ReadFault}
@@ -39,8 +39,8 @@ unmade old name read_failed put_failed refused write.OutOfMemory h = tt
 -- replies that can't be closed
 pub unclosed : (old : Holding) (name : List ℕ) (read_failed put_failed refused : Type 0) (e : WriteFault)
     → (e ≡ write.Unwritable → refused) → IsBatchFault old name read_failed put_failed refused (fault_of_close e)
-unclosed old name read_failed put_failed refused write.Unwritable h = (λ bytes o t. absurd t, λ d. inr (inr (h refl)))
-unclosed old name read_failed put_failed refused write.OutOfMemory h = (λ bytes o t. absurd t, λ d. absurd (cc d))
+unclosed old name read_failed put_failed refused write.Unwritable h = (λ bytes o t. absurd (cc t), λ d. inr (inr (h refl)))
+unclosed old name read_failed put_failed refused write.OutOfMemory h = (λ bytes o t. absurd (cc t), λ d. absurd (cc d))
 
 -- a file that isn't put in its place
 pub unput : (refused : Type 0) (e : WriteFault) → (e ≡ write.Unwritable → refused) → IsPuttingFault refused (fault_of_write e)
