@@ -6,7 +6,8 @@ use Rattle.fold.proofs.FoldLaws.{length-replies_to}
 use Rattle.rows.specs.Fold.{Rows, rows_after, replies_to}
 use Rattle.rows.specs.declared.frame.Frame.{Frame}
 use Rattle.rows.specs.declared.reply_body.ReplyBody.{ReplyBody}
-use Rattle.audit.specs.Blocks.{counts, rows_after_blocks, replies_to_blocks, IsFirstDifferenceInBlocks}
+use Rattle.batch_laws.specs.Blocks.{rows_after_blocks, replies_to_blocks}
+use Rattle.audit.specs.Blocks.{counts, IsFirstDifferenceInBlocks}
 use Rattle.audit.specs.Difference.{IsFirstDifference}
 
 -- the first k blocks are right, and these are the rows after them

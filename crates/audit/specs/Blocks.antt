@@ -1,21 +1,10 @@
--- Blocks of bodies, decided one after another, and what an audit of them finds.
-use Rattle.std.specs.Prelude.{◌≡◌, ◌≢◌, ℕ, List, [], ◌∷◌, ◌++◌, length, map}
-use Rattle.rows.specs.Fold.{Rows, rows_after, replies_to}
-use Rattle.rows.specs.declared.frame.Frame.{Frame}
+-- What an audit of blocks of bodies, decided one after another, finds.
+use Rattle.std.specs.Prelude.{◌≡◌, ◌≢◌, ℕ, List, ◌∷◌, ◌++◌, length, map}
+use Rattle.rows.specs.Fold.{Rows}
 use Rattle.rows.specs.declared.reply_body.ReplyBody.{ReplyBody}
 use Rattle.audit.specs.Difference.{IsFirstDifference, IsLeastDifference}
 use Rattle.audit.specs.declared.block_audit.BlockAudit.{BlockAudit}
 use Rattle.audit.specs.declared.block_audit.BlockAudit.TheVariants.{Same, CountDiffers, ReplyDiffers, BookDiffers}
-
--- the rows after the bodies of all blocks
-abbrev pub rows_after_blocks : Rows → List (List Frame) → Rows
-rows_after_blocks rows [] = rows
-rows_after_blocks rows (block ∷ blocks) = rows_after_blocks (rows_after rows block) blocks
-
--- the replies to each block, on the rows after the blocks before it
-abbrev pub replies_to_blocks : Rows → List (List Frame) → List (List ReplyBody)
-replies_to_blocks rows [] = []
-replies_to_blocks rows (block ∷ blocks) = replies_to rows block ∷ replies_to_blocks (rows_after rows block) blocks
 
 -- how many there are in each
 abbrev pub counts : {X : Type 0} → List (List X) → List ℕ

@@ -2,7 +2,8 @@
 
 ghost use Rattle.std.specs.Prelude.{◌≡◌, ◌≤◌, ◌↔◌, length, map, IfOk, IsTrue};
 ghost use Rattle.std.specs.List.{All};
-ghost use Rattle.audit.specs.Blocks.{FindsInBlocks, counts, replies_to_blocks, rows_after_blocks};
+ghost use Rattle.batch_laws.specs.Blocks.{replies_to_blocks, rows_after_blocks};
+ghost use Rattle.audit.specs.Blocks.{FindsInBlocks, counts};
 
 use crate::block_audit::BlockAudit;
 use crate::comparing::{first_differing_reply, least_differing_row};

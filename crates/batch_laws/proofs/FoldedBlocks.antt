@@ -3,7 +3,7 @@ use Rattle.std.proofs.Common.{◌≡◌, suc, List, [], ◌∷◌, ◌++◌, len
 use Rattle.rows.specs.Fold.{Rows, rows_after_one, reply_of, rows_after, replies_to}
 use Rattle.rows.specs.declared.frame.Frame.{Frame}
 use Rattle.rows.specs.declared.reply_body.ReplyBody.{ReplyBody}
-use Rattle.batch_laws.specs.Blocks.{rows_after_blocks, replies_to_blocks, messages_in, all_messages, all_replies, AreCutAs}
+use Rattle.batch_laws.specs.Blocks.{rows_after_blocks, replies_to_blocks, all_messages, all_replies, AreCutAs}
 
 rows_after-append : (rows : Rows) (front back : List Frame) → rows_after rows (front ++ back) ≡ rows_after (rows_after rows front) back
 rows_after-append rows [] back = refl

@@ -1,3 +1,5 @@
 pub mod FoldedBlocks
 pub mod Again
 pub mod Once
+pub mod ReadBack
+pub mod ReadBackBlocks

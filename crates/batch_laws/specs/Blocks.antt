@@ -1,6 +1,6 @@
 -- Block files: lists of blocks, each read as a batch is, decided on the book after those before it, and answered by itself.
-use Rattle.std.specs.Prelude.{◌≡◌, ◌⊎◌, ◌<◌, ℕ, ◌+◌, List, [], ◌∷◌, ◌++◌, length, Result, Ok, Err, nat_lt, if◌then◌else◌, codes}
-use Rattle.std.specs.List.{flat_map, AllZip}
+use Rattle.std.specs.Prelude.{◌≡◌, ◌⊎◌, ◌<◌, ◌≤◌, ℕ, ◌+◌, List, [], ◌∷◌, ◌++◌, length, Result, Ok, Err, nat_lt, if◌then◌else◌, codes}
+use Rattle.std.specs.List.{flat_map, AllZip, AllByRecursion}
 use Rattle.byteorder.specs.Endian.{big_bytes}
 use Rattle.rows.specs.Fold.{Rows, rows_after, replies_to}
 use Rattle.rows.specs.declared.frame.Frame.{Frame}
@@ -8,7 +8,7 @@ use Rattle.rows.specs.declared.reply_body.ReplyBody.{ReplyBody}
 use Rattle.batch_laws.specs.Files.{framed, head_text, reply_text}
 use Rattle.batch_laws.specs.Frames.{AreFramesOf}
 use Rattle.batch_laws.specs.Reading.{◌>>=◌, magic_at, version_at, number_at, count_at, bodies_at, ended}
-use Rattle.batch_laws.specs.Replies.{AreRepliesOf, FailsAt}
+use Rattle.batch_laws.specs.Replies.{AreRepliesOf, AreReplyBodies, FailsAt}
 use Rattle.batch_laws.specs.declared.batch_fault.BatchFault.{BatchFault}
 use Rattle.batch_laws.specs.declared.batch_fault.BatchFault.TheVariants.{Blocks}
 
@@ -123,6 +123,10 @@ all_messages blocks = flat_map (λ block. block) blocks
 -- the reply file of a block file whose blocks have these replies
 abbrev pub block_replies_text : List (List ReplyBody) → List ℕ
 block_replies_text replies = head_text block_replies_magic (length replies) ++ blocks_text replies
+
+-- the replies of blocks that a file can have
+abbrev pub AreBlocksOfReplies : List (List ReplyBody) → Type 0
+AreBlocksOfReplies blocks = (length blocks ≤ 1000) × AllByRecursion AreReplyBodies blocks
 
 -- the replies are cut as the blocks are: as many in each as it has messages
 abbrev pub AreCutAs : List (List ReplyBody) → List (List Frame) → Type 0

@@ -1,7 +1,7 @@
 -- Reading a reply file from left to right, with the first fault that is met.
-use Rattle.std.specs.Prelude.{◌≡◌, ◌⊎◌, ◌<◌, ◌+◌, ℕ, List, Result, Ok, Err, IsTrue}
+use Rattle.std.specs.Prelude.{◌≡◌, ◌⊎◌, ◌<◌, ◌≤◌, ◌+◌, ℕ, List, length, Result, Ok, Err, IsTrue}
 use Rattle.std.specs.Global.{Vec}
-use Rattle.std.specs.List.{AllZip}
+use Rattle.std.specs.List.{AllZip, AllByRecursion}
 use Rattle.codec_laws.specs.Replies.{IsReply}
 use Rattle.iso8583.specs.CodecFault.{element_of_fault}
 use Rattle.rows.specs.FrameFault.{IsOfFrame}
@@ -17,6 +17,15 @@ use Rattle.batch_laws.specs.declared.batch_fault.BatchFault.TheVariants.{Body}
 abbrev pub IsReplyText : List ℕ → ReplyBody → Type 0
 IsReplyText body (Reply reply) = IsReply reply × (body ≡ reply_text (Reply reply))
 IsReplyText body (Fault fault) = IsOfFrame fault × (element_of_fault fault < 256) × (body ≡ reply_text (Fault fault))
+
+-- every reply body that there is: a reply in its ranges, or a fault of a body, whose element is a byte
+abbrev pub IsReplyBody : ReplyBody → Type 0
+IsReplyBody (Reply reply) = IsReply reply
+IsReplyBody (Fault fault) = IsOfFrame fault × (element_of_fault fault < 256)
+
+-- the replies that a file can have
+abbrev pub AreReplyBodies : List ReplyBody → Type 0
+AreReplyBodies replies = (length replies ≤ 65536) × AllByRecursion IsReplyBody replies
 
 -- a reply for each body, in order
 abbrev pub AreRepliesOf : List (List ℕ) → List ReplyBody → Type 0

@@ -57,12 +57,21 @@ behind_head known old new batch replies rows after fault count reads bytes puts 
       total = h.0;
       book = kept.book;
       read = λ held o. inr (h.1, h.3.left, rw (← (opened held o).1) (h.2 (opened held o).0), kept.read (opened held o).0);
-      fails = λ held o t. inr (h.1, h.3.left, rw (← (opened held o).1) (h.2 (opened held o).0), kept.read (opened held o).0,
-          rw kept.number (h.3.fails (opened held o).0 t));
-      answered = λ k. (written, closed k, inr (elim h.3.begun [
-        inl none ↦ ([], [], block_text (replies_to (rows_after_blocks rows kept.blocks) []), none (put k) ∙ (kept.put (put k) ∙ rw (empty k) refl), refl)
-      | inr begun ↦
-          let part = begun.4 (put k) in
-          (begun.1, part.0, part.1, rw (part.2, kept.put (put k), empty k) refl, rw (← kept.book) part.3)
-      ]));
+      fails = λ held o t. inr (
+        h.1,
+        h.3.left,
+        rw (← (opened held o).1) (h.2 (opened held o).0),
+        kept.read (opened held o).0,
+        rw kept.number (h.3.fails (opened held o).0 t),
+      );
+      answered = λ k. (
+        written,
+        closed k,
+        inr (elim h.3.begun [
+          | inl none ↦ ([], [], block_text (replies_to (rows_after_blocks rows kept.blocks) []), none (put k) ∙ (kept.put (put k) ∙ rw (empty k) refl), refl)
+          | inr begun ↦
+              let part = begun.4 (put k) in
+              (begun.1, part.0, part.1, rw (part.2, kept.put (put k), empty k) refl, rw (← kept.book) part.3)
+        ]),
+      );
     }

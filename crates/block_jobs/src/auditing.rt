@@ -29,11 +29,7 @@ pub fn audit_block_files<F: Files>(
 }
 
 // The blocks of the block file of this name.
-fn open_blocks<F: Files>(
-    alloc: Global,
-    files: &F,
-    name: &str,
-) -> Result<Vec<Vec<Frame>>, JobFault>
+fn open_blocks<F: Files>(alloc: Global, files: &F, name: &str) -> Result<Vec<Vec<Frame>>, JobFault>
     ensures count { IfOk result (λ blocks. length blocks.items ≤ 1000) }
     ensures each { IfOk result (λ blocks. All (λ block. length block.items ≤ 65536) blocks.items) }
     ensures blocks { (bytes : List ℕ) → F.holds files.now name.now bytes → IfOk result (λ blocks. IsBlockFileOf bytes (frames_of blocks.items)) }

@@ -45,12 +45,7 @@ pub fn decide_blocks<F: Files, E: Fn(&Book, &[Frame]) -> Result<Outcome, AllocEr
                 messages: outcome.messages,
             })
         }
-        Err(halted) => Err(keep_blocks(
-            alloc,
-            files,
-            names.new_book.as_str(),
-            &halted,
-        )),
+        Err(halted) => Err(keep_blocks(alloc, files, names.new_book.as_str(), &halted)),
     }
 }
 

@@ -13,5 +13,5 @@ returns-in-Ok g c = record {
   after = λ bytes h. (c.in_ok-after.ensures.book bytes (rw c.as_str-4.ensures.value h)).0;
   are = c.in_ok-entries.ensures.are;
   logged = λ bytes h. c.in_ok-entries.ensures.entries bytes h;
-  finds = ?;
+  finds = rw (c.deref.ensures.value, c.deref-2.ensures.value, c.deref-3.ensures.value) at c.in-Ok.ensures.finds;
 }
