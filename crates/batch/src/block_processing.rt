@@ -53,6 +53,7 @@ pub fn process_blocks<R: Source, W: Sink, E: Fn(&Book, &[Frame]) -> Result<Outco
     requires fold { (rows : _) (frames : _) (answer : _) → E.post decide.now rows frames answer → AnswersFold rows.now frames.now answer }
     ensures none_failed { OnOk result (R.failures source.new + W.failures sink.new ≡ R.failures source.old + W.failures sink.old) }
     ensures failed { IfErr result (λ halted. R.failures source.new + W.failures sink.new ≡ failures_at halted.fault (R.failures source.old + W.failures sink.old)) }
+    ensures known { W.is_known sink.old → W.is_known sink.new }
     ensures end { OnOk result (R.is_known source.old → R.remaining source.new ≡ []) }
     ensures ok { IfOk result (λ outcome. AreAllDecided book outcome.book outcome.blocks outcome.messages
         (R.is_known source.old) (R.remaining source.old) (W.is_known sink.old) (W.written sink.old) (W.written sink.new)) }

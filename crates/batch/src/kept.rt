@@ -131,6 +131,7 @@ impl Kept {
         requires fold { (rows : _) (frames : _) (answer : _) → E.post decide.now rows frames answer → AnswersFold rows.now frames.now answer }
         requires none { (self.old.blocks ≡ 0) × (self.old.messages ≡ 0) }
         ensures failures { R.failures source.new + W.failures sink.new ≡ failures_after result (R.failures source.old + W.failures sink.old) }
+        ensures known { W.is_known sink.old → W.is_known sink.new }
         ensures end { OnOk result (R.is_known source.old → R.remaining source.new ≡ []) }
         ensures ok { OnOk result (AreAllDecided self.old.book self.new.book self.new.blocks self.new.messages
             (R.is_known source.old) (R.remaining source.old) (W.is_known sink.old) (W.written sink.old) (W.written sink.new)) }

@@ -1,3 +1,1 @@
-pub mod LineLemmas
-pub mod PlainLemmas
-pub mod WordsLemmas
+pub mod DoneLemmas

@@ -1,44 +1,41 @@
 -- What the program does for its words.
-use Rattle.std.specs.Prelude.{◌≡◌, ◌⊎◌, ℕ, List, [], ◌∷◌, ◌++◌, Option, codes, string_bytes}
-use Rattle.clap.specs.Walk.{Text}
+use Rattle.std.specs.Prelude.{◌≡◌, ◌≢◌, ◌⊎◌, ℕ, List, [], ◌∷◌, ◌++◌, Option, Some, None, codes, string_bytes}
 use Rattle.answering.specs.Answers.{IsAnswerInDigits}
 use Rattle.answering.specs.SampleBook.{sample_rows}
-use Rattle.audit.specs.Texts.{audit_text}
+use Rattle.audit.specs.Texts.{audit_text, block_audit_text}
 use Rattle.audit.specs.declared.audited.Audit.{Audit}
 use Rattle.audit.specs.declared.audited.Audit.TheVariants as found
+use Rattle.audit.specs.declared.block_audit.BlockAudit.{BlockAudit}
+use Rattle.audit.specs.declared.block_audit.BlockAudit.TheVariants as block_found
+use Rattle.batch_laws.specs.declared.batch_fault.BatchFault.{BatchFault}
+use Rattle.block_jobs.specs.Audited.{AreBlocksAudited}
+use Rattle.block_jobs.specs.Decided.{AreBlocksDecided, AreBlocksKept}
 use Rattle.jobs.specs.Audited.{IsAudited}
 use Rattle.jobs.specs.Decided.{Holding, IsDecided}
+use Rattle.jobs.specs.Journaled.{IsAuditedWithJournal, IsDecidedWithJournal}
 use Rattle.jobs.specs.Packed.{IsPacked}
 use Rattle.jobs.specs.Shown.{IsShown}
-use Rattle.commands.specs.Asked.{Asked, Names, help, one, serial, run, audit, show, pack}
+use Rattle.jobs.specs.declared.job_fault.JobFault.{JobFault}
+use Rattle.jobs.specs.declared.job_fault.JobFault.TheVariants.{Batch}
+use Rattle.words.specs.Asked.{Asked, Names, help, version, one, serial, run, blocks, audit, audit_blocks, show, pack}
+use Rattle.words.specs.Words.{Asks, IsUsageFault}
 use Rattle.commands.specs.Fault.{status_of, text_of}
-use Rattle.commands.specs.Printed.{Prints, PrintsLine, numbered}
-use Rattle.commands.specs.Words.{Asks, IsHelp, IsUsageFault}
+use Rattle.commands.specs.Printed.{Prints, PrintsLine, decided_in_blocks, numbered}
 use Rattle.commands.specs.declared.fault.Fault.{Fault}
-use Rattle.commands.specs.declared.fault.Fault.TheVariants.{Usage, OutOfMemory, Job}
+use Rattle.commands.specs.declared.fault.Fault.TheVariants.{Usage, OutOfMemory, Job, Halted}
 use Rattle.commands.specs.declared.report.Report.{Report}
 use Rattle.commands.specs.declared.report.Report.TheVariants as report
 
--- what is asked for is done with files
-abbrev pub IsOverFiles : Asked → Type 0
-IsOverFiles (help text) = ⊥
-IsOverFiles (one body) = ⊥
-IsOverFiles (serial names) = Unit {0}
-IsOverFiles (run names workers) = Unit {0}
-IsOverFiles (audit names) = Unit {0}
-IsOverFiles (show file) = Unit {0}
-IsOverFiles (pack text batch) = Unit {0}
-
--- the words ask that the batch of these files is decided, in one way or the other
-abbrev pub AsksForBatch : List Text → Names → Type 0
-AsksForBatch words names = Asks words (serial names) ⊎ ((workers : ℕ) × Asks words (run names workers))
-
 -- what is printed of what was done
 abbrev pub text_of_report : Report → List ℕ
-text_of_report (report.Text text) = string_bytes text ++ 10 ∷ []
+text_of_report (report.Help text) = string_bytes text ++ 10 ∷ []
+text_of_report report.Version = codes "switch 0.1.0" ++ 10 ∷ []
+text_of_report (report.Answer text) = string_bytes text ++ 10 ∷ []
 text_of_report (report.Decided count) = numbered (codes "decided") count ++ 10 ∷ []
+text_of_report (report.DecidedBlocks count) = decided_in_blocks count.messages count.blocks ++ 10 ∷ []
 text_of_report (report.Packed count) = numbered (codes "packed") count ++ 10 ∷ []
 text_of_report (report.Audited found text) = text.items ++ 10 ∷ []
+text_of_report (report.AuditedBlocks found text) = text.items ++ 10 ∷ []
 text_of_report (report.Lines text) = text.items
 
 abbrev pub status_of_audit : Audit → ℕ
@@ -47,33 +44,81 @@ status_of_audit found.CountDiffers = 3
 status_of_audit (found.ReplyDiffers place) = 3
 status_of_audit (found.BookDiffers key) = 3
 
+abbrev pub status_of_block_audit : BlockAudit → ℕ
+status_of_block_audit block_found.Same = 0
+status_of_block_audit block_found.CountDiffers = 3
+status_of_block_audit (block_found.ReplyDiffers block index) = 3
+status_of_block_audit (block_found.BookDiffers key) = 3
+
 -- 0, or 3 for an audit that found a difference
 abbrev pub status_of_report : Report → ℕ
-status_of_report (report.Text text) = 0
-status_of_report (report.Decided count) = 0
-status_of_report (report.Packed count) = 0
 status_of_report (report.Audited found text) = status_of_audit found
-status_of_report (report.Lines text) = 0
+status_of_report (report.AuditedBlocks found text) = status_of_block_audit found
+status_of_report told = 0
 
--- The report is what the words ask for: help, or the answer to their body on the sample book; or their batch was decided, and
--- the files hold what that comes to; or a text was packed; or what an audit found, in words; or the lines of a file.
-abbrev pub IsAskedFor : Type 0 → Holding → Holding → List Text → Report → Type 0
-IsAskedFor known old new words (report.Text text) =
-    IsHelp words ⊎ ((body : List ℕ) × Asks words (one body) × IsAnswerInDigits sample_rows body (string_bytes text))
-IsAskedFor known old new words (report.Decided count) =
-    (names : Names) × AsksForBatch words names × IsDecided known old new names.book names.batch names.replies names.new_book count
-IsAskedFor known old new words (report.Packed count) =
-    (text : Text) × (batch : Text) × Asks words (pack text batch) × IsPacked known old new text batch count
-IsAskedFor known old new words (report.Audited found text) =
-    (names : Names) × Asks words (audit names) × IsAudited old names.book names.batch names.replies names.new_book found × (text.items ≡ audit_text found)
-IsAskedFor known old new words (report.Lines text) =
-    (file : Text) × Asks words (show file) × ((bytes : List ℕ) → old file bytes → IsShown bytes text.items)
+-- The report is of what was asked for, and that is done: help, or the version; the answer to a body on the sample book; a batch was
+-- decided, or blocks were, and the files hold what that comes to, and the journal of the run where that was wanted; what an audit
+-- found, in words; the lines of a file; a text was packed.
+abbrev pub IsDoneAs : Type 0 → Holding → Holding → Asked → Report → Type 0
+IsDoneAs known old new (help text) (report.Help told) = string_bytes told ≡ text
+IsDoneAs known old new version report.Version = Unit {0}
+IsDoneAs known old new (one body) (report.Answer text) = IsAnswerInDigits sample_rows body (string_bytes text)
+IsDoneAs known old new (serial names) (report.Decided count) =
+    IsDecided known old new names.book names.batch names.replies names.new_book count
+IsDoneAs known old new (run names workers None) (report.Decided count) =
+    IsDecided known old new names.book names.batch names.replies names.new_book count
+IsDoneAs known old new (run names workers (Some journal)) (report.Decided count) =
+    IsDecidedWithJournal known old new names.book names.batch names.replies names.new_book journal count
+IsDoneAs known old new (blocks names workers) (report.DecidedBlocks count) =
+    AreBlocksDecided known old new names.book names.batch names.replies names.new_book count.blocks count.messages
+IsDoneAs known old new (audit names None) (report.Audited found text) =
+    IsAudited old names.book names.batch names.replies names.new_book found × (text.items ≡ audit_text found)
+IsDoneAs known old new (audit names (Some journal)) (report.Audited found text) =
+    IsAuditedWithJournal old names.book names.batch names.replies names.new_book journal found × (text.items ≡ audit_text found)
+IsDoneAs known old new (audit_blocks names) (report.AuditedBlocks found text) =
+    AreBlocksAudited old names.book names.batch names.replies names.new_book found × (text.items ≡ block_audit_text found)
+IsDoneAs known old new (show file) (report.Lines text) = (bytes : List ℕ) → old file bytes → IsShown bytes text.items
+IsDoneAs known old new (pack text batch) (report.Packed count) = IsPacked known old new text batch count
+IsDoneAs known old new what told = ⊥
 
--- the words may have this fault: they are no command, memory ran out, or what they ask for isn't done with the files
-abbrev pub IsFaultOf : List Text → Fault → Type 0
-IsFaultOf words (Usage text) = IsUsageFault words
-IsFaultOf words OutOfMemory = Unit {0}
-IsFaultOf words (Job fault) = (what : Asked) × Asks words what × IsOverFiles what
+-- Some first blocks are kept, so many, and the files hold what these come to; behind them this fault came.
+abbrev pub IsHaltedAs : Type 0 → Holding → Holding → Asked → JobFault → ℕ → Type 0
+IsHaltedAs known old new (blocks names workers) fault kept =
+    (why : BatchFault) × (fault ≡ Batch why) × AreBlocksKept known old new names.book names.batch names.replies names.new_book why kept
+IsHaltedAs known old new what fault kept = ⊥
+
+-- the file of the new book, where it is not that of the replies, holds what it held
+abbrev pub IsBookAsItWas : Holding → Holding → Names → Type 0
+IsBookAsItWas old new names = names.new_book ≢ names.replies → (held : List ℕ) → old names.new_book held → new names.new_book held
+
+-- What is asked for is not done with the files, or not to its end; an older book under the name of the new one is not lost, where
+-- that is the name of no other file that is written.
+abbrev pub IsUndone : Holding → Holding → Asked → Type 0
+IsUndone old new (help text) = ⊥
+IsUndone old new version = ⊥
+IsUndone old new (one body) = ⊥
+IsUndone old new (serial names) = IsBookAsItWas old new names
+IsUndone old new (run names workers None) = IsBookAsItWas old new names
+IsUndone old new (run names workers (Some journal)) = names.new_book ≢ journal → IsBookAsItWas old new names
+IsUndone old new (blocks names workers) = IsBookAsItWas old new names
+IsUndone old new what = Unit {0}
+
+-- What is asked for may have this fault: memory ran out, or it isn't done with the files, or blocks are done in part.
+abbrev pub IsFaultIn : Type 0 → Holding → Holding → Asked → Fault → Type 0
+IsFaultIn known old new what (Usage text) = ⊥
+IsFaultIn known old new what OutOfMemory = Unit {0}
+IsFaultIn known old new what (Job fault) = IsUndone old new what
+IsFaultIn known old new what (Halted fault kept) = IsHaltedAs known old new what fault kept
+
+-- the report is of what the words ask for
+abbrev pub IsAskedFor : Type 0 → Holding → Holding → List (List ℕ) → Report → Type 0
+IsAskedFor known old new words told = (what : Asked) × Asks words what × IsDoneAs known old new what told
+
+-- the words may have this fault: they are no command, memory ran out, or what they ask for has it
+abbrev pub IsFaultOf : Type 0 → Holding → Holding → List (List ℕ) → Fault → Type 0
+IsFaultOf known old new words (Usage text) = IsUsageFault words
+IsFaultOf known old new words OutOfMemory = Unit {0}
+IsFaultOf known old new words fault = (what : Asked) × Asks words what × IsFaultIn known old new what fault
 
 -- what is printed on standard output and on standard error, before and after
 pub record Pages : Type 0 where
@@ -81,22 +126,22 @@ pub record Pages : Type 0 where
   pub err : Option (List ℕ)
 
 -- what is asked for is done, and told on standard output, nothing goes to standard error, and the status is the report's
-pub record IsDone (known : Type 0) (old_files new_files : Holding) (words : List Text) (old new : Pages) (status : ℕ) : Type 0 where
+pub record IsDone (known : Type 0) (old_files new_files : Holding) (words : List (List ℕ)) (old new : Pages) (status : ℕ) : Type 0 where
   pub told : Report
   pub asked : IsAskedFor known old_files new_files words told
   pub out : Prints old.out new.out (text_of_report told)
   pub err : new.err ≡ old.err
   pub by_report : status ≡ status_of_report told
 
--- the fault is a line of standard error, nothing goes to standard output, and the status is the fault's
-pub record IsRefused (words : List Text) (old new : Pages) (status : ℕ) : Type 0 where
+-- the fault is a line of standard error, or two, nothing goes to standard output, and the status is the fault's
+pub record IsRefused (known : Type 0) (old_files new_files : Holding) (words : List (List ℕ)) (old new : Pages) (status : ℕ) : Type 0 where
   pub fault : Fault
-  pub has : IsFaultOf words fault
+  pub has : IsFaultOf known old_files new_files words fault
   pub out : new.out ≡ old.out
   pub err : PrintsLine old.err new.err (text_of fault)
   pub by_fault : status ≡ status_of fault
 
 -- the words are done or refused
-abbrev pub IsActed : Type 0 → Holding → Holding → List Text → Pages → Pages → ℕ → Type 0
+abbrev pub IsActed : Type 0 → Holding → Holding → List (List ℕ) → Pages → Pages → ℕ → Type 0
 IsActed known old_files new_files words old new status =
-    IsDone known old_files new_files words old new status ⊎ IsRefused words old new status
+    IsDone known old_files new_files words old new status ⊎ IsRefused known old_files new_files words old new status

@@ -1,5 +1,5 @@
 -- What was printed.
-use Rattle.std.specs.Prelude.{◌≡◌, ℕ, List, [], ◌∷◌, ◌++◌, Option, None, IfSome, decimal, if◌then◌else◌}
+use Rattle.std.specs.Prelude.{◌≡◌, ℕ, List, [], ◌∷◌, ◌++◌, Option, None, IfSome, codes, decimal, if◌then◌else◌}
 use Rattle.commands.specs.declared.printer.Printer.{Printer}
 
 -- what the printer's writer holds, where that is known and the writer took every line
@@ -17,3 +17,7 @@ PrintsLine old new line = Prints old new (line ++ 10 ∷ [])
 -- a word, a space and a number
 abbrev pub numbered : List ℕ → ℕ → List ℕ
 numbered word number = word ++ 32 ∷ decimal number
+
+-- so many messages in so many blocks
+abbrev pub decided_in_blocks : ℕ → ℕ → List ℕ
+decided_in_blocks messages blocks = numbered (codes "decided") messages ++ codes " in " ++ decimal blocks ++ codes " blocks"

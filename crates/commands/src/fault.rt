@@ -1,10 +1,12 @@
 ghost use Rattle.std.specs.Prelude.{◌≡◌};
-ghost use Rattle.commands.specs.Words.{IsOfWords};
+ghost use Rattle.commands.specs.Fault.{fault_of_halt, fault_of_line};
 ghost use Rattle.commands.specs.declared.fault.Fault.TheVariants.{Job, OutOfMemory};
 
+use block_jobs::Halt;
 use jobs::JobFault;
-use std::alloc::{AllocError, AllocFailed, Global};
+use std::alloc::AllocError;
 use thiserror::Error;
+use words::LineFault;
 
 /// Why the program doesn't do what its words say.
 #[derive(Debug, Drop, Error)]
@@ -18,6 +20,9 @@ pub enum Fault {
     /// The files are none that can be decided, or can't be read or written.
     #[error("{0}")]
     Job(JobFault),
+    /// Not all blocks are decided: why, and how many of them the new book keeps.
+    #[error("{0}\nkept {1}")]
+    Halted(JobFault, u32),
 }
 
 impl Fault {
@@ -29,7 +34,7 @@ impl Fault {
     {
         match self {
             Fault::Usage(_) => 2,
-            Fault::OutOfMemory | Fault::Job(_) => 1,
+            Fault::OutOfMemory | Fault::Job(_) | Fault::Halted(..) => 1,
         }
     }
 }
@@ -42,11 +47,14 @@ impl From<AllocError> for Fault {
     }
 }
 
-impl<T: Drop> From<AllocFailed<T>> for Fault {
-    ghost from_gives = { λ _ fault. fault ≡ OutOfMemory };
+impl From<LineFault> for Fault {
+    ghost from_gives = { λ line fault. fault ≡ fault_of_line line };
 
-    fn from(_error: AllocFailed<T>) -> Fault {
-        Fault::OutOfMemory
+    fn from(fault: LineFault) -> Fault {
+        match fault {
+            LineFault::Usage(text) => Fault::Usage(text),
+            LineFault::OutOfMemory => Fault::OutOfMemory,
+        }
     }
 }
 
@@ -58,12 +66,13 @@ impl From<JobFault> for Fault {
     }
 }
 
-/// A usage fault with this text.
-pub(crate) fn usage(alloc: Global, text: &str) -> Fault
-    ensures { IsOfWords result }
-{
-    match String::from_str(alloc, text) {
-        Ok(text) => Fault::Usage(text),
-        Err(_) => Fault::OutOfMemory,
+impl From<Halt> for Fault {
+    ghost from_gives = { λ halt fault. fault ≡ fault_of_halt halt };
+
+    fn from(halt: Halt) -> Fault {
+        match halt.kept {
+            Some(kept) => Fault::Halted(halt.fault, kept),
+            None => Fault::Job(halt.fault),
+        }
     }
 }

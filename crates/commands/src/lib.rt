@@ -1,18 +1,12 @@
-//! The program's words, and what it does for them.
+//! What the program does for its words.
 #![tactic(auto)]
 
-mod asked;
-mod command;
-mod command_line;
+mod doing;
 mod fault;
-mod laws;
 mod printer;
 mod program;
 mod report;
 
-pub use asked::read_words;
-pub use command::Command;
 pub use fault::Fault;
-pub use laws::plain_words_are_read;
 pub use printer::Printer;
 pub use program::act;

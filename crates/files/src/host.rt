@@ -1,5 +1,7 @@
 use crate::files::Files;
-use batch::{Broken, FromRead, IntoWrite};
+use crate::read_fault::ReadFault;
+use crate::write_fault::WriteFault;
+use batch::{FromRead, IntoWrite};
 use std::alloc::Global;
 use std::fs::OpenFile;
 use std::io::{ErrorKind, Write};
@@ -71,29 +73,31 @@ impl<'a, R: rt::Files> Files for HostFiles<'a, R> {
 
     ghost holds = { λ _ _ _. ⊥ };
 
-    fn open(&self, name: &str) -> Result<FromRead<R::File>, Broken> {
+    ghost refuses = { λ _ _. Unit {0} };
+
+    fn open(&self, name: &str) -> Result<FromRead<R::File>, ReadFault> {
         match fs::open(self.host, name) {
             Ok(file) => Ok(FromRead::new(file)),
-            Err(_) => Err(Broken),
+            Err(_) => Err(ReadFault::Unreadable),
         }
     }
 
-    fn create(&mut self, name: &str) -> Result<IntoWrite<R::File>, Broken> {
+    fn create(&mut self, name: &str) -> Result<IntoWrite<R::File>, WriteFault> {
         match fs::create(self.host, name) {
             Ok(file) => Ok(IntoWrite::new(file)),
-            Err(_) => Err(Broken),
+            Err(_) => Err(WriteFault::Unwritable),
         }
     }
 
-    fn close(&mut self, _name: &str, _output: IntoWrite<R::File>) -> Result<(), Broken> {
+    fn close(&mut self, _name: &str, _output: IntoWrite<R::File>) -> Result<(), WriteFault> {
         Ok(())
     }
 
     // A name that can't be renamed over, as a device or a link, is written as it is.
-    fn replace(&mut self, name: &str, bytes: &[u8]) -> Result<(), Broken> {
+    fn replace(&mut self, name: &str, bytes: &[u8]) -> Result<(), WriteFault> {
         match self.replace_file(name, bytes) {
             Ok(()) => Ok(()),
-            Err(_) => Err(Broken),
+            Err(_) => Err(WriteFault::Unwritable),
         }
     }
 }

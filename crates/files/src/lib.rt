@@ -6,9 +6,11 @@ mod host;
 mod memory;
 mod read_fault;
 mod reading;
+mod write_fault;
 
 pub use files::Files;
 pub use host::HostFiles;
 pub use memory::MemoryFiles;
 pub use read_fault::ReadFault;
 pub use reading::read_file;
+pub use write_fault::WriteFault;

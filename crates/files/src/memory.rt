@@ -2,12 +2,14 @@ ghost use Rattle.std.specs.Prelude.{◌≡◌, ◌≢◌, ℕ, List, Some, OnOk,
 ghost use Rattle.files.specs.Held.{held};
 
 use crate::files::Files;
-use batch::{Broken, FromRead, IntoWrite};
-use std::alloc::Global;
+use crate::read_fault::ReadFault;
+use crate::write_fault::WriteFault;
+use batch::{FromRead, IntoWrite};
+use std::alloc::{AllocError, Global};
 use std::collections::BTreeMap;
 use std::io::Cursor;
 
-/// Files that are kept in memory. A call fails where no file has the name, or memory runs out.
+/// Files that are kept in memory. A call fails where a file that has no such name is to be read, or memory runs out.
 #[derive(Drop)]
 pub struct MemoryFiles {
     alloc: Global,
@@ -30,29 +32,25 @@ impl MemoryFiles {
         self.files.get(name).map(|bytes| bytes.as_slice())
     }
 
-    /// Puts a file of these bytes under the name. The one that was there is lost.
-    pub fn put(&mut self, name: &str, bytes: Vec<u8>) -> Result<(), Broken>
+    /// Puts a file of these bytes under the name. The one that was there is lost. The only fault is want of memory.
+    pub fn put(&mut self, name: &str, bytes: Vec<u8>) -> Result<(), AllocError>
         ensures ok { OnOk result (held self.new.files name.now ≡ Some bytes.items) }
         ensures err { OnErr result ((other : List ℕ) → held self.new.files other ≡ held self.old.files other) }
         ensures others { (other : List ℕ) → other ≢ name.now → held self.new.files other ≡ held self.old.files other }
     {
-        let Ok(name) = String::from_str(self.alloc, name) else {
-            return Err(Broken);
-        };
+        let name = String::from_str(self.alloc, name)?;
         match self.files.insert(name, bytes) {
             Ok(_) => Ok(()),
-            Err(_) => Err(Broken),
+            Err(_) => Err(AllocError),
         }
     }
 
-    fn copied(&self, bytes: &[u8]) -> Result<Vec<u8>, Broken>
+    fn copied(&self, bytes: &[u8]) -> Result<Vec<u8>, AllocError>
         ensures { IfOk result (λ copy. copy.items ≡ bytes.now) }
     {
         let mut copy = Vec::new(self.alloc);
-        match copy.extend_from_slice(bytes) {
-            Ok(()) => Ok(copy),
-            Err(_) => Err(Broken),
-        }
+        copy.extend_from_slice(bytes)?;
+        Ok(copy)
     }
 }
 
@@ -65,23 +63,25 @@ impl Files for MemoryFiles {
 
     ghost holds = { λ files name bytes. held files.files name ≡ Some bytes };
 
-    fn open(&self, name: &str) -> Result<FromRead<Cursor<Vec<u8>>>, Broken> {
+    ghost refuses = { λ _ _. ⊥ };
+
+    fn open(&self, name: &str) -> Result<FromRead<Cursor<Vec<u8>>>, ReadFault> {
         match self.files.get(name) {
             Some(bytes) => Ok(FromRead::new(Cursor::new(self.copied(bytes)?))),
-            None => Err(Broken),
+            None => Err(ReadFault::Unreadable),
         }
     }
 
-    fn create(&mut self, _name: &str) -> Result<IntoWrite<Vec<u8>>, Broken> {
+    fn create(&mut self, _name: &str) -> Result<IntoWrite<Vec<u8>>, WriteFault> {
         Ok(IntoWrite::new(Vec::new(self.alloc)))
     }
 
-    fn close(&mut self, name: &str, output: IntoWrite<Vec<u8>>) -> Result<(), Broken> {
-        self.put(name, output.into_writer())
+    fn close(&mut self, name: &str, output: IntoWrite<Vec<u8>>) -> Result<(), WriteFault> {
+        Ok(self.put(name, output.into_writer())?)
     }
 
-    fn replace(&mut self, name: &str, bytes: &[u8]) -> Result<(), Broken> {
+    fn replace(&mut self, name: &str, bytes: &[u8]) -> Result<(), WriteFault> {
         let bytes = self.copied(bytes)?;
-        self.put(name, bytes)
+        Ok(self.put(name, bytes)?)
     }
 }

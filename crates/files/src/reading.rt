@@ -1,4 +1,5 @@
-ghost use Rattle.std.specs.Prelude.{◌≡◌, ◌+◌, ◌<◌, ◌^◌, ◌++◌, ℕ, List, [], false, length, IfOk, OnOk};
+ghost use Rattle.std.specs.Prelude.{◌≡◌, ◌+◌, ◌<◌, ◌^◌, ◌++◌, ℕ, List, [], false, length, Err, IfOk, OnOk};
+ghost use Rattle.files.specs.Failing.{HasFailed};
 
 use crate::files::Files;
 use crate::read_fault::ReadFault;
@@ -8,20 +9,20 @@ use std::alloc::{AllocError, Global};
 // How many bytes are asked for at once.
 const PIECE: usize = 65_536;
 
-/// What the file of this name holds, whole.
+/// What the file of this name holds, whole. One that holds known bytes is read, unless a call of its device fails or memory runs out.
 pub fn read_file<F: Files>(alloc: Global, files: &F, name: &str) -> Result<Vec<u8>, ReadFault>
-    ensures { (bytes : List ℕ) → F.holds files.now name.now bytes → IfOk result (λ read. read.items ≡ bytes) }
+    ensures read { (bytes : List ℕ) → F.holds files.now name.now bytes → IfOk result (λ read. read.items ≡ bytes) }
+    ensures unreadable { result ≡ Err ReadFault.Unreadable → (bytes : List ℕ) → F.holds files.now name.now bytes → HasFailed F.Input.failures }
 {
-    match files.open(name) {
-        Ok(mut input) => read_rest(alloc, &mut input),
-        Err(_) => Err(ReadFault::Unreadable),
-    }
+    let mut input = files.open(name)?;
+    read_rest(alloc, &mut input)
 }
 
 // All that the source still gives.
 fn read_rest<S: Source>(alloc: Global, source: &mut S) -> Result<Vec<u8>, ReadFault>
     requires { S.failures source.old + 1 < 2 ^ 64 }
-    ensures { S.is_known source.old → IfOk result (λ read. read.items ≡ S.remaining source.old) }
+    ensures read { S.is_known source.old → IfOk result (λ read. read.items ≡ S.remaining source.old) }
+    ensures unreadable { result ≡ Err ReadFault.Unreadable → 0 < S.failures source.new }
 {
     let mut piece = empty_piece(alloc)?;
     let mut read = Vec::new(alloc);
@@ -44,14 +45,16 @@ fn read_pieces<S: Source>(
 ) -> Result<(), ReadFault>
     requires room { S.failures source.old + 1 < 2 ^ 64 }
     requires some { 0 < length piece.old }
-    ensures { S.is_known source.old → OnOk result (read.new.items ≡ read.old.items ++ S.remaining source.old) }
+    ensures read { S.is_known source.old → OnOk result (read.new.items ≡ read.old.items ++ S.remaining source.old) }
+    ensures unreadable { result ≡ Err ReadFault.Unreadable → 0 < S.failures source.new }
 {
     for _ in 0..u64::MAX {
         if !read_piece(source, piece, read)? {
             return Ok(());
         }
     }
-    Err(ReadFault::Unreadable)
+    // No memory has room for so many pieces.
+    Err(ReadFault::OutOfMemory)
 }
 
 // Reads the next piece, and answers whether there was one.
@@ -63,6 +66,7 @@ fn read_piece<S: Source>(
     requires room { S.failures source.old + 1 < 2 ^ 64 }
     requires some { 0 < length piece.old }
     ensures kept { OnOk result (S.failures source.new ≡ S.failures source.old) }
+    ensures unreadable { result ≡ Err ReadFault.Unreadable → 0 < S.failures source.new }
     ensures known { S.is_known source.old → S.is_known source.new }
     ensures size { length piece.new ≡ length piece.old }
     ensures bytes { OnOk result (S.is_known source.old →

@@ -4,7 +4,9 @@ use Rattle.batch_laws.specs.BatchFault.{number_of_fault}
 use Rattle.book_json_laws.specs.JsonFault.{number_of_json_fault}
 use Rattle.files.specs.declared.read_fault.ReadFault.{ReadFault}
 use Rattle.files.specs.declared.read_fault.ReadFault.TheVariants as read
-use Rattle.batch_laws.specs.declared.batch_fault.BatchFault.TheVariants.{Count}
+use Rattle.files.specs.declared.write_fault.WriteFault.{WriteFault}
+use Rattle.files.specs.declared.write_fault.WriteFault.TheVariants as write
+use Rattle.batch_laws.specs.declared.batch_fault.BatchFault.TheVariants as batch
 use Rattle.listing.specs.declared.text_fault.TextFault.{TextFault}
 use Rattle.listing.specs.declared.text_fault.TextFault.TheVariants as text
 use Rattle.journal_text.specs.ReplayFault.{number_of_replay_fault}
@@ -34,8 +36,18 @@ abbrev pub fault_of_read : ReadFault → JobFault
 fault_of_read read.Unreadable = Unreadable
 fault_of_read read.OutOfMemory = OutOfMemory
 
+-- a file that isn't made or written is unwritable, or memory ran out
+abbrev pub fault_of_write : WriteFault → JobFault
+fault_of_write write.Unwritable = Unwritable
+fault_of_write write.OutOfMemory = OutOfMemory
+
+-- of a batch or its replies, where what was written can't be closed
+abbrev pub fault_of_close : WriteFault → JobFault
+fault_of_close write.Unwritable = Batch batch.Device
+fault_of_close write.OutOfMemory = Batch batch.OutOfMemory
+
 -- a text of bodies has a wrong line or too many bodies, or memory ran out
 abbrev pub fault_of_text : TextFault → JobFault
 fault_of_text (text.Line line) = Text line
-fault_of_text text.Count = Batch Count
+fault_of_text text.Count = Batch batch.Count
 fault_of_text text.OutOfMemory = OutOfMemory

@@ -1,6 +1,7 @@
 pub mod Audited
 pub mod Decided
+pub mod Faults
 pub mod JobFault
-pub mod Opened
+pub mod Journaled
 pub mod Packed
 pub mod Shown

@@ -1,10 +1,13 @@
-ghost use Rattle.std.specs.Prelude.{IfOk, string_bytes};
+ghost use Rattle.std.specs.Prelude.{IfOk, IfErr, string_bytes};
+ghost use Rattle.files.specs.Failing.{HasFailed};
 ghost use Rattle.jobs.specs.Audited.{IsAudited};
+ghost use Rattle.jobs.specs.Faults.{IsAuditingFault};
+ghost use Rattle.jobs.specs.Journaled.{IsAuditedWithJournal};
 
 use crate::batch_names::BatchNames;
 use crate::job_fault::JobFault;
-use crate::opening::{open_batch, open_book, open_replies};
-use audit::{Audit, audit};
+use crate::opening::{open_batch, open_book, open_journal, open_replies};
+use audit::{Audit, audit, audit_journal};
 use files::Files;
 use std::alloc::Global;
 
@@ -14,12 +17,36 @@ pub fn audit_batch<F: Files>(
     files: &F,
     names: &BatchNames,
 ) -> Result<Audit, JobFault>
-    ensures { IfOk result (IsAudited (F.holds files.now)
+    ensures audited { IfOk result (IsAudited (F.holds files.now)
         (string_bytes names.now.book) (string_bytes names.now.batch) (string_bytes names.now.replies) (string_bytes names.now.new_book)) }
+    ensures fault { IfErr result (IsAuditingFault (F.holds files.now)
+        (string_bytes names.now.book) (string_bytes names.now.batch) (string_bytes names.now.replies) (string_bytes names.now.new_book) (HasFailed F.Input.failures)) }
 {
     let book = open_book(alloc, files, names.book.as_str())?;
     let frames = open_batch(alloc, files, names.batch.as_str())?;
     let replies = open_replies(alloc, files, names.replies.as_str())?;
     let after = open_book(alloc, files, names.new_book.as_str())?;
     Ok(audit(alloc, &book, &frames, &replies, &after)?)
+}
+
+/// Whether the files of replies and of the new book hold what the journal plays to, which stands in a file of its own; else what
+/// differs first. The journal is read last.
+pub fn audit_batch_with_journal<F: Files>(
+    alloc: Global,
+    files: &F,
+    names: &BatchNames,
+    journal: &str,
+) -> Result<Audit, JobFault>
+    ensures { IfOk result (IsAuditedWithJournal (F.holds files.now)
+        (string_bytes names.now.book) (string_bytes names.now.batch) (string_bytes names.now.replies) (string_bytes names.now.new_book) journal.now) }
+{
+    let book = open_book(alloc, files, names.book.as_str())?;
+    let frames = open_batch(alloc, files, names.batch.as_str())?;
+    let replies = open_replies(alloc, files, names.replies.as_str())?;
+    let after = open_book(alloc, files, names.new_book.as_str())?;
+    let entries = open_journal(alloc, files, journal)?;
+    match audit_journal(alloc, &book, &frames, &entries, &replies, &after) {
+        Ok(found) => Ok(found),
+        Err(fault) => Err(JobFault::Journal(fault)),
+    }
 }

@@ -1,18 +1,18 @@
-ghost use Rattle.std.specs.Prelude.{◌≡◌, ◌≢◌, ◌≤◌, ℕ, List, Ok, Err, IfOk, IfErr, OnOk, OnErr, IsTrue, length, string_bytes};
+ghost use Rattle.std.specs.Prelude.{◌≡◌, ◌≢◌, ◌≤◌, ℕ, List, IfOk, IfErr, OnOk, OnErr, length, string_bytes};
 ghost use Rattle.batch.specs.Processing.{IsFold, AnswersFold};
-ghost use Rattle.batch_laws.specs.BatchFault.{is_of_bytes};
 ghost use Rattle.batch_laws.specs.Files.{replies_text};
 ghost use Rattle.batch_laws.specs.Frames.{IsBatchOf};
-ghost use Rattle.batch_laws.specs.Reading.{bodies_of, batch_magic};
 ghost use Rattle.book_json_laws.specs.Text.{book_text};
+ghost use Rattle.files.specs.Failing.{HasFailed, HasRefused};
 ghost use Rattle.rows.specs.Fold.{replies_to};
 ghost use Rattle.rows.specs.declared.frame.Frame.{Frame};
 ghost use Rattle.jobs.specs.Decided.{IsDecided};
+ghost use Rattle.jobs.specs.Faults.{HoldsSameOrNothing, IsBatchFault, IsDecidingFault, IsOfBytes, IsPuttingFault};
 
 use crate::batch_names::BatchNames;
-use crate::job_fault::JobFault;
+use crate::job_fault::{JobFault, fault_of_closing};
 use crate::opening::open_book;
-use batch::{BatchFault, process};
+use batch::process;
 use book_json::write_book;
 use files::Files;
 use fold::Outcome;
@@ -33,6 +33,15 @@ pub fn decide_batch<F: Files, E: Fn(&Book, &[Frame]) -> Result<Outcome, AllocErr
     requires fold { (rows : _) (frames : _) (answer : _) → E.post decide.now rows frames answer → AnswersFold rows.now frames.now answer }
     ensures decided { IfOk result (IsDecided (F.is_known files.old) (F.holds files.old) (F.holds files.new)
         (string_bytes names.now.book) (string_bytes names.now.batch) (string_bytes names.now.replies) (string_bytes names.now.new_book)) }
+    // The first fault, in the order of reading: the book's, then the batch's; or a call on a file failed, or memory ran out.
+    ensures fault { IfErr result (IsDecidingFault (F.holds files.old) (string_bytes names.now.book) (string_bytes names.now.batch)
+        (HasFailed F.Input.failures) (HasFailed F.Output.failures) (HasRefused F.refuses)) }
+    // Nothing of an older new book is lost.
+    ensures kept { OnErr result (string_bytes names.now.new_book ≢ string_bytes names.now.replies → (held : List ℕ)
+        → F.holds files.old (string_bytes names.now.new_book) held → F.holds files.new (string_bytes names.now.new_book) held) }
+    // No reply is put before all of the batch is read.
+    ensures unanswered { IfErr result (λ fault. IsOfBytes fault → F.is_known files.old
+        → HoldsSameOrNothing (F.holds files.old) (F.holds files.new) (string_bytes names.now.replies)) }
     ensures known { F.is_known files.old → F.is_known files.new }
 {
     let book = open_book(alloc, files, names.book.as_str())?;
@@ -54,26 +63,26 @@ fn answer_batch<F: Files, E: Fn(&Book, &[Frame]) -> Result<Outcome, AllocError>>
     ensures ok { IfOk result (λ outcome. (frames : List Frame) × IsFold book.now frames outcome
         × ((bytes : List ℕ) → F.holds files.old (string_bytes names.now.batch) bytes → IsBatchOf bytes frames)
         × (F.is_known files.old → F.holds files.new (string_bytes names.now.replies) (replies_text (replies_to book.now frames)))) }
+    ensures fault { IfErr result (IsBatchFault (F.holds files.old) (string_bytes names.now.batch)
+        (HasFailed F.Input.failures) (HasFailed F.Output.failures) (HasRefused F.refuses)) }
+    ensures unanswered { IfErr result (λ fault. IsOfBytes fault → F.is_known files.old
+        → HoldsSameOrNothing (F.holds files.old) (F.holds files.new) (string_bytes names.now.replies)) }
     ensures known { F.is_known files.old → F.is_known files.new }
     ensures others { (other held : List ℕ) → other ≢ string_bytes names.now.replies → F.holds files.old other held → F.holds files.new other held }
 {
-    let Ok(mut batch) = files.open(names.batch.as_str()) else {
-        return Err(JobFault::Unreadable);
-    };
-    let Ok(mut replies) = files.create(names.replies.as_str()) else {
-        return Err(JobFault::Unwritable);
-    };
+    let mut batch = files.open(names.batch.as_str())?;
+    let mut replies = files.create(names.replies.as_str())?;
     let processed = process(alloc, book, &mut batch, &mut replies, decide);
     let closed = files.close(names.replies.as_str(), replies);
     match (processed, closed) {
         (Ok(outcome), Ok(())) => Ok(outcome),
-        (Ok(_), Err(_)) => Err(JobFault::Batch(BatchFault::Device)),
+        (Ok(_), Err(fault)) => Err(fault_of_closing(fault)),
         (Err(fault), _) => Err(JobFault::Batch(fault)),
     }
 }
 
 /// Puts the text of a book into the file of this name.
-pub(crate) fn put_book<F: Files>(
+pub fn put_book<F: Files>(
     alloc: Global,
     files: &mut F,
     name: &str,
@@ -81,12 +90,10 @@ pub(crate) fn put_book<F: Files>(
 ) -> Result<(), JobFault>
     ensures ok { OnOk result (F.is_known files.old → F.holds files.new name.now (book_text book.now)) }
     ensures kept { OnErr result ((held : List ℕ) → F.holds files.old name.now held → F.holds files.new name.now held) }
+    ensures fault { IfErr result (IsPuttingFault (HasRefused F.refuses)) }
     ensures known { F.is_known files.old → F.is_known files.new }
     ensures others { (other held : List ℕ) → other ≢ name.now → F.holds files.old other held → F.holds files.new other held }
 {
     let text = write_book(alloc, book)?;
-    match files.replace(name, &text) {
-        Ok(()) => Ok(()),
-        Err(_) => Err(JobFault::Unwritable),
-    }
+    Ok(files.replace(name, &text)?)
 }

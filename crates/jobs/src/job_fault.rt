@@ -1,10 +1,10 @@
 ghost use Rattle.std.specs.Prelude.{◌≡◌};
-ghost use Rattle.jobs.specs.JobFault.{part_of, number_of, fault_of_read, fault_of_text};
+ghost use Rattle.jobs.specs.JobFault.{part_of, number_of, fault_of_close, fault_of_read, fault_of_text, fault_of_write};
 ghost use Rattle.jobs.specs.declared.job_fault.JobFault.TheVariants.{OutOfMemory};
 
 use batch::BatchFault;
 use book_json::JsonFault;
-use files::ReadFault;
+use files::{ReadFault, WriteFault};
 use journal_text::ReplayFault;
 use listing::TextFault;
 use std::alloc::AllocError;
@@ -84,6 +84,27 @@ impl From<ReadFault> for JobFault {
             ReadFault::Unreadable => JobFault::Unreadable,
             ReadFault::OutOfMemory => JobFault::OutOfMemory,
         }
+    }
+}
+
+impl From<WriteFault> for JobFault {
+    ghost from_gives = { λ write fault. fault ≡ fault_of_write write };
+
+    fn from(fault: WriteFault) -> JobFault {
+        match fault {
+            WriteFault::Unwritable => JobFault::Unwritable,
+            WriteFault::OutOfMemory => JobFault::OutOfMemory,
+        }
+    }
+}
+
+/// Why a file of a batch or its replies is not written, where it can't be closed.
+pub fn fault_of_closing(fault: WriteFault) -> JobFault
+    ensures { result ≡ fault_of_close fault }
+{
+    match fault {
+        WriteFault::Unwritable => JobFault::Batch(BatchFault::Device),
+        WriteFault::OutOfMemory => JobFault::Batch(BatchFault::OutOfMemory),
     }
 }
 

@@ -9,11 +9,14 @@ mod opening;
 mod packing;
 mod running;
 mod showing;
+mod tracing;
 
-pub use auditing::audit_batch;
+pub use auditing::{audit_batch, audit_batch_with_journal};
 pub use batch_names::BatchNames;
-pub use deciding::decide_batch;
-pub use job_fault::JobFault;
+pub use deciding::{decide_batch, put_book};
+pub use job_fault::{JobFault, fault_of_closing};
+pub use opening::open_book;
 pub use packing::pack_batch;
 pub use running::{run_batch, serial_batch};
 pub use showing::show_file;
+pub use tracing::run_batch_with_journal;

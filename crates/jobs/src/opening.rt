@@ -1,19 +1,22 @@
-ghost use Rattle.std.specs.Prelude.{◌≡◌, ◌≤◌, ℕ, List, IfOk, length};
+ghost use Rattle.std.specs.Prelude.{◌≡◌, ◌≤◌, ℕ, List, IfOk, IfErr, length};
 ghost use Rattle.batch_laws.specs.Frames.{IsBatchOf};
 ghost use Rattle.batch_laws.specs.Replies.{IsReplyFileOf};
-ghost use Rattle.book_json_laws.specs.Reading.{reading};
-ghost use Rattle.jobs.specs.Opened.{FindsBook};
+ghost use Rattle.files.specs.Failing.{HasFailed};
+ghost use Rattle.journal_text.specs.Journal.{AreEntries, journal_text};
+ghost use Rattle.jobs.specs.Faults.{IsBatchFault, IsBookFault, IsBookOf, IsReplyFileFault};
 
 use crate::job_fault::JobFault;
 use batch::{BatchFault, read_batch, read_replies};
 use book_json::read_book;
 use files::{Files, read_file};
+use journal_text::{Entry, read_journal};
 use rows::{Book, Frame, ReplyBody};
 use std::alloc::Global;
 
 /// The book of the file of this name.
-pub(crate) fn open_book<F: Files>(alloc: Global, files: &F, name: &str) -> Result<Book, JobFault>
-    ensures { (bytes : List ℕ) → F.holds files.now name.now bytes → FindsBook (reading bytes) result }
+pub fn open_book<F: Files>(alloc: Global, files: &F, name: &str) -> Result<Book, JobFault>
+    ensures book { IfOk result (IsBookOf (F.holds files.now) name.now) }
+    ensures fault { IfErr result (IsBookFault (F.holds files.now) name.now (HasFailed F.Input.failures)) }
 {
     let text = read_file(alloc, files, name)?;
     match read_book(alloc, &text) {
@@ -29,11 +32,10 @@ pub(crate) fn open_batch<F: Files>(
     name: &str,
 ) -> Result<Vec<Frame>, JobFault>
     ensures count { IfOk result (λ frames. length frames.items ≤ 65536) }
+    ensures fault { IfErr result (IsBatchFault (F.holds files.now) name.now (HasFailed F.Input.failures) ⊥ ⊥) }
     ensures frames { (bytes : List ℕ) → F.holds files.now name.now bytes → IfOk result (λ frames. IsBatchOf bytes frames.items) }
 {
-    let Ok(mut input) = files.open(name) else {
-        return Err(JobFault::Unreadable);
-    };
+    let mut input = files.open(name)?;
     match read_batch(alloc, &mut input) {
         Ok(frames) => Ok(frames),
         Err(fault) => Err(JobFault::Batch(fault)),
@@ -46,14 +48,29 @@ pub(crate) fn open_replies<F: Files>(
     files: &F,
     name: &str,
 ) -> Result<Vec<ReplyBody>, JobFault>
-    ensures { (bytes : List ℕ) → F.holds files.now name.now bytes → IfOk result (λ replies. IsReplyFileOf bytes replies.items) }
+    ensures fault { IfErr result (IsReplyFileFault (F.holds files.now) name.now (HasFailed F.Input.failures)) }
+    ensures replies { (bytes : List ℕ) → F.holds files.now name.now bytes → IfOk result (λ replies. IsReplyFileOf bytes replies.items) }
 {
-    let Ok(mut input) = files.open(name) else {
-        return Err(JobFault::Unreadable);
-    };
+    let mut input = files.open(name)?;
     match read_replies(alloc, &mut input) {
         Ok(replies) => Ok(replies),
         Err(BatchFault::Device) => Err(JobFault::Unreadable),
         Err(fault) => Err(JobFault::Batch(fault)),
+    }
+}
+
+/// The entries of the journal of this name.
+pub(crate) fn open_journal<F: Files>(
+    alloc: Global,
+    files: &F,
+    name: &str,
+) -> Result<Vec<Entry>, JobFault>
+    ensures are { IfOk result (λ entries. AreEntries entries.items) }
+    ensures entries { (bytes : List ℕ) → F.holds files.now name.now bytes → IfOk result (λ entries. bytes ≡ journal_text entries.items) }
+{
+    let text = read_file(alloc, files, name)?;
+    match read_journal(alloc, &text) {
+        Ok(entries) => Ok(entries),
+        Err(fault) => Err(JobFault::Journal(fault)),
     }
 }

@@ -1,8 +1,8 @@
 ghost use Rattle.std.specs.Prelude.{◌≡◌, IfOk};
 ghost use Rattle.jobs.specs.Packed.{IsPacked};
 
-use crate::job_fault::JobFault;
-use batch::{BatchFault, write_batch};
+use crate::job_fault::{JobFault, fault_of_closing};
+use batch::write_batch;
 use files::{Files, read_file};
 use listing::read_bodies;
 use std::alloc::Global;
@@ -18,14 +18,12 @@ pub fn pack_batch<F: Files>(
 {
     let lines = read_file(alloc, files, text)?;
     let bodies = read_bodies(alloc, &lines)?;
-    let Ok(mut output) = files.create(batch) else {
-        return Err(JobFault::Unwritable);
-    };
+    let mut output = files.create(batch)?;
     let written = write_batch(alloc, &bodies, &mut output);
     let closed = files.close(batch, output);
     match (written, closed) {
         (Ok(()), Ok(())) => Ok(bodies.len()),
-        (Ok(()), Err(_)) => Err(JobFault::Batch(BatchFault::Device)),
+        (Ok(()), Err(fault)) => Err(fault_of_closing(fault)),
         (Err(fault), _) => Err(JobFault::Batch(fault)),
     }
 }

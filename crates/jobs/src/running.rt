@@ -1,6 +1,8 @@
-ghost use Rattle.std.specs.Prelude.{◌≡◌, ◌≤◌, IfOk, length, string_bytes};
+ghost use Rattle.std.specs.Prelude.{◌≡◌, ◌≢◌, ◌≤◌, ℕ, List, IfOk, IfErr, OnErr, length, string_bytes};
 ghost use Rattle.batch.specs.Processing.{AnswersFold};
+ghost use Rattle.files.specs.Failing.{HasFailed, HasRefused};
 ghost use Rattle.jobs.specs.Decided.{IsDecided};
+ghost use Rattle.jobs.specs.Faults.{HoldsSameOrNothing, IsDecidingFault, IsOfBytes};
 
 use crate::batch_names::BatchNames;
 use crate::deciding::decide_batch;
@@ -25,6 +27,13 @@ pub fn run_batch<R: Threads + Wait + Sync, F: Files>(
 ) -> Result<usize, JobFault>
     ensures decided { IfOk result (IsDecided (F.is_known files.old) (F.holds files.old) (F.holds files.new)
         (string_bytes names.now.book) (string_bytes names.now.batch) (string_bytes names.now.replies) (string_bytes names.now.new_book)) }
+    ensures fault { IfErr result (IsDecidingFault (F.holds files.old) (string_bytes names.now.book) (string_bytes names.now.batch)
+        (HasFailed F.Input.failures) (HasFailed F.Output.failures) (HasRefused F.refuses)) }
+    ensures kept { OnErr result (string_bytes names.now.new_book ≢ string_bytes names.now.replies → (held : List ℕ)
+        → F.holds files.old (string_bytes names.now.new_book) held → F.holds files.new (string_bytes names.now.new_book) held) }
+    ensures unanswered { IfErr result (λ fault. IsOfBytes fault → F.is_known files.old
+        → HoldsSameOrNothing (F.holds files.old) (F.holds files.new) (string_bytes names.now.replies)) }
+    ensures known { F.is_known files.old → F.is_known files.new }
 {
     let decide = |book: &Book, frames: &[Frame]| -> Result<Outcome, AllocError>
         requires { length frames.now ≤ 65536 }
@@ -41,6 +50,13 @@ pub fn serial_batch<F: Files>(
 ) -> Result<usize, JobFault>
     ensures decided { IfOk result (IsDecided (F.is_known files.old) (F.holds files.old) (F.holds files.new)
         (string_bytes names.now.book) (string_bytes names.now.batch) (string_bytes names.now.replies) (string_bytes names.now.new_book)) }
+    ensures fault { IfErr result (IsDecidingFault (F.holds files.old) (string_bytes names.now.book) (string_bytes names.now.batch)
+        (HasFailed F.Input.failures) (HasFailed F.Output.failures) (HasRefused F.refuses)) }
+    ensures kept { OnErr result (string_bytes names.now.new_book ≢ string_bytes names.now.replies → (held : List ℕ)
+        → F.holds files.old (string_bytes names.now.new_book) held → F.holds files.new (string_bytes names.now.new_book) held) }
+    ensures unanswered { IfErr result (λ fault. IsOfBytes fault → F.is_known files.old
+        → HoldsSameOrNothing (F.holds files.old) (F.holds files.new) (string_bytes names.now.replies)) }
+    ensures known { F.is_known files.old → F.is_known files.new }
 {
     let decide = |book: &Book, frames: &[Frame]| -> Result<Outcome, AllocError>
         requires { length frames.now ≤ 65536 }

@@ -1,7 +1,7 @@
 //! One body's way through the program, part by part.
 
 use answering::{answer_on, body_of_digits, decide_one, sample_book};
-use commands::{Command, Printer, act, plain_words_are_read, read_words};
+use commands::{Printer, act};
 use engine::Workers;
 use files::MemoryFiles;
 use std::alloc::Global;
@@ -9,6 +9,7 @@ use std::io;
 use std::io::{ErrorKind, Write};
 use std::process::Abort;
 use std::test::Fail;
+use words::{Command, plain_words_are_read, read_words};
 
 fn words(alloc: Global, words: &[&str]) -> Result<Vec<String>, Fail> {
     let mut all = Vec::new(alloc);

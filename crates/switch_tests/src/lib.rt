@@ -2,8 +2,16 @@
 #![tactic(auto)]
 
 #[cfg(test)]
+mod acting;
+#[cfg(test)]
 mod answers;
 #[cfg(test)]
 mod batches;
+#[cfg(test)]
+mod blocks;
+#[cfg(test)]
+mod faults;
+#[cfg(test)]
+mod journals;
 #[cfg(test)]
 mod words;

@@ -131,6 +131,54 @@ fn words_that_are_no_command_are_a_usage_fault(rt: HostRuntime) -> Result<(), Fa
     assert_usage(&rt, alloc, &["audit", "book", "batch", "replies"])?;
     assert_usage(&rt, alloc, &["show"])?;
     assert_usage(&rt, alloc, &["pack", "text"])?;
+    assert_usage(&rt, alloc, &["blocks", "book", "file", "replies"])?;
+    assert_usage(&rt, alloc, &["audit-blocks", "book", "file", "replies"])?;
+    assert_usage(
+        &rt,
+        alloc,
+        &[
+            "serial",
+            "book",
+            "batch",
+            "replies",
+            "after",
+            "--journal",
+            "journal",
+        ],
+    )?;
+    assert_usage(
+        &rt,
+        alloc,
+        &[
+            "blocks",
+            "book",
+            "file",
+            "replies",
+            "after",
+            "--journal",
+            "journal",
+        ],
+    )?;
+    assert_usage(
+        &rt,
+        alloc,
+        &["run", "book", "batch", "replies", "after", "--journal"],
+    )?;
+    assert_usage(
+        &rt,
+        alloc,
+        &[
+            "run",
+            "book",
+            "batch",
+            "replies",
+            "after",
+            "--journal",
+            "journal",
+            "--engine",
+            "split",
+        ],
+    )?;
     for workers in ["0", "65", "four", "-1", ""] {
         let words = [
             "run",
@@ -142,6 +190,14 @@ fn words_that_are_no_command_are_a_usage_fault(rt: HostRuntime) -> Result<(), Fa
             workers,
         ];
         assert_usage(&rt, alloc, &words)?;
+    }
+    for engine in ["split", "other", "Locked", ""] {
+        for command in ["run", "blocks"] {
+            let words = [
+                command, "book", "batch", "replies", "after", "--engine", engine,
+            ];
+            assert_usage(&rt, alloc, &words)?;
+        }
     }
     let too_many = "00".repeat(alloc, 513)?;
     assert_usage(&rt, alloc, &["one", too_many.as_str()])?;
@@ -201,20 +257,77 @@ fn a_reversal_is_answered(rt: HostRuntime) -> Result<(), Fail> {
     assert_answer(&rt, alloc, reversal.as_str(), untraced.as_str())
 }
 
+// The split engine is refused with a word that says why.
 #[test]
-fn help_says_what_there_is(rt: HostRuntime) -> Result<(), Fail> {
-    let help = acted(&rt, rt.alloc(), &["--help"])?;
+fn the_split_engine_is_not_built(rt: HostRuntime) -> Result<(), Fail> {
+    let words = [
+        "run", "book", "batch", "replies", "after", "--engine", "split",
+    ];
+    let acted = acted(&rt, rt.alloc(), &words)?;
+    assert_eq!(rt; acted.status, 2);
+    let line = b"--engine split: the split engine is not built yet\n";
+    assert_eq!(rt; acted.err.as_slice(), line.as_slice());
+    Ok(())
+}
+
+#[test]
+fn the_version_is_told(rt: HostRuntime) -> Result<(), Fail> {
+    for word in ["--version", "-V"] {
+        let acted = acted(&rt, rt.alloc(), &[word])?;
+        assert_eq!(rt; acted.status, 0);
+        assert_eq!(rt; acted.out.as_slice(), b"switch 0.1.0\n".as_slice());
+        assert!(rt; acted.err.is_empty());
+    }
+    Ok(())
+}
+
+// The help of the words has these parts.
+fn assert_help<R: Abort + Threads + Wait + Sync>(
+    rt: &R,
+    alloc: Global,
+    words: &[&str],
+    parts: &[&str],
+) -> Result<(), Fail> {
+    let help = acted(rt, alloc, words)?;
     assert_eq!(rt; help.status, 0);
     let text = str::from_utf8(&help.out).ok().ok_or("text")?;
-    for part in [
+    for part in parts {
+        assert!(rt; text.contains(part), "{part}");
+    }
+    Ok(())
+}
+
+#[test]
+fn help_says_what_there_is(rt: HostRuntime) -> Result<(), Fail> {
+    let alloc = rt.alloc();
+    let parts = [
         "Usage: switch",
         "one",
         "run",
         "serial",
+        "blocks",
+        "audit",
+        "audit-blocks",
+        "show",
+        "pack",
+        "--version",
         "Exit status",
+        "file 2",
+        "book N",
         "batch N",
-    ] {
-        assert!(rt; text.contains(part), "{part}");
-    }
-    Ok(())
+        "10 more than",
+        "journal N",
+        "text N",
+        "memory 1",
+        "kept M",
+    ];
+    assert_help(&rt, alloc, &["--help"], &parts)?;
+    let run = ["BOOK", "I83B", "I83R", "--workers", "--engine", "--journal"];
+    assert_help(&rt, alloc, &["run", "--help"], &run)?;
+    let blocks = ["BOOK", "I83M", "I83T", "--workers", "--engine"];
+    assert_help(&rt, alloc, &["blocks", "--help"], &blocks)?;
+    let audit = ["I83B", "I83R", "--journal", "count differs"];
+    assert_help(&rt, alloc, &["audit", "--help"], &audit)?;
+    let audit_blocks = ["I83M", "I83T", "block B reply I differs"];
+    assert_help(&rt, alloc, &["audit-blocks", "--help"], &audit_blocks)
 }

@@ -1,33 +1,13 @@
-use Rattle.std.proofs.Common.{inl, inr, string_bytes}
-use Rattle.commands.specs.Asked.{audit, names_of, pack, run, serial, show}
+use Rattle.std.proofs.Common.{List, ℕ, map, string_bytes}
+use Rattle.std.proofs.lemmas.Result.{err_from_is_err_and}
+use Rattle.words.specs.Asked.{asked_of}
+use Rattle.commands.proofs.DoneLemmas.{asked_for, of_line}
 use Rattle.commands.proofs.program.answer.Goals as goal
 
-pub returns-in-Ok : goal.returns-in-Ok
-returns-in-Ok g c =
-    let asks = rw c.in-Serial.is at c.in_ok-text.ensures in
-    (names_of c.in-Serial.names, inl asks, c.in-Ok.ensures.decided)
+pub returns-in_err-command : goal.returns-in_err-command
+returns-in_err-command g c =
+    let p = err_from_is_err_and c.from_residual.result c.from_residual.ensures.1 in
+    rw (p.1, p.2) (of_line _ _ _ (map string_bytes c.args.words.now) c.in_err-command.field-0.0 c.in_err-command.ensures)
 
-pub returns-in-Serial : goal.returns-in-Serial
-returns-in-Serial g c =
-    let asks = rw c.in-Serial.is at c.in_ok-text.ensures in
-    (serial (names_of c.in-Serial.names), asks, tt)
-
-pub returns-in-Ok-run_batch : goal.returns-in-Ok-run_batch
-returns-in-Ok-run_batch g c =
-    let asks = rw c.in-Run.is at c.in_ok-text.ensures in
-    (names_of c.in-Run.names, inr (c.in-Run.workers, asks), c.in-Ok-run_batch.ensures.decided)
-
-pub returns-in-Run : goal.returns-in-Run
-returns-in-Run g c =
-    let asks = rw c.in-Run.is at c.in_ok-text.ensures in
-    (run (names_of c.in-Run.names) c.in-Run.workers, asks, tt)
-
-pub returns-in-Audit : goal.returns-in-Audit
-returns-in-Audit g c =
-    let asks = rw c.in-Audit.is at c.in_ok-text.ensures in
-    (audit (names_of c.in-Audit.names), asks, tt)
-
-pub returns-in-Show : goal.returns-in-Show
-returns-in-Show g c =
-    let asks = rw c.in-Show.is at c.in_ok-text.ensures in
-    (show (string_bytes c.in-Show.file), asks, tt)
+pub returns : goal.returns
+returns g c = asked_for _ _ _ (map string_bytes c.args.words.now) (asked_of c.in_ok-command.command) c.done.result c.in_ok-command.ensures c.done.ensures

@@ -3,5 +3,5 @@ use Rattle.std.proofs.lemmas.Map.Text.{text_keys}
 use Rattle.files.specs.Held.{held}
 use Rattle.files.proofs.memory.MemoryFiles.put.Goals as goal
 
-pub returns-in-Ok-insert-clause-others : goal.returns-in-Ok-insert-clause-others
-returns-in-Ok-insert-clause-others c = grind (arith, text_keys)
+pub returns-in-Ok-clause-others : goal.returns-in-Ok-clause-others
+returns-in-Ok-clause-others c = grind (arith, text_keys)

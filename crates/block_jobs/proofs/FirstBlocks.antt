@@ -1,0 +1,77 @@
+-- What a halt of blocks leaves in a file that was empty.
+use Rattle.std.proofs.Common.{◌≡◌, ◌⊎◌, ℕ, ◌+◌, List, [], ◌++◌, length, refl, sym, ap, ◌∙◌, inl, inr, IsTrue, append_assoc}
+use Rattle.batch.specs.Blocks.{StopsBefore, StopsInHead, StopsInBlocks}
+use Rattle.batch_laws.specs.BatchFault.{is_of_bytes}
+use Rattle.batch_laws.specs.Blocks.{FailsBehind, block_replies_magic, block_text, blocks_text, replies_to_blocks, rows_after_blocks}
+use Rattle.batch_laws.specs.Files.{head_text}
+use Rattle.batch_laws.specs.declared.batch_fault.BatchFault.{BatchFault}
+use Rattle.rows.specs.Fold.{Rows, replies_to}
+use Rattle.rows.specs.declared.frame.Frame.{Frame}
+use Rattle.block_jobs.specs.Decided.{AreFirstAnswered}
+use Rattle.jobs.specs.Decided.{Holding}
+
+pub before_head : (known : Type 0) (old new : Holding) (batch replies : List ℕ) (rows after : Rows) (fault : BatchFault) (count : ℕ)
+    (reads : Type 0) (bytes written : List ℕ) (same : Type 0)
+    → ((held : List ℕ) → old batch held → reads × (bytes ≡ held)) → (known → new replies written) → (known → same → written ≡ [])
+    → StopsBefore rows after count reads bytes fault same
+    → AreFirstAnswered known old new batch replies rows after fault count
+before_head known old new batch replies rows after fault count reads bytes written same opened closed empty h =
+    record {
+      blocks = [];
+      number = h.0;
+      total = 0;
+      book = h.1;
+      read = λ held o. inl refl;
+      fails = λ held o t. inl (refl, rw (← (opened held o).1) (h.3 (opened held o).0 t));
+      answered = λ k. (written, closed k, inl (refl, head_text block_replies_magic 0, rw (empty k h.2) refl));
+    }
+
+pub in_head : (known : Type 0) (old new : Holding) (batch replies : List ℕ) (rows after : Rows) (fault : BatchFault) (count : ℕ)
+    (reads : Type 0) (bytes : List ℕ) (puts : Type 0) (start written : List ℕ) (failed : Type 0)
+    → (known → new replies written) → (known → puts) → (known → start ≡ []) → (failed → ¬ IsTrue (is_of_bytes fault))
+    → StopsInHead rows after count reads bytes puts start written failed
+    → AreFirstAnswered known old new batch replies rows after fault count
+in_head known old new batch replies rows after fault count reads bytes puts start written failed closed put empty device h =
+    record {
+      blocks = [];
+      number = h.0;
+      total = h.3;
+      book = h.1;
+      read = λ held o. inl refl;
+      fails = λ held o t. absurd (device h.2 t);
+      answered = λ k.
+          let part = h.6 (put k) in
+          (written, closed k, inl (refl, part.1, rw (part.2, empty k) part.3));
+    }
+
+pub behind_head : (known : Type 0) (old new : Holding) (batch replies : List ℕ) (rows after : Rows) (fault : BatchFault) (count : ℕ)
+    (reads : Type 0) (bytes : List ℕ) (puts : Type 0) (start written : List ℕ) (failed : Type 0)
+    → ((held : List ℕ) → old batch held → reads × (bytes ≡ held)) → (known → new replies written) → (known → puts) → (known → start ≡ [])
+    → StopsInBlocks rows after count reads bytes puts start written fault failed
+    → AreFirstAnswered known old new batch replies rows after fault count
+behind_head known old new batch replies rows after fault count reads bytes puts start written failed opened closed put empty h =
+    let kept = h.3.kept in
+    record {
+      blocks = kept.blocks;
+      number = sym kept.number;
+      total = h.0;
+      book = kept.book;
+      read = λ held o. inr (h.1, h.3.left, rw (← (opened held o).1) (h.2 (opened held o).0), kept.read (opened held o).0);
+      fails = λ held o t. inr (
+        h.1,
+        h.3.left,
+        rw (← (opened held o).1) (h.2 (opened held o).0),
+        kept.read (opened held o).0,
+        rw kept.number (h.3.fails (opened held o).0 t),
+      );
+      answered = λ k. (
+        written,
+        closed k,
+        inr (elim h.3.begun [
+          | inl none ↦ ([], [], block_text (replies_to (rows_after_blocks rows kept.blocks) []), none (put k) ∙ (kept.put (put k) ∙ rw (empty k) refl), refl)
+          | inr begun ↦
+              let part = begun.4 (put k) in
+              (begun.1, part.0, part.1, rw (part.2, kept.put (put k), empty k) refl, rw (← kept.book) part.3)
+        ]),
+      );
+    }

@@ -1,0 +1,58 @@
+ghost use Rattle.std.specs.Prelude.{◌≤◌, ℕ, List, IfOk, length, string_bytes};
+ghost use Rattle.std.specs.List.{All};
+ghost use Rattle.batch.specs.BlockFiles.{frames_of, replies_of};
+ghost use Rattle.batch_laws.specs.Blocks.{IsBlockFileOf, IsBlockReplyFileOf};
+ghost use Rattle.block_jobs.specs.Audited.{AreBlocksAudited};
+
+use audit::{BlockAudit, audit_blocks};
+use batch::{BatchFault, read_block_replies, read_blocks};
+use files::Files;
+use jobs::{BatchNames, JobFault, open_book};
+use rows::{Frame, ReplyBody};
+use std::alloc::Global;
+
+/// Whether the files of replies and of the new book hold what deciding the blocks of a block file on the book comes to; else what
+/// differs first.
+pub fn audit_block_files<F: Files>(
+    alloc: Global,
+    files: &F,
+    names: &BatchNames,
+) -> Result<BlockAudit, JobFault>
+    ensures { IfOk result (AreBlocksAudited (F.holds files.now)
+        (string_bytes names.now.book) (string_bytes names.now.batch) (string_bytes names.now.replies) (string_bytes names.now.new_book)) }
+{
+    let book = open_book(alloc, files, names.book.as_str())?;
+    let blocks = open_blocks(alloc, files, names.batch.as_str())?;
+    let replies = open_block_replies(alloc, files, names.replies.as_str())?;
+    let after = open_book(alloc, files, names.new_book.as_str())?;
+    Ok(audit_blocks(alloc, &book, &blocks, &replies, &after)?)
+}
+
+// The blocks of the block file of this name.
+fn open_blocks<F: Files>(alloc: Global, files: &F, name: &str) -> Result<Vec<Vec<Frame>>, JobFault>
+    ensures count { IfOk result (λ blocks. length blocks.items ≤ 1000) }
+    ensures each { IfOk result (λ blocks. All (λ block. length block.items ≤ 65536) blocks.items) }
+    ensures blocks { (bytes : List ℕ) → F.holds files.now name.now bytes → IfOk result (λ blocks. IsBlockFileOf bytes (frames_of blocks.items)) }
+{
+    let mut input = files.open(name)?;
+    match read_blocks(alloc, &mut input) {
+        Ok(blocks) => Ok(blocks),
+        Err(fault) => Err(JobFault::Batch(fault)),
+    }
+}
+
+// The replies of the blocks of the file of this name. A device that fails is an unreadable file.
+fn open_block_replies<F: Files>(
+    alloc: Global,
+    files: &F,
+    name: &str,
+) -> Result<Vec<Vec<ReplyBody>>, JobFault>
+    ensures { (bytes : List ℕ) → F.holds files.now name.now bytes → IfOk result (λ replies. IsBlockReplyFileOf bytes (replies_of replies.items)) }
+{
+    let mut input = files.open(name)?;
+    match read_block_replies(alloc, &mut input) {
+        Ok(replies) => Ok(replies),
+        Err(BatchFault::Device) => Err(JobFault::Unreadable),
+        Err(fault) => Err(JobFault::Batch(fault)),
+    }
+}

@@ -1,0 +1,99 @@
+ghost use Rattle.std.specs.Prelude.{◌≡◌, ◌≢◌, ◌⊎◌, ◌≤◌, ◌+◌, ℕ, List, [], Some, None, Ok, Err, IfOk, IfErr, OnErr, IsTrue, length, string_bytes};
+ghost use Rattle.batch.specs.Processing.{AnswersFold};
+ghost use Rattle.batch_laws.specs.declared.batch_fault.BatchFault.{BatchFault};
+ghost use Rattle.book_json_laws.specs.Text.{book_text};
+ghost use Rattle.block_jobs.specs.Decided.{AreBlocksDecided, AreBlocksKept, AreBlocksAnswered, AreFirstAnswered};
+
+use crate::block_count::BlockCount;
+use crate::halt::Halt;
+use batch::{BlocksOutcome, Halted, process_blocks};
+use files::Files;
+use fold::Outcome;
+use jobs::{BatchNames, JobFault, fault_of_closing, open_book, put_book};
+use rows::{Book, Frame};
+use std::alloc::{AllocError, Global};
+
+/// Decides the blocks of one file on the book of another, each on the book after those before it, and puts the replies and the new
+/// book into files. `decide` has to answer the fold. Where a block can't be read, decided or answered, the blocks before it are
+/// kept: the new book is the one after them. After any other fault the file of the new book is as it was.
+pub fn decide_blocks<F: Files, E: Fn(&Book, &[Frame]) -> Result<Outcome, AllocError>>(
+    alloc: Global,
+    files: &mut F,
+    names: &BatchNames,
+    decide: &E,
+) -> Result<BlockCount, Halt>
+    // It may be called with a block, and what it answers is the fold.
+    requires called { (rows : _) (frames : _) → length frames.now ≤ 65536 → E.pre decide.now rows frames }
+    requires fold { (rows : _) (frames : _) (answer : _) → E.post decide.now rows frames answer → AnswersFold rows.now frames.now answer }
+    ensures decided { IfOk result (λ count. AreBlocksDecided (F.is_known files.old) (F.holds files.old) (F.holds files.new)
+        (string_bytes names.now.book) (string_bytes names.now.batch) (string_bytes names.now.replies) (string_bytes names.now.new_book) count.blocks count.messages) }
+    // Blocks are kept behind a fault of the block file, its replies, or want of memory.
+    ensures halted { IfErr result (λ halt. (count : ℕ) → halt.kept ≡ Some count → (fault : BatchFault) × (halt.fault ≡ JobFault.Batch fault)
+        × AreBlocksKept (F.is_known files.old) (F.holds files.old) (F.holds files.new)
+        (string_bytes names.now.book) (string_bytes names.now.batch) (string_bytes names.now.replies) (string_bytes names.now.new_book) fault count) }
+    // Where no new book was written, nothing of the older one is lost.
+    ensures kept { IfErr result (λ halt. halt.kept ≡ None → (held : List ℕ) → string_bytes names.now.new_book ≢ string_bytes names.now.replies
+        → F.holds files.old (string_bytes names.now.new_book) held → F.holds files.new (string_bytes names.now.new_book) held) }
+    ensures known { F.is_known files.old → F.is_known files.new }
+{
+    let book = open_book(alloc, files, names.book.as_str())?;
+    match answer_blocks(alloc, files, names, book, decide)? {
+        Ok(outcome) => {
+            put_book(alloc, files, names.new_book.as_str(), &outcome.book)?;
+            Ok(BlockCount {
+                blocks: outcome.blocks,
+                messages: outcome.messages,
+            })
+        }
+        Err(halted) => Err(keep_blocks(alloc, files, names.new_book.as_str(), &halted)),
+    }
+}
+
+// Decides the blocks on a book, and puts their replies into their file. Where not all are kept, the answer is which are; where
+// the replies are not in their file, none is.
+fn answer_blocks<F: Files, E: Fn(&Book, &[Frame]) -> Result<Outcome, AllocError>>(
+    alloc: Global,
+    files: &mut F,
+    names: &BatchNames,
+    book: Book,
+    decide: &E,
+) -> Result<Result<BlocksOutcome, Halted>, JobFault>
+    requires called { (rows : _) (frames : _) → length frames.now ≤ 65536 → E.pre decide.now rows frames }
+    requires fold { (rows : _) (frames : _) (answer : _) → E.post decide.now rows frames answer → AnswersFold rows.now frames.now answer }
+    ensures ok { IfOk result (λ processed. IfOk processed (λ outcome. AreBlocksAnswered (F.is_known files.old) (F.holds files.old) (F.holds files.new)
+        (string_bytes names.now.batch) (string_bytes names.now.replies) book outcome.book outcome.blocks outcome.messages)) }
+    ensures some { IfOk result (λ processed. IfErr processed (λ halted. AreFirstAnswered (F.is_known files.old) (F.holds files.old) (F.holds files.new)
+        (string_bytes names.now.batch) (string_bytes names.now.replies) book halted.book halted.fault halted.blocks)) }
+    ensures known { F.is_known files.old → F.is_known files.new }
+    ensures others { (other held : List ℕ) → other ≢ string_bytes names.now.replies → F.holds files.old other held → F.holds files.new other held }
+{
+    let mut blocks = files.open(names.batch.as_str())?;
+    let mut replies = files.create(names.replies.as_str())?;
+    let processed = process_blocks(alloc, book, &mut blocks, &mut replies, decide);
+    let closed = files.close(names.replies.as_str(), replies);
+    match closed {
+        Ok(()) => Ok(processed),
+        Err(fault) => match processed {
+            Ok(_) => Err(fault_of_closing(fault)),
+            Err(halted) => Err(JobFault::Batch(halted.fault)),
+        },
+    }
+}
+
+// Puts the book after the kept blocks into the file of this name.
+fn keep_blocks<F: Files>(alloc: Global, files: &mut F, name: &str, halted: &Halted) -> Halt
+    ensures fault { result.fault ≡ JobFault.Batch halted.now.fault }
+    ensures kept { (count : ℕ) → result.kept ≡ Some count → (count ≡ halted.now.blocks) × (F.is_known files.old → F.holds files.new name.now (book_text halted.now.book)) }
+    ensures same { result.kept ≡ None → (held : List ℕ) → F.holds files.old name.now held → F.holds files.new name.now held }
+    ensures known { F.is_known files.old → F.is_known files.new }
+    ensures others { (other held : List ℕ) → other ≢ name.now → F.holds files.old other held → F.holds files.new other held }
+{
+    let kept = match put_book(alloc, files, name, &halted.book) {
+        Ok(()) => Some(halted.blocks),
+        Err(_) => None,
+    };
+    Halt {
+        fault: JobFault::Batch(halted.fault),
+        kept,
+    }
+}

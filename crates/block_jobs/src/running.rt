@@ -1,0 +1,42 @@
+ghost use Rattle.std.specs.Prelude.{◌≡◌, ◌≢◌, ◌≤◌, ℕ, List, Some, None, IfOk, IfErr, length, string_bytes};
+ghost use Rattle.batch.specs.Processing.{AnswersFold};
+ghost use Rattle.batch_laws.specs.declared.batch_fault.BatchFault.{BatchFault};
+ghost use Rattle.block_jobs.specs.Decided.{AreBlocksDecided, AreBlocksKept};
+
+use crate::block_count::BlockCount;
+use crate::deciding::decide_blocks;
+use crate::halt::Halt;
+use engine::{OpenGate, Workers, run};
+use files::Files;
+use fold::Outcome;
+use jobs::{BatchNames, JobFault};
+use rows::{Book, Frame};
+use rules::Shipped;
+use std::alloc::{AllocError, Global};
+use std::sync::Wait;
+use std::thread::Threads;
+
+/// Decides a block file by so many workers, block after block, files to files. Where a block can't be read, decided or answered,
+/// the blocks before it are kept.
+pub fn run_blocks<R: Threads + Wait + Sync, F: Files>(
+    rt: &R,
+    alloc: Global,
+    files: &mut F,
+    names: &BatchNames,
+    workers: Workers,
+) -> Result<BlockCount, Halt>
+    ensures decided { IfOk result (λ count. AreBlocksDecided (F.is_known files.old) (F.holds files.old) (F.holds files.new)
+        (string_bytes names.now.book) (string_bytes names.now.batch) (string_bytes names.now.replies) (string_bytes names.now.new_book) count.blocks count.messages) }
+    ensures halted { IfErr result (λ halt. (count : ℕ) → halt.kept ≡ Some count → (fault : BatchFault) × (halt.fault ≡ JobFault.Batch fault)
+        × AreBlocksKept (F.is_known files.old) (F.holds files.old) (F.holds files.new)
+        (string_bytes names.now.book) (string_bytes names.now.batch) (string_bytes names.now.replies) (string_bytes names.now.new_book) fault count) }
+    ensures kept { IfErr result (λ halt. halt.kept ≡ None → (held : List ℕ) → string_bytes names.now.new_book ≢ string_bytes names.now.replies
+        → F.holds files.old (string_bytes names.now.new_book) held → F.holds files.new (string_bytes names.now.new_book) held) }
+    ensures known { F.is_known files.old → F.is_known files.new }
+{
+    let decide = |book: &Book, frames: &[Frame]| -> Result<Outcome, AllocError>
+        requires { length frames.now ≤ 65536 }
+        ensures { AnswersFold book.entry.now frames.entry.now result }
+    { run(rt, alloc, book, frames, workers, &Shipped, &OpenGate) };
+    decide_blocks(alloc, files, names, &decide)
+}

@@ -1,0 +1,171 @@
+ghost use Rattle.std.specs.Prelude.{◌≡◌, MatchResult, None, Some, option_map, string_bytes};
+ghost use Rattle.words.specs.Asked.{asked_of, audit, audit_blocks, blocks, names_of, one, pack, run, serial, show};
+ghost use Rattle.commands.specs.Answered.{IsDoneAs, IsFaultIn};
+
+use crate::fault::Fault;
+use crate::report::Report;
+use answering::decide_one;
+use audit::{audit_text, block_audit_text};
+use block_jobs::{audit_block_files, run_blocks};
+use engine::Workers;
+use files::Files;
+use jobs::{
+    BatchNames, audit_batch, audit_batch_with_journal, pack_batch, run_batch,
+    run_batch_with_journal, serial_batch, show_file,
+};
+use std::alloc::Global;
+use std::sync::Wait;
+use std::thread::Threads;
+use words::Command;
+
+/// Does what the command asks for.
+pub(crate) fn done<R: Threads + Wait + Sync, F: Files>(
+    rt: &R,
+    alloc: Global,
+    files: &mut F,
+    command: Command,
+) -> Result<Report, Fault>
+    ensures { MatchResult result
+        (IsDoneAs (F.is_known files.old) (F.holds files.old) (F.holds files.new) (asked_of command))
+        (IsFaultIn (F.is_known files.old) (F.holds files.old) (F.holds files.new) (asked_of command)) }
+{
+    match command {
+        Command::Help(text) => Ok(Report::Help(text)),
+        Command::Version => Ok(Report::Version),
+        Command::One(body) => Ok(Report::Answer(decide_one(rt, alloc, &body)?)),
+        Command::Serial(names) => serial(alloc, files, &names),
+        Command::Run {
+            names,
+            workers,
+            journal,
+        } => match journal {
+            Some(journal) => run_with_journal(rt, alloc, files, &names, workers, journal.as_str()),
+            None => run(rt, alloc, files, &names, workers),
+        },
+        Command::Blocks(names, workers) => blocks(rt, alloc, files, &names, workers),
+        Command::Audit { names, journal } => match journal {
+            Some(journal) => audited_with_journal(alloc, files, &names, journal.as_str()),
+            None => audited(alloc, files, &names),
+        },
+        Command::AuditBlocks(names) => audited_blocks(alloc, files, &names),
+        Command::Show(file) => show(alloc, files, file.as_str()),
+        Command::Pack { text, batch } => pack(alloc, files, text.as_str(), batch.as_str()),
+    }
+}
+
+// A batch is decided one message after another.
+fn serial<F: Files>(alloc: Global, files: &mut F, names: &BatchNames) -> Result<Report, Fault>
+    ensures { MatchResult result
+        (IsDoneAs (F.is_known files.old) (F.holds files.old) (F.holds files.new) (serial (names_of names.now)))
+        (IsFaultIn (F.is_known files.old) (F.holds files.old) (F.holds files.new) (serial (names_of names.now))) }
+{
+    let count = serial_batch(alloc, files, names)?;
+    Ok(Report::Decided(count))
+}
+
+// A batch is decided by several workers.
+fn run<R: Threads + Wait + Sync, F: Files>(
+    rt: &R,
+    alloc: Global,
+    files: &mut F,
+    names: &BatchNames,
+    workers: Workers,
+) -> Result<Report, Fault>
+    ensures { MatchResult result
+        (IsDoneAs (F.is_known files.old) (F.holds files.old) (F.holds files.new) (run (names_of names.now) workers None))
+        (IsFaultIn (F.is_known files.old) (F.holds files.old) (F.holds files.new) (run (names_of names.now) workers None)) }
+{
+    let count = run_batch(rt, alloc, files, names, workers)?;
+    Ok(Report::Decided(count))
+}
+
+// The same, and the run's journal is kept.
+fn run_with_journal<R: Threads + Wait + Sync, F: Files>(
+    rt: &R,
+    alloc: Global,
+    files: &mut F,
+    names: &BatchNames,
+    workers: Workers,
+    journal: &str,
+) -> Result<Report, Fault>
+    ensures { MatchResult result
+        (IsDoneAs (F.is_known files.old) (F.holds files.old) (F.holds files.new) (run (names_of names.now) workers (Some journal.now)))
+        (IsFaultIn (F.is_known files.old) (F.holds files.old) (F.holds files.new) (run (names_of names.now) workers (Some journal.now))) }
+{
+    let count = run_batch_with_journal(rt, alloc, files, names, workers, journal)?;
+    Ok(Report::Decided(count))
+}
+
+// Blocks are decided, one after another.
+fn blocks<R: Threads + Wait + Sync, F: Files>(
+    rt: &R,
+    alloc: Global,
+    files: &mut F,
+    names: &BatchNames,
+    workers: Workers,
+) -> Result<Report, Fault>
+    ensures { MatchResult result
+        (IsDoneAs (F.is_known files.old) (F.holds files.old) (F.holds files.new) (blocks (names_of names.now) workers))
+        (IsFaultIn (F.is_known files.old) (F.holds files.old) (F.holds files.new) (blocks (names_of names.now) workers)) }
+{
+    let count = run_blocks(rt, alloc, files, names, workers)?;
+    Ok(Report::DecidedBlocks(count))
+}
+
+// A batch is compared with what deciding it comes to.
+fn audited<F: Files>(alloc: Global, files: &F, names: &BatchNames) -> Result<Report, Fault>
+    ensures { MatchResult result
+        (IsDoneAs (F.is_known files.now) (F.holds files.now) (F.holds files.now) (audit (names_of names.now) None))
+        (IsFaultIn (F.is_known files.now) (F.holds files.now) (F.holds files.now) (audit (names_of names.now) None)) }
+{
+    let found = audit_batch(alloc, files, names)?;
+    let text = audit_text(alloc, &found)?;
+    Ok(Report::Audited(found, text))
+}
+
+// A batch is compared with what a journal plays to.
+fn audited_with_journal<F: Files>(
+    alloc: Global,
+    files: &F,
+    names: &BatchNames,
+    journal: &str,
+) -> Result<Report, Fault>
+    ensures { MatchResult result
+        (IsDoneAs (F.is_known files.now) (F.holds files.now) (F.holds files.now) (audit (names_of names.now) (Some journal.now)))
+        (IsFaultIn (F.is_known files.now) (F.holds files.now) (F.holds files.now) (audit (names_of names.now) (Some journal.now))) }
+{
+    let found = audit_batch_with_journal(alloc, files, names, journal)?;
+    let text = audit_text(alloc, &found)?;
+    Ok(Report::Audited(found, text))
+}
+
+// Blocks are compared with what deciding them comes to.
+fn audited_blocks<F: Files>(alloc: Global, files: &F, names: &BatchNames) -> Result<Report, Fault>
+    ensures { MatchResult result
+        (IsDoneAs (F.is_known files.now) (F.holds files.now) (F.holds files.now) (audit_blocks (names_of names.now)))
+        (IsFaultIn (F.is_known files.now) (F.holds files.now) (F.holds files.now) (audit_blocks (names_of names.now))) }
+{
+    let found = audit_block_files(alloc, files, names)?;
+    let text = block_audit_text(alloc, &found)?;
+    Ok(Report::AuditedBlocks(found, text))
+}
+
+// A file is shown.
+fn show<F: Files>(alloc: Global, files: &F, file: &str) -> Result<Report, Fault>
+    ensures { MatchResult result
+        (IsDoneAs (F.is_known files.now) (F.holds files.now) (F.holds files.now) (show file.now))
+        (IsFaultIn (F.is_known files.now) (F.holds files.now) (F.holds files.now) (show file.now)) }
+{
+    let text = show_file(alloc, files, file)?;
+    Ok(Report::Lines(text))
+}
+
+// A text is packed.
+fn pack<F: Files>(alloc: Global, files: &mut F, text: &str, batch: &str) -> Result<Report, Fault>
+    ensures { MatchResult result
+        (IsDoneAs (F.is_known files.old) (F.holds files.old) (F.holds files.new) (pack text.now batch.now))
+        (IsFaultIn (F.is_known files.old) (F.holds files.old) (F.holds files.new) (pack text.now batch.now)) }
+{
+    let count = pack_batch(alloc, files, text, batch)?;
+    Ok(Report::Packed(count))
+}

@@ -1,0 +1,128 @@
+ghost use Rattle.std.specs.Prelude.{◌≡◌, ◌≢◌, ◌+◌, ◌<◌, ◌^◌, ◌++◌, ℕ, List, Ok, Err, IfOk, IfErr, OnOk, OnErr, IsTrue, length, string_bytes};
+ghost use Rattle.batch.specs.Processing.{IsFold};
+ghost use Rattle.batch_laws.specs.BatchFault.{failures_after, is_of_bytes};
+ghost use Rattle.batch_laws.specs.Files.{replies_text};
+ghost use Rattle.batch_laws.specs.Frames.{IsBatchOf};
+ghost use Rattle.batch_laws.specs.Reading.{bodies_of, batch_magic};
+ghost use Rattle.files.specs.Failing.{HasFailed, HasRefused};
+ghost use Rattle.journal_text.specs.Journal.{AreEntries, journal_text};
+ghost use Rattle.rows.specs.Fold.{replies_to};
+ghost use Rattle.rows.specs.declared.frame.Frame.{Frame};
+ghost use Rattle.jobs.specs.Faults.{HoldsSameOrNothing, IsBatchFault, IsDecidingFault, IsOfBytes, IsPuttingFault};
+ghost use Rattle.jobs.specs.Journaled.{IsDecidedWithJournal, IsRunJournal};
+
+use crate::batch_names::BatchNames;
+use crate::deciding::put_book;
+use crate::job_fault::{JobFault, fault_of_closing};
+use crate::opening::open_book;
+use batch::{BatchFault, Sink, Source, read_batch, write_replies};
+use engine::{OpenGate, Workers, run_traced};
+use files::Files;
+use fold::Outcome;
+use journal_text::{Entry, write_journal};
+use rows::Book;
+use rules::Shipped;
+use std::alloc::Global;
+use std::sync::Wait;
+use std::thread::Threads;
+
+/// Decides a batch by so many workers, files to files, as [`run_batch`](crate::run_batch), and puts the journal of the run into a
+/// file. The journal is put before the new book, so that after any fault the file of the new book is as it was.
+pub fn run_batch_with_journal<R: Threads + Wait + Sync, F: Files>(
+    rt: &R,
+    alloc: Global,
+    files: &mut F,
+    names: &BatchNames,
+    workers: Workers,
+    journal: &str,
+) -> Result<usize, JobFault>
+    ensures decided { IfOk result (IsDecidedWithJournal (F.is_known files.old) (F.holds files.old) (F.holds files.new)
+        (string_bytes names.now.book) (string_bytes names.now.batch) (string_bytes names.now.replies) (string_bytes names.now.new_book) journal.now) }
+    ensures fault { IfErr result (IsDecidingFault (F.holds files.old) (string_bytes names.now.book) (string_bytes names.now.batch)
+        (HasFailed F.Input.failures) (HasFailed F.Output.failures) (HasRefused F.refuses)) }
+    // Nothing of an older new book is lost.
+    ensures kept { OnErr result (string_bytes names.now.new_book ≢ string_bytes names.now.replies → string_bytes names.now.new_book ≢ journal.now → (held : List ℕ)
+        → F.holds files.old (string_bytes names.now.new_book) held → F.holds files.new (string_bytes names.now.new_book) held) }
+    ensures unanswered { IfErr result (λ fault. IsOfBytes fault → F.is_known files.old
+        → HoldsSameOrNothing (F.holds files.old) (F.holds files.new) (string_bytes names.now.replies)) }
+    ensures known { F.is_known files.old → F.is_known files.new }
+{
+    let book = open_book(alloc, files, names.book.as_str())?;
+    let (outcome, entries) = answer_traced(rt, alloc, files, names, &book, workers)?;
+    put_journal(alloc, files, journal, &entries)?;
+    put_book(alloc, files, names.new_book.as_str(), &outcome.book)?;
+    Ok(outcome.replies.len())
+}
+
+// Decides the batch on a book, and puts the replies into their file; with the journal of the run.
+fn answer_traced<R: Threads + Wait + Sync, F: Files>(
+    rt: &R,
+    alloc: Global,
+    files: &mut F,
+    names: &BatchNames,
+    book: &Book,
+    workers: Workers,
+) -> Result<(Outcome, Vec<Entry>), JobFault>
+    ensures ok { IfOk result (λ run. (frames : List Frame) × IsFold book.now frames run.0 × IsRunJournal book.now frames run.1.items run.0.committed
+        × ((bytes : List ℕ) → F.holds files.old (string_bytes names.now.batch) bytes → IsBatchOf bytes frames)
+        × (F.is_known files.old → F.holds files.new (string_bytes names.now.replies) (replies_text (replies_to book.now frames)))) }
+    ensures fault { IfErr result (IsBatchFault (F.holds files.old) (string_bytes names.now.batch)
+        (HasFailed F.Input.failures) (HasFailed F.Output.failures) (HasRefused F.refuses)) }
+    ensures unanswered { IfErr result (λ fault. IsOfBytes fault → F.is_known files.old
+        → HoldsSameOrNothing (F.holds files.old) (F.holds files.new) (string_bytes names.now.replies)) }
+    ensures known { F.is_known files.old → F.is_known files.new }
+    ensures others { (other held : List ℕ) → other ≢ string_bytes names.now.replies → F.holds files.old other held → F.holds files.new other held }
+{
+    let mut batch = files.open(names.batch.as_str())?;
+    let mut replies = files.create(names.replies.as_str())?;
+    let traced = trace_batch(rt, alloc, book, &mut batch, &mut replies, workers);
+    let closed = files.close(names.replies.as_str(), replies);
+    match (traced, closed) {
+        (Ok(run), Ok(())) => Ok(run),
+        (Ok(_), Err(fault)) => Err(fault_of_closing(fault)),
+        (Err(fault), _) => Err(JobFault::Batch(fault)),
+    }
+}
+
+// Reads a batch, decides it and writes the replies, with the journal of the run. All of the batch is read and decided before the
+// first byte is put.
+fn trace_batch<R: Threads + Wait + Sync, S: Source, W: Sink>(
+    rt: &R,
+    alloc: Global,
+    book: &Book,
+    source: &mut S,
+    sink: &mut W,
+    workers: Workers,
+) -> Result<(Outcome, Vec<Entry>), BatchFault>
+    requires source { S.failures source.old + 1 < 2 ^ 64 }
+    requires sink { W.failures sink.old + 1 < 2 ^ 64 }
+    ensures failures { S.failures source.new + W.failures sink.new ≡ failures_after result (S.failures source.old + W.failures sink.old) }
+    ensures known { W.is_known sink.old → W.is_known sink.new }
+    ensures ok { IfOk result (λ run. (frames : List Frame) × IsFold book.now frames run.0 × IsRunJournal book.now frames run.1.items run.0.committed
+        × (S.is_known source.old → IsBatchOf (S.remaining source.old) frames)
+        × (W.is_known sink.old → W.written sink.new ≡ W.written sink.old ++ replies_text (replies_to book.now frames))) }
+    ensures fault { IfErr result (λ e. IsTrue (is_of_bytes e) → S.is_known source.old → bodies_of batch_magic (S.remaining source.old) ≡ Err e) }
+    ensures untouched { IfErr result (λ e. IsTrue (is_of_bytes e) → sink.new ≡ sink.old) }
+{
+    let frames = read_batch(alloc, source)?;
+    let (outcome, entries) = run_traced(rt, alloc, book, &frames, workers, &Shipped, &OpenGate)?;
+    write_replies(alloc, &outcome.replies, sink)?;
+    Ok((outcome, entries))
+}
+
+// Puts the text of a journal into the file of this name.
+fn put_journal<F: Files>(
+    alloc: Global,
+    files: &mut F,
+    name: &str,
+    entries: &[Entry],
+) -> Result<(), JobFault>
+    ensures ok { OnOk result (F.is_known files.old → F.holds files.new name.now (journal_text entries.now)) }
+    ensures are { OnOk result (AreEntries entries.now) }
+    ensures fault { IfErr result (IsPuttingFault (HasRefused F.refuses)) }
+    ensures known { F.is_known files.old → F.is_known files.new }
+    ensures others { (other held : List ℕ) → other ≢ name.now → F.holds files.old other held → F.holds files.new other held }
+{
+    let text = write_journal(alloc, entries)?;
+    Ok(files.replace(name, &text)?)
+}

@@ -1,0 +1,19 @@
+use Rattle.words.proofs.PlainLemmas.{audit_read, block_audit_read, blocks_read, help, journal_audit_read, journal_read, no_frame, no_word, one_frame, run_read, serial_read, split_read, version}
+use Rattle.words.proofs.laws.plain_words_are_read.Goals as goal
+
+pub returns : goal.returns
+returns c = record {
+  one = one_frame;
+  help = help;
+  version = version;
+  no_frame = no_frame;
+  no_word = no_word;
+  serial = serial_read;
+  run = run_read;
+  journal = journal_read;
+  split = split_read;
+  blocks = blocks_read;
+  audit = audit_read;
+  journal_audit = journal_audit_read;
+  block_audit = block_audit_read;
+}

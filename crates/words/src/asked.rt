@@ -1,0 +1,255 @@
+ghost use Rattle.std.specs.Prelude.{◌≡◌, IfOk, codes, map, option_map, option_and_then, string_bytes};
+ghost use Rattle.clap.specs.Matches.{found_of};
+ghost use Rattle.clap.specs.Simple.{subcommand_rows_of};
+ghost use Rattle.clap.specs.Values.{kind_of};
+ghost use Rattle.clap.specs.Walk.{first_of, rows_of};
+ghost use Rattle.words.specs.Asked.{asked, asked_of, audit_blocks_in, audit_in, blocks_in, engine_in, names_in, names_of, names_of_words, one_in, pack_in, run_in, serial_in, show_in, workers_in};
+ghost use Rattle.words.specs.Words.{IsRead, IsReadOfKind};
+
+use crate::command::Command;
+use crate::command_line::command_line;
+use crate::line_fault::LineFault;
+use answering::body_of_digits;
+use clap::error::ErrorKind;
+use clap::{ArgMatches, Error};
+use engine::Workers;
+use jobs::BatchNames;
+use std::alloc::{AllocError, Global};
+
+/// Reads the program's words, of which the first is its name. Words that are no command are a usage fault.
+pub fn read_words(alloc: Global, words: &[String]) -> Result<Command, LineFault>
+    ensures { IsRead (map string_bytes words.now) result }
+{
+    let matches = match command_line(alloc)?.try_get_matches_from(words) {
+        Ok(matches) => matches,
+        Err(error) => return request_of(alloc, &error),
+    };
+    match command_of(alloc, &matches)? {
+        Some(command) => Ok(command),
+        None => Err(LineFault::Usage(String::from_str(alloc, wrong_word(&matches))?)),
+    }
+}
+
+// The command that the words ask for.
+fn command_of(alloc: Global, matches: &ArgMatches<'_>) -> Result<Option<Command>, AllocError>
+    ensures { IfOk result (λ command. option_map asked_of command ≡ option_and_then asked (subcommand_rows_of matches.now)) }
+{
+    match matches.subcommand() {
+        Some(("one", one)) => one_of(alloc, one),
+        Some(("run", run)) => run_of(alloc, run),
+        Some(("serial", serial)) => serial_of(alloc, serial),
+        Some(("blocks", blocks)) => blocks_of(alloc, blocks),
+        Some(("audit", audit)) => audit_of(alloc, audit),
+        Some(("audit-blocks", audit)) => audit_blocks_of(alloc, audit),
+        Some(("show", show)) => show_of(alloc, show),
+        Some(("pack", pack)) => pack_of(alloc, pack),
+        _ => Ok(None),
+    }
+}
+
+// What is wrong with words that have their form but ask for nothing.
+fn wrong_word(matches: &ArgMatches<'_>) -> &'static str {
+    match matches.subcommand() {
+        Some(("one", _)) => "FRAME is 1 to 512 pairs of hexadecimal digits",
+        Some((_, deciding)) => match word(deciding, "engine") {
+            Some("split") => "--engine split: the split engine is not built yet",
+            Some("locked") => "--workers is a number from 1 to 64",
+            _ => "--engine is locked, or split, which is not built yet",
+        },
+        None => "see --help",
+    }
+}
+
+// The word of this name.
+fn word<'a>(matches: &ArgMatches<'a>, id: &str) -> Option<&'a str>
+    ensures { option_map (λ s. s.now) result ≡ first_of id.now (rows_of (found_of matches.now)) }
+{
+    matches.get_str(id)
+}
+
+// The body behind `one`.
+fn one_of(alloc: Global, matches: &ArgMatches<'_>) -> Result<Option<Command>, AllocError>
+    ensures { IfOk result (λ command. option_map asked_of command ≡ one_in (rows_of (found_of matches.now))) }
+{
+    let Some(frame) = word(matches, "FRAME") else {
+        return Ok(None);
+    };
+    match body_of_digits(alloc, frame)? {
+        Some(body) => Ok(Some(Command::One(body))),
+        None => Ok(None),
+    }
+}
+
+// The files behind `serial`.
+fn serial_of(alloc: Global, matches: &ArgMatches<'_>) -> Result<Option<Command>, AllocError>
+    ensures { IfOk result (λ command. option_map asked_of command ≡ serial_in (rows_of (found_of matches.now))) }
+{
+    match names_of(alloc, matches, "BATCH")? {
+        Some(names) => Ok(Some(Command::Serial(names))),
+        None => Ok(None),
+    }
+}
+
+// The files and the workers behind `run`, and the journal.
+fn run_of(alloc: Global, matches: &ArgMatches<'_>) -> Result<Option<Command>, AllocError>
+    ensures { IfOk result (λ command. option_map asked_of command ≡ run_in (rows_of (found_of matches.now))) }
+{
+    let Some(names) = names_of(alloc, matches, "BATCH")? else {
+        return Ok(None);
+    };
+    let Some(workers) = workers_of(matches) else {
+        return Ok(None);
+    };
+    Ok(Some(Command::Run {
+        names,
+        workers,
+        journal: journal_of(alloc, matches)?,
+    }))
+}
+
+// The files and the workers behind `blocks`.
+fn blocks_of(alloc: Global, matches: &ArgMatches<'_>) -> Result<Option<Command>, AllocError>
+    ensures { IfOk result (λ command. option_map asked_of command ≡ blocks_in (rows_of (found_of matches.now))) }
+{
+    let Some(names) = names_of(alloc, matches, "FILE")? else {
+        return Ok(None);
+    };
+    match workers_of(matches) {
+        Some(workers) => Ok(Some(Command::Blocks(names, workers))),
+        None => Ok(None),
+    }
+}
+
+// The files behind `audit`, and the journal.
+fn audit_of(alloc: Global, matches: &ArgMatches<'_>) -> Result<Option<Command>, AllocError>
+    ensures { IfOk result (λ command. option_map asked_of command ≡ audit_in (rows_of (found_of matches.now))) }
+{
+    let Some(names) = names_of(alloc, matches, "BATCH")? else {
+        return Ok(None);
+    };
+    Ok(Some(Command::Audit {
+        names,
+        journal: journal_of(alloc, matches)?,
+    }))
+}
+
+// The files behind `audit-blocks`.
+fn audit_blocks_of(alloc: Global, matches: &ArgMatches<'_>) -> Result<Option<Command>, AllocError>
+    ensures { IfOk result (λ command. option_map asked_of command ≡ audit_blocks_in (rows_of (found_of matches.now))) }
+{
+    match names_of(alloc, matches, "FILE")? {
+        Some(names) => Ok(Some(Command::AuditBlocks(names))),
+        None => Ok(None),
+    }
+}
+
+// The file behind `show`.
+fn show_of(alloc: Global, matches: &ArgMatches<'_>) -> Result<Option<Command>, AllocError>
+    ensures { IfOk result (λ command. option_map asked_of command ≡ show_in (rows_of (found_of matches.now))) }
+{
+    match word(matches, "FILE") {
+        Some(file) => Ok(Some(Command::Show(String::from_str(alloc, file)?))),
+        None => Ok(None),
+    }
+}
+
+// The text and the batch behind `pack`.
+fn pack_of(alloc: Global, matches: &ArgMatches<'_>) -> Result<Option<Command>, AllocError>
+    ensures { IfOk result (λ command. option_map asked_of command ≡ pack_in (rows_of (found_of matches.now))) }
+{
+    let Some(text) = word(matches, "TEXT") else {
+        return Ok(None);
+    };
+    let Some(batch) = word(matches, "BATCH") else {
+        return Ok(None);
+    };
+    Ok(Some(Command::Pack {
+        text: String::from_str(alloc, text)?,
+        batch: String::from_str(alloc, batch)?,
+    }))
+}
+
+// The number behind `--workers`, where the engine is one that is built.
+fn workers_of(matches: &ArgMatches<'_>) -> Option<Workers>
+    ensures { result ≡ engine_in (rows_of (found_of matches.now)) }
+{
+    match word(matches, "engine")? {
+        "locked" => locked_workers_of(matches),
+        _ => None,
+    }
+}
+
+// The number behind `--workers`.
+fn locked_workers_of(matches: &ArgMatches<'_>) -> Option<Workers>
+    ensures { result ≡ option_and_then workers_in (first_of (codes "workers") (rows_of (found_of matches.now))) }
+{
+    let text = word(matches, "workers")?;
+    let count = text.parse::<u8>().unwrap_or(0);
+    Workers::new(u32::from(count))
+}
+
+// The name behind `--journal`.
+fn journal_of(alloc: Global, matches: &ArgMatches<'_>) -> Result<Option<String>, AllocError>
+    ensures { IfOk result (λ name. option_map string_bytes name ≡ first_of (codes "journal") (rows_of (found_of matches.now))) }
+{
+    match word(matches, "journal") {
+        Some(name) => Ok(Some(String::from_str(alloc, name)?)),
+        None => Ok(None),
+    }
+}
+
+// The names behind a subcommand that decides or audits what the word of this name holds.
+fn names_of(
+    alloc: Global,
+    matches: &ArgMatches<'_>,
+    input: &str,
+) -> Result<Option<BatchNames>, AllocError>
+    ensures { IfOk result (λ names. option_map names_of names ≡ names_in input.now (rows_of (found_of matches.now))) }
+{
+    let Some(words) = batch_words(matches, input) else {
+        return Ok(None);
+    };
+    Ok(Some(BatchNames {
+        book: String::from_str(alloc, words.book)?,
+        batch: String::from_str(alloc, words.batch)?,
+        replies: String::from_str(alloc, words.replies)?,
+        new_book: String::from_str(alloc, words.new_book)?,
+    }))
+}
+
+// The words BOOK, BATCH or FILE, REPLIES and NEWBOOK.
+#[derive(Drop)]
+struct BatchWords<'a> {
+    book: &'a str,
+    batch: &'a str,
+    replies: &'a str,
+    new_book: &'a str,
+}
+
+fn batch_words<'a>(matches: &ArgMatches<'a>, input: &str) -> Option<BatchWords<'a>>
+    ensures { option_map names_of_words result ≡ names_in input.now (rows_of (found_of matches.now)) }
+{
+    Some(BatchWords {
+        book: word(matches, "BOOK")?,
+        batch: word(matches, input)?,
+        replies: word(matches, "REPLIES")?,
+        new_book: word(matches, "NEWBOOK")?,
+    })
+}
+
+// Help or the version that was asked for is a command; all else that the words' reader says is a fault, in its words.
+fn request_of(alloc: Global, error: &Error) -> Result<Command, LineFault>
+    ensures { IsReadOfKind (kind_of error.now) result }
+{
+    match error.kind() {
+        ErrorKind::DisplayHelp => Ok(Command::Help(text_of(alloc, error)?)),
+        ErrorKind::DisplayVersion => Ok(Command::Version),
+        ErrorKind::OutOfMemory => Err(LineFault::OutOfMemory),
+        _ => Err(LineFault::Usage(text_of(alloc, error)?)),
+    }
+}
+
+// What the words' reader says, without the end of its last line.
+fn text_of(alloc: Global, error: &Error) -> Result<String, AllocError> {
+    String::from_str(alloc, error.to_string(alloc)?.trim_end())
+}

@@ -1,0 +1,44 @@
+use engine::Workers;
+use jobs::BatchNames;
+
+/// What the words ask for.
+#[derive(Debug, Drop)]
+pub enum Command {
+    /// Print this help.
+    Help(String),
+    /// Print the program's version.
+    Version,
+    /// Decide this one body on the sample book.
+    One(Vec<u8>),
+    /// Decide a batch one message after another.
+    Serial(BatchNames),
+    /// Decide a batch by several workers.
+    Run {
+        /// The names of its files.
+        names: BatchNames,
+        /// How many workers decide.
+        workers: Workers,
+        /// The name of the file for the run's journal, if it is wanted.
+        journal: Option<String>,
+    },
+    /// Decide blocks, one after another, each by so many workers. The batch is their file.
+    Blocks(BatchNames, Workers),
+    /// Compare replies and book of a batch with what deciding it comes to.
+    Audit {
+        /// The names of its files.
+        names: BatchNames,
+        /// The name of the file of a journal, if that is to be played.
+        journal: Option<String>,
+    },
+    /// Compare replies and book of blocks with what deciding them comes to. The batch is their file.
+    AuditBlocks(BatchNames),
+    /// Show what the file of this name holds.
+    Show(String),
+    /// Make a batch of a text of bodies.
+    Pack {
+        /// The name of the text's file.
+        text: String,
+        /// The name of the batch's file.
+        batch: String,
+    },
+}

@@ -1,0 +1,24 @@
+ghost use Rattle.std.specs.Prelude.{ℕ, List};
+ghost use Rattle.words.specs.Asked.{Names};
+ghost use Rattle.words.specs.Plainly.{AuditIsRead, BlockAuditIsRead, BlocksAreRead, HelpIsRead, IsNoCommand, JournalAuditIsRead, JournalIsRead, OneFrameIsRead, RunIsRead, SerialIsRead, SplitIsNone, VersionIsRead};
+ghost use Rattle.std.specs.Prelude.{codes, [], ◌∷◌};
+
+/// What plain words are read as, whatever the program's name is: `one FRAME` as the body that FRAME stands for, `--help` as
+/// a call for help, `--version` as one for the version; `one` alone, and no word, as a usage fault; a subcommand with names
+/// of files, none of which begins with a hyphen, as what it says, with the journal that stands behind `--journal`; the split
+/// engine as a usage fault.
+pub fn plain_words_are_read()
+    ensures one { (name digits body : List ℕ) → OneFrameIsRead name digits body }
+    ensures help { (name : List ℕ) → HelpIsRead name }
+    ensures version { (name : List ℕ) → VersionIsRead name }
+    ensures no_frame { (name : List ℕ) → IsNoCommand (name ∷ codes "one" ∷ []) }
+    ensures no_word { (name : List ℕ) → IsNoCommand (name ∷ []) }
+    ensures serial { (name : List ℕ) (names : Names) → SerialIsRead name names }
+    ensures run { (name : List ℕ) (names : Names) → RunIsRead name names }
+    ensures journal { (name : List ℕ) (names : Names) (file : List ℕ) → JournalIsRead name names file }
+    ensures split { (name : List ℕ) (names : Names) → SplitIsNone name names }
+    ensures blocks { (name : List ℕ) (names : Names) → BlocksAreRead name names }
+    ensures audit { (name : List ℕ) (names : Names) → AuditIsRead name names }
+    ensures journal_audit { (name : List ℕ) (names : Names) (file : List ℕ) → JournalAuditIsRead name names file }
+    ensures block_audit { (name : List ℕ) (names : Names) → BlockAuditIsRead name names }
+{}
