@@ -1,5 +1,6 @@
 -- What a halt of blocks leaves in a file that was empty.
 use Rattle.std.proofs.Common.{◌≡◌, ◌⊎◌, ℕ, ◌+◌, List, [], ◌++◌, length, refl, sym, ap, ◌∙◌, inl, inr, arith, Result, Ok, Err, IfErr, IsTrue}
+use Rattle.std.proofs.lemmas.List.{append-nil}
 use Rattle.batch.specs.Blocks.{StopsBefore, StopsInHead, StopsInBlocks}
 use Rattle.batch_laws.specs.BatchFault.{failures_at, is_of_bytes}
 use Rattle.batch_laws.specs.Blocks.{FailsBehind, block_replies_magic, block_text, blocks_text, replies_to_blocks, rows_after_blocks}
@@ -69,7 +70,7 @@ behind_head known old new batch replies rows after fault count reads bytes puts 
         written,
         closed k,
         inr (elim h.3.begun [
-          | inl none ↦ ([], [], block_text (replies_to (rows_after_blocks rows kept.blocks) []), none (put k) ∙ (kept.put (put k) ∙ rw (empty k) refl), refl)
+          | inl none ↦ ([], [], block_text (replies_to (rows_after_blocks rows kept.blocks) []), none (put k) ∙ (kept.put (put k) ∙ rw (empty k) (sym (append-nil (head_text block_replies_magic h.0 ++ blocks_text (replies_to_blocks rows kept.blocks))))), refl)
           | inr begun ↦
               let part = begun.4 (put k) in
               (begun.1, part.0, part.1, rw (part.2, kept.put (put k), empty k) refl, rw (← kept.book) part.3)
