@@ -1,10 +1,12 @@
 -- What a halt of blocks leaves in a file that was empty.
-use Rattle.std.proofs.Common.{◌≡◌, ◌⊎◌, ℕ, ◌+◌, List, [], ◌++◌, length, refl, sym, ap, ◌∙◌, inl, inr, IsTrue, append_assoc}
+use Rattle.std.proofs.Common.{◌≡◌, ◌⊎◌, ℕ, ◌+◌, List, [], ◌++◌, length, refl, sym, ap, ◌∙◌, inl, inr, arith, Result, Ok, Err, IfErr, IsTrue}
+use Rattle.std.proofs.lemmas.List.{append-nil}
 use Rattle.batch.specs.Blocks.{StopsBefore, StopsInHead, StopsInBlocks}
-use Rattle.batch_laws.specs.BatchFault.{is_of_bytes}
+use Rattle.batch_laws.specs.BatchFault.{failures_at, is_of_bytes}
 use Rattle.batch_laws.specs.Blocks.{FailsBehind, block_replies_magic, block_text, blocks_text, replies_to_blocks, rows_after_blocks}
 use Rattle.batch_laws.specs.Files.{head_text}
 use Rattle.batch_laws.specs.declared.batch_fault.BatchFault.{BatchFault}
+use Rattle.batch_laws.specs.declared.batch_fault.BatchFault.TheVariants.{Magic, Version, Count, Length, Ended, Trailing, Device, OutOfMemory, Body, Blocks}
 use Rattle.rows.specs.Fold.{Rows, replies_to}
 use Rattle.rows.specs.declared.frame.Frame.{Frame}
 use Rattle.block_jobs.specs.Decided.{AreFirstAnswered}
@@ -68,10 +70,28 @@ behind_head known old new batch replies rows after fault count reads bytes puts 
         written,
         closed k,
         inr (elim h.3.begun [
-          | inl none ↦ ([], [], block_text (replies_to (rows_after_blocks rows kept.blocks) []), none (put k) ∙ (kept.put (put k) ∙ rw (empty k) refl), refl)
+          | inl none ↦ ([], [], block_text (replies_to (rows_after_blocks rows kept.blocks) []), none (put k) ∙ (kept.put (put k) ∙ rw (empty k) (sym (append-nil (head_text block_replies_magic h.0 ++ blocks_text (replies_to_blocks rows kept.blocks))))), refl)
           | inr begun ↦
               let part = begun.4 (put k) in
               (begun.1, part.0, part.1, rw (part.2, kept.put (put k), empty k) refl, rw (← kept.book) part.3)
         ]),
       );
     }
+
+-- one device alone failed, so that the fault is of no bytes
+pub device_alone : (fault : BatchFault) (reading putting : ℕ) → reading + putting ≡ failures_at fault 0 → putting ≡ 1 → ¬ IsTrue (is_of_bytes fault)
+device_alone Magic reading putting sum one of_bytes = absurd (omega (arith, sum, one))
+device_alone Version reading putting sum one of_bytes = absurd (omega (arith, sum, one))
+device_alone Count reading putting sum one of_bytes = absurd (omega (arith, sum, one))
+device_alone Length reading putting sum one of_bytes = absurd (omega (arith, sum, one))
+device_alone Ended reading putting sum one of_bytes = absurd (omega (arith, sum, one))
+device_alone Trailing reading putting sum one of_bytes = absurd (omega (arith, sum, one))
+device_alone Device reading putting sum one of_bytes = absurd cc
+device_alone OutOfMemory reading putting sum one of_bytes = absurd cc
+device_alone (Body i) reading putting sum one of_bytes = absurd (omega (arith, sum, one))
+device_alone Blocks reading putting sum one of_bytes = absurd (omega (arith, sum, one))
+
+-- what follows from two facts of an error
+pub from_both : {T E : Type 0} (r : Result T E) (P Q S : E → Type 0) → ((e : E) → P e → Q e → S e) → IfErr r P → IfErr r Q → IfErr r S
+from_both (Ok x) P Q S follows p q = tt
+from_both (Err e) P Q S follows p q = follows e p q
