@@ -10,8 +10,8 @@ mod batches;
 #[cfg(test)]
 mod blocks;
 #[cfg(test)]
+mod command_lines;
+#[cfg(test)]
 mod faults;
 #[cfg(test)]
 mod journals;
-#[cfg(test)]
-mod words;
