@@ -1,14 +1,13 @@
 -- What a halt of blocks leaves in a file that was empty.
-use Rattle.std.proofs.Common.{◌≡◌, ◌⊎◌, ℕ, ◌+◌, List, [], ◌++◌, length, refl, sym, ap, ◌∙◌, inl, inr, arith, Result, Ok, Err, IfErr, IsTrue}
+use Rattle.std.proofs.Common.{◌≡◌, ℕ, ◌+◌, List, [], ◌++◌, refl, sym, ◌∙◌, inl, inr, arith, Result, Ok, Err, IfErr, IsTrue}
 use Rattle.std.proofs.lemmas.List.{append-nil}
 use Rattle.batch.specs.Blocks.{StopsBefore, StopsInHead, StopsInBlocks}
 use Rattle.batch_laws.specs.BatchFault.{failures_at, is_of_bytes}
-use Rattle.batch_laws.specs.Blocks.{FailsBehind, block_replies_magic, block_text, blocks_text, replies_to_blocks, rows_after_blocks}
+use Rattle.batch_laws.specs.Blocks.{block_replies_magic, block_text, blocks_text, replies_to_blocks, rows_after_blocks}
 use Rattle.batch_laws.specs.Files.{head_text}
 use Rattle.batch_laws.specs.declared.batch_fault.BatchFault.{BatchFault}
 use Rattle.batch_laws.specs.declared.batch_fault.BatchFault.TheVariants.{Magic, Version, Count, Length, Ended, Trailing, Device, OutOfMemory, Body, Blocks}
 use Rattle.rows.specs.Fold.{Rows, replies_to}
-use Rattle.rows.specs.declared.frame.Frame.{Frame}
 use Rattle.block_jobs.specs.Decided.{AreFirstAnswered}
 use Rattle.jobs.specs.Decided.{Holding}
 

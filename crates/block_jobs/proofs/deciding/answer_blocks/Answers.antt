@@ -1,4 +1,4 @@
-use Rattle.std.proofs.Common.{◌≡◌, ◌+◌, ◌++◌, List, ℕ, [], inl, inr, string_bytes}
+use Rattle.std.proofs.Common.{◌≡◌, ◌+◌, inl, inr, string_bytes}
 use Rattle.std.proofs.lemmas.Result.{IfOk-weaker}
 use Rattle.block_jobs.proofs.FirstBlocks.{before_head, behind_head, device_alone, from_both, in_head}
 use Rattle.jobs.proofs.Held.{all_written}

@@ -1,4 +1,4 @@
-use Rattle.std.proofs.Common.{◌≡◌, ◌≢◌, ℕ, List, string_bytes, ◌∙◌}
+use Rattle.std.proofs.Common.{◌∙◌}
 use Rattle.block_jobs.proofs.deciding.decide_blocks.Goals as goal
 
 pub returns-in_ok-put_book-in-Ok-clause-decided : goal.returns-in_ok-put_book-in-Ok-clause-decided
