@@ -95,22 +95,6 @@ fn blocks_are_decided_one_after_another(rt: HostRuntime) -> Result<(), Fail> {
     assert_decided(&rt, alloc, &words)
 }
 
-#[test]
-fn no_block_leaves_the_book(rt: HostRuntime) -> Result<(), Fail> {
-    let alloc = rt.alloc();
-    let none = b"I83M\x00\x01\x00\x00\x00\x00";
-    let mut files = files_of(
-        alloc,
-        &[("book", BOOK.as_bytes()), ("file", none.as_slice())],
-    )?;
-    let line = b"decided 0 in 0 blocks\n";
-    assert_said(&rt, alloc, &mut files, &BLOCKS, 0, line)?;
-    let replies = b"I83T\x00\x01\x00\x00\x00\x00";
-    assert_eq!(rt; files.get("replies"), Some(replies.as_slice()));
-    assert_eq!(rt; files.get("after"), Some(BOOK.as_bytes()));
-    assert_said(&rt, alloc, &mut files, &AUDIT, 0, b"same\n")
-}
-
 // A fault of the blocks leaves these replies and this book, and is told with how many blocks are kept.
 fn assert_kept<R: Abort + Threads + Wait + Sync>(
     rt: &R,
@@ -181,52 +165,6 @@ fn nothing_is_kept_without_a_book_or_a_file(rt: HostRuntime) -> Result<(), Fail>
         assert_said(&rt, alloc, &mut files, &words, 1, line)?;
         assert_eq!(rt; files.get("replies"), None);
         assert_eq!(rt; files.get("after"), Some(b"older".as_slice()));
-    }
-    Ok(())
-}
-
-// The same files with one of them changed: what differs first is told, or the fault.
-#[test]
-fn blocks_are_audited(rt: HostRuntime) -> Result<(), Fail> {
-    let alloc = rt.alloc();
-    let file = two_blocks(alloc)?;
-    let right = two_replies(alloc)?;
-    let none = b"I83T\x00\x01\x00\x00\x00\x00";
-    let approved = right.get(..121).ok_or("the first block's replies")?;
-    let declined = right.get(121..).ok_or("the second block's replies")?;
-    let head = approved.get(..10).ok_or("the head")?;
-    let first = approved.get(10..).ok_or("the first block")?;
-    let turned = joined(alloc, &[head, declined, first])?;
-    let richer = AFTER_BOTH.replace(alloc, "4000", "4001")?;
-    let row = b"row acct:34313131313130303030303030303035 differs\n";
-    for (replies, after, status, line) in [
-        (right.as_slice(), AFTER_BOTH, 0, b"same\n".as_slice()),
-        (
-            none.as_slice(),
-            AFTER_BOTH,
-            3,
-            b"count differs\n".as_slice(),
-        ),
-        (
-            turned.as_slice(),
-            AFTER_BOTH,
-            3,
-            b"block 0 reply 0 differs\n".as_slice(),
-        ),
-        (right.as_slice(), richer.as_str(), 3, row.as_slice()),
-        (REPLIES, AFTER_BOTH, 1, b"batch 1\n".as_slice()),
-        (right.as_slice(), "{}", 1, b"book 2\n".as_slice()),
-    ] {
-        let mut files = files_of(
-            alloc,
-            &[
-                ("book", BOOK.as_bytes()),
-                ("file", file.as_slice()),
-                ("replies", replies),
-                ("after", after.as_bytes()),
-            ],
-        )?;
-        assert_said(&rt, alloc, &mut files, &AUDIT, status, line)?;
     }
     Ok(())
 }

@@ -96,22 +96,3 @@ fn a_journal_that_is_not_there_is_told(rt: HostRuntime) -> Result<(), Fail> {
     ];
     assert_said(&rt, alloc, &mut files, &words, 1, b"file 1\n")
 }
-
-// A fault of the batch leaves an older journal and an older book.
-#[test]
-fn a_fault_leaves_an_older_journal(rt: HostRuntime) -> Result<(), Fail> {
-    let alloc = rt.alloc();
-    let mut files = files_of(
-        alloc,
-        &[
-            ("book", BOOK.as_bytes()),
-            ("batch", b"I83B".as_slice()),
-            ("after", b"older".as_slice()),
-            ("journal", b"older".as_slice()),
-        ],
-    )?;
-    assert_said(&rt, alloc, &mut files, &RUN, 1, b"batch 5\n")?;
-    assert_eq!(rt; files.get("after"), Some(b"older".as_slice()));
-    assert_eq!(rt; files.get("journal"), Some(b"older".as_slice()));
-    Ok(())
-}
