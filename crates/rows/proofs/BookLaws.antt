@@ -17,7 +17,7 @@ use Rattle.std.specs.List.Sorted.{IsSorted, IsSortedBy, IsStrictlySortedBy}
 use Rattle.std.specs.Map.{keys_of}
 use Rattle.std.specs.Ordering.{eq_by_cmp, is_lt}
 use Rattle.indexmap.proofs.MapLemmas.{lookup_permutation, sorted_keys}
-use Rattle.rows.proofs.KeyLaws.{key_cmp_total, key_cmp_antisymmetric, key_eq_decides, same_test}
+use Rattle.rows.proofs.KeyLaws.{both_ways, key_cmp_total, key_cmp_antisymmetric, key_eq_decides, same_test}
 use Rattle.rows.specs.Book.{AllOfKind, AreOfKind, IsWithin, value_at}
 use Rattle.rows.specs.Fold.{Rows}
 use Rattle.rows.specs.RowKey.{key_cmp, key_eq}
@@ -185,11 +185,6 @@ same_both_ways m n = (
   λ h. map.same_map key_cmp_total key_cmp_antisymmetric m n (λ q. same_values (map.get m q) (map.get n q) (h.0 q) (h.1 q)),
   λ same. (λ q. subst (λ (x : Rows). IfSome (map.get m q) (λ v. map.get x q ≡ Some v)) same (own_value (map.get m q)), λ q. subst (λ (x : Rows). IfSome (map.get x q) (λ v. map.get m q ≡ Some v)) same (own_value (map.get m q))),
 )
-
-both_ways : (s t : Bool) → (s ≡ true → t ≡ true) → (t ≡ true → s ≡ true) → s ≡ t
-both_ways true t f g = sym (f refl)
-both_ways false true f g = g refl
-both_ways false false f g = refl
 
 -- whether all rows pass a test doesn't depend on their order
 pub all_pass_shuffled : (p : RowKey × RowVal → Bool) (es fs : List (RowKey × RowVal)) → IsPermutation es fs → list_all p fs ≡ list_all p es

@@ -36,7 +36,7 @@ key_cmp_antisymmetric a b e =
     let seconds = then_equal (text_cmp (second_text a) (second_text b)) (text_cmp (third_text a) (third_text b)) firsts.1 in
     same_texts a b (map.nat_cmp-IsAntisymmetric (kind_of a) (kind_of b) kinds.0) (same_text _ _ firsts.0) (same_text _ _ seconds.0) (same_text _ _ seconds.1)
 
-both_ways : (s t : Bool) → (s ≡ true → t ≡ true) → (t ≡ true → s ≡ true) → s ≡ t
+pub both_ways : (s t : Bool) → (s ≡ true → t ≡ true) → (t ≡ true → s ≡ true) → s ≡ t
 both_ways true t f g = sym (f refl)
 both_ways false true f g = g refl
 both_ways false false f g = refl
