@@ -1,6 +1,6 @@
 ghost use Rattle.std.specs.Prelude.{◌≡◌, ◌↔◌, ◌+◌, ◌<◌, ◌≤◌, ◌^◌, ◌++◌, length, Err, IfErr, IsTrue, OnOk, OnErr, All};
 ghost use Rattle.std.specs.List.{AllByRecursion};
-ghost use Rattle.batch_laws.specs.BatchFault.{failures_after};
+ghost use Rattle.batch_laws.specs.BatchFault.{failures_after, is_of_bytes};
 ghost use Rattle.batch_laws.specs.Files.{IsBody, AreBodies, batch_text};
 ghost use Rattle.batch.specs.Bodies.{bytes_of};
 ghost use Rattle.batch.specs.Devices.{AppendsPart};
@@ -35,6 +35,8 @@ pub fn write_batch<W: Sink>(
     ensures err { OnErr result (W.is_known sink.old → AppendsPart (W.written sink.old) (W.written sink.new) (batch_text (bytes_of bodies.now))) }
     ensures many { 65536 < length bodies.now → (result ≡ Err BatchFault.Count) × (sink.new ≡ sink.old) }
     ensures length { length bodies.now ≤ 65536 → ¬ AllByRecursion IsBody (bytes_of bodies.now) → (result ≡ Err BatchFault.Length) × (sink.new ≡ sink.old) }
+    // Bodies that a file can have are not written for a device or memory alone.
+    ensures fit { AreBodies (bytes_of bodies.now) → IfErr result (λ e. ¬ IsTrue (is_of_bytes e)) }
 {
     if bodies.len() > 65_536 {
         return Err(BatchFault::Count);

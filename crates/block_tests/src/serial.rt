@@ -1,0 +1,60 @@
+//! Block files that are decided on the first book, one body after another.
+
+ghost use Rattle.std.specs.Prelude.{◌+◌, ◌<◌, ◌≤◌, ◌^◌, length};
+ghost use Rattle.batch.specs.Processing.{AnswersFold};
+
+use batch::{BatchFault, Sink, Source, process_blocks};
+use fixtures::first_book_with;
+use fold::{Outcome, Prefix, decide_all};
+use rows::{Book, Frame};
+use std::alloc::{AllocError, Global};
+use std::test::Fail;
+
+// How many blocks are kept, the book after them, and why no further one is.
+#[derive(Drop)]
+pub(crate) struct Came {
+    pub kept: u32,
+    pub book: Book,
+    pub fault: Option<BatchFault>,
+}
+
+fn decide_serially(alloc: Global, book: &Book, frames: &[Frame]) -> Result<Outcome, AllocError>
+    requires { length frames.now ≤ 65536 }
+    ensures { AnswersFold book.now frames.now result }
+{
+    let prefix = decide_all(alloc, Prefix::new(alloc, book.copy()?), frames)?;
+    Ok(Outcome {
+        replies: prefix.replies,
+        book: prefix.book,
+        started: 1,
+        committed: 0,
+    })
+}
+
+// Decides the block file and writes the replies.
+pub(crate) fn decided<R: Source, W: Sink>(
+    alloc: Global,
+    source: &mut R,
+    sink: &mut W,
+) -> Result<Came, Fail>
+    requires source { R.failures source.old + 1 < 2 ^ 64 }
+    requires sink { W.failures sink.old + 1 < 2 ^ 64 }
+{
+    let book = first_book_with(alloc, &[])?;
+    let decide = |book: &Book, frames: &[Frame]| -> Result<Outcome, AllocError>
+        requires { length frames.now ≤ 65536 }
+        ensures { AnswersFold book.entry.now frames.entry.now result }
+    { decide_serially(alloc, book, frames) };
+    match process_blocks(alloc, book, source, sink, &decide) {
+        Ok(outcome) => Ok(Came {
+            kept: outcome.blocks,
+            book: outcome.book,
+            fault: None,
+        }),
+        Err(halted) => Ok(Came {
+            kept: halted.blocks,
+            book: halted.book,
+            fault: Some(halted.fault),
+        }),
+    }
+}
