@@ -154,13 +154,7 @@ impl<B: Room, R: Wait, F: Decide, G: Gate> Worker<'_, B, R, F, G> {
 
     // Decides a message on the rows that it sees, and logs whose they are.
     fn attempt(&self, frame: &Frame, index: u32) -> Result<Attempt, Stop> {
-        let rows = ShardRows::new(
-            self.rt,
-            self.alloc,
-            self.board.shards(),
-            self.book,
-            index,
-        );
+        let rows = ShardRows::new(self.rt, self.alloc, self.board.shards(), self.book, index);
         let mut recorder = Recorder::new(self.alloc, rows);
         let reply = self.decision.decide(frame, &mut recorder)?;
         let (rows, reads, writes) = recorder.into_parts();
