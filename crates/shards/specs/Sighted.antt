@@ -1,5 +1,5 @@
 -- What is seen of a row in the shards.
-use Rattle.std.specs.Prelude.{◌≡◌, ℕ, Option, Some, None, IfSome}
+use Rattle.std.specs.Prelude.{ℕ, Option, Some, None, IfSome}
 use Rattle.mvmem.specs.declared.link.Link.{Link}
 use Rattle.rows.specs.RowVal.{IsOfKind}
 use Rattle.rows.specs.declared.row_key.RowKey.{RowKey}

@@ -1,4 +1,10 @@
-ghost use Rattle.std.specs.Prelude.{◌≡◌, None};
+ghost use Rattle.std.specs.Prelude.{◌≡◌, ◌↔◌, ℕ, None, Ok, Err, IfOk, IfSome};
+ghost use Rattle.std.specs.FinMap as map;
+ghost use Rattle.mvmem.specs.declared.version.Version.{Version};
+ghost use Rattle.rows.specs.RowVal.{IsOfKind};
+ghost use Rattle.shards.specs.Sighted.{IsSightOfKind};
+ghost use Rattle.shards.specs.declared.sight.Sight.TheVariants as sights;
+ghost use Rattle.view.specs.declared.stop.Stop.TheVariants as stop;
 
 use crate::log::LoggedSight;
 use crate::shards::Shards;
@@ -57,10 +63,26 @@ impl<R: Wait> RowSource for ShardRows<'_, R> {
         let mut row = None;
         let sight = self.shards.look(self.rt, key, self.index, &mut row);
         self.log.push(LoggedSight { key: *key, sight })?;
-        match sight {
-            Sight::Base => Ok(self.opening.get(key)),
-            Sight::Put(_) => Ok(row),
-            Sight::Estimate(at) => Err(Stop::Blocked(at)),
-        }
+        row_seen(self.opening, key, sight, row)
+    }
+}
+
+// The row that is seen: what was put, else that of the opening book. An estimate blocks the message.
+fn row_seen(
+    opening: &Book,
+    key: &RowKey,
+    sight: Sight,
+    row: Option<RowVal>,
+) -> Result<Option<RowVal>, Stop>
+    requires { IsSightOfKind key.now sight row }
+    ensures base { sight ≡ sights.Base → result ≡ Ok (map.get opening.now key.now) }
+    ensures put { (version : Version) → sight ≡ sights.Put version → result ≡ Ok row }
+    ensures blocked { (at : ℕ) → (result ≡ Err (stop.Blocked at)) ↔ (sight ≡ sights.Estimate at) }
+    ensures kind { IfOk result (λ found. IfSome found (IsOfKind key.now)) }
+{
+    match sight {
+        Sight::Base => Ok(opening.get(key)),
+        Sight::Put(_) => Ok(row),
+        Sight::Estimate(at) => Err(Stop::Blocked(at)),
     }
 }

@@ -1,0 +1,116 @@
+ghost use Rattle.std.specs.Prelude.{◌≡◌, ◌≢◌, ◌≤◌, ◌↔◌, [], false, Ok, IfOk, length};
+ghost use Rattle.cursors.specs.CursorRule.{publisher};
+ghost use Rattle.ledger.specs.Progress.{further, IsNext};
+ghost use Rattle.published.specs.Standing.{advanced, told, stopping};
+ghost use Rattle.ledger.specs.declared.verdict.Verdict.TheVariants.{Committed};
+
+use cursors::{CursorSeat, Cursors};
+use ledger::{Ledger, Verdict};
+use std::alloc::AllocError;
+use std::marker::Model;
+use view::Execution;
+
+/// A ledger with the one seat that may raise how many messages are done, and whether the workers are to stop. What the seat raised done
+/// to is never more than is committed.
+#[derive(Drop)]
+pub struct Published {
+    ledger: Ledger,
+    seat: CursorSeat,
+    stopped: bool,
+}
+
+impl Model for Published {
+    ghost use Rattle.atomic_table.specs.Seated.{TableId, table_id_coded};
+    ghost use Rattle.published.specs.Standing.{Standing, IsPublisher, standing_code};
+    ghost use Rattle.ledger.specs.contracts.ledger.Ledger.{the_row as ledger_row};
+
+    ghost Value = { Standing };
+
+    ghost coded = { standing_code ledger_row.coded table_id_coded };
+
+    ghost view = { λ p. record { ledger = p.ledger; table = p.seat.table_id; published = p.seat.me.0.seen; stopped = p.stopped } };
+
+    ghost invariant = { λ p. IsPublisher p.ledger p.seat.me.0 };
+}
+
+impl Published {
+    /// A ledger with the seat that may raise done, before its first step, of cursors for as many messages as the ledger has.
+    pub fn new(ledger: Ledger, seat: CursorSeat) -> Published
+        requires { seat.me ≡ (publisher (length ledger.frames), []) }
+        ensures { result ≡ record { ledger = ledger; table = seat.table_id; published = 0; stopped = false } }
+    {
+        Published {
+            ledger,
+            seat,
+            stopped: false,
+        }
+    }
+
+    /// Commits the execution, where it is that of the next message and the book after those before it has each row as it was read.
+    pub fn try_commit(&mut self, execution: &Execution) -> Result<Verdict, AllocError>
+        ensures when { IfOk result (λ verdict. (verdict ≡ Committed) ↔ IsNext self.old.ledger execution.now) }
+        ensures committed { result ≡ Ok Committed → self.new ≡ advanced self.old }
+        ensures otherwise { result ≢ Ok Committed → self.new ≡ self.old }
+    {
+        self.ledger.try_commit(execution)
+    }
+
+    /// Raises done to how many messages are committed.
+    pub fn publish(&mut self, cursors: &Cursors)
+        requires { self.old.table ≡ cursors.now }
+        ensures { self.new ≡ told self.old }
+    {
+        let count = self.ledger.count();
+        cursors.raise(&mut self.seat, u64::from(count));
+    }
+
+    /// How many messages are committed.
+    pub fn count(&self) -> u32
+        ensures { result ≡ self.now.ledger.count }
+    {
+        self.ledger.count()
+    }
+
+    /// Has the workers stop.
+    pub fn stop(&mut self)
+        ensures { self.new ≡ stopping self.old }
+    {
+        self.stopped = true;
+    }
+
+    /// Whether the workers are to stop.
+    pub fn stopped(&self) -> bool
+        ensures { result ≡ self.now.stopped }
+    {
+        self.stopped
+    }
+
+    /// The ledger, and the last value of done, once no thread has the cursors any more: it is what was published, and no more than is
+    /// committed.
+    pub fn close(self, cursors: Cursors) -> (Ledger, u64)
+        requires { self.table ≡ cursors }
+        ensures ledger { result.0 ≡ self.ledger }
+        ensures published { result.1 ≡ self.published }
+        ensures behind { result.1 ≤ self.ledger.count }
+    {
+        let Published {
+            ledger,
+            seat,
+            stopped: _,
+        } = self;
+        let done = cursors.close(seat);
+        (ledger, done)
+    }
+
+    /// The ledger.
+    pub fn into_ledger(self) -> Ledger
+        ensures { result ≡ self.ledger }
+    {
+        let Published {
+            ledger,
+            seat: _,
+            stopped: _,
+        } = self;
+        ledger
+    }
+}

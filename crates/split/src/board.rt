@@ -1,0 +1,92 @@
+ghost use Rattle.std.specs.Prelude.{◌≡◌, [], length};
+ghost use Rattle.cursors.specs.CursorRule.{publisher};
+
+use crate::desk::Desk;
+use crate::place::Place;
+use crate::room::Room;
+use crossbeam_utils::CachePadded;
+use cursors::{CursorSeat, Cursors};
+use ledger::Ledger;
+use published::Published;
+use shards::Shards;
+use slots::Slot;
+use std::alloc::{AllocError, Global};
+use std::sync::{Mutex, MutexGuard, Wait};
+
+/// What the workers of a batch share: the cursors without a lock; the ledger, each message's slot and each shard of the rows under a
+/// lock of its own. A thread that holds a shard takes no other lock, and one that holds a slot takes shards alone.
+#[derive(Drop)]
+pub(crate) struct Board<B: Room> {
+    cursors: Cursors,
+    desk: CachePadded<Mutex<Desk<B>>>,
+    slots: Vec<Mutex<Slot>>,
+    shards: Shards,
+    ghost at: { cursors ≡ B.table },
+}
+
+impl<B: Room> Board<B> {
+    // A board for the ledger's batch, which has so many messages, and the place of the first worker.
+    pub(crate) fn new(
+        alloc: Global,
+        cursors: Cursors,
+        mut seat: CursorSeat,
+        ledger: Ledger,
+        messages: usize,
+    ) -> Result<(Board<B>, Place<B>), AllocError>
+        requires table { (cursors ≡ B.table) × (seat.table_id ≡ B.table) }
+        requires first { seat.me ≡ (publisher (length ledger.frames), []) }
+    {
+        let place = Place::new(cursors.another(&mut seat));
+        let desk = Desk::new(Published::new(ledger, seat));
+        let board = Board {
+            cursors,
+            desk: CachePadded::new(Mutex::new(desk)),
+            slots: ready_slots(alloc, messages)?,
+            shards: Shards::new(alloc)?,
+        };
+        Ok((board, place))
+    }
+
+    // The cursors.
+    pub(crate) fn cursors(&self) -> &Cursors
+        ensures { result.now ≡ B.table }
+    {
+        &self.cursors
+    }
+
+    // The shards of the rows.
+    pub(crate) fn shards(&self) -> &Shards {
+        &self.shards
+    }
+
+    // The slot of the message at this index, where there is one.
+    pub(crate) fn slot<R: Wait>(&self, rt: &R, index: u32) -> Option<MutexGuard<'_, Slot>> {
+        let lock = self.slots.get(index as usize)?;
+        Some(lock.lock(rt))
+    }
+
+    // The ledger, where no other worker holds it.
+    pub(crate) fn free_desk(&self) -> Option<MutexGuard<'_, Desk<B>>> {
+        self.desk.try_lock()
+    }
+
+    // Sets the stop mark.
+    pub(crate) fn stop<R: Wait>(&self, rt: &R) {
+        self.desk.lock(rt).stop();
+    }
+
+    // The ledger, once no worker has the board any more.
+    pub(crate) fn into_ledger(self) -> Ledger {
+        let Board { desk, .. } = self;
+        desk.into_inner().into_inner().into_ledger()
+    }
+}
+
+// The slots of messages that were never executed.
+fn ready_slots(alloc: Global, messages: usize) -> Result<Vec<Mutex<Slot>>, AllocError> {
+    let mut slots = Vec::with_capacity(alloc, messages)?;
+    for _ in 0..messages {
+        slots.push(Mutex::new(Slot::new()))?;
+    }
+    Ok(slots)
+}

@@ -1,0 +1,73 @@
+ghost use Rattle.std.specs.Prelude.{◌≡◌};
+
+use crate::room::Room;
+use cursors::Cursors;
+use ledger::{Ledger, Verdict};
+use published::Published;
+use std::alloc::AllocError;
+use std::marker::PhantomData;
+use view::Execution;
+
+/// What lies under the ledger's lock: the ledger with the seat that publishes, and the stop mark.
+#[derive(Drop)]
+pub(crate) struct Desk<B: Room> {
+    published: Published,
+    of: PhantomData<B>,
+    ghost at: { published.table ≡ B.table },
+}
+
+impl<B: Room> Desk<B> {
+    // A desk with this ledger, whose seat is at the room's cursors.
+    pub(crate) fn new(published: Published) -> Desk<B>
+        requires { published.table ≡ B.table }
+        ensures { result.published ≡ published }
+    {
+        Desk {
+            published,
+            of: PhantomData,
+        }
+    }
+
+    // Commits the execution, where it is that of the next message and the book agrees with what it read, and publishes how many
+    // messages are committed then.
+    pub(crate) fn commit(
+        &mut self,
+        cursors: &Cursors,
+        execution: &Execution,
+    ) -> Result<Verdict, AllocError>
+        requires { cursors.now ≡ B.table }
+    {
+        let verdict = self.published.try_commit(execution)?;
+        if verdict == Verdict::Committed {
+            self.published.publish(cursors);
+        }
+        Ok(verdict)
+    }
+
+    // How many messages are committed.
+    pub(crate) fn count(&self) -> u32
+        ensures { result ≡ self.now.published.ledger.count }
+    {
+        self.published.count()
+    }
+
+    // Sets the stop mark.
+    pub(crate) fn stop(&mut self) {
+        self.published.stop();
+    }
+
+    // Whether the stop mark is set.
+    pub(crate) fn stopped(&self) -> bool
+        ensures { result ≡ self.now.published.stopped }
+    {
+        self.published.stopped()
+    }
+
+    // The ledger, once no thread has the cursors any more.
+    pub(crate) fn into_ledger(self) -> Ledger
+        ensures { result ≡ self.published.ledger }
+    {
+        let Desk { published, of: _ } = self;
+        published.into_ledger()
+    }
+}

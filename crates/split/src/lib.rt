@@ -1,0 +1,13 @@
+//! Decides a batch on several threads that share no one lock (Block-STM): rows, messages and commits have locks of their own, and three
+//! words are shared without any.
+#![tactic(auto)]
+
+mod board;
+mod desk;
+mod leave;
+mod place;
+mod room;
+mod running;
+mod turns;
+
+pub use running::run_split;

@@ -1,0 +1,154 @@
+ghost use Rattle.std.specs.Prelude.{◌≡◌, ◌≤◌, [], take, length, IfOk};
+ghost use Rattle.rows.specs.Fold.{replies_to, rows_after};
+ghost use Rattle.cursors.specs.CursorRule.{publisher};
+ghost use Rattle.engine.specs.Started.{IsStarted};
+ghost use Rattle.ledger.specs.Progress.{opened};
+
+use crate::board::Board;
+use crate::place::Place;
+use crate::room::Room;
+use crate::turns::Worker;
+use cursors::{CursorSeat, Cursors};
+use engine::{Gate, Workers};
+use fold::{Outcome, Prefix, decide_all};
+use ledger::Ledger;
+use rows::{Book, Frame};
+use std::alloc::{AllocError, Global};
+use std::marker::Brand;
+use std::sync::Wait;
+use std::thread;
+use std::thread::Threads;
+use view::Decide;
+
+/// Decides a batch of at most 65,536 bodies on several threads that share no one lock (Block-STM). Whatever the number of workers,
+/// replies and book are those of deciding the messages one after another in the order of their arrival. The only fault is want of
+/// memory. `started` is how many threads took part; one that can't be started is no fault. `committed` is how many messages the workers
+/// had committed when the rest was decided one after another.
+pub fn run_split<R: Threads + Wait + Sync, F: Decide + Sync, G: Gate>(
+    rt: &R,
+    alloc: Global,
+    book: &Book,
+    frames: &[Frame],
+    workers: Workers,
+    decision: &F,
+    gate: &G,
+) -> Result<Outcome, AllocError>
+    requires { length frames.now ≤ 65536 }
+    ensures replies { IfOk result (λ outcome. outcome.replies.items ≡ replies_to book.now frames.now) }
+    ensures book { IfOk result (λ outcome. outcome.book ≡ rows_after book.now frames.now) }
+    ensures started { IfOk result (λ outcome. IsStarted outcome.started workers) }
+    ensures committed { IfOk result (λ outcome. outcome.committed ≤ length frames.now) }
+{
+    let ledger = Ledger::new(alloc, book, frames)?;
+    let (cursors, seat) = Cursors::new(alloc, frames.len() as u64)?;
+    let (ledger, started) = ledger_of::<Brand, R, F, G>(
+        rt, alloc, book, frames, workers, decision, gate, cursors, seat, ledger,
+    )?;
+    let prefix = prefix_of(alloc, ledger, book, frames)?;
+    outcome_of(alloc, prefix, book, frames, started)
+}
+
+// The ledger as the workers leave it, and how many threads took part.
+fn ledger_of<B: Room + Send + Sync, R: Threads + Wait + Sync, F: Decide + Sync, G: Gate>(
+    rt: &R,
+    alloc: Global,
+    book: &Book,
+    frames: &[Frame],
+    workers: Workers,
+    decision: &F,
+    gate: &G,
+    cursors: Cursors,
+    seat: CursorSeat,
+    ledger: Ledger,
+) -> Result<(Ledger, u32), AllocError>
+    requires table { (cursors ≡ B.table) × (seat.table_id ≡ B.table) }
+    requires first { seat.me ≡ (publisher (length ledger.frames), []) }
+    ensures { IfOk result (λ left. IsStarted left.1 workers) }
+{
+    let (board, place): (Board<B>, _) = Board::new(alloc, cursors, seat, ledger, frames.len())?;
+    let worker = Worker {
+        rt,
+        alloc,
+        board: &board,
+        book,
+        frames,
+        decision,
+        gate,
+    };
+    let started = work_together(&worker, place, workers);
+    Ok((board.into_ledger(), started))
+}
+
+// Starts the other workers and works as the first; the answer is how many took part.
+fn work_together<B: Room + Send + Sync, R: Threads + Wait + Sync, F: Decide + Sync, G: Gate>(
+    worker: &Worker<'_, B, R, F, G>,
+    mut place: Place<B>,
+    workers: Workers,
+) -> u32
+    ensures { IsStarted result workers }
+{
+    let count = workers.count();
+    thread::scope(
+        thread::scope_env(),
+        worker.rt,
+        move |scope| -> u32
+            requires { IsStarted count 64 }
+            ensures { IsStarted result count }
+        {
+            let mut started = 1u32;
+            for _number in 1..count {
+                let other = place.another(worker.board);
+                if scope.spawn(move || worker.work(other)).is_ok() {
+                    started += 1;
+                }
+            }
+            worker.work(place);
+            started
+        },
+    )
+}
+
+// What the workers committed, if the ledger is of this run; else nothing.
+fn prefix_of(
+    alloc: Global,
+    ledger: Ledger,
+    book: &Book,
+    frames: &[Frame],
+) -> Result<Prefix, AllocError>
+    ensures count { IfOk result (λ prefix. prefix.count ≤ length frames.now) }
+    ensures book { IfOk result (λ prefix. prefix.book ≡ rows_after book.now (take prefix.count frames.now)) }
+    ensures replies { IfOk result (λ prefix. prefix.replies.items ≡ replies_to book.now (take prefix.count frames.now)) }
+{
+    if ledger.opened_with(book, frames) {
+        return Ok(ledger.into_prefix());
+    }
+    Ok(Prefix::new(alloc, book.copy()?))
+}
+
+// What the workers committed, then what they left, decided one after another.
+#[tactic(auto, using(crate::proofs::Rest::rows_of_both, crate::proofs::Rest::replies_of_both))]
+fn outcome_of(
+    alloc: Global,
+    prefix: Prefix,
+    book: &Book,
+    frames: &[Frame],
+    started: u32,
+) -> Result<Outcome, AllocError>
+    requires few { length frames.now ≤ 65536 }
+    requires count { prefix.count ≤ length frames.now }
+    requires book { prefix.book ≡ rows_after book.now (take prefix.count frames.now) }
+    requires replies { prefix.replies.items ≡ replies_to book.now (take prefix.count frames.now) }
+    ensures replies { IfOk result (λ outcome. outcome.replies.items ≡ replies_to book.now frames.now) }
+    ensures book { IfOk result (λ outcome. outcome.book ≡ rows_after book.now frames.now) }
+    ensures started { IfOk result (λ outcome. outcome.started ≡ started) }
+    ensures committed { IfOk result (λ outcome. outcome.committed ≤ length frames.now) }
+{
+    let committed = prefix.count;
+    let Prefix { book, replies, .. } = decide_all(alloc, prefix, frames)?;
+    Ok(Outcome {
+        replies,
+        book,
+        started,
+        committed,
+    })
+}

@@ -1,0 +1,205 @@
+use crate::board::Board;
+use crate::desk::Desk;
+use crate::leave::Leave;
+use crate::place::Place;
+use crate::room::Room;
+use engine::Gate;
+use ledger::Verdict;
+use mvmem::Version;
+use rows::{Book, Frame};
+use shards::{ShardRows, ShardSet};
+use slots::{Attempt, GivenUp, Slot};
+use std::alloc::Global;
+use std::sync::Wait;
+use std::thread;
+use view::{Decide, Execution, Recorder, Stop};
+
+/// What a worker works with: the board, the opening book, the bodies, the decision and the gate. Whatever it does or leaves undone, the
+/// ledger's type keeps what is committed right.
+#[derive(Drop)]
+pub(crate) struct Worker<'a, B: Room, R: Wait, F: Decide, G: Gate> {
+    pub(crate) rt: &'a R,
+    pub(crate) alloc: Global,
+    pub(crate) board: &'a Board<B>,
+    pub(crate) book: &'a Book,
+    pub(crate) frames: &'a [Frame],
+    pub(crate) decision: &'a F,
+    pub(crate) gate: &'a G,
+}
+
+impl<B: Room, R: Wait, F: Decide, G: Gate> Worker<'_, B, R, F, G> {
+    /// Turns from this place, until all is committed or the stop mark is set. A turn that has to leave sets it.
+    pub(crate) fn work(&self, mut place: Place<B>) {
+        for _ in self.rt.forever() {
+            match self.turn(&mut place) {
+                Ok(()) => {}
+                Err(Leave::Done | Leave::Stopped) => return,
+                Err(Leave::OutOfMemory | Leave::Worn | Leave::Lost) => {
+                    self.board.stop(self.rt);
+                    return;
+                }
+            }
+        }
+    }
+
+    // Commits what can be, then validates a message, or else executes one.
+    fn turn(&self, place: &mut Place<B>) -> Result<(), Leave> {
+        if place.done(self.board) == self.frames.len() as u64 {
+            return Err(Leave::Done);
+        }
+        self.commit(place)?;
+        if let Ok(index) = u32::try_from(place.draw_validate(self.board)) {
+            if self.validate(place, index)? {
+                return Ok(());
+            }
+        }
+        if let Ok(index) = u32::try_from(place.draw_execute(self.board)) {
+            return self.execute(place, index);
+        }
+        thread::yield_now();
+        Ok(())
+    }
+
+    // Commits messages in their order, as many as can be, where no other worker does so.
+    fn commit(&self, place: &mut Place<B>) -> Result<(), Leave> {
+        let Some(mut desk) = self.board.free_desk() else {
+            return Ok(());
+        };
+        if desk.stopped() {
+            return Err(Leave::Stopped);
+        }
+        for _ in self.rt.forever() {
+            if !self.commit_next(place, &mut desk)? {
+                return Ok(());
+            }
+        }
+        unreachable!()
+    }
+
+    // Commits the next message where it is executed, and gives it up where the book doesn't agree with what it read. Answers whether it
+    // is committed.
+    fn commit_next(&self, place: &mut Place<B>, desk: &mut Desk<B>) -> Result<bool, Leave> {
+        let index = desk.count();
+        let Some(mut slot) = self.board.slot(self.rt, index) else {
+            return Ok(false);
+        };
+        let Some(attempt) = slot.attempt() else {
+            return Ok(false);
+        };
+        match desk.commit(self.board.cursors(), &attempt.execution)? {
+            Verdict::Committed => Ok(slot.commit()),
+            Verdict::Stale => {
+                self.give_up(place, index, &mut slot)?;
+                Ok(false)
+            }
+        }
+    }
+
+    // Looks again for the rows that an executed message read, and gives it up where it sees others. Answers whether the message stood
+    // executed.
+    fn validate(&self, place: &mut Place<B>, index: u32) -> Result<bool, Leave> {
+        let Some(mut slot) = self.board.slot(self.rt, index) else {
+            return Ok(false);
+        };
+        let Some(attempt) = slot.attempt() else {
+            return Ok(false);
+        };
+        if !self
+            .board
+            .shards()
+            .is_as_logged(self.rt, index, &attempt.log)
+        {
+            self.give_up(place, index, &mut slot)?;
+        }
+        Ok(true)
+    }
+
+    // Gives an executed message up: its entries are estimates, it is executed again, and those behind it are validated again.
+    fn give_up(&self, place: &mut Place<B>, index: u32, slot: &mut Slot) -> Result<(), Leave> {
+        self.board
+            .shards()
+            .to_estimates(self.rt, index, slot.shards());
+        if slot.give_up() == GivenUp::Worn {
+            return Err(Leave::Worn);
+        }
+        place.lower_validate(self.board, index.saturating_add(1));
+        place.lower_execute(self.board, index);
+        Ok(())
+    }
+
+    // Executes a message where it is ready. No lock is held while it is decided.
+    fn execute(&self, place: &mut Place<B>, index: u32) -> Result<(), Leave> {
+        let Some(frame) = self.frames.get(index as usize) else {
+            thread::yield_now();
+            return Ok(());
+        };
+        let Some((version, former)) = self.take(index) else {
+            return Ok(());
+        };
+        self.gate.before_decide(index, version.incarnation);
+        match self.attempt(frame, index) {
+            Ok(attempt) => self.record(place, version, former, attempt),
+            Err(Stop::Blocked(_)) => self.block(place, index),
+            Err(Stop::OutOfMemory) => Err(Leave::OutOfMemory),
+            Err(Stop::Lost) => Err(Leave::Lost),
+        }
+    }
+
+    // Takes a message to be executed, where it is ready, with the shards in which it has entries.
+    fn take(&self, index: u32) -> Option<(Version, ShardSet)> {
+        let mut slot = self.board.slot(self.rt, index)?;
+        let incarnation = slot.take()?;
+        Some((Version { index, incarnation }, slot.shards()))
+    }
+
+    // Decides a message on the rows that it sees, and logs whose they are.
+    fn attempt(&self, frame: &Frame, index: u32) -> Result<Attempt, Stop> {
+        let rows = ShardRows::new(self.rt, self.alloc, self.board.shards(), self.book, index);
+        let mut recorder = Recorder::new(self.alloc, rows);
+        let reply = self.decision.decide(frame, &mut recorder)?;
+        let (rows, reads, writes) = recorder.into_parts();
+        Ok(Attempt {
+            execution: Execution::new(*frame, reads, writes, reply),
+            log: rows.into_log(),
+        })
+    }
+
+    // Records what a message put and hands its execution in. Where it put a row that it had no entry of, those from it on are validated
+    // again; else it alone is, at once.
+    fn record(
+        &self,
+        place: &mut Place<B>,
+        version: Version,
+        former: ShardSet,
+        attempt: Attempt,
+    ) -> Result<(), Leave> {
+        let Version { index, incarnation } = version;
+        let writes = attempt.execution.writes();
+        let (shards, is_new) = self
+            .board
+            .shards()
+            .record(self.rt, self.alloc, version, writes, former)?;
+        if let Some(mut slot) = self.board.slot(self.rt, index) {
+            slot.put(shards, attempt);
+        }
+        self.gate.after_record(index, incarnation);
+        if is_new {
+            place.lower_validate(self.board, index);
+        } else {
+            self.validate(place, index)?;
+        }
+        Ok(())
+    }
+
+    // Gives a message up that met an estimate, to be executed again.
+    fn block(&self, place: &mut Place<B>, index: u32) -> Result<(), Leave> {
+        let Some(mut slot) = self.board.slot(self.rt, index) else {
+            return Ok(());
+        };
+        if slot.give_up() == GivenUp::Worn {
+            return Err(Leave::Worn);
+        }
+        place.lower_execute(self.board, index);
+        Ok(())
+    }
+}
