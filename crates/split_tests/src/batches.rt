@@ -1,0 +1,110 @@
+//! Whole batches through the engine with split locks, with 1, 4 and 64 workers.
+
+use engine::{OpenGate, Workers};
+use fixtures::{
+    ADVICE_RULES, Batch, REQUEST_RULES, REVERSAL_RULES, UNCHECKED_RULES, WORKED, answer_text,
+    has_row,
+};
+use fold::Outcome;
+use rules::Shipped;
+use split::run_split;
+use std::alloc::Global;
+use std::process::Abort;
+use std::sync::Wait;
+use std::test::Fail;
+use std::thread::Threads;
+
+// The bodies of the batch, run on its book.
+fn outcome_of<R: Abort + Threads + Wait + Sync>(
+    rt: &R,
+    alloc: Global,
+    batch: &Batch,
+    workers: u32,
+) -> Result<Outcome, Fail> {
+    let frames = batch.frames(alloc)?;
+    assert_eq!(rt; frames.len(), batch.bodies.len(), "{}", batch.name);
+    assert!(rt; frames.len() <= 64);
+    let workers = Workers::new(workers).ok_or("1 to 64 workers")?;
+    Ok(run_split(
+        rt,
+        alloc,
+        &batch.opening(alloc)?,
+        &frames,
+        workers,
+        &Shipped,
+        &OpenGate,
+    )?)
+}
+
+fn assert_replies(
+    rt: &impl Abort,
+    alloc: Global,
+    batch: &Batch,
+    outcome: &Outcome,
+) -> Result<(), Fail> {
+    assert_eq!(rt; outcome.replies.len(), batch.bodies.len(), "{}", batch.name);
+    for (reply, (line, answer)) in outcome.replies.iter().zip(batch.bodies) {
+        let text = answer_text(alloc, reply)?;
+        assert_eq!(rt; text.as_str(), *answer, "{}: {line}", batch.name);
+    }
+    Ok(())
+}
+
+// The rows after the batch.
+fn assert_book(rt: &impl Abort, batch: &Batch, outcome: &Outcome) {
+    for line in batch.after {
+        assert!(rt; has_row(&outcome.book, line), "{}: {line}", batch.name);
+    }
+    assert_eq!(rt; outcome.book.len(), batch.rows, "{}", batch.name);
+}
+
+// The rows after the batch; and the workers committed every message.
+fn assert_rows(rt: &impl Abort, batch: &Batch, outcome: &Outcome) {
+    assert_book(rt, batch, outcome);
+    assert_eq!(rt;
+        outcome.committed as usize,
+        batch.bodies.len(),
+        "{}",
+        batch.name
+    );
+}
+
+fn assert_batches<R: Abort + Threads + Wait + Sync>(
+    rt: &R,
+    alloc: Global,
+    batches: &[Batch],
+) -> Result<(), Fail> {
+    for batch in batches {
+        for workers in [1, 4, 64] {
+            let outcome = outcome_of(rt, alloc, batch, workers)?;
+            assert_replies(rt, alloc, batch, &outcome)?;
+            assert_rows(rt, batch, &outcome);
+        }
+    }
+    Ok(())
+}
+
+#[test]
+fn runs_the_worked_batches(rt: HostRuntime) -> Result<(), Fail> {
+    assert_batches(&rt, rt.alloc(), WORKED)
+}
+
+#[test]
+fn runs_requests_by_each_rule(rt: HostRuntime) -> Result<(), Fail> {
+    assert_batches(&rt, rt.alloc(), REQUEST_RULES)
+}
+
+#[test]
+fn runs_advices_by_each_rule(rt: HostRuntime) -> Result<(), Fail> {
+    assert_batches(&rt, rt.alloc(), ADVICE_RULES)
+}
+
+#[test]
+fn runs_reversals_by_each_rule(rt: HostRuntime) -> Result<(), Fail> {
+    assert_batches(&rt, rt.alloc(), REVERSAL_RULES)
+}
+
+#[test]
+fn runs_on_books_that_no_check_takes(rt: HostRuntime) -> Result<(), Fail> {
+    assert_batches(&rt, rt.alloc(), UNCHECKED_RULES)
+}
