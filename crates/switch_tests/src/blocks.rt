@@ -168,3 +168,61 @@ fn nothing_is_kept_without_a_book_or_a_file(rt: HostRuntime) -> Result<(), Fail>
     }
     Ok(())
 }
+
+#[test]
+fn a_file_without_blocks_is_decided(rt: HostRuntime) -> Result<(), Fail> {
+    let alloc = rt.alloc();
+    let none = b"I83M\x00\x01\x00\x00\x00\x00";
+    let mut files = files_of(
+        alloc,
+        &[("book", BOOK.as_bytes()), ("file", none.as_slice())],
+    )?;
+    let words = ["blocks", "book", "file", "replies", "after"];
+    let line = b"decided 0 in 0 blocks\n";
+    assert_said(&rt, alloc, &mut files, &words, 0, line)?;
+    let replies = b"I83T\x00\x01\x00\x00\x00\x00";
+    assert_eq!(rt; files.get("replies"), Some(replies.as_slice()));
+    assert_eq!(rt; files.get("after"), Some(BOOK.as_bytes()));
+    let words = ["audit-blocks", "book", "file", "replies", "after"];
+    assert_said(&rt, alloc, &mut files, &words, 0, b"same\n")
+}
+
+// An audit of the two blocks with these replies and this book says so.
+fn assert_audited<R: Abort + Threads + Wait + Sync>(
+    rt: &R,
+    alloc: Global,
+    replies: &[u8],
+    after: &str,
+    status: u8,
+    line: &[u8],
+) -> Result<(), Fail> {
+    let file = two_blocks(alloc)?;
+    let mut files = files_of(
+        alloc,
+        &[
+            ("book", BOOK.as_bytes()),
+            ("file", file.as_slice()),
+            ("replies", replies),
+            ("after", after.as_bytes()),
+        ],
+    )?;
+    let words = ["audit-blocks", "book", "file", "replies", "after"];
+    assert_said(rt, alloc, &mut files, &words, status, line)
+}
+
+// The same files with one of them changed: the count, the second block's reply, the account of the new book.
+#[test]
+fn blocks_are_audited(rt: HostRuntime) -> Result<(), Fail> {
+    let alloc = rt.alloc();
+    let replies = two_replies(alloc)?;
+    assert_audited(&rt, alloc, &replies, AFTER_BOTH, 0, b"same\n")?;
+    let none = b"I83T\x00\x01\x00\x00\x00\x00";
+    assert_audited(&rt, alloc, none, AFTER_BOTH, 3, b"count differs\n")?;
+    let front = replies.get(..214).ok_or("all but 12 bytes")?;
+    let other = joined(alloc, &[front, b"9TERM0001978".as_slice()])?;
+    let line = b"block 1 reply 0 differs\n";
+    assert_audited(&rt, alloc, &other, AFTER_BOTH, 3, line)?;
+    let richer = AFTER_BOTH.replace(alloc, "4000", "4001")?;
+    let line = b"row acct:34313131313130303030303030303035 differs\n";
+    assert_audited(&rt, alloc, &replies, richer.as_str(), 3, line)
+}
