@@ -39,7 +39,7 @@ pub stopped : (old : Holding) (batch : List ℕ) {X Y : Type 0} (reading : X →
     → IsBlockFileFault old batch (HasFailed reading) (HasFailed putting) refused (Batch fault)
 stopped old batch reading putting refused rows after count reads bytes puts start written fault same failed x y sum alone opened h = (
   (λ held o t. rw (← (opened held o).1) (first_fault rows after count reads bytes puts start written fault same failed
-  (λ f. device_alone fault (reading x) (putting y) sum (alone f)) h (opened held o).0 t)),
+      (λ f. device_alone fault (reading x) (putting y) sum (alone f)) h (opened held o).0 t)),
   (λ d.
       let once = rw d at sum in
       elim (one_failed reading putting x y once) [ inl a ↦ inl a | inr b ↦ inr (inl b) ]),

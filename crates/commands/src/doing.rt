@@ -10,8 +10,8 @@ use block_jobs::{audit_block_files, run_blocks};
 use engine::Workers;
 use files::{BatchNames, Files};
 use jobs::{
-    audit_batch, audit_batch_with_journal, pack_batch, run_batch,
-    run_batch_with_journal, serial_batch, show_file,
+    audit_batch, audit_batch_with_journal, pack_batch, run_batch, run_batch_with_journal,
+    serial_batch, show_file,
 };
 use std::alloc::Global;
 use std::sync::Wait;
