@@ -1,4 +1,4 @@
-ghost use Rattle.std.specs.Prelude.{◌≡◌, ◌≢◌, ◌≤◌, ◌++◌, ℕ, List, IfOk, IfErr, IsTrue, length};
+ghost use Rattle.std.specs.Prelude.{◌≡◌, ◌≢◌, ◌⊎◌, ◌≤◌, ◌++◌, ℕ, List, IfOk, IfErr, IsTrue, length};
 ghost use Rattle.batch_laws.specs.BatchFault.{is_of_bytes};
 ghost use Rattle.files.specs.Failing.{HasFailed};
 ghost use Rattle.jobs.specs.Shown.{FailsAsShown, IsShowingFault, IsShown, frame_lines, reply_lines};
@@ -18,8 +18,17 @@ pub fn show_file<F: Files>(alloc: Global, files: &F, name: &str) -> Result<Vec<u
     let bytes = read_file(alloc, files, name)?;
     match lines_of(alloc, &bytes) {
         Ok(text) => Ok(text),
-        Err(BatchFault::OutOfMemory) => Err(JobFault::OutOfMemory),
-        Err(fault) => Err(JobFault::Batch(fault)),
+        Err(fault) => Err(fault_of_showing(fault)),
+    }
+}
+
+// Want of memory is the job's own fault.
+fn fault_of_showing(fault: BatchFault) -> JobFault
+    ensures { ((fault ≡ BatchFault.OutOfMemory) × (result ≡ JobFault.OutOfMemory)) ⊎ ((fault ≢ BatchFault.OutOfMemory) × (result ≡ JobFault.Batch fault)) }
+{
+    match fault {
+        BatchFault::OutOfMemory => JobFault::OutOfMemory,
+        other => JobFault::Batch(other),
     }
 }
 

@@ -30,8 +30,10 @@ returns-clause-fault g c =
     let failures = rw (c.in-Err-default.is-0, c.in_ok-output.ensures.failures) at c.write_batch-written.ensures.failures in
     inr (
       (bytes_of bodies, λ bytes h. rw (← c.in_ok-lines.ensures.read bytes h) read),
-      fit fits,
-      (λ d.
-          let once = rw d at failures in
-          inl (c.write_batch-written.new.sink, omega (arith, once))),
+      (
+        fit fits,
+        λ d.
+            let once = rw d at failures in
+            inl (c.write_batch-written.new.sink, omega (arith, once)),
+      ),
     )
