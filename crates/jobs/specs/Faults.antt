@@ -4,7 +4,6 @@ use Rattle.batch_laws.specs.BatchFault.{is_of_bytes}
 use Rattle.batch_laws.specs.Reading.{bodies_of, batch_magic}
 use Rattle.batch_laws.specs.Frames.{IsBatchOf}
 use Rattle.batch_laws.specs.Replies.{FailsAsReplies, IsReplyFileOf}
-use Rattle.batch_laws.specs.declared.batch_fault.BatchFault.{BatchFault}
 use Rattle.batch_laws.specs.declared.batch_fault.BatchFault.TheVariants.{Device}
 use Rattle.book_json_laws.specs.Reading.{IsAnswer, reading}
 use Rattle.rows.specs.Fold.{Rows}

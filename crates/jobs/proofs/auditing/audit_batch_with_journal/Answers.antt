@@ -90,8 +90,8 @@ returns-clause-fault g c =
           inr (
             (c.in_ok-after.after, after),
             inr (unplayed (g.F.Files.holds c.args.files.now) (string_bytes c.args.names.now.book) (string_bytes c.args.names.now.batch) c.args.journal.now
-            c.in_ok-book.book c.in_ok-frames.frames.items entries c.in-Err.fault book frames c.in_ok-entries.ensures.are c.in_ok-entries.ensures.entries
-            unlogged c.in-Err.ensures.lines),
+                c.in_ok-book.book c.in_ok-frames.frames.items entries c.in-Err.fault book frames c.in_ok-entries.ensures.are c.in_ok-entries.ensures.entries
+                unlogged c.in-Err.ensures.lines),
           ),
         ),
       ),

@@ -1,4 +1,4 @@
-use Rattle.std.proofs.Common.{◌≡◌, ◌+◌, ◌<◌, inl, inr, arith, refl}
+use Rattle.std.proofs.Common.{inl, inr, arith, refl}
 use Rattle.std.proofs.lemmas.Result.{err_from_is_err_and}
 use Rattle.batch.specs.Bodies.{bytes_of}
 use Rattle.jobs.proofs.TextFaults.{text_fits, unclosed_batch, unmade_batch}
