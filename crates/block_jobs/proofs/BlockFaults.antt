@@ -27,7 +27,7 @@ first_fault rows after count reads bytes puts start written fault same failed de
 first_fault rows after count reads bytes puts start written fault same failed device (inr (inl head)) r t = absurd (device head.2 t)
 first_fault rows after count reads bytes puts start written fault same failed device (inr (inr behind)) r t =
     let kept = behind.3.kept in
-    inr (behind.0, behind.1, behind.2 r, kept.blocks, behind.3.left, kept.read r, rw kept.number (behind.3.fails r t))
+    inr (behind.0, behind.1, behind.2 r, (kept.blocks, behind.3.left, kept.read r, rw kept.number (behind.3.fails r t)))
 
 -- why blocks stop, where both devices had not failed before
 pub stopped : (old : Holding) (batch : List ℕ) {X Y : Type 0} (reading : X → ℕ) (putting : Y → ℕ) (refused : Type 0)

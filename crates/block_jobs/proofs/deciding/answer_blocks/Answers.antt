@@ -1,4 +1,4 @@
-use Rattle.std.proofs.Common.{◌≡◌, ◌+◌, inl, inr, string_bytes}
+use Rattle.std.proofs.Common.{◌≡◌, ◌+◌, inl, inr, refl, string_bytes}
 use Rattle.std.proofs.lemmas.Result.{IfOk-weaker}
 use Rattle.files.specs.Failing.{HasFailed, HasRefused}
 use Rattle.block_jobs.proofs.BlockFaults.{stopped, unclosed_blocks}
@@ -61,23 +61,23 @@ returns-in-Ok-clause-stopped g c =
     (rw (c.in_ok-blocks.ensures.failures, c.in_ok-replies.ensures.failures) at failed) (λ alone. rw c.in_ok-replies.ensures.failures at alone) opened h)
     c.process_blocks-processed.ensures.failed c.process_blocks-processed.ensures.halted
 
-pub returns-in-Err-in-Ok-clause-fault : goal.returns-in-Err-in-Ok-clause-fault
-returns-in-Err-in-Ok-clause-fault g c =
+pub returns-in-Ok-processed-clause-fault : goal.returns-in-Ok-processed-clause-fault
+returns-in-Ok-processed-clause-fault g c =
     rw c.fault_of_closing.ensures (unclosed_blocks (g.F.Files.holds c.args.files.now) (string_bytes c.args.names.now.batch)
     (HasFailed g.F.Input.Source.failures) (HasFailed g.F.Output.Sink.failures) (HasRefused g.F.Files.refuses) c.in-Err.fault
     (λ d. (_, _, c.in-Err.ensures.refused (rw d refl))))
 
-pub returns-in-Err-in-Err-clause-fault : goal.returns-in-Err-in-Err-clause-fault
-returns-in-Err-in-Err-clause-fault g c =
+pub returns-clause-fault : goal.returns-clause-fault
+returns-clause-fault g c =
     let source = c.in_ok-blocks.blocks in
     let sink = c.in_ok-replies.replies in
     let after = c.process_blocks-processed.new.sink in
     let opened = rw c.as_str.ensures.value at c.in_ok-blocks.ensures.bytes in
-    let halted = c.in-Err-in-Err.halted in
-    let failed = c.in-Err-in-Err.ensures.failed in
+    let halted = c.in-Err-processed.halted in
+    let failed = c.in-Err-processed.ensures.failed in
     stopped (g.F.Files.holds c.args.files.now) (string_bytes c.args.names.now.batch) g.F.Input.Source.failures g.F.Output.Sink.failures (HasRefused g.F.Files.refuses)
     _ _ _ (g.F.Input.Source.is_known source) (g.F.Input.Source.remaining source) (g.F.Output.Sink.is_known sink) (g.F.Output.Sink.written sink)
     (g.F.Output.Sink.written after) halted.fault (after ≡ sink) (g.F.Output.Sink.failures after ≡ g.F.Output.Sink.failures sink + 1)
     c.process_blocks-processed.new.source after
     (rw (c.in_ok-blocks.ensures.failures, c.in_ok-replies.ensures.failures) at failed) (λ alone. rw c.in_ok-replies.ensures.failures at alone) opened
-    c.in-Err-in-Err.ensures.halted
+    c.in-Err-processed.ensures.halted
