@@ -96,32 +96,3 @@ fn a_journal_that_is_not_there_is_told(rt: HostRuntime) -> Result<(), Fail> {
     ];
     assert_said(&rt, alloc, &mut files, &words, 1, b"file 1\n")
 }
-
-// A batch that is none leaves an older journal, and an older book.
-#[test]
-fn an_older_journal_stays(rt: HostRuntime) -> Result<(), Fail> {
-    let alloc = rt.alloc();
-    let mut files = files_of(
-        alloc,
-        &[
-            ("book", BOOK.as_bytes()),
-            ("batch", b"I83B".as_slice()),
-            ("after", b"older".as_slice()),
-            ("journal", b"0 n\n".as_slice()),
-        ],
-    )?;
-    let words = [
-        "run",
-        "book",
-        "batch",
-        "replies",
-        "after",
-        "--journal",
-        "journal",
-    ];
-    assert_said(&rt, alloc, &mut files, &words, 1, b"batch 5\n")?;
-    assert_eq!(rt; files.get("replies"), Some(b"".as_slice()));
-    assert_eq!(rt; files.get("after"), Some(b"older".as_slice()));
-    assert_eq!(rt; files.get("journal"), Some(b"0 n\n".as_slice()));
-    Ok(())
-}
