@@ -1,1 +1,2 @@
 pub mod FoldLaws
+pub mod UndoLaws

@@ -4,6 +4,7 @@
 mod outcome;
 mod plain_rows;
 mod prefix;
+mod putting;
 mod serial;
 mod sets;
 

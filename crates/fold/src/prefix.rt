@@ -1,11 +1,12 @@
-ghost use Rattle.std.specs.Prelude.{◌≡◌, ◌+◌, ◌<◌, ◌^◌, [], ◌∷◌, ◌++◌, IfOk, OnOk};
+ghost use Rattle.std.specs.Prelude.{◌≡◌, ◌+◌, ◌<◌, ◌^◌, [], ◌∷◌, ◌++◌, vec_len, vec_capacity, IfOk, OnOk, OnErr};
 ghost use Rattle.rows.specs.Fold.{overlay, reply_of, writes_of, rows_after_one};
 
 use crate::plain_rows::PlainRows;
+use crate::putting::put_all_or_none;
 use crate::sets::Sets;
 use rows::{Book, Frame, ReplyBody};
 use std::alloc::{AllocError, Global};
-use view::{Decide, Recorder, Stop, WriteSet};
+use view::{Decide, Execution, Recorder, Stop, WriteSet};
 
 /// The first bodies of a batch, decided: how many they are, the book after them, and their replies.
 #[derive(Drop)]
@@ -32,6 +33,22 @@ impl Prefix {
         }
     }
 
+    /// One more body, as it was executed: its reply, and the rows that it puts. After an error nothing is changed.
+    pub fn extend(&mut self, execution: &Execution) -> Result<(), AllocError>
+        requires { self.old.count + 1 < 2 ^ 32 }
+        ensures count { OnOk result (self.new.count ≡ self.old.count + 1) }
+        ensures book { OnOk result (self.new.book ≡ overlay self.old.book execution.now.writes) }
+        ensures replies { OnOk result (self.new.replies.items ≡ self.old.replies.items ++ execution.now.reply ∷ []) }
+        ensures kept { OnErr result ((self.new.count ≡ self.old.count) × (self.new.book ≡ self.old.book) × (self.new.replies.items ≡ self.old.replies.items)) }
+    {
+        self.replies.reserve(1)?;
+        put_all_or_none(&mut self.book, execution.writes())?;
+        let reply = execution.reply();
+        push_copy(&mut self.replies, &reply);
+        self.count += 1;
+        Ok(())
+    }
+
     // Decides one more body, over the memory of these sets, which are given back.
     pub(crate) fn decide_next<F: Decide>(
         &mut self,
@@ -50,6 +67,14 @@ impl Prefix {
         self.count += 1;
         Ok(sets)
     }
+}
+
+// Puts a copy of an item last in a list that has room for it.
+fn push_copy<T: Copy>(items: &mut Vec<T>, item: &T)
+    requires { vec_len items.old < vec_capacity items.old }
+    ensures { items.new.items ≡ items.old.items ++ item.now ∷ [] }
+{
+    items.push_reserved(*item);
 }
 
 // Decides one body on a book: its reply, and the sets with what it read and puts.

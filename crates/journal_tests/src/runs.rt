@@ -90,6 +90,26 @@ fn the_journal_has_the_order_of_finishing(rt: HostRuntime) -> Result<(), Fail> {
     assert_replays(&rt, alloc, &frames, &outcome, &entries)
 }
 
+// A worker commits as it goes: the first message is committed before the last one finishes, and not by the caller behind all turns.
+#[test]
+fn a_worker_commits_as_it_goes(rt: HostRuntime) -> Result<(), Fail> {
+    let alloc = rt.alloc();
+    let first = body("1100 000001 A 100").ok_or("request")?;
+    let second = body("1100 000002 B 100").ok_or("request")?;
+    let frames = [first, second];
+    let book = first_book_with(alloc, &[])?;
+    let worker = Workers::new(1).ok_or("one worker")?;
+    let (outcome, entries) = run_traced(&rt, alloc, &book, &frames, worker, &Shipped, &OpenGate)?;
+    let commit = entries
+        .iter()
+        .position(|entry| matches!(entry.event, Event::Commit))
+        .ok_or("a commit")?;
+    let last = finish_of(&entries, 1).ok_or("a finish")?;
+    assert!(rt; commit < last);
+    assert_eq!(rt; outcome.committed, 2);
+    assert_replays(&rt, alloc, &frames, &outcome, &entries)
+}
+
 // As many requests of 1 on card A, with a trace number each.
 fn requests(alloc: Global, many: u32) -> Result<Vec<Frame>, Fail> {
     let mut frames = Vec::new(alloc);

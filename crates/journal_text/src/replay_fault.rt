@@ -1,5 +1,5 @@
-ghost use Rattle.std.specs.Prelude.{◌≡◌};
-ghost use Rattle.journal_text.specs.ReplayFault.{number_of_replay_fault};
+ghost use Rattle.std.specs.Prelude.{◌≡◌, Some};
+ghost use Rattle.journal_text.specs.ReplayFault.{number_of_replay_fault, replay_fault_text};
 ghost use Rattle.journal_text.specs.declared.replay_fault.ReplayFault.TheVariants.{OutOfMemory};
 
 use std::alloc::{AllocError, AllocFailed};
@@ -31,6 +31,8 @@ impl ReplayFault {
 }
 
 impl fmt::Display for ReplayFault {
+    ghost output = { λ fault. Some (replay_fault_text fault) };
+
     fn fmt<W: fmt::Write>(&self, f: &mut fmt::Formatter<W>) -> fmt::Result {
         match self {
             ReplayFault::Line(n) => write!(f, "line {n} is no entry of a journal"),

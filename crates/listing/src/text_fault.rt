@@ -1,4 +1,5 @@
-ghost use Rattle.std.specs.Prelude.{◌≡◌};
+ghost use Rattle.std.specs.Prelude.{◌≡◌, Some};
+ghost use Rattle.listing.specs.Faults.{text_fault_text};
 ghost use Rattle.listing.specs.declared.text_fault.TextFault.TheVariants.{OutOfMemory};
 
 use std::alloc::{AllocError, AllocFailed};
@@ -17,6 +18,8 @@ pub enum TextFault {
 }
 
 impl fmt::Display for TextFault {
+    ghost output = { λ fault. Some (text_fault_text fault) };
+
     fn fmt<W: fmt::Write>(&self, f: &mut fmt::Formatter<W>) -> fmt::Result {
         match self {
             TextFault::Line(n) => write!(f, "line {n} is no body in hexadecimal"),

@@ -1,0 +1,103 @@
+ghost use Rattle.std.specs.Prelude.{◌≡◌, ◌≢◌, ◌≤◌, ◌↔◌, Ok, IfOk, IsTrue, length};
+ghost use Rattle.ledger.specs.Progress.{opened, further, book_of, replies_of, IsNext};
+ghost use Rattle.ledger.specs.declared.verdict.Verdict.TheVariants.{Committed};
+
+use crate::agreement::agrees;
+use crate::frames::{are_same, is_at};
+use crate::verdict::Verdict;
+use fold::Prefix;
+use rows::{Book, Frame};
+use std::alloc::{AllocError, Global};
+use std::marker::Model;
+use view::Execution;
+
+/// The messages of a batch that are committed, in the order of their arrival, with the book that the batch was opened with. Their
+/// replies and the book after them are those of deciding them one after another. Contracts see how far it has come.
+#[derive(Drop)]
+pub struct Ledger {
+    opening: Book,
+    frames: Vec<Frame>,
+    prefix: Prefix,
+}
+
+impl Model for Ledger {
+    ghost use Rattle.std.specs.FinMap as map;
+    ghost use Rattle.rows.specs.contracts.frame.Frame.{the_row as frame_row};
+    ghost use Rattle.rows.specs.contracts.row_key.RowKey.{the_row as key_row};
+    ghost use Rattle.rows.specs.contracts.row_val.RowVal.{the_row as val_row};
+    ghost use Rattle.ledger.specs.Progress.{Progress, IsFold, progress_code};
+
+    ghost Value = { Progress };
+
+    ghost coded = { progress_code (map.code key_row.coded val_row.coded) frame_row.coded };
+
+    ghost view = { λ l. record { opening = l.opening; frames = l.frames.items; count = l.prefix.count } };
+
+    ghost invariant = { λ l. IsFold (record { opening = l.opening; frames = l.frames.items; count = l.prefix.count }) l.prefix.replies.items l.prefix.book };
+}
+
+impl Ledger {
+    /// A ledger of this batch, at most 65,536 bodies, in which no message is committed.
+    pub fn new(alloc: Global, opening: &Book, frames: &[Frame]) -> Result<Ledger, AllocError>
+        requires { length frames.now ≤ 65536 }
+        ensures { IfOk result (λ ledger. ledger ≡ opened opening.now frames.now) }
+    {
+        Ok(Ledger {
+            opening: opening.copy()?,
+            frames: frames.to_vec(alloc)?,
+            prefix: Prefix::new(alloc, opening.copy()?),
+        })
+    }
+
+    /// How many messages are committed, which are no more than there are.
+    pub fn count(&self) -> u32
+        ensures count { result ≡ self.now.count }
+        ensures within { result ≤ length self.now.frames }
+    {
+        self.prefix.count
+    }
+
+    /// Whether the batch was opened with this book and these bodies.
+    pub fn opened_with(&self, opening: &Book, frames: &[Frame]) -> bool
+        ensures { IsTrue result ↔ ((self.now.opening ≡ opening.now) × (self.now.frames ≡ frames.now)) }
+    {
+        self.opening.is_same(opening) && are_same(&self.frames, frames)
+    }
+
+    /// Commits the execution, where it is that of the next message and the book after those before it has each row as it was read.
+    pub fn try_commit(&mut self, execution: &Execution) -> Result<Verdict, AllocError>
+        ensures when { IfOk result (λ verdict. (verdict ≡ Committed) ↔ IsNext self.old execution.now) }
+        ensures committed { result ≡ Ok Committed → self.new ≡ further self.old }
+        ensures otherwise { result ≢ Ok Committed → self.new ≡ self.old }
+    {
+        if !self.is_next(execution) {
+            return Ok(Verdict::Stale);
+        }
+        let _ = execution.frame();
+        self.prefix.extend(execution)?;
+        Ok(Verdict::Committed)
+    }
+
+    // Whether the execution is that of the next message, and each row is as it was read.
+    fn is_next(&self, execution: &Execution) -> bool
+        ensures { IsTrue result ↔ IsNext self.now execution.now }
+    {
+        is_at(&self.frames, self.prefix.count, &execution.frame())
+            && agrees(&self.prefix.book, execution.reads())
+    }
+
+    /// The committed messages: the book and the replies after them are those of deciding them one after another on the opening book.
+    pub fn into_prefix(self) -> Prefix
+        ensures count { result.count ≡ self.count }
+        ensures within { result.count ≤ length self.frames }
+        ensures book { result.book ≡ book_of self }
+        ensures replies { result.replies.items ≡ replies_of self }
+    {
+        let Ledger {
+            opening: _,
+            frames: _,
+            prefix,
+        } = self;
+        prefix
+    }
+}
