@@ -1,1 +1,2 @@
+pub mod BlockFaults
 pub mod FirstBlocks

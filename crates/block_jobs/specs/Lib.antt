@@ -1,2 +1,3 @@
 pub mod Audited
 pub mod Decided
+pub mod Faults

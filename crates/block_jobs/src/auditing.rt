@@ -1,13 +1,15 @@
-ghost use Rattle.std.specs.Prelude.{◌≤◌, ℕ, List, IfOk, length, string_bytes};
+ghost use Rattle.std.specs.Prelude.{◌≤◌, ℕ, List, IfOk, IfErr, length, string_bytes};
 ghost use Rattle.std.specs.List.{All};
 ghost use Rattle.batch.specs.BlockFiles.{frames_of, replies_of};
 ghost use Rattle.batch_laws.specs.Blocks.{IsBlockFileOf, IsBlockReplyFileOf};
+ghost use Rattle.files.specs.Failing.{HasFailed};
 ghost use Rattle.block_jobs.specs.Audited.{AreBlocksAudited};
+ghost use Rattle.block_jobs.specs.Faults.{IsBlockAuditingFault, IsBlockFileFault, IsBlockRepliesFault};
 
 use audit::{BlockAudit, audit_blocks};
 use batch::{BatchFault, read_block_replies, read_blocks};
-use files::Files;
-use jobs::{BatchNames, JobFault, open_book};
+use files::{BatchNames, Files};
+use jobs::{JobFault, open_book};
 use rows::{Frame, ReplyBody};
 use std::alloc::Global;
 
@@ -18,8 +20,10 @@ pub fn audit_block_files<F: Files>(
     files: &F,
     names: &BatchNames,
 ) -> Result<BlockAudit, JobFault>
-    ensures { IfOk result (AreBlocksAudited (F.holds files.now)
+    ensures audited { IfOk result (AreBlocksAudited (F.holds files.now)
         (string_bytes names.now.book) (string_bytes names.now.batch) (string_bytes names.now.replies) (string_bytes names.now.new_book)) }
+    ensures fault { IfErr result (IsBlockAuditingFault (F.holds files.now)
+        (string_bytes names.now.book) (string_bytes names.now.batch) (string_bytes names.now.replies) (string_bytes names.now.new_book) (HasFailed F.Input.failures)) }
 {
     let book = open_book(alloc, files, names.book.as_str())?;
     let blocks = open_blocks(alloc, files, names.batch.as_str())?;
@@ -32,6 +36,7 @@ pub fn audit_block_files<F: Files>(
 fn open_blocks<F: Files>(alloc: Global, files: &F, name: &str) -> Result<Vec<Vec<Frame>>, JobFault>
     ensures count { IfOk result (λ blocks. length blocks.items ≤ 1000) }
     ensures each { IfOk result (λ blocks. All (λ block. length block.items ≤ 65536) blocks.items) }
+    ensures fault { IfErr result (IsBlockFileFault (F.holds files.now) name.now (HasFailed F.Input.failures) ⊥ ⊥) }
     ensures blocks { (bytes : List ℕ) → F.holds files.now name.now bytes → IfOk result (λ blocks. IsBlockFileOf bytes (frames_of blocks.items)) }
 {
     let mut input = files.open(name)?;
@@ -47,7 +52,8 @@ fn open_block_replies<F: Files>(
     files: &F,
     name: &str,
 ) -> Result<Vec<Vec<ReplyBody>>, JobFault>
-    ensures { (bytes : List ℕ) → F.holds files.now name.now bytes → IfOk result (λ replies. IsBlockReplyFileOf bytes (replies_of replies.items)) }
+    ensures fault { IfErr result (IsBlockRepliesFault (F.holds files.now) name.now (HasFailed F.Input.failures)) }
+    ensures replies { (bytes : List ℕ) → F.holds files.now name.now bytes → IfOk result (λ replies. IsBlockReplyFileOf bytes (replies_of replies.items)) }
 {
     let mut input = files.open(name)?;
     match read_block_replies(alloc, &mut input) {

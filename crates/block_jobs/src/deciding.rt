@@ -2,14 +2,16 @@ ghost use Rattle.std.specs.Prelude.{◌≡◌, ◌≢◌, ◌⊎◌, ◌≤◌, 
 ghost use Rattle.batch.specs.Processing.{AnswersFold};
 ghost use Rattle.batch_laws.specs.declared.batch_fault.BatchFault.{BatchFault};
 ghost use Rattle.book_json_laws.specs.Text.{book_text};
+ghost use Rattle.files.specs.Failing.{HasFailed, HasRefused};
 ghost use Rattle.block_jobs.specs.Decided.{AreBlocksDecided, AreBlocksKept, AreBlocksAnswered, AreFirstAnswered};
+ghost use Rattle.block_jobs.specs.Faults.{IsBlockFileFault, IsBlocksFault};
 
 use crate::block_count::BlockCount;
 use crate::halt::Halt;
 use batch::{BlocksOutcome, Halted, process_blocks};
-use files::Files;
+use files::{BatchNames, Files};
 use fold::Outcome;
-use jobs::{BatchNames, JobFault, fault_of_closing, open_book, put_book};
+use jobs::{JobFault, fault_of_closing, open_book, put_book};
 use rows::{Book, Frame};
 use std::alloc::{AllocError, Global};
 
@@ -31,6 +33,9 @@ pub fn decide_blocks<F: Files, E: Fn(&Book, &[Frame]) -> Result<Outcome, AllocEr
     ensures halted { IfErr result (λ halt. (count : ℕ) → halt.kept ≡ Some count → (fault : BatchFault) × (halt.fault ≡ JobFault.Batch fault)
         × AreBlocksKept (F.is_known files.old) (F.holds files.old) (F.holds files.new)
         (string_bytes names.now.book) (string_bytes names.now.batch) (string_bytes names.now.replies) (string_bytes names.now.new_book) fault count) }
+    // The first fault, in the order of reading: the book's, then the block file's; or a call on a file failed, or memory ran out.
+    ensures fault { IfErr result (λ halt. IsBlocksFault (F.holds files.old) (string_bytes names.now.book) (string_bytes names.now.batch)
+        (HasFailed F.Input.failures) (HasFailed F.Output.failures) (HasRefused F.refuses) halt.fault) }
     // Where no new book was written, nothing of the older one is lost.
     ensures kept { IfErr result (λ halt. halt.kept ≡ None → (held : List ℕ) → string_bytes names.now.new_book ≢ string_bytes names.now.replies
         → F.holds files.old (string_bytes names.now.new_book) held → F.holds files.new (string_bytes names.now.new_book) held) }
@@ -64,6 +69,10 @@ fn answer_blocks<F: Files, E: Fn(&Book, &[Frame]) -> Result<Outcome, AllocError>
         (string_bytes names.now.batch) (string_bytes names.now.replies) book outcome.book outcome.blocks outcome.messages)) }
     ensures some { IfOk result (λ processed. IfErr processed (λ halted. AreFirstAnswered (F.is_known files.old) (F.holds files.old) (F.holds files.new)
         (string_bytes names.now.batch) (string_bytes names.now.replies) book halted.book halted.fault halted.blocks)) }
+    ensures stopped { IfOk result (λ processed. IfErr processed (λ halted. IsBlockFileFault (F.holds files.old) (string_bytes names.now.batch)
+        (HasFailed F.Input.failures) (HasFailed F.Output.failures) (HasRefused F.refuses) (JobFault.Batch halted.fault))) }
+    ensures fault { IfErr result (IsBlockFileFault (F.holds files.old) (string_bytes names.now.batch)
+        (HasFailed F.Input.failures) (HasFailed F.Output.failures) (HasRefused F.refuses)) }
     ensures known { F.is_known files.old → F.is_known files.new }
     ensures others { (other held : List ℕ) → other ≢ string_bytes names.now.replies → F.holds files.old other held → F.holds files.new other held }
 {

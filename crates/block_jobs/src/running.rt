@@ -1,15 +1,17 @@
 ghost use Rattle.std.specs.Prelude.{◌≡◌, ◌≢◌, ◌≤◌, ℕ, List, Some, None, IfOk, IfErr, length, string_bytes};
 ghost use Rattle.batch.specs.Processing.{AnswersFold};
 ghost use Rattle.batch_laws.specs.declared.batch_fault.BatchFault.{BatchFault};
+ghost use Rattle.files.specs.Failing.{HasFailed, HasRefused};
 ghost use Rattle.block_jobs.specs.Decided.{AreBlocksDecided, AreBlocksKept};
+ghost use Rattle.block_jobs.specs.Faults.{IsBlocksFault};
 
 use crate::block_count::BlockCount;
 use crate::deciding::decide_blocks;
 use crate::halt::Halt;
 use engine::{OpenGate, Workers, run};
-use files::Files;
+use files::{BatchNames, Files};
 use fold::Outcome;
-use jobs::{BatchNames, JobFault};
+use jobs::JobFault;
 use rows::{Book, Frame};
 use rules::Shipped;
 use std::alloc::{AllocError, Global};
@@ -30,6 +32,8 @@ pub fn run_blocks<R: Threads + Wait + Sync, F: Files>(
     ensures halted { IfErr result (λ halt. (count : ℕ) → halt.kept ≡ Some count → (fault : BatchFault) × (halt.fault ≡ JobFault.Batch fault)
         × AreBlocksKept (F.is_known files.old) (F.holds files.old) (F.holds files.new)
         (string_bytes names.now.book) (string_bytes names.now.batch) (string_bytes names.now.replies) (string_bytes names.now.new_book) fault count) }
+    ensures fault { IfErr result (λ halt. IsBlocksFault (F.holds files.old) (string_bytes names.now.book) (string_bytes names.now.batch)
+        (HasFailed F.Input.failures) (HasFailed F.Output.failures) (HasRefused F.refuses) halt.fault) }
     ensures kept { IfErr result (λ halt. halt.kept ≡ None → (held : List ℕ) → string_bytes names.now.new_book ≢ string_bytes names.now.replies
         → F.holds files.old (string_bytes names.now.new_book) held → F.holds files.new (string_bytes names.now.new_book) held) }
     ensures known { F.is_known files.old → F.is_known files.new }

@@ -2,6 +2,7 @@
 use Rattle.std.proofs.Common.{◌≡◌, ◌≢◌, ℕ, List, Option, Some, None, Result, Ok, Err, MatchResult, refl}
 use Rattle.batch_laws.specs.declared.batch_fault.BatchFault.{BatchFault}
 use Rattle.block_jobs.specs.Decided.{AreBlocksKept}
+use Rattle.block_jobs.specs.Faults.{IsBlocksFault}
 use Rattle.jobs.specs.Decided.{Holding}
 use Rattle.jobs.specs.declared.job_fault.JobFault.{JobFault}
 use Rattle.jobs.specs.declared.job_fault.JobFault.TheVariants.{Batch}
@@ -9,31 +10,32 @@ use Rattle.words.specs.Asked.{Asked, Names, blocks}
 use Rattle.words.specs.Words.{Asks, IsRead}
 use Rattle.words.specs.declared.line_fault.LineFault.{LineFault}
 use Rattle.words.specs.declared.line_fault.LineFault.TheVariants as line
-use Rattle.commands.specs.Answered.{IsAskedFor, IsBookAsItWas, IsDoneAs, IsFaultIn, IsFaultOf}
+use Rattle.commands.specs.Answered.{Failing, IsAskedFor, IsBookAsItWas, IsDoneAs, IsFaultIn, IsFaultOf}
 use Rattle.commands.specs.Fault.{fault_and_kept, fault_of_line}
 use Rattle.commands.specs.declared.fault.Fault.{Fault}
 use Rattle.commands.specs.declared.fault.Fault.TheVariants.{Usage, OutOfMemory, Job, Halted}
 use Rattle.commands.specs.declared.report.Report.{Report}
 
 -- a fault of blocks, with those that are kept or with none
-pub halted : (known : Type 0) (old new : Holding) (names : Names) (workers : ℕ) (fault : JobFault) (kept : Option ℕ)
+pub halted : (known : Type 0) (old new : Holding) (devices : Failing) (names : Names) (workers : ℕ) (fault : JobFault) (kept : Option ℕ)
     → ((count : ℕ) → kept ≡ Some count → (why : BatchFault) × (fault ≡ Batch why) × AreBlocksKept known old new names.book names.batch names.replies names.new_book why count)
-    → (kept ≡ None → IsBookAsItWas old new names) → IsFaultIn known old new (blocks names workers) (fault_and_kept fault kept)
-halted known old new names workers fault (Some count) some none = some count refl
-halted known old new names workers fault None some none = none refl
+    → (kept ≡ None → IsBookAsItWas old new names) → IsBlocksFault old names.book names.batch devices.reading devices.writing devices.refused fault
+    → IsFaultIn known old new devices (blocks names workers) (fault_and_kept fault kept)
+halted known old new devices names workers fault (Some count) some none why = (some count refl, why)
+halted known old new devices names workers fault None some none why = (none refl, why)
 
 -- a fault of words
-pub of_line : (known : Type 0) (old new : Holding) (words : List (List ℕ)) (fault : LineFault) → IsRead words (Err fault)
-    → IsFaultOf known old new words (fault_of_line fault)
-of_line known old new words (line.Usage text) h = h
-of_line known old new words line.OutOfMemory h = tt
+pub of_line : (known : Type 0) (old new : Holding) (devices : Failing) (words : List (List ℕ)) (fault : LineFault) → IsRead words (Err fault)
+    → IsFaultOf known old new devices words (fault_of_line fault)
+of_line known old new devices words (line.Usage text) h = h
+of_line known old new devices words line.OutOfMemory h = tt
 
 -- what is done of what the words ask for
-pub asked_for : (known : Type 0) (old new : Holding) (words : List (List ℕ)) (what : Asked) (result : Result Report Fault) → Asks words what
-    → MatchResult result (IsDoneAs known old new what) (IsFaultIn known old new what)
-    → MatchResult result (IsAskedFor known old new words) (IsFaultOf known old new words)
-asked_for known old new words what (Ok told) asks h = (what, asks, h)
-asked_for known old new words what (Err (Usage text)) asks h = absurd h
-asked_for known old new words what (Err OutOfMemory) asks h = tt
-asked_for known old new words what (Err (Job fault)) asks h = (what, asks, h)
-asked_for known old new words what (Err (Halted fault kept)) asks h = (what, asks, h)
+pub asked_for : (known : Type 0) (old new : Holding) (devices : Failing) (words : List (List ℕ)) (what : Asked) (result : Result Report Fault) → Asks words what
+    → MatchResult result (IsDoneAs known old new what) (IsFaultIn known old new devices what)
+    → MatchResult result (IsAskedFor known old new words) (IsFaultOf known old new devices words)
+asked_for known old new devices words what (Ok told) asks h = (what, asks, h)
+asked_for known old new devices words what (Err (Usage text)) asks h = absurd h
+asked_for known old new devices words what (Err OutOfMemory) asks h = tt
+asked_for known old new devices words what (Err (Job fault)) asks h = (what, asks, h)
+asked_for known old new devices words what (Err (Halted fault kept)) asks h = (what, asks, h)

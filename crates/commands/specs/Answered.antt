@@ -10,11 +10,15 @@ use Rattle.audit.specs.declared.block_audit.BlockAudit.TheVariants as block_foun
 use Rattle.batch_laws.specs.declared.batch_fault.BatchFault.{BatchFault}
 use Rattle.block_jobs.specs.Audited.{AreBlocksAudited}
 use Rattle.block_jobs.specs.Decided.{AreBlocksDecided, AreBlocksKept}
+use Rattle.block_jobs.specs.Faults.{IsBlockAuditingFault, IsBlocksFault}
+use Rattle.files.specs.Failing.{HasFailed, HasRefused}
 use Rattle.jobs.specs.Audited.{IsAudited}
 use Rattle.jobs.specs.Decided.{Holding, IsDecided}
+use Rattle.jobs.specs.Faults.{IsAuditingFault, IsDecidingFault}
+use Rattle.jobs.specs.JournalFaults.{IsJournalAuditingFault}
 use Rattle.jobs.specs.Journaled.{IsAuditedWithJournal, IsDecidedWithJournal}
-use Rattle.jobs.specs.Packed.{IsPacked}
-use Rattle.jobs.specs.Shown.{IsShown}
+use Rattle.jobs.specs.Packed.{IsPacked, IsPackingFault}
+use Rattle.jobs.specs.Shown.{IsShowingFault, IsShown}
 use Rattle.jobs.specs.declared.job_fault.JobFault.{JobFault}
 use Rattle.jobs.specs.declared.job_fault.JobFault.TheVariants.{Batch}
 use Rattle.words.specs.Asked.{Asked, Names, help, version, one, serial, run, blocks, audit, audit_blocks, show, pack}
@@ -103,22 +107,48 @@ IsUndone old new (run names workers (Some journal)) = names.new_book ≢ journal
 IsUndone old new (blocks names workers) = IsBookAsItWas old new names
 IsUndone old new what = Unit {0}
 
--- What is asked for may have this fault: memory ran out, or it isn't done with the files, or blocks are done in part.
-abbrev pub IsFaultIn : Type 0 → Holding → Holding → Asked → Fault → Type 0
-IsFaultIn known old new what (Usage text) = ⊥
-IsFaultIn known old new what OutOfMemory = Unit {0}
-IsFaultIn known old new what (Job fault) = IsUndone old new what
-IsFaultIn known old new what (Halted fault kept) = IsHaltedAs known old new what fault kept
+-- what may fail of files: a call of one that is read, or of one that is written; or a name is refused
+pub record Failing : Type 1 where
+  pub reading : Type 0
+  pub writing : Type 0
+  pub refused : Type 0
+
+-- such calls are counted, and refusals known, so
+abbrev pub failing : {I O X : Type 0} → (I → ℕ) → (O → ℕ) → (X → List ℕ → Type 0) → Failing
+failing inputs outputs refuses = record { reading = HasFailed inputs; writing = HasFailed outputs; refused = HasRefused refuses }
+
+-- Why what is asked for is not done, as the files were: the first fault of what they held, in the order of reading; a call that failed;
+-- or want of memory.
+abbrev pub IsJobFault : Holding → Failing → Asked → JobFault → Type 0
+IsJobFault old devices (help text) fault = ⊥
+IsJobFault old devices version fault = ⊥
+IsJobFault old devices (one body) fault = ⊥
+IsJobFault old devices (serial names) fault = IsDecidingFault old names.book names.batch devices.reading devices.writing devices.refused fault
+IsJobFault old devices (run names workers journal) fault = IsDecidingFault old names.book names.batch devices.reading devices.writing devices.refused fault
+IsJobFault old devices (blocks names workers) fault = IsBlocksFault old names.book names.batch devices.reading devices.writing devices.refused fault
+IsJobFault old devices (audit names None) fault = IsAuditingFault old names.book names.batch names.replies names.new_book devices.reading fault
+IsJobFault old devices (audit names (Some journal)) fault =
+    IsJournalAuditingFault old names.book names.batch names.replies names.new_book journal devices.reading fault
+IsJobFault old devices (audit_blocks names) fault = IsBlockAuditingFault old names.book names.batch names.replies names.new_book devices.reading fault
+IsJobFault old devices (show file) fault = IsShowingFault old file devices.reading fault
+IsJobFault old devices (pack text batch) fault = IsPackingFault old text devices.reading devices.writing devices.refused fault
+
+-- What is asked for has this fault: memory ran out; or it isn't done with the files, or blocks are done in part, for why that is.
+abbrev pub IsFaultIn : Type 0 → Holding → Holding → Failing → Asked → Fault → Type 0
+IsFaultIn known old new devices what (Usage text) = ⊥
+IsFaultIn known old new devices what OutOfMemory = Unit {0}
+IsFaultIn known old new devices what (Job fault) = IsUndone old new what × IsJobFault old devices what fault
+IsFaultIn known old new devices what (Halted fault kept) = IsHaltedAs known old new what fault kept × IsJobFault old devices what fault
 
 -- the report is of what the words ask for
 abbrev pub IsAskedFor : Type 0 → Holding → Holding → List (List ℕ) → Report → Type 0
 IsAskedFor known old new words told = (what : Asked) × Asks words what × IsDoneAs known old new what told
 
--- the words may have this fault: they are no command, memory ran out, or what they ask for has it
-abbrev pub IsFaultOf : Type 0 → Holding → Holding → List (List ℕ) → Fault → Type 0
-IsFaultOf known old new words (Usage text) = IsUsageFault words
-IsFaultOf known old new words OutOfMemory = Unit {0}
-IsFaultOf known old new words fault = (what : Asked) × Asks words what × IsFaultIn known old new what fault
+-- the words have this fault: they are no command, memory ran out, or what they ask for has it
+abbrev pub IsFaultOf : Type 0 → Holding → Holding → Failing → List (List ℕ) → Fault → Type 0
+IsFaultOf known old new devices words (Usage text) = IsUsageFault words
+IsFaultOf known old new devices words OutOfMemory = Unit {0}
+IsFaultOf known old new devices words fault = (what : Asked) × Asks words what × IsFaultIn known old new devices what fault
 
 -- what is printed on standard output and on standard error, before and after
 pub record Pages : Type 0 where
@@ -134,14 +164,14 @@ pub record IsDone (known : Type 0) (old_files new_files : Holding) (words : List
   pub by_report : status ≡ status_of_report told
 
 -- the fault is a line of standard error, or two, nothing goes to standard output, and the status is the fault's
-pub record IsRefused (known : Type 0) (old_files new_files : Holding) (words : List (List ℕ)) (old new : Pages) (status : ℕ) : Type 0 where
+pub record IsRefused (known : Type 0) (old_files new_files : Holding) (devices : Failing) (words : List (List ℕ)) (old new : Pages) (status : ℕ) : Type 0 where
   pub fault : Fault
-  pub has : IsFaultOf known old_files new_files words fault
+  pub has : IsFaultOf known old_files new_files devices words fault
   pub out : new.out ≡ old.out
   pub err : PrintsLine old.err new.err (text_of fault)
   pub by_fault : status ≡ status_of fault
 
 -- the words are done or refused
-abbrev pub IsActed : Type 0 → Holding → Holding → List (List ℕ) → Pages → Pages → ℕ → Type 0
-IsActed known old_files new_files words old new status =
-    IsDone known old_files new_files words old new status ⊎ IsRefused known old_files new_files words old new status
+abbrev pub IsActed : Type 0 → Holding → Holding → Failing → List (List ℕ) → Pages → Pages → ℕ → Type 0
+IsActed known old_files new_files devices words old new status =
+    IsDone known old_files new_files words old new status ⊎ IsRefused known old_files new_files devices words old new status

@@ -1,6 +1,6 @@
 ghost use Rattle.std.specs.Prelude.{◌≡◌, MatchResult, None, Some, option_map, string_bytes};
 ghost use Rattle.words.specs.Asked.{asked_of, audit, audit_blocks, blocks, names_of, one, pack, run, serial, show};
-ghost use Rattle.commands.specs.Answered.{IsDoneAs, IsFaultIn};
+ghost use Rattle.commands.specs.Answered.{IsDoneAs, IsFaultIn, failing};
 
 use crate::fault::Fault;
 use crate::report::Report;
@@ -8,10 +8,10 @@ use answering::decide_one;
 use audit::{audit_text, block_audit_text};
 use block_jobs::{audit_block_files, run_blocks};
 use engine::Workers;
-use files::Files;
+use files::{BatchNames, Files};
 use jobs::{
-    BatchNames, audit_batch, audit_batch_with_journal, pack_batch, run_batch,
-    run_batch_with_journal, serial_batch, show_file,
+    audit_batch, audit_batch_with_journal, pack_batch, run_batch, run_batch_with_journal,
+    serial_batch, show_file,
 };
 use std::alloc::Global;
 use std::sync::Wait;
@@ -27,7 +27,7 @@ pub(crate) fn done<R: Threads + Wait + Sync, F: Files>(
 ) -> Result<Report, Fault>
     ensures { MatchResult result
         (IsDoneAs (F.is_known files.old) (F.holds files.old) (F.holds files.new) (asked_of command))
-        (IsFaultIn (F.is_known files.old) (F.holds files.old) (F.holds files.new) (asked_of command)) }
+        (IsFaultIn (F.is_known files.old) (F.holds files.old) (F.holds files.new) (failing F.Input.failures F.Output.failures F.refuses) (asked_of command)) }
 {
     match command {
         Command::Help(text) => Ok(Report::Help(text)),
@@ -57,7 +57,7 @@ pub(crate) fn done<R: Threads + Wait + Sync, F: Files>(
 fn serial<F: Files>(alloc: Global, files: &mut F, names: &BatchNames) -> Result<Report, Fault>
     ensures { MatchResult result
         (IsDoneAs (F.is_known files.old) (F.holds files.old) (F.holds files.new) (serial (names_of names.now)))
-        (IsFaultIn (F.is_known files.old) (F.holds files.old) (F.holds files.new) (serial (names_of names.now))) }
+        (IsFaultIn (F.is_known files.old) (F.holds files.old) (F.holds files.new) (failing F.Input.failures F.Output.failures F.refuses) (serial (names_of names.now))) }
 {
     let count = serial_batch(alloc, files, names)?;
     Ok(Report::Decided(count))
@@ -73,7 +73,7 @@ fn run<R: Threads + Wait + Sync, F: Files>(
 ) -> Result<Report, Fault>
     ensures { MatchResult result
         (IsDoneAs (F.is_known files.old) (F.holds files.old) (F.holds files.new) (run (names_of names.now) workers None))
-        (IsFaultIn (F.is_known files.old) (F.holds files.old) (F.holds files.new) (run (names_of names.now) workers None)) }
+        (IsFaultIn (F.is_known files.old) (F.holds files.old) (F.holds files.new) (failing F.Input.failures F.Output.failures F.refuses) (run (names_of names.now) workers None)) }
 {
     let count = run_batch(rt, alloc, files, names, workers)?;
     Ok(Report::Decided(count))
@@ -90,7 +90,7 @@ fn run_with_journal<R: Threads + Wait + Sync, F: Files>(
 ) -> Result<Report, Fault>
     ensures { MatchResult result
         (IsDoneAs (F.is_known files.old) (F.holds files.old) (F.holds files.new) (run (names_of names.now) workers (Some journal.now)))
-        (IsFaultIn (F.is_known files.old) (F.holds files.old) (F.holds files.new) (run (names_of names.now) workers (Some journal.now))) }
+        (IsFaultIn (F.is_known files.old) (F.holds files.old) (F.holds files.new) (failing F.Input.failures F.Output.failures F.refuses) (run (names_of names.now) workers (Some journal.now))) }
 {
     let count = run_batch_with_journal(rt, alloc, files, names, workers, journal)?;
     Ok(Report::Decided(count))
@@ -106,7 +106,7 @@ fn blocks<R: Threads + Wait + Sync, F: Files>(
 ) -> Result<Report, Fault>
     ensures { MatchResult result
         (IsDoneAs (F.is_known files.old) (F.holds files.old) (F.holds files.new) (blocks (names_of names.now) workers))
-        (IsFaultIn (F.is_known files.old) (F.holds files.old) (F.holds files.new) (blocks (names_of names.now) workers)) }
+        (IsFaultIn (F.is_known files.old) (F.holds files.old) (F.holds files.new) (failing F.Input.failures F.Output.failures F.refuses) (blocks (names_of names.now) workers)) }
 {
     let count = run_blocks(rt, alloc, files, names, workers)?;
     Ok(Report::DecidedBlocks(count))
@@ -116,7 +116,7 @@ fn blocks<R: Threads + Wait + Sync, F: Files>(
 fn audited<F: Files>(alloc: Global, files: &F, names: &BatchNames) -> Result<Report, Fault>
     ensures { MatchResult result
         (IsDoneAs (F.is_known files.now) (F.holds files.now) (F.holds files.now) (audit (names_of names.now) None))
-        (IsFaultIn (F.is_known files.now) (F.holds files.now) (F.holds files.now) (audit (names_of names.now) None)) }
+        (IsFaultIn (F.is_known files.now) (F.holds files.now) (F.holds files.now) (failing F.Input.failures F.Output.failures F.refuses) (audit (names_of names.now) None)) }
 {
     let found = audit_batch(alloc, files, names)?;
     let text = audit_text(alloc, &found)?;
@@ -132,7 +132,7 @@ fn audited_with_journal<F: Files>(
 ) -> Result<Report, Fault>
     ensures { MatchResult result
         (IsDoneAs (F.is_known files.now) (F.holds files.now) (F.holds files.now) (audit (names_of names.now) (Some journal.now)))
-        (IsFaultIn (F.is_known files.now) (F.holds files.now) (F.holds files.now) (audit (names_of names.now) (Some journal.now))) }
+        (IsFaultIn (F.is_known files.now) (F.holds files.now) (F.holds files.now) (failing F.Input.failures F.Output.failures F.refuses) (audit (names_of names.now) (Some journal.now))) }
 {
     let found = audit_batch_with_journal(alloc, files, names, journal)?;
     let text = audit_text(alloc, &found)?;
@@ -143,7 +143,7 @@ fn audited_with_journal<F: Files>(
 fn audited_blocks<F: Files>(alloc: Global, files: &F, names: &BatchNames) -> Result<Report, Fault>
     ensures { MatchResult result
         (IsDoneAs (F.is_known files.now) (F.holds files.now) (F.holds files.now) (audit_blocks (names_of names.now)))
-        (IsFaultIn (F.is_known files.now) (F.holds files.now) (F.holds files.now) (audit_blocks (names_of names.now))) }
+        (IsFaultIn (F.is_known files.now) (F.holds files.now) (F.holds files.now) (failing F.Input.failures F.Output.failures F.refuses) (audit_blocks (names_of names.now))) }
 {
     let found = audit_block_files(alloc, files, names)?;
     let text = block_audit_text(alloc, &found)?;
@@ -154,7 +154,7 @@ fn audited_blocks<F: Files>(alloc: Global, files: &F, names: &BatchNames) -> Res
 fn show<F: Files>(alloc: Global, files: &F, file: &str) -> Result<Report, Fault>
     ensures { MatchResult result
         (IsDoneAs (F.is_known files.now) (F.holds files.now) (F.holds files.now) (show file.now))
-        (IsFaultIn (F.is_known files.now) (F.holds files.now) (F.holds files.now) (show file.now)) }
+        (IsFaultIn (F.is_known files.now) (F.holds files.now) (F.holds files.now) (failing F.Input.failures F.Output.failures F.refuses) (show file.now)) }
 {
     let text = show_file(alloc, files, file)?;
     Ok(Report::Lines(text))
@@ -164,7 +164,7 @@ fn show<F: Files>(alloc: Global, files: &F, file: &str) -> Result<Report, Fault>
 fn pack<F: Files>(alloc: Global, files: &mut F, text: &str, batch: &str) -> Result<Report, Fault>
     ensures { MatchResult result
         (IsDoneAs (F.is_known files.old) (F.holds files.old) (F.holds files.new) (pack text.now batch.now))
-        (IsFaultIn (F.is_known files.old) (F.holds files.old) (F.holds files.new) (pack text.now batch.now)) }
+        (IsFaultIn (F.is_known files.old) (F.holds files.old) (F.holds files.new) (failing F.Input.failures F.Output.failures F.refuses) (pack text.now batch.now)) }
 {
     let count = pack_batch(alloc, files, text, batch)?;
     Ok(Report::Packed(count))

@@ -1,5 +1,5 @@
 ghost use Rattle.std.specs.Prelude.{◌≡◌, ◌≤◌, map, MatchResult, string_bytes};
-ghost use Rattle.commands.specs.Answered.{IsActed, IsAskedFor, IsFaultOf, status_of_report, text_of_report};
+ghost use Rattle.commands.specs.Answered.{IsActed, IsAskedFor, IsFaultOf, failing, status_of_report, text_of_report};
 ghost use Rattle.commands.specs.Fault.{text_of};
 ghost use Rattle.commands.specs.declared.fault.Fault.TheVariants.{Halted};
 ghost use Rattle.commands.specs.Printed.{printed, Prints, PrintsLine};
@@ -29,7 +29,7 @@ pub fn act<R: Threads + Wait + Sync, F: Files, O: Write, E: Write>(
     err: &mut Printer<E>,
 ) -> u8
     ensures status { result ≤ 3 }
-    ensures acted { IsActed (F.is_known files.old) (F.holds files.old) (F.holds files.new) (map string_bytes words.now)
+    ensures acted { IsActed (F.is_known files.old) (F.holds files.old) (F.holds files.new) (failing F.Input.failures F.Output.failures F.refuses) (map string_bytes words.now)
         (record { out = printed O.contents out.old; err = printed E.contents err.old })
         (record { out = printed O.contents out.new; err = printed E.contents err.new }) result }
 {
@@ -54,7 +54,7 @@ fn answer<R: Threads + Wait + Sync, F: Files>(
 ) -> Result<Report, Fault>
     ensures { MatchResult result
         (IsAskedFor (F.is_known files.old) (F.holds files.old) (F.holds files.new) (map string_bytes words.now))
-        (IsFaultOf (F.is_known files.old) (F.holds files.old) (F.holds files.new) (map string_bytes words.now)) }
+        (IsFaultOf (F.is_known files.old) (F.holds files.old) (F.holds files.new) (failing F.Input.failures F.Output.failures F.refuses) (map string_bytes words.now)) }
 {
     let command = read_words(alloc, words)?;
     done(rt, alloc, files, command)

@@ -1,6 +1,7 @@
 //! Files by name: the host's, or ones that are kept in memory.
 #![tactic(auto)]
 
+mod batch_names;
 mod files;
 mod host;
 mod memory;
@@ -8,6 +9,7 @@ mod read_fault;
 mod reading;
 mod write_fault;
 
+pub use batch_names::BatchNames;
 pub use files::Files;
 pub use host::HostFiles;
 pub use memory::MemoryFiles;

@@ -1,5 +1,5 @@
 -- Faults of the parts of a job.
-use Rattle.std.proofs.Common.{◌≡◌, ◌⊎◌, ℕ, ◌+◌, ◌<◌, List, [], Result, Ok, Err, OnOk, OnErr, inl, inr, refl, arith}
+use Rattle.std.proofs.Common.{◌≡◌, ◌⊎◌, ℕ, ◌+◌, List, [], Result, Ok, Err, OnOk, OnErr, inl, inr, refl, arith}
 use Rattle.std.proofs.Math.Nat.{eq-zero-or-pos}
 use Rattle.files.specs.Failing.{HasFailed}
 use Rattle.files.specs.declared.read_fault.ReadFault.{ReadFault}

@@ -1,2 +1,5 @@
+pub mod BytesFaults
 pub mod Faults
 pub mod Held
+pub mod JournalFaults
+pub mod TextFaults

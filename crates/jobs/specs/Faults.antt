@@ -4,7 +4,6 @@ use Rattle.batch_laws.specs.BatchFault.{is_of_bytes}
 use Rattle.batch_laws.specs.Reading.{bodies_of, batch_magic}
 use Rattle.batch_laws.specs.Frames.{IsBatchOf}
 use Rattle.batch_laws.specs.Replies.{FailsAsReplies, IsReplyFileOf}
-use Rattle.batch_laws.specs.declared.batch_fault.BatchFault.{BatchFault}
 use Rattle.batch_laws.specs.declared.batch_fault.BatchFault.TheVariants.{Device}
 use Rattle.book_json_laws.specs.Reading.{IsAnswer, reading}
 use Rattle.rows.specs.Fold.{Rows}
@@ -93,11 +92,16 @@ IsReplyFileFault old name read_failed (Journal fault) = ⊥
 IsReplyFileFault old name read_failed (Text line) = ⊥
 
 -- Why an audit finds nothing: the first fault of the book, of the batch, of the replies or of the new book, where those before it in this
--- order have none; or a call on a file failed; or memory ran out.
-abbrev pub IsAuditingFault : Holding → List ℕ → List ℕ → List ℕ → List ℕ → Type 0 → JobFault → Type 0
-IsAuditingFault old book batch replies new_book read_failed fault =
+-- order have none, or a call on a file that failed; or, behind all four, another.
+abbrev pub IsFaultInOrder : Holding → List ℕ → List ℕ → List ℕ → List ℕ → Type 0 → Type 0 → JobFault → Type 0
+IsFaultInOrder old book batch replies new_book read_failed behind fault =
     IsBookFault old book read_failed fault
     ⊎ (IsSomeBook old book × (IsBatchFault old batch read_failed ⊥ ⊥ fault
     ⊎ (IsSomeBatch old batch × (IsReplyFileFault old replies read_failed fault
     ⊎ (IsSomeReplyFile old replies × (IsBookFault old new_book read_failed fault
-    ⊎ (IsSomeBook old new_book × (fault ≡ OutOfMemory))))))))
+    ⊎ (IsSomeBook old new_book × behind)))))))
+
+-- Behind all four only memory may run out.
+abbrev pub IsAuditingFault : Holding → List ℕ → List ℕ → List ℕ → List ℕ → Type 0 → JobFault → Type 0
+IsAuditingFault old book batch replies new_book read_failed fault =
+    IsFaultInOrder old book batch replies new_book read_failed (fault ≡ OutOfMemory) fault

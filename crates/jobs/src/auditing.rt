@@ -2,13 +2,13 @@ ghost use Rattle.std.specs.Prelude.{IfOk, IfErr, string_bytes};
 ghost use Rattle.files.specs.Failing.{HasFailed};
 ghost use Rattle.jobs.specs.Audited.{IsAudited};
 ghost use Rattle.jobs.specs.Faults.{IsAuditingFault};
+ghost use Rattle.jobs.specs.JournalFaults.{IsJournalAuditingFault};
 ghost use Rattle.jobs.specs.Journaled.{IsAuditedWithJournal};
 
-use crate::batch_names::BatchNames;
 use crate::job_fault::JobFault;
 use crate::opening::{open_batch, open_book, open_journal, open_replies};
 use audit::{Audit, audit, audit_journal};
-use files::Files;
+use files::{BatchNames, Files};
 use std::alloc::Global;
 
 /// Whether the files of replies and of the new book hold what deciding the batch on the book comes to; else what differs first.
@@ -37,8 +37,10 @@ pub fn audit_batch_with_journal<F: Files>(
     names: &BatchNames,
     journal: &str,
 ) -> Result<Audit, JobFault>
-    ensures { IfOk result (IsAuditedWithJournal (F.holds files.now)
+    ensures audited { IfOk result (IsAuditedWithJournal (F.holds files.now)
         (string_bytes names.now.book) (string_bytes names.now.batch) (string_bytes names.now.replies) (string_bytes names.now.new_book) journal.now) }
+    ensures fault { IfErr result (IsJournalAuditingFault (F.holds files.now)
+        (string_bytes names.now.book) (string_bytes names.now.batch) (string_bytes names.now.replies) (string_bytes names.now.new_book) journal.now (HasFailed F.Input.failures)) }
 {
     let book = open_book(alloc, files, names.book.as_str())?;
     let frames = open_batch(alloc, files, names.batch.as_str())?;

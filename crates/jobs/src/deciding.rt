@@ -9,12 +9,11 @@ ghost use Rattle.rows.specs.declared.frame.Frame.{Frame};
 ghost use Rattle.jobs.specs.Decided.{IsDecided};
 ghost use Rattle.jobs.specs.Faults.{HoldsSameOrNothing, IsBatchFault, IsDecidingFault, IsOfBytes, IsPuttingFault};
 
-use crate::batch_names::BatchNames;
 use crate::job_fault::{JobFault, fault_of_closing};
 use crate::opening::open_book;
 use batch::process;
 use book_json::write_book;
-use files::Files;
+use files::{BatchNames, Files};
 use fold::Outcome;
 use rows::{Book, Frame};
 use std::alloc::{AllocError, Global};

@@ -2,7 +2,6 @@
 #![tactic(auto)]
 
 mod auditing;
-mod batch_names;
 mod deciding;
 mod job_fault;
 mod opening;
@@ -12,7 +11,6 @@ mod showing;
 mod tracing;
 
 pub use auditing::{audit_batch, audit_batch_with_journal};
-pub use batch_names::BatchNames;
 pub use deciding::{decide_batch, put_book};
 pub use job_fault::{JobFault, fault_of_closing};
 pub use opening::open_book;

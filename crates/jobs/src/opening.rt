@@ -4,6 +4,7 @@ ghost use Rattle.batch_laws.specs.Replies.{IsReplyFileOf};
 ghost use Rattle.files.specs.Failing.{HasFailed};
 ghost use Rattle.journal_text.specs.Journal.{AreEntries, journal_text};
 ghost use Rattle.jobs.specs.Faults.{IsBatchFault, IsBookFault, IsBookOf, IsReplyFileFault};
+ghost use Rattle.jobs.specs.JournalFaults.{IsJournalFault};
 
 use crate::job_fault::JobFault;
 use batch::{BatchFault, read_batch, read_replies};
@@ -66,6 +67,7 @@ pub(crate) fn open_journal<F: Files>(
     name: &str,
 ) -> Result<Vec<Entry>, JobFault>
     ensures are { IfOk result (λ entries. AreEntries entries.items) }
+    ensures fault { IfErr result (IsJournalFault (F.holds files.now) name.now (HasFailed F.Input.failures)) }
     ensures entries { (bytes : List ℕ) → F.holds files.now name.now bytes → IfOk result (λ entries. bytes ≡ journal_text entries.items) }
 {
     let text = read_file(alloc, files, name)?;

@@ -1,5 +1,6 @@
-ghost use Rattle.std.specs.Prelude.{◌≡◌, IfOk};
-ghost use Rattle.jobs.specs.Packed.{IsPacked};
+ghost use Rattle.std.specs.Prelude.{◌≡◌, IfOk, IfErr};
+ghost use Rattle.files.specs.Failing.{HasFailed, HasRefused};
+ghost use Rattle.jobs.specs.Packed.{IsPacked, IsPackingFault};
 
 use crate::job_fault::{JobFault, fault_of_closing};
 use batch::write_batch;
@@ -14,7 +15,8 @@ pub fn pack_batch<F: Files>(
     text: &str,
     batch: &str,
 ) -> Result<usize, JobFault>
-    ensures { IfOk result (IsPacked (F.is_known files.old) (F.holds files.old) (F.holds files.new) text.now batch.now) }
+    ensures packed { IfOk result (IsPacked (F.is_known files.old) (F.holds files.old) (F.holds files.new) text.now batch.now) }
+    ensures fault { IfErr result (IsPackingFault (F.holds files.old) text.now (HasFailed F.Input.failures) (HasFailed F.Output.failures) (HasRefused F.refuses)) }
 {
     let lines = read_file(alloc, files, text)?;
     let bodies = read_bodies(alloc, &lines)?;

@@ -4,11 +4,10 @@ ghost use Rattle.files.specs.Failing.{HasFailed, HasRefused};
 ghost use Rattle.jobs.specs.Decided.{IsDecided};
 ghost use Rattle.jobs.specs.Faults.{HoldsSameOrNothing, IsDecidingFault, IsOfBytes};
 
-use crate::batch_names::BatchNames;
 use crate::deciding::decide_batch;
 use crate::job_fault::JobFault;
 use engine::{OpenGate, Workers, run};
-use files::Files;
+use files::{BatchNames, Files};
 use fold::{Outcome, Prefix, decide_all};
 use rows::{Book, Frame};
 use rules::Shipped;

@@ -1,5 +1,7 @@
-ghost use Rattle.std.specs.Prelude.{◌≡◌, ◌≤◌, ◌++◌, ℕ, List, IfOk, length};
-ghost use Rattle.jobs.specs.Shown.{IsShown, frame_lines, reply_lines};
+ghost use Rattle.std.specs.Prelude.{◌≡◌, ◌≢◌, ◌⊎◌, ◌≤◌, ◌++◌, ℕ, List, IfOk, IfErr, IsTrue, length};
+ghost use Rattle.batch_laws.specs.BatchFault.{is_of_bytes};
+ghost use Rattle.files.specs.Failing.{HasFailed};
+ghost use Rattle.jobs.specs.Shown.{FailsAsShown, IsShowingFault, IsShown, frame_lines, reply_lines};
 
 use crate::job_fault::JobFault;
 use batch::{BatchFault, read_batch, read_replies};
@@ -10,19 +12,30 @@ use std::alloc::{AllocError, Global};
 
 /// The lines of the file of this name: of replies where it begins with `I83R`, else of a batch.
 pub fn show_file<F: Files>(alloc: Global, files: &F, name: &str) -> Result<Vec<u8>, JobFault>
-    ensures { IfOk result (λ text. (bytes : List ℕ) → F.holds files.now name.now bytes → IsShown bytes text.items) }
+    ensures shown { IfOk result (λ text. (bytes : List ℕ) → F.holds files.now name.now bytes → IsShown bytes text.items) }
+    ensures fault { IfErr result (IsShowingFault (F.holds files.now) name.now (HasFailed F.Input.failures)) }
 {
     let bytes = read_file(alloc, files, name)?;
     match lines_of(alloc, &bytes) {
         Ok(text) => Ok(text),
-        Err(BatchFault::OutOfMemory) => Err(JobFault::OutOfMemory),
-        Err(fault) => Err(JobFault::Batch(fault)),
+        Err(fault) => Err(fault_of_showing(fault)),
+    }
+}
+
+// Want of memory is the job's own fault.
+fn fault_of_showing(fault: BatchFault) -> JobFault
+    ensures { ((fault ≡ BatchFault.OutOfMemory) × (result ≡ JobFault.OutOfMemory)) ⊎ ((fault ≢ BatchFault.OutOfMemory) × (result ≡ JobFault.Batch fault)) }
+{
+    match fault {
+        BatchFault::OutOfMemory => JobFault::OutOfMemory,
+        other => JobFault::Batch(other),
     }
 }
 
 // The lines of replies, or of a batch.
 fn lines_of(alloc: Global, bytes: &[u8]) -> Result<Vec<u8>, BatchFault>
-    ensures { IfOk result (λ text. IsShown bytes.now text.items) }
+    ensures shown { IfOk result (λ text. IsShown bytes.now text.items) }
+    ensures fault { IfErr result (λ fault. fault ≢ BatchFault.OutOfMemory → IsTrue (is_of_bytes fault) × FailsAsShown bytes.now fault) }
 {
     let mut input = bytes;
     if bytes.starts_with(b"I83R") {

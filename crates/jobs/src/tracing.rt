@@ -11,13 +11,12 @@ ghost use Rattle.rows.specs.declared.frame.Frame.{Frame};
 ghost use Rattle.jobs.specs.Faults.{HoldsSameOrNothing, IsBatchFault, IsDecidingFault, IsOfBytes, IsPuttingFault};
 ghost use Rattle.jobs.specs.Journaled.{IsDecidedWithJournal, IsRunJournal};
 
-use crate::batch_names::BatchNames;
 use crate::deciding::put_book;
 use crate::job_fault::{JobFault, fault_of_closing};
 use crate::opening::open_book;
 use batch::{BatchFault, Sink, Source, read_batch, write_replies};
 use engine::{OpenGate, Workers, run_traced};
-use files::Files;
+use files::{BatchNames, Files};
 use fold::Outcome;
 use journal_text::{Entry, write_journal};
 use rows::Book;

@@ -7,7 +7,7 @@ use Rattle.hex.specs.declared.error.FromHexError.{FromHexError}
 use Rattle.words.specs.declared.command.Command.{Command}
 use Rattle.words.specs.declared.command.Command.TheVariants.{Help, Version, One, Serial, Run, Blocks, Audit, AuditBlocks, Show, Pack}
 use Rattle.words.specs.declared.asked.BatchWords.{BatchWords}
-use Rattle.jobs.specs.declared.batch_names.BatchNames.{BatchNames}
+use Rattle.files.specs.declared.batch_names.BatchNames.{BatchNames}
 
 -- the names of the files of a batch or of blocks: what is read, and what is written
 pub record Names : Type 0 where

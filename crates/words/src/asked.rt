@@ -13,7 +13,7 @@ use answering::body_of_digits;
 use clap::error::ErrorKind;
 use clap::{ArgMatches, Error};
 use engine::Workers;
-use jobs::BatchNames;
+use files::BatchNames;
 use std::alloc::{AllocError, Global};
 
 /// Reads the program's words, of which the first is its name. Words that are no command are a usage fault.

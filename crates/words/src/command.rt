@@ -1,5 +1,5 @@
 use engine::Workers;
-use jobs::BatchNames;
+use files::BatchNames;
 
 /// What the words ask for.
 #[derive(Debug, Drop)]

@@ -1,5 +1,7 @@
-use Rattle.std.proofs.Common.{◌≡◌, ◌+◌, inl, inr, string_bytes}
+use Rattle.std.proofs.Common.{◌≡◌, ◌+◌, inl, inr, refl, string_bytes}
 use Rattle.std.proofs.lemmas.Result.{IfOk-weaker}
+use Rattle.files.specs.Failing.{HasFailed, HasRefused}
+use Rattle.block_jobs.proofs.BlockFaults.{stopped, unclosed_blocks}
 use Rattle.block_jobs.proofs.FirstBlocks.{before_head, behind_head, device_alone, from_both, in_head}
 use Rattle.jobs.proofs.Held.{all_written}
 use Rattle.block_jobs.proofs.deciding.answer_blocks.Goals as goal
@@ -44,3 +46,38 @@ returns-in-Ok-clause-some g c =
         | inr behind ↦ behind_head _ _ _ _ _ _ _ _ _ reads bytes puts start written one opened closed (λ k. (empty k).0) (λ k. (empty k).1) behind
       ]
     ]) c.process_blocks-processed.ensures.failed c.process_blocks-processed.ensures.halted
+
+pub returns-in-Ok-clause-stopped : goal.returns-in-Ok-clause-stopped
+returns-in-Ok-clause-stopped g c =
+    let source = c.in_ok-blocks.blocks in
+    let sink = c.in_ok-replies.replies in
+    let after = c.process_blocks-processed.new.sink in
+    let opened = rw c.as_str.ensures.value at c.in_ok-blocks.ensures.bytes in
+    from_both c.process_blocks-processed.result _ _ _ (λ halted failed h.
+    stopped (g.F.Files.holds c.args.files.now) (string_bytes c.args.names.now.batch) g.F.Input.Source.failures g.F.Output.Sink.failures (HasRefused g.F.Files.refuses)
+    _ _ _ (g.F.Input.Source.is_known source) (g.F.Input.Source.remaining source) (g.F.Output.Sink.is_known sink) (g.F.Output.Sink.written sink)
+    (g.F.Output.Sink.written after) halted.fault (after ≡ sink) (g.F.Output.Sink.failures after ≡ g.F.Output.Sink.failures sink + 1)
+    c.process_blocks-processed.new.source after
+    (rw (c.in_ok-blocks.ensures.failures, c.in_ok-replies.ensures.failures) at failed) (λ alone. rw c.in_ok-replies.ensures.failures at alone) opened h)
+    c.process_blocks-processed.ensures.failed c.process_blocks-processed.ensures.halted
+
+pub returns-in-Ok-processed-clause-fault : goal.returns-in-Ok-processed-clause-fault
+returns-in-Ok-processed-clause-fault g c =
+    rw c.fault_of_closing.ensures (unclosed_blocks (g.F.Files.holds c.args.files.now) (string_bytes c.args.names.now.batch)
+    (HasFailed g.F.Input.Source.failures) (HasFailed g.F.Output.Sink.failures) (HasRefused g.F.Files.refuses) c.in-Err.fault
+    (λ d. (_, _, c.in-Err.ensures.refused (rw d refl))))
+
+pub returns-clause-fault : goal.returns-clause-fault
+returns-clause-fault g c =
+    let source = c.in_ok-blocks.blocks in
+    let sink = c.in_ok-replies.replies in
+    let after = c.process_blocks-processed.new.sink in
+    let opened = rw c.as_str.ensures.value at c.in_ok-blocks.ensures.bytes in
+    let halted = c.in-Err-processed.halted in
+    let failed = c.in-Err-processed.ensures.failed in
+    stopped (g.F.Files.holds c.args.files.now) (string_bytes c.args.names.now.batch) g.F.Input.Source.failures g.F.Output.Sink.failures (HasRefused g.F.Files.refuses)
+    _ _ _ (g.F.Input.Source.is_known source) (g.F.Input.Source.remaining source) (g.F.Output.Sink.is_known sink) (g.F.Output.Sink.written sink)
+    (g.F.Output.Sink.written after) halted.fault (after ≡ sink) (g.F.Output.Sink.failures after ≡ g.F.Output.Sink.failures sink + 1)
+    c.process_blocks-processed.new.source after
+    (rw (c.in_ok-blocks.ensures.failures, c.in_ok-replies.ensures.failures) at failed) (λ alone. rw c.in_ok-replies.ensures.failures at alone) opened
+    c.in-Err-processed.ensures.halted

@@ -7,7 +7,7 @@ use Rattle.commands.proofs.program.answer.Goals as goal
 pub returns-in_err-command : goal.returns-in_err-command
 returns-in_err-command g c =
     let p = err_from_is_err_and c.from_residual.result c.from_residual.ensures.1 in
-    rw (p.1, p.2) (of_line _ _ _ (map string_bytes c.args.words.now) c.in_err-command.field-0.0 c.in_err-command.ensures)
+    rw (p.1, p.2) (of_line _ _ _ _ (map string_bytes c.args.words.now) c.in_err-command.field-0.0 c.in_err-command.ensures)
 
 pub returns : goal.returns
-returns g c = asked_for _ _ _ (map string_bytes c.args.words.now) (asked_of c.in_ok-command.command) c.done.result c.in_ok-command.ensures c.done.ensures
+returns g c = asked_for _ _ _ _ (map string_bytes c.args.words.now) (asked_of c.in_ok-command.command) c.done.result c.in_ok-command.ensures c.done.ensures

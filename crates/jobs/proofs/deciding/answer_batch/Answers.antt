@@ -1,6 +1,4 @@
-use Rattle.std.proofs.Common.{◌≡◌, ◌++◌, List, ℕ, inl, inr, string_bytes}
-use Rattle.batch_laws.specs.Files.{replies_text}
-use Rattle.rows.specs.Fold.{replies_to}
+use Rattle.std.proofs.Common.{inl, inr, string_bytes}
 use Rattle.files.specs.Failing.{HasFailed, HasRefused}
 use Rattle.jobs.proofs.Faults.{one_failed, unclosed}
 use Rattle.jobs.proofs.Held.{all_written}

@@ -1,4 +1,4 @@
-use Rattle.std.proofs.Common.{◌≡◌, ◌≢◌, List, ℕ, length, string_bytes, ap, sym, ◌∙◌, inl, inr}
+use Rattle.std.proofs.Common.{length, string_bytes, ap, ◌∙◌, inl, inr}
 use Rattle.std.proofs.lemmas.Result.{err_from_is_err_and}
 use Rattle.jobs.proofs.deciding.decide_batch.Goals as goal
 

@@ -1,4 +1,4 @@
-use Rattle.std.proofs.Common.{◌≡◌, List, ℕ, inl, inr, string_bytes}
+use Rattle.std.proofs.Common.{inl, inr, string_bytes}
 use Rattle.files.specs.Failing.{HasFailed, HasRefused}
 use Rattle.jobs.proofs.Faults.{one_failed, unclosed}
 use Rattle.jobs.proofs.tracing.answer_traced.Goals as goal

@@ -1,4 +1,4 @@
-use Rattle.std.proofs.Common.{◌≡◌, ◌≢◌, List, length, string_bytes, ap, ◌∙◌, inl, inr}
+use Rattle.std.proofs.Common.{length, ap, ◌∙◌, inl, inr}
 use Rattle.std.proofs.lemmas.Result.{err_from_is_err_and}
 use Rattle.jobs.proofs.tracing.run_batch_with_journal.Goals as goal
 
