@@ -84,6 +84,7 @@ impl Slot {
     pub fn give_up(&mut self) -> GivenUp
         ensures ready { result ≡ given.Ready → IsInHand self.old × (self.new ≡ given_up self.old) }
         ensures kept { result ≢ given.Ready → self.new ≡ self.old }
+        ensures idle { result ≡ given.Kept → ¬ IsInHand self.old }
         ensures committed { self.old.stage ≡ stage.Committed → result ≡ given.Kept }
         ensures worn { result ≡ given.Worn → self.old.incarnation + 1 ≡ 2 ^ 32 }
     {
