@@ -2,6 +2,7 @@
 #![tactic(auto)]
 
 mod asking;
+mod entering;
 mod logged_rows;
 mod replaying;
 mod traced;

@@ -1,15 +1,22 @@
-ghost use Rattle.std.specs.Prelude.{◌≡◌, ◌++◌, ◌≤◌, [], true, false, length, IfOk};
+ghost use Rattle.std.specs.Prelude.{◌≡◌, ◌++◌, ◌≤◌, [], true, false, length, IfOk, IfSome, OnOk};
+ghost use Rattle.journal.specs.Answered.{claimed, was_read, checked, ended, committed};
+ghost use Rattle.rows.specs.RowVal.{IsOfKind};
 ghost use Rattle.journal_laws.specs.Answers.{AnswersTo, FinishAnswersTo, IsNoFinish, IsAnswerOfKind, entered};
 ghost use Rattle.journal_laws.specs.Logged.{greatest};
 ghost use Rattle.journal_laws.specs.Plays.{IsPlayed};
 ghost use Rattle.speccore_laws.specs.Play.{opening_play};
 
-use crate::asking::{ask, enters, hand_in, read};
+use crate::asking::{
+    ask, begin_check, check_one, claim, commit, end_check, enters, enters_claim, enters_read,
+    hand_in, read_into,
+};
+use crate::entering::enter;
 use journal_laws::Answer;
 use journal_text::{Entry, Event};
 use mvmem::Version;
-use rows::{Book, Frame};
-use speccore::Core;
+use rows::{Book, Frame, RowKey, RowVal};
+use sched::Task;
+use speccore::{Core, Unread};
 use speccore_laws::{CoreFault, Limits, Seat};
 use std::alloc::{AllocError, Global};
 use std::marker::Model;
@@ -107,6 +114,7 @@ impl Traced {
 
     /// Asks the core, at this seat. Room for the entry is made first. Want of memory and a claim that nothing is handed out for enter
     /// nothing; every other answer enters the event.
+    #[tactic(auto, using(crate::proofs::Asked::played_on, crate::proofs::Asked::played_still))]
     pub fn step(&mut self, seat: Seat, event: Event) -> Answer
         requires { IsNoFinish event }
         ensures played { IsPlayed self.old.core self.old.entries }
@@ -118,14 +126,138 @@ impl Traced {
         if self.entries.reserve(1).is_err() {
             return Answer::Refused(CoreFault::OutOfMemory);
         }
-        let answer = match &event {
-            Event::Read(version, row) => read(&mut self.core, seat, *version, row),
-            other => ask(&mut self.core, seat, other),
-        };
+        let answer = ask(&mut self.core, seat, &event);
         if enters(&answer) {
-            self.entries.push_reserved(Entry { seat, event });
+            enter(&mut self.entries, Entry { seat, event });
         }
         answer
+    }
+
+    /// Claims the next task, as [`Traced::step`] does. The only fault is want of memory.
+    #[tactic(auto, using(crate::proofs::Asked::played_still))]
+    pub fn claim(&mut self, seat: Seat) -> Result<Task, CoreFault>
+        ensures played { IsPlayed self.old.core self.old.entries }
+        ensures answer { AnswersTo self.old.core seat Event.Claim (claimed result) self.new.core }
+        ensures entries { self.new.entries ≡ self.old.entries ++ entered seat Event.Claim (claimed result) }
+        ensures stopped { self.new.stopped ≡ self.old.stopped }
+    {
+        self.entries.reserve(1)?;
+        let task = claim(&mut self.core, seat);
+        if enters_claim(&task) {
+            enter(
+                &mut self.entries,
+                Entry {
+                    seat,
+                    event: Event::Claim,
+                },
+            );
+        }
+        Ok(task)
+    }
+
+    /// Asks for a row, as [`Traced::step`] does. It is written to a place of the caller's.
+    #[tactic(auto, using(crate::proofs::Asked::played_still))]
+    pub fn read_into(
+        &mut self,
+        seat: Seat,
+        version: Version,
+        row: &RowKey,
+        value: &mut Option<RowVal>,
+    ) -> Result<(), Unread>
+        ensures played { IsPlayed self.old.core self.old.entries }
+        ensures answer { AnswersTo self.old.core seat (Event.Read version row.now) (was_read result value.new) self.new.core }
+        ensures entries { self.new.entries ≡ self.old.entries ++ entered seat (Event.Read version row.now) (was_read result value.new) }
+        ensures kind { OnOk result (IfSome value.new (IsOfKind row.now)) }
+        ensures stopped { self.new.stopped ≡ self.old.stopped }
+    {
+        self.entries.reserve(1)?;
+        let answer = read_into(&mut self.core, seat, version, row, value);
+        if enters_read(&answer) {
+            enter(
+                &mut self.entries,
+                Entry {
+                    seat,
+                    event: Event::Read(version, *row),
+                },
+            );
+        }
+        answer
+    }
+
+    /// Begins a check of the version, as [`Traced::step`] does. Answers whether it is at its end.
+    pub fn begin_check(&mut self, seat: Seat, version: Version) -> Result<bool, CoreFault>
+        ensures played { IsPlayed self.old.core self.old.entries }
+        ensures answer { AnswersTo self.old.core seat (Event.BeginCheck version) (checked result) self.new.core }
+        ensures entries { self.new.entries ≡ self.old.entries ++ entered seat (Event.BeginCheck version) (checked result) }
+        ensures stopped { self.new.stopped ≡ self.old.stopped }
+    {
+        self.entries.reserve(1)?;
+        let answer = begin_check(&mut self.core, seat, version);
+        enter(
+            &mut self.entries,
+            Entry {
+                seat,
+                event: Event::BeginCheck(version),
+            },
+        );
+        answer
+    }
+
+    /// Resolves the next read of the seat's check again, as [`Traced::step`] does. Answers whether the check is at its end then.
+    pub fn check_one(&mut self, seat: Seat) -> Result<bool, CoreFault>
+        ensures played { IsPlayed self.old.core self.old.entries }
+        ensures answer { AnswersTo self.old.core seat Event.CheckOne (checked result) self.new.core }
+        ensures entries { self.new.entries ≡ self.old.entries ++ entered seat Event.CheckOne (checked result) }
+        ensures stopped { self.new.stopped ≡ self.old.stopped }
+    {
+        self.entries.reserve(1)?;
+        let answer = check_one(&mut self.core, seat);
+        enter(
+            &mut self.entries,
+            Entry {
+                seat,
+                event: Event::CheckOne,
+            },
+        );
+        answer
+    }
+
+    /// Closes the seat's check, as [`Traced::step`] does. Answers whether the version passed it.
+    pub fn end_check(&mut self, seat: Seat) -> Result<bool, CoreFault>
+        ensures played { IsPlayed self.old.core self.old.entries }
+        ensures answer { AnswersTo self.old.core seat Event.EndCheck (ended result) self.new.core }
+        ensures entries { self.new.entries ≡ self.old.entries ++ entered seat Event.EndCheck (ended result) }
+        ensures stopped { self.new.stopped ≡ self.old.stopped }
+    {
+        self.entries.reserve(1)?;
+        let answer = end_check(&mut self.core, seat);
+        enter(
+            &mut self.entries,
+            Entry {
+                seat,
+                event: Event::EndCheck,
+            },
+        );
+        answer
+    }
+
+    /// Commits the next message, if it can be, as [`Traced::step`] does. The only fault is want of memory.
+    pub fn commit(&mut self, seat: Seat) -> Result<bool, CoreFault>
+        ensures played { IsPlayed self.old.core self.old.entries }
+        ensures answer { AnswersTo self.old.core seat Event.Commit (committed result) self.new.core }
+        ensures entries { self.new.entries ≡ self.old.entries ++ entered seat Event.Commit (committed result) }
+        ensures stopped { self.new.stopped ≡ self.old.stopped }
+    {
+        self.entries.reserve(1)?;
+        let is_committed = commit(&mut self.core, seat);
+        enter(
+            &mut self.entries,
+            Entry {
+                seat,
+                event: Event::Commit,
+            },
+        );
+        Ok(is_committed)
     }
 
     /// Hands in the execution of a version, at this seat. Room for the entry is made first. Want of memory, and an execution that did
@@ -142,16 +274,35 @@ impl Traced {
         ensures entries { self.new.entries ≡ self.old.entries ++ entered seat (Event.Finish version) result }
         ensures stopped { self.new.stopped ≡ self.old.stopped }
     {
+        self.finish_copy(alloc, seat, version, &execution)
+    }
+
+    /// The same of an execution that stays with the caller.
+    pub fn finish_copy(
+        &mut self,
+        alloc: Global,
+        seat: Seat,
+        version: Version,
+        execution: &Execution,
+    ) -> Answer
+        ensures played { IsPlayed self.old.core self.old.entries }
+        ensures answer { FinishAnswersTo self.old.core version execution.now result self.new.core }
+        ensures entries { self.new.entries ≡ self.old.entries ++ entered seat (Event.Finish version) result }
+        ensures stopped { self.new.stopped ≡ self.old.stopped }
+    {
         if self.entries.reserve(1).is_err() {
             return Answer::Refused(CoreFault::OutOfMemory);
         }
         let named = version;
         let answer = hand_in(&mut self.core, alloc, seat, version, execution);
         if enters(&answer) {
-            self.entries.push_reserved(Entry {
-                seat,
-                event: Event::Finish(named),
-            });
+            enter(
+                &mut self.entries,
+                Entry {
+                    seat,
+                    event: Event::Finish(named),
+                },
+            );
         }
         answer
     }

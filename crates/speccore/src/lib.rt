@@ -11,5 +11,7 @@ mod slot;
 mod slots;
 mod speculative;
 mod standing;
+mod unread;
 
 pub use speculative::Core;
+pub use unread::Unread;

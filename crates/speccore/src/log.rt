@@ -1,4 +1,4 @@
-ghost use Rattle.std.specs.Prelude.{◌≡◌, ◌↔◌, ◌<◌, ◌++◌, [], ◌∷◌, Some, None, length, slice_get, IsTrue, IfSome, OnOk, OnErr};
+ghost use Rattle.std.specs.Prelude.{◌≡◌, ◌↔◌, ◌<◌, ◌++◌, [], ◌∷◌, Some, None, length, slice_get, vec_capacity, IsTrue, IfSome, OnOk, OnErr};
 ghost use Rattle.std.specs.Option.{option_copied, option_map};
 ghost use Rattle.rows.specs.RowVal.{IsOfKind};
 ghost use Rattle.view.specs.RowSets.{value_in};
@@ -85,12 +85,12 @@ impl Log {
     }
 
     /// What was answered for the row, if it was asked for.
-    pub(crate) fn get(&self, row: &RowKey) -> Option<Option<RowVal>>
-        ensures value { result ≡ logged_in self.now row.now }
-        ensures kind { IfSome result (λ value. IfSome value (IsOfKind row.now)) }
+    pub(crate) fn get(&self, row: &RowKey) -> Option<&Option<RowVal>>
+        ensures value { option_copied result ≡ logged_in self.now row.now }
+        ensures kind { IfSome result (λ value. IfSome value.now (IsOfKind row.now)) }
     {
         match self.find(row) {
-            Some(logged) => Some(logged.value),
+            Some(logged) => Some(&logged.value),
             None => None,
         }
     }
@@ -122,32 +122,31 @@ impl Log {
         numbers
     }
 
-    /// Logs one more answer, and the number at which the memory of versions found the row.
+    /// Logs one more answer and which execution it came from; and the number at which the memory of versions found the row.
     pub(crate) fn push(
         &mut self,
         row: &RowKey,
-        logged: Logged,
+        origin: Option<Version>,
+        value: &Option<RowVal>,
         number: usize,
     ) -> Result<(), AllocError>
         requires absent { value_in self.old row.now ≡ None }
-        requires kind { IfSome logged.value (IsOfKind row.now) }
-        ensures ok { OnOk result (self.new ≡ self.old ++ (row.now, logged) ∷ []) }
+        requires kind { IfSome value.now (IsOfKind row.now) }
+        ensures ok { OnOk result (self.new ≡ self.old ++ (row.now, record { origin = origin; value = value.now }) ∷ []) }
         ensures err { OnErr result (self.new ≡ self.old) }
     {
-        let row = *row;
-        let Logged { origin, value } = logged;
-        let logged = Logged { origin, value };
         if self.more.is_empty() && self.few.len() < FEW {
             if self.few.is_empty() {
                 self.few.reserve_exact(USUAL)?;
             }
-            self.few.push(Read {
-                row,
-                logged,
-                number,
-            })?;
+            self.few.reserve(1)?;
+            push_read(&mut self.few, row, origin, value, number);
         } else {
-            self.more.insert(row, logged)?;
+            let logged = Logged {
+                origin,
+                value: *value,
+            };
+            self.more.insert(*row, logged)?;
         }
         Ok(())
     }
@@ -164,6 +163,28 @@ impl Log {
         }
         true
     }
+}
+
+// Puts a read last in a list that has room for it. It is a call of its own so that the value is copied once.
+#[inline(never)]
+fn push_read(
+    few: &mut Vec<Read>,
+    row: &RowKey,
+    origin: Option<Version>,
+    value: &Option<RowVal>,
+    number: usize,
+)
+    requires { length few.old.items < vec_capacity few.old }
+    ensures { few.new.items ≡ few.old.items ++ (record { row = row.now; logged = record { origin = origin; value = value.now }; number = number }) ∷ [] }
+{
+    few.push_reserved(Read {
+        row: *row,
+        logged: Logged {
+            origin,
+            value: *value,
+        },
+        number,
+    });
 }
 
 // Whether this was logged, with this value.

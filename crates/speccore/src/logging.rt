@@ -1,4 +1,4 @@
-ghost use Rattle.std.specs.Prelude.{◌≡◌, ◌↔◌, ◌<◌, ◌+◌, ◌^◌, Some, IsSome, IsTrue, IfOk, IfErr, IfSome};
+ghost use Rattle.std.specs.Prelude.{◌≡◌, ◌↔◌, ◌<◌, ◌+◌, ◌^◌, Some, IsSome, IsTrue, IfOk, IfErr, IfSome, OnOk};
 ghost use Rattle.std.specs.Option.{option_copied};
 ghost use Rattle.rows.specs.RowVal.{IsOfKind};
 ghost use Rattle.rows.specs.declared.row_val.RowVal.{RowVal};
@@ -9,34 +9,34 @@ ghost use Rattle.mvmem.specs.declared.seen.Seen.TheVariants.{Estimate, Value};
 ghost use Rattle.speccore_laws.specs.Log.{logged_of, ResolvesAs};
 
 use mvmem::{Link, MvMem, Seen, Version};
-use rows::{Book, RowKey};
-use speccore_laws::Logged;
+use rows::{Book, RowKey, RowVal};
 use view::WriteSet;
 
-/// What is logged of a row whose nearest entry is this one; the message whose estimate it is, if it is one.
-pub(crate) fn logged_of(opening: &Book, row: &RowKey, link: Option<&Link>) -> Result<Logged, u32>
+/// Writes to a place of the caller's what a row is whose nearest entry is this one, and answers which execution it came from; or
+/// the message whose estimate the entry is.
+pub(crate) fn seen_into(
+    opening: &Book,
+    row: &RowKey,
+    link: Option<&Link>,
+    value: &mut Option<RowVal>,
+) -> Result<Option<Version>, u32>
     requires { IsSeenOfKind row.now (seen_of (option_copied link)) }
-    ensures ok { IfOk result (λ logged. logged_of opening.now row.now (seen_of (option_copied link.entry)) ≡ Some logged) }
-    ensures kind { IfOk result (λ logged. IfSome logged.value (IsOfKind row.now)) }
+    ensures ok { IfOk result (λ origin. logged_of opening.now row.now (seen_of (option_copied link.entry)) ≡ Some (record { origin = origin; value = value.new })) }
+    ensures kind { OnOk result (IfSome value.new (IsOfKind row.now)) }
     ensures estimate { IfErr result (λ at. seen_of (option_copied link.entry) ≡ Estimate at) }
 {
     let Some(link) = link else {
-        return Ok(Logged {
-            origin: None,
-            value: opening.get(row),
-        });
+        *value = opening.row(row).copied();
+        return Ok(None);
     };
-    let version = Version {
+    if link.value.is_none() {
+        return Err(link.index);
+    }
+    *value = link.value;
+    Ok(Some(Version {
         index: link.index,
         incarnation: link.incarnation,
-    };
-    match link.value {
-        Some(value) => Ok(Logged {
-            origin: Some(version),
-            value: Some(value),
-        }),
-        None => Err(link.index),
-    }
+    }))
 }
 
 /// Whether the message at this index sees of the row what this execution put, or the opening book where it is none. The row

@@ -1,4 +1,5 @@
 ghost use Rattle.std.specs.Prelude.{◌≡◌, ◌↔◌, ◌<◌, ◌++◌, [], ◌∷◌, Some, None, length, slice_get, IsTrue, IfSome, OnOk, OnErr};
+ghost use Rattle.std.specs.Option.{option_copied};
 ghost use Rattle.rows.specs.RowVal.{IsOfKind};
 ghost use Rattle.view.specs.RowSets.{value_in};
 ghost use Rattle.speccore_laws.specs.Log.{logged_in, AreLogged};
@@ -8,7 +9,6 @@ ghost use Rattle.speccore.specs.Origin.{IsFirstOf};
 use crate::log::{FEW, Log};
 use mvmem::Version;
 use rows::{ReplyBody, RowKey, RowVal};
-use speccore_laws::Logged;
 use std::alloc::{AllocError, Global};
 use std::marker::Model;
 use view::ReadSet;
@@ -54,9 +54,9 @@ impl Slot {
     }
 
     /// What the incarnation was answered for the row, if it asked for it.
-    pub(crate) fn logged(&self, row: &RowKey) -> Option<Option<RowVal>>
-        ensures value { result ≡ logged_in self.now.log row.now }
-        ensures kind { IfSome result (λ value. IfSome value (IsOfKind row.now)) }
+    pub(crate) fn logged(&self, row: &RowKey) -> Option<&Option<RowVal>>
+        ensures value { option_copied result ≡ logged_in self.now.log row.now }
+        ensures kind { IfSome result (λ value. IfSome value.now (IsOfKind row.now)) }
     {
         self.log.get(row)
     }
@@ -82,19 +82,20 @@ impl Slot {
         self.log.has_logged(reads)
     }
 
-    /// Logs one more answer, and the number at which the memory of versions found the row.
+    /// Logs one more answer and which execution it came from; and the number at which the memory of versions found the row.
     pub(crate) fn log(
         &mut self,
         row: &RowKey,
-        logged: Logged,
+        origin: Option<Version>,
+        value: &Option<RowVal>,
         number: usize,
     ) -> Result<(), AllocError>
         requires absent { value_in self.old.log row.now ≡ None }
-        requires kind { IfSome logged.value (IsOfKind row.now) }
-        ensures ok { OnOk result (self.new ≡ record (self.old) { log = self.old.log ++ (row.now, logged) ∷ [] }) }
+        requires kind { IfSome value.now (IsOfKind row.now) }
+        ensures ok { OnOk result (self.new ≡ record (self.old) { log = self.old.log ++ (row.now, record { origin = origin; value = value.now }) ∷ [] }) }
         ensures err { OnErr result (self.new ≡ self.old) }
     {
-        self.log.push(row, logged, number)
+        self.log.push(row, origin, value, number)
     }
 
     /// Keeps the reply of the execution that finished.

@@ -1,17 +1,19 @@
-ghost use Rattle.std.specs.Prelude.{◌≡◌, ◌≢◌, ◌<◌, ◌≤◌, ◌↔◌, Some, None, length, take, IsTrue, IfOk, IfSome};
+ghost use Rattle.std.specs.Prelude.{◌≡◌, ◌≢◌, ◌<◌, ◌≤◌, ◌↔◌, Some, None, length, take, IsTrue, IfOk, IfSome, OnOk};
 ghost use Rattle.rows.specs.Fold.{rows_after, replies_to};
 ghost use Rattle.rows.specs.RowVal.{IsOfKind};
 ghost use Rattle.sched.specs.Board.{floor, mark, IsRunning};
 ghost use Rattle.speccore_laws.specs.Play.{PlayStep, opening_play};
 ghost use Rattle.speccore_laws.specs.Run.{IsReached, Claim, Read, Block, Finish, Begin, CheckOne, End, Commit};
 ghost use Rattle.speccore_laws.specs.Step.{IsGotOfKind, logged_by};
+ghost use Rattle.speccore.specs.Unread.{got_of};
 
 use crate::checks::{after_read, is_at_end, no_checks};
 use crate::frames::{are_same, is_at};
-use crate::logging::{logged_of, puts_new_location, resolves_as};
+use crate::logging::{puts_new_location, resolves_as, seen_into};
 use crate::slot::Slot;
 use crate::slots::{fresh_slots, replies_in};
 use crate::standing::{is_open, is_running};
+use crate::unread::Unread;
 use fold::Prefix;
 use mvmem::{MvMem, Version};
 use rows::{Book, Frame, RowKey, RowVal};
@@ -111,22 +113,40 @@ impl Core {
         ensures step { PlayStep self.old (Read version row.now result) self.new }
         ensures kind { IfOk result (IsGotOfKind row.now) }
     {
+        let mut value = None;
+        match self.read_into(version, row, &mut value) {
+            Ok(()) => Ok(Got::Row(value)),
+            Err(Unread::Estimate(at)) => Ok(Got::Estimate(at)),
+            Err(Unread::Refused(fault)) => Err(fault),
+        }
+    }
+
+    /// The same, written to a place of the caller's, so that a row isn't copied from hand to hand.
+    pub fn read_into(
+        &mut self,
+        version: Version,
+        row: &RowKey,
+        value: &mut Option<RowVal>,
+    ) -> Result<(), Unread>
+        ensures step { PlayStep self.old (Read version row.now (got_of result value.new)) self.new }
+        ensures kind { OnOk result (IfSome value.new (IsOfKind row.now)) }
+    {
         if !is_running(&self.sched, version) {
-            return Err(CoreFault::NotRunning);
+            return Err(Unread::Refused(CoreFault::NotRunning));
         }
         let slot = &self.slots[version.index as usize];
-        if let Some(value) = slot.logged(row) {
-            return Ok(Got::Row(value));
+        if let Some(logged) = slot.logged(row) {
+            *value = *logged;
+            return Ok(());
         }
         let (link, number) = self.memory.look(row, version.index);
-        match logged_of(&self.opening, row, link) {
-            Ok(logged) => {
-                let value = logged.value;
+        match seen_into(&self.opening, row, link, value) {
+            Ok(origin) => {
                 let slot = &mut self.slots[version.index as usize];
-                slot.log(row, logged, number)?;
-                Ok(Got::Row(value))
+                slot.log(row, origin, value, number)?;
+                Ok(())
             }
-            Err(at) => Ok(Got::Estimate(at)),
+            Err(at) => Err(Unread::Estimate(at)),
         }
     }
 
@@ -157,11 +177,11 @@ impl Core {
     ) -> Result<bool, CoreFault>
         ensures step { PlayStep self.old (Finish version execution result) self.new }
     {
-        self.keep(alloc, version, &execution)
+        self.finish_copy(alloc, version, &execution)
     }
 
-    // The same of an execution that is dropped then: what it put is copied into the memory of versions.
-    fn keep(
+    /// The same of an execution that stays with the caller: what it put is copied into the memory of versions.
+    pub fn finish_copy(
         &mut self,
         alloc: Global,
         version: Version,
@@ -361,7 +381,7 @@ impl Core {
             return None;
         }
         let slot = &self.slots[index];
-        slot.logged(row)
+        slot.logged(row).copied()
     }
 
     /// Whether these are its opening book and its frames.

@@ -4,11 +4,11 @@ use Rattle.journal_text.specs.declared.event.Event.TheVariants.{Finish}
 use Rattle.speccore_laws.specs.Play.{Play}
 use Rattle.journal_laws.proofs.Playing.{IsPlayed-push, stands_where_entered, same_where_not_entered}
 use Rattle.journal_laws.specs.Plays.{IsPlayed}
-use Rattle.journal.proofs.traced.Traced.finish.Goals as goal
+use Rattle.journal.proofs.traced.Traced.finish_copy.Goals as goal
 
 pub invariant_of-self-then-enters : goal.invariant_of-self-then-enters
 invariant_of-self-then-enters c =
-    subst (IsPlayed c.hand_in-answer.new.core) (sym (c.push_reserved.ensures.items ∙ ap (λ (es : List Entry). es ++ record { seat = c.args.seat; event = Finish c.args.version } ∷ []) c.reserve.ensures.items))
+    subst (IsPlayed c.hand_in-answer.new.core) (sym (c.enter.ensures ∙ ap (λ (es : List Entry). es ++ record { seat = c.args.seat; event = Finish c.args.version } ∷ []) c.reserve.ensures.items))
     (IsPlayed-push c.self.inside.core c.self.inside.entries.items c.args.seat (Finish c.args.version) c.hand_in-answer.result c.hand_in-answer.new.core
     c.self.invariant c.hand_in-answer.ensures.answer (stands_where_entered c.hand_in-answer.result (sym c.enters.ensures ∙ c.if-enters.true)))
 

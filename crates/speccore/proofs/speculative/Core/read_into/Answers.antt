@@ -11,8 +11,10 @@ use Rattle.speccore_laws.specs.declared.core_fault.CoreFault.{CoreFault}
 use Rattle.speccore_laws.specs.declared.got.Got.{Got}
 use Rattle.speccore_laws.specs.declared.got.Got.TheVariants as got
 use Rattle.speccore.proofs.Steps.{at_slot, slot_there, slot_back, not_in, read_step, play, play_kept, unlogged}
+use Rattle.speccore.specs.Unread.{got_of}
+use Rattle.speccore.specs.declared.unread.Unread.{Unread}
 use Rattle.speccore.specs.contracts.speculative.Core.{the_view}
-use Rattle.speccore.proofs.speculative.Core.read.Goals as goal
+use Rattle.speccore.proofs.speculative.Core.read_into.Goals as goal
 
 pub index-slot-requires : goal.index-slot-requires
 index-slot-requires c =
@@ -24,8 +26,8 @@ returns-in-Some-clause-step c =
     let s : State = (the_view c.self.inside).state in
     let l = slot_there s c.self.invariant.1 c.args.version.index (c.is_running.ensures.within c.if-not-is_running.false) in
     let here : c.index-slot.result.now ≡ slot s c.args.version.index = at_slot s c.args.version.index c.index-slot.result.now l c.index-slot.ensures in
-    let logged : logged_in (slot s c.args.version.index).log c.args.row.now ≡ Some c.in-Some.value = ap (λ (k : Slot). logged_in k.log c.args.row.now) (sym here) ∙ sym c.logged.ensures.value ∙ c.in-Some.is in
-    subst (λ (p : Play). PlayStep p (Read c.args.version c.args.row.now (Ok (got.Row c.in-Some.value))) p) c.self.view_is
+    let logged : logged_in (slot s c.args.version.index).log c.args.row.now ≡ Some c.in-Some.logged.now = ap (λ (k : Slot). logged_in k.log c.args.row.now) (sym here) ∙ sym c.logged.ensures.value ∙ ap option_copied c.in-Some.is in
+    subst (λ (p : Play). PlayStep p (Read c.args.version c.args.row.now (Ok (got.Row c.in-Some.logged.now))) p) c.self.view_is
     ((c.is_running.ensures.running.0 c.if-not-is_running.false, inl (logged, refl)), (refl, refl))
 
 pub index_mut-slot-requires : goal.index_mut-slot-requires
@@ -36,7 +38,7 @@ index_mut-slot-requires c =
 -- it is not logged yet
 none_there : (c : goal.After-index_mut-slot) → logged_in (slot (the_view c.self.inside).state c.args.version.index).log c.args.row.now ≡ None
 none_there c =
-    unlogged (the_view c.self.inside).state c.self.invariant.1 c.args.version c.args.row.now c.index-slot.result.now c.logged.result (c.is_running.ensures.within c.if-not-is_running.false) c.index-slot.ensures c.logged.ensures.value c.in_default.is
+    unlogged (the_view c.self.inside).state c.self.invariant.1 c.args.version c.args.row.now c.index-slot.result.now (option_copied c.logged.result) (c.is_running.ensures.within c.if-not-is_running.false) c.index-slot.ensures c.logged.ensures.value (ap option_copied c.in_default.is)
 
 pub log-requires-clause-absent : goal.log-requires-clause-absent
 log-requires-clause-absent c =
@@ -47,24 +49,24 @@ log-requires-clause-absent c =
 abbrev after : goal.In_ok-log-in-Ok → Play
 after c = play (record (the_view c.self.inside).state { slots = set c.self.inside.slots.items c.args.version.index c.log.new.self }) c.self.inside.sched.execution c.self.inside.sched.validation
 
-step_there : (c : goal.In_ok-log-in-Ok) → PlayStep (the_view c.self.inside) (Read c.args.version c.args.row.now (Ok (got.Row c.in-Ok.logged.value))) (after c)
+step_there : (c : goal.In_ok-log-in-Ok) → PlayStep (the_view c.self.inside) (Read c.args.version c.args.row.now (Ok (got.Row c.seen_into.new.value))) (after c)
 step_there c =
     let s : State = (the_view c.self.inside).state in
     let within = c.is_running.ensures.within c.if-not-is_running.false in
     let here = at_slot s c.args.version.index c.index_mut-slot.result.now (slot_there s c.self.invariant.1 c.args.version.index within) c.index_mut-slot.ensures.value in (
-      read_step s c.self.invariant.1 c.args.version c.args.row.now (seen_of (option_copied c.look-number.result.0)) c.in-Ok.logged c.index_mut-slot.result.now c.log.new.self
+      read_step s c.self.invariant.1 c.args.version c.args.row.now (seen_of (option_copied c.look-number.result.0)) (record { origin = c.in-Ok.origin; value = c.seen_into.new.value }) c.index_mut-slot.result.now c.log.new.self
           (c.is_running.ensures.running.0 c.if-not-is_running.false) within c.index_mut-slot.ensures.value
-          (ap (λ (k : Slot). logged_in k.log c.args.row.now) here ∙ unlogged s c.self.invariant.1 c.args.version c.args.row.now c.index-slot.result.now c.logged.result within c.index-slot.ensures c.logged.ensures.value c.in_default.is)
+          (ap (λ (k : Slot). logged_in k.log c.args.row.now) here ∙ unlogged s c.self.invariant.1 c.args.version c.args.row.now c.index-slot.result.now (option_copied c.logged.result) within c.index-slot.ensures c.logged.ensures.value (ap option_copied c.in_default.is))
           c.look-number.ensures.seen (c.in-Ok.ensures.ok) c.in_ok-log-in-Ok.ensures.ok,
       (refl, refl),
     )
 
 pub invariant_of-self-in-Ok : goal.invariant_of-self-in-Ok
-invariant_of-self-in-Ok c = (c.self.invariant.0, play_kept (the_view c.self.inside) (Read c.args.version c.args.row.now (Ok (got.Row c.in-Ok.logged.value))) (after c) c.self.invariant.1 (step_there c), c.self.invariant.2, c.self.invariant.3)
+invariant_of-self-in-Ok c = (c.self.invariant.0, play_kept (the_view c.self.inside) (Read c.args.version c.args.row.now (Ok (got.Row c.seen_into.new.value))) (after c) c.self.invariant.1 (step_there c), c.self.invariant.2, c.self.invariant.3)
 
 pub returns-in_ok-log-in-Ok-clause-step : goal.returns-in_ok-log-in-Ok-clause-step
 returns-in_ok-log-in-Ok-clause-step c =
-    subst (λ (p : Play). PlayStep p (Read c.args.version c.args.row.now (Ok (got.Row c.in-Ok.logged.value))) (after c)) c.self.view_is (step_there c)
+    subst (λ (p : Play). PlayStep p (Read c.args.version c.args.row.now (Ok (got.Row c.seen_into.new.value))) (after c)) c.self.view_is (step_there c)
 
 abbrev unchanged : goal.After-from_residual → Play
 unchanged c = play (record (the_view c.self.inside).state { slots = set c.self.inside.slots.items c.args.version.index c.log.new.self }) c.self.inside.sched.execution c.self.inside.sched.validation
@@ -73,10 +75,10 @@ pub returns-in_err-log-in-Ok-clause-step : goal.returns-in_err-log-in-Ok-clause-
 returns-in_err-log-in-Ok-clause-step c =
     let s : State = (the_view c.self.inside).state in
     let within = c.is_running.ensures.within c.if-not-is_running.false in
-    let none = unlogged s c.self.invariant.1 c.args.version c.args.row.now c.index-slot.result.now c.logged.result within c.index-slot.ensures c.logged.ensures.value c.in_default.is in
+    let none = unlogged s c.self.invariant.1 c.args.version c.args.row.now c.index-slot.result.now (option_copied c.logged.result) within c.index-slot.ensures c.logged.ensures.value (ap option_copied c.in_default.is) in
     let back = slot_back s c.args.version.index c.index_mut-slot.result.now c.log.new.self c.index_mut-slot.ensures.value c.in_err-log-in-Ok.ensures.err in
     let fault = err_from_is_err_and c.from_residual.result c.from_residual.ensures.1 in
     let step : PlayStep (the_view c.self.inside) (Read c.args.version c.args.row.now (Err OutOfMemory)) (unchanged c) =
-    ((c.is_running.ensures.running.0 c.if-not-is_running.false, ((seen_of (option_copied c.look-number.result.0)), c.in-Ok.logged, (none, c.look-number.ensures.seen), c.in-Ok.ensures.ok), back), (refl, refl)) in
-    subst (λ (answer : Result Got CoreFault). PlayStep c.args.self.now (Read c.args.version c.args.row.now answer) (unchanged c)) (sym (fault.1 ∙ ap Err fault.2))
+    ((c.is_running.ensures.running.0 c.if-not-is_running.false, ((seen_of (option_copied c.look-number.result.0)), (record { origin = c.in-Ok.origin; value = c.seen_into.new.value }), (none, c.look-number.ensures.seen), c.in-Ok.ensures.ok), back), (refl, refl)) in
+    subst (λ (answer : Result (Unit {0}) Unread). PlayStep c.args.self.now (Read c.args.version c.args.row.now (got_of answer c.seen_into.new.value)) (unchanged c)) (sym (fault.1 ∙ ap Err fault.2))
     (subst (λ (p : Play). PlayStep p (Read c.args.version c.args.row.now (Err OutOfMemory)) (unchanged c)) c.self.view_is step)

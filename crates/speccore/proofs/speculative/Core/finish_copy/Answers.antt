@@ -13,8 +13,8 @@ use Rattle.speccore_laws.specs.declared.core_fault.CoreFault.{CoreFault}
 use Rattle.speccore_laws.specs.declared.core_fault.CoreFault.TheVariants.{OtherReads, OutOfMemory, Worn}
 use Rattle.speccore.proofs.Steps.{at_slot, finish_step, not_of_version, of_version, play, play_kept, slot_there}
 use Rattle.speccore.specs.contracts.speculative.Core.{the_view}
-use Rattle.speccore.proofs.speculative.Core.keep.Goals as goal
-use Rattle.speccore.proofs.speculative.Core.keep.Goals.{else-epoch-self-via-then-epoch-self+else-puts_new_location, else-epoch-self-via-else-epoch-self}
+use Rattle.speccore.proofs.speculative.Core.finish_copy.Goals as goal
+use Rattle.speccore.proofs.speculative.Core.finish_copy.Goals.{else-epoch-self-via-then-epoch-self+else-puts_new_location, else-epoch-self-via-else-epoch-self}
 
 pub index-slot-requires : goal.index-slot-requires
 index-slot-requires c =
