@@ -18,13 +18,13 @@ pub(crate) fn check<R: Wait>(
 ) -> Result<bool, AllocError>
     ensures { IfOk result (λ worn. IsTrue worn → IsFinished traced.new.core traced.new.entries) }
 {
-    let mut checking = traced.step(seat, Event::BeginCheck(version));
+    let mut checking = traced.begin_check(seat, version);
     for _ in rt.forever() {
         match checking {
-            Answer::Checking(false) => checking = traced.step(seat, Event::CheckOne),
-            Answer::Checking(true) => return end_check(rt, traced, seat),
-            Answer::Refused(CoreFault::OutOfMemory) => return Err(AllocError),
-            _ => return Ok(false),
+            Ok(false) => checking = traced.check_one(seat),
+            Ok(true) => return end_check(rt, traced, seat),
+            Err(CoreFault::OutOfMemory) => return Err(AllocError),
+            Err(_) => return Ok(false),
         }
     }
     unreachable!()
@@ -34,14 +34,17 @@ pub(crate) fn check<R: Wait>(
 fn end_check<R: Wait>(rt: &R, traced: &mut Traced, seat: Seat) -> Result<bool, AllocError>
     ensures { IfOk result (λ worn. IsTrue worn → IsFinished traced.new.core traced.new.entries) }
 {
-    if is_worn(traced, seat, Event::EndCheck)? {
-        return Ok(true);
+    match traced.end_check(seat) {
+        Ok(_) => {}
+        Err(CoreFault::OutOfMemory) => return Err(AllocError),
+        Err(CoreFault::Worn) => return Ok(true),
+        Err(_) => return Ok(false),
     }
     for _ in rt.forever() {
-        match traced.step(seat, Event::Commit) {
-            Answer::Committed(true) => {}
-            Answer::Refused(CoreFault::OutOfMemory) => return Err(AllocError),
-            _ => return Ok(false),
+        match traced.commit(seat) {
+            Ok(true) => {}
+            Ok(false) => return Ok(false),
+            Err(_) => return Err(AllocError),
         }
     }
     unreachable!()

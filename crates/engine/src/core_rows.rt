@@ -1,13 +1,14 @@
-ghost use Rattle.std.specs.Prelude.{◌≡◌, ◌↔◌, ℕ, None, Err, IfOk};
-ghost use Rattle.journal_laws.specs.declared.answer.Answer.TheVariants as answers;
+ghost use Rattle.std.specs.Prelude.{◌≡◌, ◌↔◌, ℕ, None, Ok, Err, IfOk};
 ghost use Rattle.speccore_laws.specs.declared.core_fault.CoreFault.TheVariants as fault;
-ghost use Rattle.speccore_laws.specs.declared.got.Got.TheVariants as got;
+ghost use Rattle.speccore.specs.declared.unread.Unread.TheVariants as unread;
 ghost use Rattle.view.specs.declared.stop.Stop.TheVariants as stop;
 
-use journal::{Answer, Event, Traced};
+use crate::locking::lock;
+use journal::Traced;
 use mvmem::Version;
 use rows::{RowKey, RowVal};
-use speccore_laws::{CoreFault, Got, Seat};
+use speccore::Unread;
+use speccore_laws::{CoreFault, Seat};
 use std::sync::{Mutex, Wait};
 use view::{RowSource, Stop};
 
@@ -49,24 +50,27 @@ impl<R: Wait> RowSource for CoreRows<'_, R> {
     ghost answers = { λ old row result new. new.version ≡ old.version };
 
     fn read(&mut self, key: &RowKey) -> Result<Option<RowVal>, Stop> {
-        let answer = self
-            .traced
-            .lock(self.rt)
-            .step(self.seat, Event::Read(self.version, *key));
-        row_of(answer)
+        let mut row = None;
+        self.read_into(key, &mut row)?;
+        Ok(row)
+    }
+
+    fn read_into(&mut self, key: &RowKey, row: &mut Option<RowVal>) -> Result<(), Stop> {
+        let mut traced = lock(self.rt, self.traced);
+        answered(traced.read_into(self.seat, self.version, key, row))
     }
 }
 
-/// The row that was answered, or why the decision stops: an estimate blocks it.
-pub(crate) fn row_of(answer: Answer) -> Result<Option<RowVal>, Stop>
-    ensures row { IfOk result (λ row. answer ≡ answers.Got (got.Row row)) }
-    ensures blocked { (at : ℕ) → (result ≡ Err (stop.Blocked at)) ↔ (answer ≡ answers.Got (got.Estimate at)) }
-    ensures memory { (result ≡ Err stop.OutOfMemory) ↔ (answer ≡ answers.Refused fault.OutOfMemory) }
+/// Why the decision stops where no row was answered: an estimate blocks it.
+pub(crate) fn answered(answer: Result<(), Unread>) -> Result<(), Stop>
+    ensures row { IfOk result (λ _. answer ≡ Ok tt) }
+    ensures blocked { (at : ℕ) → (result ≡ Err (stop.Blocked at)) ↔ (answer ≡ Err (unread.Estimate at)) }
+    ensures memory { (result ≡ Err stop.OutOfMemory) ↔ (answer ≡ Err (unread.Refused fault.OutOfMemory)) }
 {
     match answer {
-        Answer::Got(Got::Row(row)) => Ok(row),
-        Answer::Got(Got::Estimate(at)) => Err(Stop::Blocked(at)),
-        Answer::Refused(CoreFault::OutOfMemory) => Err(Stop::OutOfMemory),
-        _ => Err(Stop::Lost),
+        Ok(()) => Ok(()),
+        Err(Unread::Estimate(at)) => Err(Stop::Blocked(at)),
+        Err(Unread::Refused(CoreFault::OutOfMemory)) => Err(Stop::OutOfMemory),
+        Err(Unread::Refused(_)) => Err(Stop::Lost),
     }
 }

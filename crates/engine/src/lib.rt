@@ -6,6 +6,8 @@ mod checking;
 mod core_rows;
 mod gate;
 mod leave;
+mod locking;
+mod pace;
 mod running;
 mod traced_rows;
 mod turns;

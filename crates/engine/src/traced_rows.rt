@@ -1,7 +1,7 @@
 ghost use Rattle.std.specs.Prelude.{◌≡◌, None};
 
-use crate::core_rows::row_of;
-use journal::{Event, Traced};
+use crate::core_rows::answered;
+use journal::Traced;
 use mvmem::Version;
 use rows::{RowKey, RowVal};
 use speccore_laws::Seat;
@@ -36,7 +36,13 @@ impl RowSource for TracedRows<'_> {
     ghost answers = { λ old row result new. new.version ≡ old.version };
 
     fn read(&mut self, key: &RowKey) -> Result<Option<RowVal>, Stop> {
-        let answer = self.traced.step(self.seat, Event::Read(self.version, *key));
-        row_of(answer)
+        let mut row = None;
+        self.read_into(key, &mut row)?;
+        Ok(row)
+    }
+
+    fn read_into(&mut self, key: &RowKey, row: &mut Option<RowVal>) -> Result<(), Stop> {
+        let answer = self.traced.read_into(self.seat, self.version, key, row);
+        answered(answer)
     }
 }

@@ -2,6 +2,8 @@ use crate::checking::check;
 use crate::core_rows::CoreRows;
 use crate::gate::Gate;
 use crate::leave::Leave;
+use crate::locking::lock;
+use crate::pace::Pace;
 use journal::{Answer, Event, Traced};
 use mvmem::Version;
 use rows::Frame;
@@ -9,8 +11,8 @@ use sched::Task;
 use speccore_laws::{CoreFault, Seat};
 use std::alloc::Global;
 use std::sync::{Mutex, Wait};
-use std::thread;
-use view::{Decide, Execution, Stop, execute};
+use std::{mem, thread};
+use view::{Decide, Execution, ReadSet, Recorder, RowSource, Stop, WriteSet};
 
 /// What a worker works with: the lock round the core and its journal, the bodies, the decision and the gate. Whatever it does or leaves undone,
 /// the core's type keeps what is committed right.
@@ -27,18 +29,20 @@ pub(crate) struct Worker<'a, R: Wait, F: Decide, G: Gate> {
 impl<'a, R: Wait, F: Decide, G: Gate> Worker<'a, R, F, G> {
     /// Turns at this seat, until all is committed or the stop mark is set. A turn that has to leave sets it.
     pub(crate) fn work(&self, seat: Seat) {
+        let mut sets = (ReadSet::new(self.alloc), WriteSet::new(self.alloc));
+        let mut pace = Pace::new();
         let mut turn = self.claim(seat);
         for _ in self.rt.forever() {
             turn = match turn {
                 Ok(Task::Done) => return,
                 Ok(Task::Idle) => {
-                    thread::yield_now();
+                    pace.rest();
                     self.claim(seat)
                 }
-                Ok(Task::Execute(version)) => self.execute(seat, version),
+                Ok(Task::Execute(version)) => self.execute(seat, version, &mut sets, &mut pace),
                 Ok(Task::Validate(version)) => self.check(seat, version),
                 Err(_) => {
-                    self.traced.lock(self.rt).stop();
+                    lock(self.rt, self.traced).stop();
                     return;
                 }
             };
@@ -47,43 +51,67 @@ impl<'a, R: Wait, F: Decide, G: Gate> Worker<'a, R, F, G> {
 
     // What is to be done next; nothing any more where the stop mark is set.
     fn claim(&self, seat: Seat) -> Result<Task, Leave> {
-        next_task(&mut self.traced.lock(self.rt), seat)
+        next_task(&mut lock(self.rt, self.traced), seat)
     }
 
-    // Decides a version outside the lock and hands its execution in. A version that met an estimate is given up.
-    fn execute(&self, seat: Seat, version: Version) -> Result<Task, Leave> {
+    // Decides a version outside the lock, over the memory of these sets, and hands its execution in. A version that met an
+    // estimate is given up.
+    fn execute(
+        &self,
+        seat: Seat,
+        version: Version,
+        sets: &mut (ReadSet, WriteSet),
+        pace: &mut Pace,
+    ) -> Result<Task, Leave> {
         let Some(frame) = self.frames.get(version.index as usize) else {
             return Err(Leave::Lost);
         };
         self.gate.before_decide(version.index, version.incarnation);
         let rows = CoreRows::new(self.rt, self.traced, seat, version);
-        match execute(self.alloc, frame, rows, self.decision) {
-            Ok(execution) => self.finish(seat, version, execution),
+        let unused = (ReadSet::new(self.alloc), WriteSet::new(self.alloc));
+        match execute_over(frame, rows, mem::replace(sets, unused), self.decision) {
+            Ok(execution) => {
+                let next = self.finish(seat, version, &execution, pace)?;
+                self.gate.after_record(version.index, version.incarnation);
+                let (_, reads, writes, _) = execution.into_parts();
+                *sets = (reads, writes);
+                Ok(next)
+            }
             Err(Stop::Blocked(on)) => self.block(seat, version, on),
             Err(Stop::OutOfMemory) => Err(Leave::OutOfMemory),
             Err(Stop::Lost) => Err(Leave::Lost),
         }
     }
 
-    // Hands an execution in, and checks the version where it is handed out for that. Then the next task.
-    fn finish(&self, seat: Seat, version: Version, execution: Execution) -> Result<Task, Leave> {
-        let finished = self
-            .traced
-            .lock(self.rt)
-            .finish(self.alloc, seat, version, execution);
-        let Answer::Finished(is_handed_out) = finished else {
-            return Err(leave_at(finished));
+    // Hands an execution in, and checks the version where it is handed out for that, while the lock is held. Then the next task; none
+    // yet where the worker is to rest.
+    fn finish(
+        &self,
+        seat: Seat,
+        version: Version,
+        execution: &Execution,
+        pace: &mut Pace,
+    ) -> Result<Task, Leave> {
+        let at_once = self.traced.try_lock();
+        *pace = pace.after(at_once.is_none());
+        let mut traced = match at_once {
+            Some(traced) => traced,
+            None => lock(self.rt, self.traced),
         };
-        self.gate.after_record(version.index, version.incarnation);
-        if is_handed_out {
-            return Ok(Task::Validate(version));
+        match traced.finish_copy(self.alloc, seat, version, execution) {
+            Answer::Finished(true) => check_here(self.rt, &mut traced, seat, version)?,
+            Answer::Finished(false) => {}
+            answer => return Err(leave_at(answer)),
         }
-        self.claim(seat)
+        if pace.rests() {
+            return Ok(Task::Idle);
+        }
+        next_task(&mut traced, seat)
     }
 
     // Gives a version up that met an estimate of the message at `on`. Then the next task.
     fn block(&self, seat: Seat, version: Version, on: u32) -> Result<Task, Leave> {
-        let mut traced = self.traced.lock(self.rt);
+        let mut traced = lock(self.rt, self.traced);
         match traced.step(seat, Event::Block(version, on)) {
             Answer::Blocked => next_task(&mut traced, seat),
             answer => Err(leave_at(answer)),
@@ -92,12 +120,37 @@ impl<'a, R: Wait, F: Decide, G: Gate> Worker<'a, R, F, G> {
 
     // Checks a version and commits what can be, while the lock is held. Then the next task.
     fn check(&self, seat: Seat, version: Version) -> Result<Task, Leave> {
-        let mut traced = self.traced.lock(self.rt);
-        match check(self.rt, &mut traced, seat, version) {
-            Ok(false) => next_task(&mut traced, seat),
-            Ok(true) => Err(Leave::Worn),
-            Err(_) => Err(Leave::OutOfMemory),
-        }
+        let mut traced = lock(self.rt, self.traced);
+        check_here(self.rt, &mut traced, seat, version)?;
+        next_task(&mut traced, seat)
+    }
+}
+
+// Decides a body on the rows of a source, over the memory of sets that are not used any more.
+fn execute_over<S: RowSource, F: Decide>(
+    frame: &Frame,
+    source: S,
+    sets: (ReadSet, WriteSet),
+    decision: &F,
+) -> Result<Execution, Stop> {
+    let (reads, writes) = sets;
+    let mut recorder = Recorder::over(source, reads, writes);
+    let reply = decision.decide(frame, &mut recorder)?;
+    let (_, reads, writes) = recorder.into_parts();
+    Ok(Execution::new(*frame, reads, writes, reply))
+}
+
+// Checks a version and commits what can be.
+fn check_here<R: Wait>(
+    rt: &R,
+    traced: &mut Traced,
+    seat: Seat,
+    version: Version,
+) -> Result<(), Leave> {
+    match check(rt, traced, seat, version) {
+        Ok(false) => Ok(()),
+        Ok(true) => Err(Leave::Worn),
+        Err(_) => Err(Leave::OutOfMemory),
     }
 }
 
@@ -106,9 +159,9 @@ fn next_task(traced: &mut Traced, seat: Seat) -> Result<Task, Leave> {
     if traced.stopped() {
         return Ok(Task::Done);
     }
-    match traced.step(seat, Event::Claim) {
-        Answer::Claimed(task) => Ok(task),
-        _ => Err(Leave::OutOfMemory),
+    match traced.claim(seat) {
+        Ok(task) => Ok(task),
+        Err(_) => Err(Leave::OutOfMemory),
     }
 }
 
