@@ -29,6 +29,7 @@ impl RowSource for PlainRows<'_> {
         Ok(self.book.get(key))
     }
 
+    #[inline(always)]
     fn read_into(&mut self, key: &RowKey, row: &mut Option<RowVal>) -> Result<(), Stop> {
         match self.book.row(key) {
             Some(val) => put_over(row, val),
