@@ -6,7 +6,6 @@ mod plain_rows;
 mod prefix;
 mod putting;
 mod serial;
-mod sets;
 
 pub use outcome::Outcome;
 pub use plain_rows::PlainRows;

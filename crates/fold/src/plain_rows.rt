@@ -2,6 +2,7 @@ ghost use Rattle.std.specs.Prelude.{◌≡◌, Some, Ok};
 ghost use Rattle.std.specs.FinMap as map;
 
 use rows::{Book, RowKey, RowVal};
+use std::slice;
 use view::{RowSource, Stop};
 
 /// The rows of a book that stays as it is.
@@ -28,11 +29,23 @@ impl RowSource for PlainRows<'_> {
         Ok(self.book.get(key))
     }
 
+    #[inline(always)]
     fn read_into(&mut self, key: &RowKey, row: &mut Option<RowVal>) -> Result<(), Stop> {
         match self.book.row(key) {
-            Some(val) => *row = Some(*val),
+            Some(val) => put_over(row, val),
             None => *row = None,
         }
         Ok(())
+    }
+}
+
+// Writes a copy of a value to a place: as a slice of one where a value stands there, so that it is copied once and not by way
+// of a third place.
+fn put_over(row: &mut Option<RowVal>, val: &RowVal)
+    ensures { row.new ≡ Some val.now }
+{
+    match row {
+        Some(there) => slice::from_mut(there).copy_from_slice(slice::from_ref(val)),
+        None => *row = Some(*val),
     }
 }

@@ -1,12 +1,12 @@
-ghost use Rattle.std.specs.Prelude.{◌≡◌, ◌+◌, ◌<◌, ◌^◌, [], ◌∷◌, ◌++◌, vec_len, vec_capacity, IfOk, OnOk, OnErr};
-ghost use Rattle.rows.specs.Fold.{overlay, reply_of, writes_of, rows_after_one};
+ghost use Rattle.std.specs.Prelude.{◌≡◌, ◌+◌, ◌<◌, ◌^◌, [], ◌∷◌, ◌++◌, vec_len, vec_capacity, Some, IfOk, IfErr, OnOk, OnErr};
+ghost use Rattle.rows.specs.Agreement.{IsLocal};
+ghost use Rattle.rows.specs.Fold.{overlay, reply_of, rows_after_one};
+ghost use Rattle.view.specs.Recording.{AgreesWithBook};
 
-use crate::plain_rows::PlainRows;
 use crate::putting::put_all_or_none;
-use crate::sets::Sets;
 use rows::{Book, Frame, ReplyBody};
 use std::alloc::{AllocError, Global};
-use view::{Decide, Execution, Recorder, Stop, WriteSet};
+use view::{Execution, ReadSet, Stop, WriteSet};
 
 /// The first bodies of a batch, decided: how many they are, the book after them, and their replies.
 #[derive(Drop)]
@@ -49,23 +49,35 @@ impl Prefix {
         Ok(())
     }
 
-    // Decides one more body, over the memory of these sets, which are given back.
-    pub(crate) fn decide_next<F: Decide>(
+    // One more body, as it was decided by rows that are those of the book. What was read is for the clauses alone.
+    pub(crate) fn append(
         &mut self,
         frame: &Frame,
-        decision: &F,
-        sets: Sets,
-    ) -> Result<Sets, AllocError>
-        requires { self.old.count + 1 < 2 ^ 32 }
+        decided: &Result<ReplyBody, Stop>,
+        reads: &ReadSet,
+        writes: &WriteSet,
+    ) -> Result<(), AllocError>
+        requires room { self.old.count + 1 < 2 ^ 32 }
+        requires local { IfOk decided.now (λ reply. IsLocal frame.now reads.now writes.now reply) }
+        requires agrees { AgreesWithBook (Some self.old.book) reads.now }
+        requires stops { IfErr decided.now (λ stop. stop ≡ Stop.OutOfMemory) }
         ensures count { OnOk result (self.new.count ≡ self.old.count + 1) }
         ensures book { OnOk result (self.new.book ≡ rows_after_one self.old.book frame.now) }
         ensures replies { OnOk result (self.new.replies.items ≡ self.old.replies.items ++ reply_of self.old.book frame.now ∷ []) }
     {
-        let (reply, sets) = decide_on(&self.book, frame, decision, sets)?;
-        put_each(&mut self.book, &sets.writes)?;
-        self.replies.push(reply)?;
-        self.count += 1;
-        Ok(sets)
+        let _ = frame;
+        let _ = reads;
+        match decided {
+            Ok(reply) => {
+                self.replies.reserve(1)?;
+                put_each(&mut self.book, writes)?;
+                push_copy(&mut self.replies, reply);
+                self.count += 1;
+                Ok(())
+            }
+            Err(Stop::OutOfMemory) => Err(AllocError),
+            Err(_) => unreachable!(),
+        }
     }
 }
 
@@ -75,27 +87,6 @@ fn push_copy<T: Copy>(items: &mut Vec<T>, item: &T)
     ensures { items.new.items ≡ items.old.items ++ item.now ∷ [] }
 {
     items.push_reserved(*item);
-}
-
-// Decides one body on a book: its reply, and the sets with what it read and puts.
-fn decide_on<F: Decide>(
-    book: &Book,
-    frame: &Frame,
-    decision: &F,
-    sets: Sets,
-) -> Result<(ReplyBody, Sets), AllocError>
-    ensures reply { IfOk result (λ decided. decided.0 ≡ reply_of book.now frame.now) }
-    ensures writes { IfOk result (λ decided. decided.1.writes ≡ writes_of book.now frame.now) }
-{
-    let Sets { reads, writes } = sets;
-    let mut recorder = Recorder::over(PlainRows::new(book), reads, writes);
-    let reply = match decision.decide(frame, &mut recorder) {
-        Ok(reply) => reply,
-        Err(Stop::OutOfMemory) => return Err(AllocError),
-        Err(_) => unreachable!(),
-    };
-    let (_, reads, writes) = recorder.into_parts();
-    Ok((reply, Sets { reads, writes }))
 }
 
 /// The book with these rows put, one after another. It is gone after an error.

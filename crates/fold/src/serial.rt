@@ -1,12 +1,12 @@
 ghost use Rattle.std.specs.Prelude.{◌≡◌, ◌≤◌, ◌++◌, drop, length, IfOk};
 ghost use Rattle.rows.specs.Fold.{rows_after, replies_to};
 
+use crate::plain_rows::PlainRows;
 use crate::prefix::Prefix;
-use crate::sets::Sets;
 use rows::Frame;
 use rules::Shipped;
 use std::alloc::{AllocError, Global};
-use view::Decide;
+use view::{Decide, ReadSet, Recorder, WriteSet};
 
 /// Decides the bodies that a prefix leaves, one after another, by the decision table. The prefix is gone after an
 /// error.
@@ -35,10 +35,14 @@ pub fn decide_all_by<F: Decide>(
     ensures replies { IfOk result (λ after. after.replies.items ≡ prefix.replies.items ++ replies_to prefix.book (drop prefix.count frames.now)) }
 {
     let mut after = prefix;
-    let mut sets = Sets::new(alloc);
+    let mut reads = ReadSet::new(alloc);
+    let mut writes = WriteSet::new(alloc);
     let rest = &frames[after.count as usize..];
     for frame in rest {
-        sets = after.decide_next(frame, decision, sets)?;
+        let mut recorder = Recorder::over(PlainRows::new(&after.book), reads, writes);
+        let decided = decision.decide(frame, &mut recorder);
+        (_, reads, writes) = recorder.into_parts();
+        after.append(frame, &decided, &reads, &writes)?;
     }
     Ok(after)
 }

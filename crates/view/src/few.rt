@@ -1,19 +1,173 @@
-//! The first rows of a set, which stand in a list. Rows are copied from where they stand, each once: a row that is passed
-//! by value is copied at every step.
-
-ghost use Rattle.std.specs.Prelude.{◌≡◌, ◌<◌, ◌++◌, ◌∷◌, [], Some, None, length, slice_get, vec_capacity, IfSome, IfNone, IsOk, OnOk, OnErr};
-ghost use Rattle.indexmap.specs.IndexMap.{insert_entry, spare};
-ghost use Rattle.rows.specs.RowKey.{key_eq};
+ghost use Rattle.std.specs.Prelude.{◌≡◌, ◌<◌, ◌^◌, ◌++◌, ◌∷◌, [], Some, None, length, take, slice_get, set, IfErr, IfSome, IfNone, OnOk, OnErr};
+ghost use Rattle.std.specs.FinMap as map;
+ghost use Rattle.rows.specs.RowVal.{IsOfKind};
+ghost use Rattle.view.specs.Recording.{answer_of, AsksOnce};
 ghost use Rattle.view.specs.RowSets.{value_in};
 
-use indexmap::IndexMap;
-use rows::RowKey;
-use std::alloc::AllocError;
+use crate::row_source::RowSource;
+use crate::stop::Stop;
+use rows::{RowKey, RowVal};
+use std::alloc::{AllocError, Global};
+use std::marker::Model;
+use std::slice;
 
-// How many rows of a set stand in its list.
+/// How many rows of a set stand in its list.
 pub(crate) const FEW: usize = 8;
 
-// Where a row stands, if it is in the list.
+/// The first rows of a set, in a list, and behind them places whose memory is used again. A row is written where it is to
+/// stand: one that is passed by value is copied at every step.
+#[derive(Drop)]
+pub(crate) struct Few<V> {
+    rows: Vec<(RowKey, V)>,
+    used: usize,
+}
+
+impl<V> Model for Few<V> {
+    ghost use Rattle.std.specs.Prelude.{◌≤◌, List, length, take};
+    ghost use Rattle.rows.specs.declared.row_key.RowKey.{RowKey};
+
+    ghost Value = { List (RowKey × V) };
+
+    ghost view = { λ few. take few.used few.rows.items };
+
+    ghost invariant = { λ few. few.used ≤ length few.rows.items };
+}
+
+impl<V> Few<V> {
+    /// No rows.
+    pub(crate) fn new(alloc: Global) -> Few<V>
+        ensures { result ≡ [] }
+    {
+        Few {
+            rows: Vec::new(alloc),
+            used: 0,
+        }
+    }
+
+    /// Takes all rows out, and keeps the memory.
+    pub(crate) fn clear(&mut self)
+        ensures { self.new ≡ [] }
+    {
+        self.used = 0;
+    }
+
+    /// How many rows there are.
+    pub(crate) fn len(&self) -> usize
+        ensures len { result ≡ length self.now }
+        ensures small { length self.now < 2 ^ 63 }
+    {
+        self.as_slice().len()
+    }
+
+    /// The rows.
+    pub(crate) fn as_slice(&self) -> &[(RowKey, V)]
+        ensures { result.now ≡ self.now }
+    {
+        &self.rows[..self.used]
+    }
+}
+
+impl Few<RowVal> {
+    /// Writes a copy of a row over the one at this place.
+    pub(crate) fn set_copy(&mut self, place: usize, key: &RowKey, row: &RowVal)
+        requires { place < length self.old }
+        ensures { self.new ≡ set self.old place (key.now, row.now) }
+    {
+        write_over(&mut self.rows, place, key, row);
+    }
+
+    /// Puts a copy of a row last.
+    pub(crate) fn push_copy(&mut self, key: &RowKey, row: &RowVal) -> Result<(), AllocError>
+        ensures ok { OnOk result (self.new ≡ self.old ++ (key.now, row.now) ∷ []) }
+        ensures err { OnErr result (self.new ≡ self.old) }
+    {
+        if self.used < self.rows.len() {
+            write_over(&mut self.rows, self.used, key, row);
+        } else {
+            push_row(&mut self.rows, key, row)?;
+        }
+        self.used += 1;
+        Ok(())
+    }
+}
+
+impl Few<Option<RowVal>> {
+    /// Makes room, asks the source for a row, and puts the answer last, which is written to a place of the caller's too.
+    pub(crate) fn ask<S: RowSource>(
+        &mut self,
+        key: &RowKey,
+        source: &mut S,
+        row: &mut Option<RowVal>,
+    ) -> Result<(), Stop>
+        ensures asked { AsksOnce S.answers source.old key.now (answer_of result row.new) source.new }
+        ensures ok { OnOk result (self.new ≡ self.old ++ (key.now, row.new) ∷ []) }
+        ensures err { OnErr result (self.new ≡ self.old) }
+        ensures kind { OnOk result (IfSome row.new (IsOfKind key.now)) }
+        ensures known { OnOk result (IfSome (S.book source.old) (λ rows. row.new ≡ map.get rows key.now)) }
+        ensures stops { IfSome (S.book source.old) (λ _. IfErr result (λ stop. stop ≡ Stop.OutOfMemory)) }
+        ensures same { S.book source.new ≡ S.book source.old }
+    {
+        if self.used == self.rows.len() {
+            push_row(&mut self.rows, key, &None)?;
+        }
+        read_at(&mut self.rows, self.used, key, source, row)?;
+        self.used += 1;
+        Ok(())
+    }
+}
+
+// Puts a copy of a row last, where no place can be used again.
+#[inline(never)]
+fn push_row<V: Copy + Drop>(
+    rows: &mut Vec<(RowKey, V)>,
+    key: &RowKey,
+    row: &V,
+) -> Result<(), AllocError>
+    ensures ok { OnOk result (rows.new.items ≡ rows.old.items ++ (key.now, row.now) ∷ []) }
+    ensures err { OnErr result (rows.new.items ≡ rows.old.items) }
+{
+    rows.push((*key, *row))?;
+    Ok(())
+}
+
+// Writes a copy of a row over the one at a place: as a slice of one, so that it is copied once and not by way of a third place.
+#[inline(always)]
+fn write_over(rows: &mut [(RowKey, RowVal)], place: usize, key: &RowKey, row: &RowVal)
+    requires { place < length rows.old }
+    ensures { rows.new ≡ set rows.old place (key.now, row.now) }
+{
+    let there = &mut rows[place];
+    there.0 = *key;
+    slice::from_mut(&mut there.1).copy_from_slice(slice::from_ref(row));
+}
+
+// Asks the source for a row, and writes the answer over the row at a place and to a place of the caller's.
+#[inline(always)]
+fn read_at<S: RowSource>(
+    rows: &mut [(RowKey, Option<RowVal>)],
+    place: usize,
+    key: &RowKey,
+    source: &mut S,
+    row: &mut Option<RowVal>,
+) -> Result<(), Stop>
+    requires { place < length rows.old }
+    ensures length { length rows.new ≡ length rows.old }
+    ensures others { take place rows.new ≡ take place rows.old }
+    ensures ok { OnOk result (rows.new ≡ set rows.old place (key.now, row.new)) }
+    ensures answers { S.answers source.old key.now (answer_of result row.new) source.new }
+    ensures kind { OnOk result (IfSome row.new (IsOfKind key.now)) }
+    ensures known { OnOk result (IfSome (S.book source.old) (λ rows. row.new ≡ map.get rows key.now)) }
+    ensures stops { IfSome (S.book source.old) (λ _. IfErr result (λ stop. stop ≡ Stop.OutOfMemory)) }
+    ensures same { S.book source.new ≡ S.book source.old }
+{
+    let there = &mut rows[place];
+    there.0 = *key;
+    source.read_into(key, &mut there.1)?;
+    slice::from_mut(row).copy_from_slice(slice::from_ref(&there.1));
+    Ok(())
+}
+
+/// Where a row stands, if it is in the list.
 pub(crate) fn place_of<V>(rows: &[(RowKey, V)], key: &RowKey) -> Option<usize>
     ensures found { IfSome result (λ place. (row : V) × (slice_get rows.now place ≡ Some (key.now, row))) }
     ensures within { IfSome result (λ place. place < length rows.now) }
@@ -25,31 +179,4 @@ pub(crate) fn place_of<V>(rows: &[(RowKey, V)], key: &RowKey) -> Option<usize>
         }
     }
     None
-}
-
-// Puts a copy of a row last in a list that has room for it.
-#[inline(never)]
-pub(crate) fn push_copy<V: Copy>(rows: &mut Vec<(RowKey, V)>, key: &RowKey, row: &V)
-    requires { length rows.old.items < vec_capacity rows.old }
-    ensures { rows.new.items ≡ rows.old.items ++ (key.now, row.now) ∷ [] }
-{
-    rows.push_reserved((*key, *row));
-}
-
-// Puts a copy of a row into a map, over what was there.
-#[inline(never)]
-pub(crate) fn insert_copy<V: Copy + Drop>(
-    rows: &mut IndexMap<RowKey, V>,
-    key: &RowKey,
-    row: &V,
-) -> Result<(), AllocError>
-    ensures ok { OnOk result (rows.new.entries ≡ insert_entry key_eq rows.old.entries key.now row.now) }
-    ensures err { OnErr result (rows.new.entries ≡ rows.old.entries) }
-    ensures absent { OnErr result (value_in rows.old.entries key.now ≡ None) }
-    ensures room { 0 < spare rows.old → IsOk result }
-{
-    match rows.insert(*key, *row) {
-        Ok(_) => Ok(()),
-        Err(_) => Err(AllocError),
-    }
 }

@@ -1,6 +1,7 @@
 //! One decision: the rows that it reads and puts are recorded, so that it can be told on which books it is true.
 #![tactic(auto)]
 
+mod behind;
 mod decide;
 mod execution;
 mod few;

@@ -4,7 +4,8 @@ ghost use Rattle.rows.specs.RowVal.{IsOfKind};
 ghost use Rattle.view.specs.Recording.{answer_of, AsksOnce};
 ghost use Rattle.view.specs.RowSets.{value_in, logged, IsOnceEach};
 
-use crate::few::{FEW, insert_copy, place_of, push_copy};
+use crate::behind::insert_copy;
+use crate::few::{FEW, Few, place_of};
 use crate::row_source::RowSource;
 use crate::stop::Stop;
 use indexmap::IndexMap;
@@ -17,7 +18,7 @@ use std::marker::Model;
 #[derive(Drop)]
 pub struct ReadSet {
     // The first rows, where one is found by comparing keys.
-    few: Vec<(RowKey, Option<RowVal>)>,
+    few: Few<Option<RowVal>>,
     // All behind them, where one is found by its key's hash.
     more: IndexMap<RowKey, Option<RowVal>>,
 }
@@ -29,9 +30,9 @@ impl Model for ReadSet {
 
     ghost Value = { Reads };
 
-    ghost view = { λ set. set.few.items ++ set.more.entries };
+    ghost view = { λ set. set.few ++ set.more.entries };
 
-    ghost invariant = { λ set. AreReadsOfKind (set.few.items ++ set.more.entries) × IsOnceEach (set.few.items ++ set.more.entries) × IsFilled set.few.items set.more.entries };
+    ghost invariant = { λ set. AreReadsOfKind (set.few ++ set.more.entries) × IsOnceEach (set.few ++ set.more.entries) × IsFilled set.few set.more.entries };
 }
 
 impl ReadSet {
@@ -40,7 +41,7 @@ impl ReadSet {
         ensures { result ≡ [] }
     {
         ReadSet {
-            few: Vec::new(alloc),
+            few: Few::new(alloc),
             more: IndexMap::new(alloc),
         }
     }
@@ -75,7 +76,7 @@ impl ReadSet {
         ensures kind { IfSome result.1 (IsOfKind result.0) }
     {
         if index < self.few.len() {
-            return self.few[index];
+            return self.few.as_slice()[index];
         }
         match self.more.get_index(index - self.few.len()) {
             Some((key, row)) => (*key, *row),
@@ -88,8 +89,8 @@ impl ReadSet {
         ensures value { result ≡ value_in self.now key.now }
         ensures kind { IfSome result (λ row. IfSome row (IsOfKind key.now)) }
     {
-        match place_of(&self.few, key) {
-            Some(place) => Some(self.few[place].1),
+        match place_of(self.few.as_slice(), key) {
+            Some(place) => Some(self.few.as_slice()[place].1),
             None => self.more.get(key).copied(),
         }
     }
@@ -112,9 +113,7 @@ impl ReadSet {
         ensures same { S.book source.new ≡ S.book source.old }
     {
         if self.few.len() < FEW {
-            self.few.reserve(1)?;
-            source.read_into(key, row)?;
-            push_copy(&mut self.few, key, row);
+            self.few.ask(key, source, row)?;
             return Ok(());
         }
         ask_more(&mut self.more, key, source, row)?;

@@ -43,10 +43,9 @@ impl<S: RowSource> Recorder<S> {
     }
 
     /// A recorder that has read and put nothing, over the memory of these sets; what they held is gone.
-    pub fn over(source: S, reads: ReadSet, writes: WriteSet) -> Recorder<S>
+    pub fn over(source: S, mut reads: ReadSet, mut writes: WriteSet) -> Recorder<S>
         ensures { result ≡ record { source = source; reads = []; writes = [] } }
     {
-        let (mut reads, mut writes) = (reads, writes);
         reads.clear();
         writes.clear();
         Recorder {

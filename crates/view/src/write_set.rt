@@ -2,7 +2,8 @@ ghost use Rattle.std.specs.Prelude.{◌≡◌, ◌<◌, ◌↔◌, [], Some, len
 ghost use Rattle.rows.specs.RowVal.{IsOfKind};
 ghost use Rattle.view.specs.RowSets.{value_in, put, IsOnceEach};
 
-use crate::few::{FEW, insert_copy, place_of, push_copy};
+use crate::behind::insert_copy;
+use crate::few::{FEW, Few, place_of};
 use indexmap::IndexMap;
 use rows::{RowKey, RowVal};
 use std::alloc::{AllocError, Global};
@@ -12,7 +13,7 @@ use std::marker::Model;
 #[derive(Drop)]
 pub struct WriteSet {
     // The first rows, where one is found by comparing keys.
-    few: Vec<(RowKey, RowVal)>,
+    few: Few<RowVal>,
     // All behind them, where one is found by its key's hash.
     more: IndexMap<RowKey, RowVal>,
 }
@@ -24,9 +25,9 @@ impl Model for WriteSet {
 
     ghost Value = { Writes };
 
-    ghost view = { λ set. set.few.items ++ set.more.entries };
+    ghost view = { λ set. set.few ++ set.more.entries };
 
-    ghost invariant = { λ set. AreWritesOfKind (set.few.items ++ set.more.entries) × IsOnceEach (set.few.items ++ set.more.entries) × IsFilled set.few.items set.more.entries };
+    ghost invariant = { λ set. AreWritesOfKind (set.few ++ set.more.entries) × IsOnceEach (set.few ++ set.more.entries) × IsFilled set.few set.more.entries };
 }
 
 impl WriteSet {
@@ -35,7 +36,7 @@ impl WriteSet {
         ensures { result ≡ [] }
     {
         WriteSet {
-            few: Vec::new(alloc),
+            few: Few::new(alloc),
             more: IndexMap::new(alloc),
         }
     }
@@ -81,7 +82,7 @@ impl WriteSet {
         ensures kind { IsOfKind result.0.now result.1.now }
     {
         if index < self.few.len() {
-            let (key, row) = &self.few[index];
+            let (key, row) = &self.few.as_slice()[index];
             return (key, row);
         }
         match self.more.get_index(index - self.few.len()) {
@@ -95,8 +96,8 @@ impl WriteSet {
         ensures value { result ≡ value_in self.now key.now }
         ensures kind { IfSome result (IsOfKind key.now) }
     {
-        match place_of(&self.few, key) {
-            Some(place) => Some(self.few[place].1),
+        match place_of(self.few.as_slice(), key) {
+            Some(place) => Some(self.few.as_slice()[place].1),
             None => self.more.get(key).copied(),
         }
     }
@@ -118,14 +119,13 @@ impl WriteSet {
         ensures err { OnErr result (self.new ≡ self.old) }
         ensures absent { OnErr result (value_in self.old key.now ≡ None) }
     {
-        match place_of(&self.few, key) {
+        match place_of(self.few.as_slice(), key) {
             Some(place) => {
-                self.few[place] = (*key, *row);
+                self.few.set_copy(place, key, row);
                 Ok(())
             }
             None if self.few.len() < FEW => {
-                self.few.reserve(1)?;
-                push_copy(&mut self.few, key, row);
+                self.few.push_copy(key, row)?;
                 Ok(())
             }
             None => {

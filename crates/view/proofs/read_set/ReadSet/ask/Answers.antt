@@ -1,4 +1,4 @@
-use Rattle.std.proofs.Common.{◌≡◌, ◌++◌, ◌∷◌, [], Option, None, IfSome, sym, ap, subst, ◌∙◌, rules}
+use Rattle.std.proofs.Common.{◌≡◌, ◌++◌, Option, None, IfSome, sym, ap, subst, ◌∙◌, rules}
 use Rattle.rows.specs.Agreement.{Reads}
 use Rattle.rows.specs.RowKey.{key_eq}
 use Rattle.rows.specs.RowVal.{IsOfKind}
@@ -21,23 +21,23 @@ absent few more now key is none = absent_front few more key (ap (λ (rows : Read
 
 pub invariant_of-self-then-len-lt-FEW : goal.invariant_of-self-then-len-lt-FEW
 invariant_of-self-then-len-lt-FEW g c =
-    let few = c.self.inside.few.items in
+    let few = c.self.inside.few in
     let more = c.self.inside.more.entries in
     let none = absent few more _ c.args.key.now c.self.view_is c.requires in
     let empty = c.self.invariant.2 (search rules) in
-    let last = c.push_copy.ensures ∙ ap (λ (rows : Reads). rows ++ (c.args.key.now, c.read_into.new.row) ∷ []) c.in_ok-reserve.ensures.items in
-    let all = all_read (few ++ more) _ c.args.key.now c.read_into.new.row (put_among few more c.args.key.now c.read_into.new.row none _ empty last) c.self.invariant.0 c.self.invariant.1 c.in_ok-read_into.ensures.kind in
+    let last = c.in_ok-ask.ensures.ok in
+    let all = all_read (few ++ more) _ c.args.key.now c.ask.new.row (put_among few more c.args.key.now c.ask.new.row none _ empty last) c.self.invariant.0 c.self.invariant.1 c.in_ok-ask.ensures.kind in
     (all.0, all.1, λ _. empty)
 
 pub ask_more-requires : goal.ask_more-requires
 ask_more-requires g c =
-    let few = c.self.inside.few.items in
+    let few = c.self.inside.few in
     let more = c.self.inside.more.entries in
     sym (found_behind few more c.args.key.now (absent few more _ c.args.key.now c.self.view_is c.requires)) ∙ ap (λ (rows : Reads). value_in rows c.args.key.now) c.self.view_is ∙ c.requires
 
 pub invariant_of-self-2 : goal.invariant_of-self-2
 invariant_of-self-2 g c =
-    let few = c.self.inside.few.items in
+    let few = c.self.inside.few in
     let more = c.self.inside.more.entries in
     let none = absent few more _ c.args.key.now c.self.view_is c.requires in
     let nowhere = ap (λ (rows : Reads). value_in rows c.args.key.now) c.self.view_is ∙ c.requires in
