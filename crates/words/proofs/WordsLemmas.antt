@@ -10,14 +10,12 @@ use Rattle.clap.specs.Simple.{is_simple, subcommand_of}
 use Rattle.clap.specs.Walk.{Row, Text, first_of}
 use Rattle.clap.specs.declared.error.kind.ErrorKind.{ErrorKind}
 use Rattle.clap.specs.declared.error.kind.ErrorKind.TheVariants as kinds
-use Rattle.hex.specs.Hex.{decode_of}
-use Rattle.hex.specs.declared.error.FromHexError.{FromHexError}
 use Rattle.answering.specs.Answers.{IsBodyInDigits}
 use Rattle.engine_choice.specs.declared.engine.Engine.{Engine}
 use Rattle.engine_choice.specs.declared.engine.Engine.TheVariants.{Locked, Split}
-use Rattle.words.specs.Asked.{Asked, Names, asked, asked_of, audit, audit_blocks, audit_blocks_in, audit_in, blocks, blocks_in, body_in, body_of, engine_in, help, names_in, one, one_in, pack, pack_in, run, run_by, run_in, run_with_journal, serial, serial_in, show, show_in, version, workers_in}
+use Rattle.words.specs.Asked.{Asked, Names, asked, asked_of, audit, audit_blocks, audit_blocks_in, audit_in, blocks, blocks_in, body_in, engine_in, help, names_in, one, one_in, pack, pack_in, run, run_by, run_in, run_with_journal, serial, serial_in, show, show_in, version, workers_in}
 use Rattle.words.specs.CommandLine.{command_line}
-use Rattle.words.specs.Words.{IsRead, IsReadOfKind, IsUsageFault, asked_in}
+use Rattle.words.specs.Words.{IsRead, IsReadOfKind, asked_in}
 use Rattle.words.specs.declared.command.Command.{Command}
 use Rattle.words.specs.declared.command.Command.TheVariants.{Help, Version, One, Serial, Run, RunWithJournal, Blocks, Audit, AuditBlocks, Show, Pack}
 use Rattle.words.specs.declared.line_fault.LineFault.{LineFault}

@@ -1,5 +1,5 @@
 -- What words ask for, subcommand by subcommand.
-use Rattle.std.specs.Prelude.{◌≡◌, ◌&&◌, ℕ, List, Option, Some, None, Result, Ok, Err, codes, length, map, nat_lt, option_map, option_and_then, string_bytes, if◌then◌else◌}
+use Rattle.std.specs.Prelude.{◌&&◌, ℕ, List, Option, Some, None, Result, Ok, Err, codes, length, nat_lt, option_map, option_and_then, string_bytes, if◌then◌else◌}
 use Rattle.std.specs.Str.{bytes_eq}
 use Rattle.clap.specs.Walk.{Row, Text, byte_or_zero, first_of}
 use Rattle.engine_choice.specs.declared.engine.Engine.{Engine}
