@@ -38,7 +38,10 @@ fn assert_alike<R: Abort + Threads + Wait + Sync>(
     line: &[u8],
 ) -> Result<(), Fail> {
     for name in ["answers", "later"] {
-        files.put(name, Vec::new(alloc)).ok().ok_or("room for a file")?;
+        files
+            .put(name, Vec::new(alloc))
+            .ok()
+            .ok_or("room for a file")?;
     }
     assert_said(rt, alloc, files, words, 0, line)?;
     assert_eq!(rt; files.get("answers"), files.get("replies"));
