@@ -8,17 +8,17 @@ ghost use Rattle.block_jobs.specs.Faults.{IsBlocksFault};
 use crate::block_count::BlockCount;
 use crate::deciding::decide_blocks;
 use crate::halt::Halt;
-use engine::{OpenGate, Workers, run};
+use engine::Workers;
+use engine_choice::Engine;
 use files::{BatchNames, Files};
 use fold::Outcome;
-use jobs::JobFault;
+use jobs::{JobFault, decide_by};
 use rows::{Book, Frame};
-use rules::Shipped;
 use std::alloc::{AllocError, Global};
 use std::sync::Wait;
 use std::thread::Threads;
 
-/// Decides a block file by so many workers, block after block, files to files. Where a block can't be read, decided or answered,
+/// Decides a block file by so many workers of an engine, block after block, files to files. Where a block can't be read, decided or answered,
 /// the blocks before it are kept.
 pub fn run_blocks<R: Threads + Wait + Sync, F: Files>(
     rt: &R,
@@ -26,6 +26,7 @@ pub fn run_blocks<R: Threads + Wait + Sync, F: Files>(
     files: &mut F,
     names: &BatchNames,
     workers: Workers,
+    engine: Engine,
 ) -> Result<BlockCount, Halt>
     ensures decided { IfOk result (λ count. AreBlocksDecided (F.is_known files.old) (F.holds files.old) (F.holds files.new)
         (string_bytes names.now.book) (string_bytes names.now.batch) (string_bytes names.now.replies) (string_bytes names.now.new_book) count.blocks count.messages) }
@@ -41,6 +42,6 @@ pub fn run_blocks<R: Threads + Wait + Sync, F: Files>(
     let decide = |book: &Book, frames: &[Frame]| -> Result<Outcome, AllocError>
         requires { length frames.now ≤ 65536 }
         ensures { AnswersFold book.entry.now frames.entry.now result }
-    { run(rt, alloc, book, frames, workers, &Shipped, &OpenGate) };
+    { decide_by(rt, alloc, book, frames, workers, engine) };
     decide_blocks(alloc, files, names, &decide)
 }

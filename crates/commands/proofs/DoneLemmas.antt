@@ -3,6 +3,7 @@ use Rattle.std.proofs.Common.{◌≡◌, ◌≢◌, ℕ, List, Option, Some, Non
 use Rattle.batch_laws.specs.declared.batch_fault.BatchFault.{BatchFault}
 use Rattle.block_jobs.specs.Decided.{AreBlocksKept}
 use Rattle.block_jobs.specs.Faults.{IsBlocksFault}
+use Rattle.engine_choice.specs.declared.engine.Engine.{Engine}
 use Rattle.jobs.specs.Decided.{Holding}
 use Rattle.jobs.specs.declared.job_fault.JobFault.{JobFault}
 use Rattle.jobs.specs.declared.job_fault.JobFault.TheVariants.{Batch}
@@ -17,12 +18,12 @@ use Rattle.commands.specs.declared.fault.Fault.TheVariants.{Usage, OutOfMemory, 
 use Rattle.commands.specs.declared.report.Report.{Report}
 
 -- a fault of blocks, with those that are kept or with none
-pub halted : (known : Type 0) (old new : Holding) (devices : Failing) (names : Names) (workers : ℕ) (fault : JobFault) (kept : Option ℕ)
+pub halted : (known : Type 0) (old new : Holding) (devices : Failing) (names : Names) (workers : ℕ) (engine : Engine) (fault : JobFault) (kept : Option ℕ)
     → ((count : ℕ) → kept ≡ Some count → (why : BatchFault) × (fault ≡ Batch why) × AreBlocksKept known old new names.book names.batch names.replies names.new_book why count)
     → (kept ≡ None → IsBookAsItWas old new names) → IsBlocksFault old names.book names.batch devices.reading devices.writing devices.refused fault
-    → IsFaultIn known old new devices (blocks names workers) (fault_and_kept fault kept)
-halted known old new devices names workers fault (Some count) some none why = (some count refl, why)
-halted known old new devices names workers fault None some none why = (none refl, why)
+    → IsFaultIn known old new devices (blocks names workers engine) (fault_and_kept fault kept)
+halted known old new devices names workers engine fault (Some count) some none why = (some count refl, why)
+halted known old new devices names workers engine fault None some none why = (none refl, why)
 
 -- a fault of words
 pub of_line : (known : Type 0) (old new : Holding) (devices : Failing) (words : List (List ℕ)) (fault : LineFault) → IsRead words (Err fault)

@@ -21,7 +21,7 @@ use Rattle.jobs.specs.Packed.{IsPacked, IsPackingFault}
 use Rattle.jobs.specs.Shown.{IsShowingFault, IsShown}
 use Rattle.jobs.specs.declared.job_fault.JobFault.{JobFault}
 use Rattle.jobs.specs.declared.job_fault.JobFault.TheVariants.{Batch}
-use Rattle.words.specs.Asked.{Asked, Names, help, version, one, serial, run, blocks, audit, audit_blocks, show, pack}
+use Rattle.words.specs.Asked.{Asked, Names, help, version, one, serial, run, run_with_journal, blocks, audit, audit_blocks, show, pack}
 use Rattle.words.specs.Words.{Asks, IsUsageFault}
 use Rattle.commands.specs.Fault.{status_of, text_of}
 use Rattle.commands.specs.Printed.{Prints, PrintsLine, decided_in_blocks, numbered}
@@ -69,11 +69,11 @@ IsDoneAs known old new version report.Version = Unit {0}
 IsDoneAs known old new (one body) (report.Answer text) = IsAnswerInDigits sample_rows body (string_bytes text)
 IsDoneAs known old new (serial names) (report.Decided count) =
     IsDecided known old new names.book names.batch names.replies names.new_book count
-IsDoneAs known old new (run names workers None) (report.Decided count) =
+IsDoneAs known old new (run names workers engine) (report.Decided count) =
     IsDecided known old new names.book names.batch names.replies names.new_book count
-IsDoneAs known old new (run names workers (Some journal)) (report.Decided count) =
+IsDoneAs known old new (run_with_journal names workers journal) (report.Decided count) =
     IsDecidedWithJournal known old new names.book names.batch names.replies names.new_book journal count
-IsDoneAs known old new (blocks names workers) (report.DecidedBlocks count) =
+IsDoneAs known old new (blocks names workers engine) (report.DecidedBlocks count) =
     AreBlocksDecided known old new names.book names.batch names.replies names.new_book count.blocks count.messages
 IsDoneAs known old new (audit names None) (report.Audited found text) =
     IsAudited old names.book names.batch names.replies names.new_book found × (text.items ≡ audit_text found)
@@ -87,7 +87,7 @@ IsDoneAs known old new what told = ⊥
 
 -- Some first blocks are kept, so many, and the files hold what these come to; behind them this fault came.
 abbrev pub IsHaltedAs : Type 0 → Holding → Holding → Asked → JobFault → ℕ → Type 0
-IsHaltedAs known old new (blocks names workers) fault kept =
+IsHaltedAs known old new (blocks names workers engine) fault kept =
     (why : BatchFault) × (fault ≡ Batch why) × AreBlocksKept known old new names.book names.batch names.replies names.new_book why kept
 IsHaltedAs known old new what fault kept = ⊥
 
@@ -102,9 +102,9 @@ IsUndone old new (help text) = ⊥
 IsUndone old new version = ⊥
 IsUndone old new (one body) = ⊥
 IsUndone old new (serial names) = IsBookAsItWas old new names
-IsUndone old new (run names workers None) = IsBookAsItWas old new names
-IsUndone old new (run names workers (Some journal)) = names.new_book ≢ journal → IsBookAsItWas old new names
-IsUndone old new (blocks names workers) = IsBookAsItWas old new names
+IsUndone old new (run names workers engine) = IsBookAsItWas old new names
+IsUndone old new (run_with_journal names workers journal) = names.new_book ≢ journal → IsBookAsItWas old new names
+IsUndone old new (blocks names workers engine) = IsBookAsItWas old new names
 IsUndone old new what = Unit {0}
 
 -- what may fail of files: a call of one that is read, or of one that is written; or a name is refused
@@ -124,8 +124,10 @@ IsJobFault old devices (help text) fault = ⊥
 IsJobFault old devices version fault = ⊥
 IsJobFault old devices (one body) fault = ⊥
 IsJobFault old devices (serial names) fault = IsDecidingFault old names.book names.batch devices.reading devices.writing devices.refused fault
-IsJobFault old devices (run names workers journal) fault = IsDecidingFault old names.book names.batch devices.reading devices.writing devices.refused fault
-IsJobFault old devices (blocks names workers) fault = IsBlocksFault old names.book names.batch devices.reading devices.writing devices.refused fault
+IsJobFault old devices (run names workers engine) fault = IsDecidingFault old names.book names.batch devices.reading devices.writing devices.refused fault
+IsJobFault old devices (run_with_journal names workers journal) fault =
+    IsDecidingFault old names.book names.batch devices.reading devices.writing devices.refused fault
+IsJobFault old devices (blocks names workers engine) fault = IsBlocksFault old names.book names.batch devices.reading devices.writing devices.refused fault
 IsJobFault old devices (audit names None) fault = IsAuditingFault old names.book names.batch names.replies names.new_book devices.reading fault
 IsJobFault old devices (audit names (Some journal)) fault =
     IsJournalAuditingFault old names.book names.batch names.replies names.new_book journal devices.reading fault

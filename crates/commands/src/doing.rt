@@ -1,5 +1,5 @@
 ghost use Rattle.std.specs.Prelude.{◌≡◌, MatchResult, None, Some, option_map, string_bytes};
-ghost use Rattle.words.specs.Asked.{asked_of, audit, audit_blocks, blocks, names_of, one, pack, run, serial, show};
+ghost use Rattle.words.specs.Asked.{asked_of, audit, audit_blocks, blocks, names_of, one, pack, run, run_with_journal, serial, show};
 ghost use Rattle.commands.specs.Answered.{IsDoneAs, IsFaultIn, failing};
 
 use crate::fault::Fault;
@@ -8,6 +8,7 @@ use answering::decide_one;
 use audit::{audit_text, block_audit_text};
 use block_jobs::{audit_block_files, run_blocks};
 use engine::Workers;
+use engine_choice::Engine;
 use files::{BatchNames, Files};
 use jobs::{
     audit_batch, audit_batch_with_journal, pack_batch, run_batch, run_batch_with_journal,
@@ -37,12 +38,18 @@ pub(crate) fn done<R: Threads + Wait + Sync, F: Files>(
         Command::Run {
             names,
             workers,
+            engine,
+        } => run(rt, alloc, files, &names, workers, engine),
+        Command::RunWithJournal {
+            names,
+            workers,
             journal,
-        } => match journal {
-            Some(journal) => run_with_journal(rt, alloc, files, &names, workers, journal.as_str()),
-            None => run(rt, alloc, files, &names, workers),
-        },
-        Command::Blocks(names, workers) => blocks(rt, alloc, files, &names, workers),
+        } => run_with_journal(rt, alloc, files, &names, workers, journal.as_str()),
+        Command::Blocks {
+            names,
+            workers,
+            engine,
+        } => blocks(rt, alloc, files, &names, workers, engine),
         Command::Audit { names, journal } => match journal {
             Some(journal) => audited_with_journal(alloc, files, &names, journal.as_str()),
             None => audited(alloc, files, &names),
@@ -63,23 +70,24 @@ fn serial<F: Files>(alloc: Global, files: &mut F, names: &BatchNames) -> Result<
     Ok(Report::Decided(count))
 }
 
-// A batch is decided by several workers.
+// A batch is decided by several workers of this engine.
 fn run<R: Threads + Wait + Sync, F: Files>(
     rt: &R,
     alloc: Global,
     files: &mut F,
     names: &BatchNames,
     workers: Workers,
+    engine: Engine,
 ) -> Result<Report, Fault>
     ensures { MatchResult result
-        (IsDoneAs (F.is_known files.old) (F.holds files.old) (F.holds files.new) (run (names_of names.now) workers None))
-        (IsFaultIn (F.is_known files.old) (F.holds files.old) (F.holds files.new) (failing F.Input.failures F.Output.failures F.refuses) (run (names_of names.now) workers None)) }
+        (IsDoneAs (F.is_known files.old) (F.holds files.old) (F.holds files.new) (run (names_of names.now) workers engine))
+        (IsFaultIn (F.is_known files.old) (F.holds files.old) (F.holds files.new) (failing F.Input.failures F.Output.failures F.refuses) (run (names_of names.now) workers engine)) }
 {
-    let count = run_batch(rt, alloc, files, names, workers)?;
+    let count = run_batch(rt, alloc, files, names, workers, engine)?;
     Ok(Report::Decided(count))
 }
 
-// The same, and the run's journal is kept.
+// A batch is decided by several workers under one lock, and the run's journal is kept.
 fn run_with_journal<R: Threads + Wait + Sync, F: Files>(
     rt: &R,
     alloc: Global,
@@ -89,26 +97,27 @@ fn run_with_journal<R: Threads + Wait + Sync, F: Files>(
     journal: &str,
 ) -> Result<Report, Fault>
     ensures { MatchResult result
-        (IsDoneAs (F.is_known files.old) (F.holds files.old) (F.holds files.new) (run (names_of names.now) workers (Some journal.now)))
-        (IsFaultIn (F.is_known files.old) (F.holds files.old) (F.holds files.new) (failing F.Input.failures F.Output.failures F.refuses) (run (names_of names.now) workers (Some journal.now))) }
+        (IsDoneAs (F.is_known files.old) (F.holds files.old) (F.holds files.new) (run_with_journal (names_of names.now) workers journal.now))
+        (IsFaultIn (F.is_known files.old) (F.holds files.old) (F.holds files.new) (failing F.Input.failures F.Output.failures F.refuses) (run_with_journal (names_of names.now) workers journal.now)) }
 {
     let count = run_batch_with_journal(rt, alloc, files, names, workers, journal)?;
     Ok(Report::Decided(count))
 }
 
-// Blocks are decided, one after another.
+// Blocks are decided, one after another, each by several workers of this engine.
 fn blocks<R: Threads + Wait + Sync, F: Files>(
     rt: &R,
     alloc: Global,
     files: &mut F,
     names: &BatchNames,
     workers: Workers,
+    engine: Engine,
 ) -> Result<Report, Fault>
     ensures { MatchResult result
-        (IsDoneAs (F.is_known files.old) (F.holds files.old) (F.holds files.new) (blocks (names_of names.now) workers))
-        (IsFaultIn (F.is_known files.old) (F.holds files.old) (F.holds files.new) (failing F.Input.failures F.Output.failures F.refuses) (blocks (names_of names.now) workers)) }
+        (IsDoneAs (F.is_known files.old) (F.holds files.old) (F.holds files.new) (blocks (names_of names.now) workers engine))
+        (IsFaultIn (F.is_known files.old) (F.holds files.old) (F.holds files.new) (failing F.Input.failures F.Output.failures F.refuses) (blocks (names_of names.now) workers engine)) }
 {
-    let count = run_blocks(rt, alloc, files, names, workers)?;
+    let count = run_blocks(rt, alloc, files, names, workers, engine)?;
     Ok(Report::DecidedBlocks(count))
 }
 

@@ -1,20 +1,14 @@
-//! Tests of the core and of a run: foolish calls, the order of the gate's calls, and batches that come out as one after
-//! another; and of the memory of versions and the scheduler.
+//! Tests of the core: foolish calls, journals, and a run whose core comes to its limits; and of the memory of versions and the
+//! scheduler.
 #![tactic(auto)]
 
 #[cfg(test)]
-mod batches;
-#[cfg(test)]
 mod cores;
 #[cfg(test)]
-mod gate_order;
-#[cfg(test)]
-mod gates;
-#[cfg(test)]
 mod journals;
+#[cfg(test)]
+mod limits;
 #[cfg(test)]
 mod schedules;
 #[cfg(test)]
 mod versions;
-#[cfg(test)]
-mod workers;

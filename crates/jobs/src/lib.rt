@@ -15,6 +15,6 @@ pub use deciding::{decide_batch, put_book};
 pub use job_fault::{JobFault, fault_of_closing};
 pub use opening::open_book;
 pub use packing::pack_batch;
-pub use running::{run_batch, serial_batch};
+pub use running::{decide_by, run_batch, serial_batch};
 pub use showing::show_file;
 pub use tracing::run_batch_with_journal;

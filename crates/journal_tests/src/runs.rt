@@ -1,18 +1,16 @@
-//! The journals of runs on threads, and the longest batch.
+//! The journals of runs on threads.
 
-use engine::{Gate, OpenGate, Workers, run, run_traced};
-use fixtures::{answer_text, body, first_book_with, has_row};
+use engine::{Gate, OpenGate, Workers, run_traced};
+use fixtures::{answer_text, body, first_book_with};
 use fold::Outcome;
 use journal::{Entry, Event, replay};
-use rows::{Frame, ReplyBody};
+use rows::Frame;
 use rules::Shipped;
 use std::alloc::Global;
 use std::process::Abort;
-use std::sync::Wait;
 use std::sync::atomic::{AtomicU64, Ordering};
 use std::test::Fail;
 use std::thread;
-use std::thread::Threads;
 
 // How often a thread looks whether another got on, before the test fails.
 const TURNS: u64 = 50_000_000;
@@ -108,80 +106,4 @@ fn a_worker_commits_as_it_goes(rt: HostRuntime) -> Result<(), Fail> {
     assert!(rt; commit < last);
     assert_eq!(rt; outcome.committed, 2);
     assert_replays(&rt, alloc, &frames, &outcome, &entries)
-}
-
-// As many requests of 1 on card A, with a trace number each.
-fn requests(alloc: Global, many: u32) -> Result<Vec<Frame>, Fail> {
-    let mut frames = Vec::new(alloc);
-    for trace in 0..many {
-        let line = format!(in alloc; "1100 {trace:06} A 1")?;
-        frames.push(body(line.as_str()).ok_or("a body")?)?;
-    }
-    Ok(frames)
-}
-
-// Action and approval code of the reply at this place.
-fn answer_at(alloc: Global, replies: &[ReplyBody], index: usize) -> Result<String, Fail> {
-    Ok(answer_text(alloc, replies.get(index).ok_or("a reply")?)?)
-}
-
-// How many of the replies have this text.
-fn count_of(alloc: Global, replies: &[ReplyBody], text: &str) -> Result<u64, Fail> {
-    let mut count = 0u64;
-    for reply in replies {
-        if answer_text(alloc, reply)?.as_str() == text {
-            count = count.saturating_add(1);
-        }
-    }
-    Ok(count)
-}
-
-// Three requests are approved, then the day's limit is reached; and the core committed every message.
-fn assert_longest(rt: &impl Abort, alloc: Global, outcome: &Outcome) -> Result<(), Fail> {
-    let replies = &outcome.replies;
-    for (index, answer) in [(0, "000/000001"), (1, "000/000002"), (2, "000/000003")] {
-        assert_eq!(rt; answer_at(alloc, replies, index)?.as_str(), answer);
-    }
-    assert_eq!(rt; count_of(alloc, replies, "123")?, 65_533);
-    assert!(rt; has_row(&outcome.book, "account A 9997 978"));
-    assert_eq!(rt; outcome.committed, 65_536);
-    Ok(())
-}
-
-fn assert_run<R: Abort + Threads + Wait + Sync>(
-    rt: &R,
-    alloc: Global,
-    frames: &[Frame],
-    workers: u32,
-) -> Result<(), Fail> {
-    assert!(rt; frames.len() == 65_536);
-    let book = first_book_with(alloc, &[])?;
-    let workers = Workers::new(workers).ok_or("1 to 64 workers")?;
-    let outcome = run(rt, alloc, &book, frames, workers, &Shipped, &OpenGate)?;
-    assert_longest(rt, alloc, &outcome)
-}
-
-// The longest batch: the same replies with each number of workers.
-fn assert_runs_the_longest<R: Abort + Threads + Wait + Sync>(
-    rt: &R,
-    alloc: Global,
-    workers: u32,
-) -> Result<(), Fail> {
-    let frames = requests(alloc, 65_536)?;
-    assert_run(rt, alloc, &frames, workers)
-}
-
-#[test]
-fn one_worker_runs_the_longest_batch(rt: HostRuntime) -> Result<(), Fail> {
-    assert_runs_the_longest(&rt, rt.alloc(), 1)
-}
-
-#[test]
-fn four_workers_run_the_longest_batch(rt: HostRuntime) -> Result<(), Fail> {
-    assert_runs_the_longest(&rt, rt.alloc(), 4)
-}
-
-#[test]
-fn sixty_four_workers_run_the_longest_batch(rt: HostRuntime) -> Result<(), Fail> {
-    assert_runs_the_longest(&rt, rt.alloc(), 64)
 }

@@ -1,4 +1,4 @@
-ghost use Rattle.std.specs.Prelude.{◌≡◌, ◌≢◌, ◌+◌, ◌^◌, IfSome, IfNone, IsTrue, IsFalse};
+ghost use Rattle.std.specs.Prelude.{◌≡◌, ◌≢◌, ◌+◌, ◌^◌, IfSome, IfNone, IsTrue, IsFalse, option_map};
 ghost use Rattle.slots.specs.Staged.{IsFresh, IsInHand, taken, executed, given_up, committed};
 ghost use Rattle.slots.specs.declared.given_up.GivenUp.TheVariants as given;
 ghost use Rattle.slots.specs.declared.stage.Stage.TheVariants as stage;
@@ -46,7 +46,9 @@ impl Slot {
     }
 
     /// The last execution, where there is one that was neither given up nor committed.
-    pub fn attempt(&self) -> Option<&Attempt> {
+    pub fn attempt(&self) -> Option<&Attempt>
+        ensures { option_map (λ attempt. attempt.now) result ≡ self.now.attempt }
+    {
         self.attempt.as_ref()
     }
 

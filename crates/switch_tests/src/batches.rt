@@ -38,7 +38,11 @@ fn a_batch_is_decided_from_files_to_files(rt: HostRuntime) -> Result<(), Fail> {
         &rt,
         alloc,
         &["run", "--workers=64", "book", "batch", "replies", "after"],
-    )
+    )?;
+    let split = [
+        "run", "book", "batch", "replies", "after", "--engine", "split",
+    ];
+    assert_decided(&rt, alloc, &split)
 }
 
 // A fault is one line of standard error; an older file of the new book stays.

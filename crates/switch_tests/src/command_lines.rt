@@ -164,21 +164,6 @@ fn words_that_are_no_command_are_a_usage_fault(rt: HostRuntime) -> Result<(), Fa
         alloc,
         &["run", "book", "batch", "replies", "after", "--journal"],
     )?;
-    assert_usage(
-        &rt,
-        alloc,
-        &[
-            "run",
-            "book",
-            "batch",
-            "replies",
-            "after",
-            "--journal",
-            "journal",
-            "--engine",
-            "split",
-        ],
-    )?;
     for workers in ["0", "65", "four", "-1", ""] {
         let words = [
             "run",
@@ -191,7 +176,7 @@ fn words_that_are_no_command_are_a_usage_fault(rt: HostRuntime) -> Result<(), Fa
         ];
         assert_usage(&rt, alloc, &words)?;
     }
-    for engine in ["split", "other", "Locked", ""] {
+    for engine in ["other", "Locked", "split ", ""] {
         for command in ["run", "blocks"] {
             let words = [
                 command, "book", "batch", "replies", "after", "--engine", engine,
@@ -257,16 +242,40 @@ fn a_reversal_is_answered(rt: HostRuntime) -> Result<(), Fail> {
     assert_answer(&rt, alloc, reversal.as_str(), untraced.as_str())
 }
 
-// The split engine is refused with a word that says why.
+// What is wrong with the settings of a run is told.
 #[test]
-fn the_split_engine_is_not_built(rt: HostRuntime) -> Result<(), Fail> {
-    let words = [
-        "run", "book", "batch", "replies", "after", "--engine", "split",
-    ];
-    let acted = acted(&rt, rt.alloc(), &words)?;
-    assert_eq!(rt; acted.status, 2);
-    let line = b"--engine split: the split engine is not built yet\n";
-    assert_eq!(rt; acted.err.as_slice(), line.as_slice());
+fn a_wrong_setting_is_told(rt: HostRuntime) -> Result<(), Fail> {
+    for (settings, line) in [
+        (
+            ["--engine", "other", "--workers", "4"],
+            b"--engine is locked or split\n".as_slice(),
+        ),
+        (
+            ["--engine", "split", "--workers", "65"],
+            b"--workers is a number from 1 to 64\n".as_slice(),
+        ),
+        (
+            ["--engine", "split", "--journal", "journal"],
+            b"--journal asks for --engine locked: the split engine keeps no journal\n".as_slice(),
+        ),
+    ] {
+        let [name, value, other_name, other_value] = settings;
+        let words = [
+            "run",
+            "book",
+            "batch",
+            "replies",
+            "after",
+            name,
+            value,
+            other_name,
+            other_value,
+        ];
+        let acted = acted(&rt, rt.alloc(), &words)?;
+        assert_eq!(rt; acted.status, 2);
+        assert_eq!(rt; acted.err.as_slice(), line);
+        assert!(rt; acted.out.is_empty());
+    }
     Ok(())
 }
 
@@ -322,9 +331,18 @@ fn help_says_what_there_is(rt: HostRuntime) -> Result<(), Fail> {
         "kept M",
     ];
     assert_help(&rt, alloc, &["--help"], &parts)?;
-    let run = ["BOOK", "I83B", "I83R", "--workers", "--engine", "--journal"];
+    let run = [
+        "BOOK",
+        "I83B",
+        "I83R",
+        "--workers",
+        "--engine",
+        "locked",
+        "split",
+        "--journal",
+    ];
     assert_help(&rt, alloc, &["run", "--help"], &run)?;
-    let blocks = ["BOOK", "I83M", "I83T", "--workers", "--engine"];
+    let blocks = ["BOOK", "I83M", "I83T", "--workers", "--engine", "split"];
     assert_help(&rt, alloc, &["blocks", "--help"], &blocks)?;
     let audit = ["I83B", "I83R", "--journal", "count differs"];
     assert_help(&rt, alloc, &["audit", "--help"], &audit)?;

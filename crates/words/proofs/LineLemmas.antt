@@ -1,5 +1,5 @@
 -- How a command line grows.
-use Rattle.std.proofs.Common.{◌≡◌, ◌∙◌, ap, ap₂, Bool, ◌||◌}
+use Rattle.std.proofs.Common.{◌∙◌, ap, ap₂, Bool, ◌||◌}
 use Rattle.clap.specs.Built.{AddsArg, AddsSubcommand}
 use Rattle.clap.specs.Simple.{App, with_rule, with_subcommand}
 use Rattle.clap.specs.Walk.{Rule}

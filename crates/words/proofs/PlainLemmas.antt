@@ -10,7 +10,7 @@ use Rattle.clap.specs.declared.error.kind.ErrorKind.TheVariants as kinds
 use Rattle.hex.specs.Hex.{decode_of, decode_pairs}
 use Rattle.hex.specs.declared.error.FromHexError.{FromHexError}
 use Rattle.answering.specs.Answers.{IsBodyInDigits}
-use Rattle.words.specs.Plainly.{ArePlain, IsPlain, JournalIsRead, JournalAuditIsRead, AuditIsRead, BlockAuditIsRead, BlocksAreRead, OneFrameIsRead, HelpIsRead, IsNoCommand, RunIsRead, SerialIsRead, SplitIsNone, VersionIsRead}
+use Rattle.words.specs.Plainly.{ArePlain, IsPlain, JournalIsRead, JournalAuditIsRead, AuditIsRead, BlockAuditIsRead, BlocksAreRead, OneFrameIsRead, HelpIsRead, IsNoCommand, RunIsRead, SerialIsRead, SplitBlocksAreRead, SplitIsRead, SplitJournalIsNone, VersionIsRead}
 use Rattle.words.specs.Asked.{Names, asked, body_in, one}
 use Rattle.words.specs.CommandLine.{command_line}
 use Rattle.words.specs.Words.{asked_in}
@@ -161,60 +161,115 @@ block_audit_read name names plain = (
   files_asked (codes "audit-blocks") (leaf (codes "audit-blocks")) audit_blocks_files names plain [],
 )
 
-pub split_read : (name : Text) (names : Names) → SplitIsNone name names
+-- `--engine split` behind the files
+abbrev for_split : List Text
+for_split = codes "--engine" ∷ codes "split" ∷ []
+
+pub split_read : (name : Text) (names : Names) → SplitIsRead name names
 unfolding clap_on_literals
-split_read name names plain = inr (
-  ap (λ k. or_else k []) (files_fault (leaf (codes "run")) run_files names plain (codes "--engine" ∷ codes "split" ∷ [])),
-  files_asked (codes "run") (leaf (codes "run")) run_files names plain (codes "--engine" ∷ codes "split" ∷ []),
+split_read name names plain = (
+  ap (λ k. or_else k []) (files_fault (leaf (codes "run")) run_files names plain for_split),
+  files_asked (codes "run") (leaf (codes "run")) run_files names plain for_split,
+)
+
+pub split_blocks_read : (name : Text) (names : Names) → SplitBlocksAreRead name names
+unfolding clap_on_literals
+split_blocks_read name names plain = (
+  ap (λ k. or_else k []) (files_fault (leaf (codes "blocks")) blocks_files names plain for_split),
+  files_asked (codes "blocks") (leaf (codes "blocks")) blocks_files names plain for_split,
 )
 
 -- what is held behind `--journal`
-abbrev held_for_journal : Shape → Names → Held
-held_for_journal s names = record (settled s.rules (held_files s names)) { pending = Some (codes "journal", []) }
+abbrev held_for_journal : Shape → Held → Held
+held_for_journal s held = record (settled s.rules held) { pending = Some (codes "journal", []) }
 
 -- `--journal` waits for a word, and is no fault
-abbrev TakesJournal : Shape → Names → Type 0
-TakesJournal s names =
-    (walked s.rules [] (between (held_files s names) idle 5) (codes "--journal") ≡ between (held_for_journal s names) (option (codes "journal")) 5)
-    × (turn_fault s [] (between (held_files s names) idle 5) (codes "--journal") ≡ [])
+abbrev TakesJournal : Shape → Held → Type 0
+TakesJournal s held =
+    (walked s.rules [] (between held idle 5) (codes "--journal") ≡ between (held_for_journal s held) (option (codes "journal")) 5)
+    × (turn_fault s [] (between held idle 5) (codes "--journal") ≡ [])
 
-abbrev behind_journal : Shape → Names → Text → Held × Step
-behind_journal s names file = plain_word s.rules (option (codes "journal")) file (held_for_journal s names)
+abbrev behind_journal : Shape → Held → Text → Held × Step
+behind_journal s held file = plain_word s.rules (option (codes "journal")) file (held_for_journal s held)
 
-journal_walked : (s : Shape) (names : Names) → TakesJournal s names → (file : Text) → IsPlain file
-    → walk_behind s names (codes "--journal" ∷ file ∷ [])
-    ≡ after_step s.rules file (between (held_for_journal s names) (option (codes "journal")) 5) (behind_journal s names file).0 (behind_journal s names file).1
-journal_walked s names takes file plain =
-    ap (λ w. walked s.rules [] w file) takes.0 ∙ plain_walked s.rules (held_for_journal s names) (option (codes "journal")) 5 file plain
+-- the walk over `--journal FILE`
+abbrev journal_walk : Shape → Held → Text → Walk
+journal_walk s held file =
+    after_step s.rules file (between (held_for_journal s held) (option (codes "journal")) 5) (behind_journal s held file).0 (behind_journal s held file).1
 
-journal_fault : (s : Shape) (names : Names) → TakesJournal s names → (file : Text) → IsPlain file
-    → walk_fault s [] (between (held_files s names) idle 5) (codes "--journal" ∷ file ∷ [])
-    ≡ or_else (step_fault s 5 (behind_journal s names file).0 (behind_journal s names file).1) []
+journal_walked : (s : Shape) (held : Held) → TakesJournal s held → (file : Text) → IsPlain file
+    → fold (walked s.rules []) (between held idle 5) (codes "--journal" ∷ file ∷ []) ≡ journal_walk s held file
+journal_walked s held takes file plain =
+    ap (λ w. walked s.rules [] w file) takes.0 ∙ plain_walked s.rules (held_for_journal s held) (option (codes "journal")) 5 file plain
+
+abbrev journal_faults : Shape → Held → Text → Kinds
+journal_faults s held file = or_else (step_fault s 5 (behind_journal s held file).0 (behind_journal s held file).1) []
+
+journal_fault : (s : Shape) (held : Held) → TakesJournal s held → (file : Text) → IsPlain file
+    → walk_fault s [] (between held idle 5) (codes "--journal" ∷ file ∷ []) ≡ journal_faults s held file
 unfolding walk_fault
-journal_fault s names takes file plain =
+journal_fault s held takes file plain =
     ap₂ (λ (k : Kinds) (w : Walk). or_else k (or_else (turn_fault s [] w file) [])) takes.1 takes.0
-    ∙ ap (λ k. or_else k []) (plain_turn s (held_for_journal s names) (option (codes "journal")) 5 file plain)
+    ∙ ap (λ k. or_else k []) (plain_turn s (held_for_journal s held) (option (codes "journal")) 5 file plain)
 
 pub journal_read : (name : Text) (names : Names) (file : Text) → JournalIsRead name names file
 unfolding clap_on_literals
 journal_read name names file plain file_plain =
     let s = leaf (codes "run") in
-    let takes : TakesJournal s names = (refl, refl) in
+    let held = held_files s names in
+    let takes : TakesJournal s held = (refl, refl) in
     let behind = codes "--journal" ∷ file ∷ [] in (
       ap (λ k. or_else k []) (files_fault s run_files names plain behind
-          ∙ ap₂ (λ (w : Walk) (k : Kinds). level_by s w.held (fault_files s names k)) (journal_walked s names takes file file_plain) (journal_fault s names takes file file_plain)),
+          ∙ ap₂ (λ (w : Walk) (k : Kinds). level_by s w.held (fault_files s names k)) (journal_walked s held takes file file_plain) (journal_fault s held takes file file_plain)),
       files_asked (codes "run") s run_files names plain behind
-          ∙ ap (λ (w : Walk). asked (codes "run", finished s.rules w.held)) (journal_walked s names takes file file_plain),
+          ∙ ap (λ (w : Walk). asked (codes "run", finished s.rules w.held)) (journal_walked s held takes file file_plain),
     )
 
 pub journal_audit_read : (name : Text) (names : Names) (file : Text) → JournalAuditIsRead name names file
 unfolding clap_on_literals
 journal_audit_read name names file plain file_plain =
     let s = leaf (codes "audit") in
-    let takes : TakesJournal s names = (refl, refl) in
+    let held = held_files s names in
+    let takes : TakesJournal s held = (refl, refl) in
     let behind = codes "--journal" ∷ file ∷ [] in (
       ap (λ k. or_else k []) (files_fault s audit_files names plain behind
-          ∙ ap₂ (λ (w : Walk) (k : Kinds). level_by s w.held (fault_files s names k)) (journal_walked s names takes file file_plain) (journal_fault s names takes file file_plain)),
+          ∙ ap₂ (λ (w : Walk) (k : Kinds). level_by s w.held (fault_files s names k)) (journal_walked s held takes file file_plain) (journal_fault s held takes file file_plain)),
       files_asked (codes "audit") s audit_files names plain behind
-          ∙ ap (λ (w : Walk). asked (codes "audit", finished s.rules w.held)) (journal_walked s names takes file file_plain),
+          ∙ ap (λ (w : Walk). asked (codes "audit", finished s.rules w.held)) (journal_walked s held takes file file_plain),
+    )
+
+-- `--engine split` behind the files is held, is no fault, and waits for nothing
+abbrev held_split : Shape → Names → Held
+held_split s names = (walk_behind s names for_split).held
+
+abbrev TakesSplit : Shape → Names → Type 0
+TakesSplit s names =
+    (walk_behind s names for_split ≡ between (held_split s names) idle 5)
+    × ((behind : List Text) → walk_fault s [] (between (held_files s names) idle 5) (codes "--engine" ∷ codes "split" ∷ behind)
+    ≡ walk_fault s [] (between (held_split s names) idle 5) behind)
+
+split_journal_walked : (s : Shape) (names : Names) → TakesSplit s names → TakesJournal s (held_split s names) → (file : Text) → IsPlain file
+    → walk_behind s names (codes "--engine" ∷ codes "split" ∷ codes "--journal" ∷ file ∷ []) ≡ journal_walk s (held_split s names) file
+split_journal_walked s names split takes file plain =
+    ap (λ w. fold (walked s.rules []) w (codes "--journal" ∷ file ∷ [])) split.0 ∙ journal_walked s (held_split s names) takes file plain
+
+split_journal_fault : (s : Shape) (names : Names) → TakesSplit s names → TakesJournal s (held_split s names) → (file : Text) → IsPlain file
+    → walk_fault s [] (between (held_files s names) idle 5) (codes "--engine" ∷ codes "split" ∷ codes "--journal" ∷ file ∷ []) ≡ journal_faults s (held_split s names) file
+split_journal_fault s names split takes file plain =
+    split.1 (codes "--journal" ∷ file ∷ []) ∙ journal_fault s (held_split s names) takes file plain
+
+pub split_journal_none : (name : Text) (names : Names) (file : Text) → SplitJournalIsNone name names file
+unfolding clap_on_literals
+split_journal_none name names file plain file_plain =
+    let s = leaf (codes "run") in
+    let held = held_split s names in
+    let split : TakesSplit s names = (refl, λ behind. refl) in
+    let takes : TakesJournal s held = (refl, refl) in
+    let behind = codes "--engine" ∷ codes "split" ∷ codes "--journal" ∷ file ∷ [] in
+    inr (
+      ap (λ k. or_else k []) (files_fault s run_files names plain behind
+          ∙ ap₂ (λ (w : Walk) (k : Kinds). level_by s w.held (fault_files s names k))
+          (split_journal_walked s names split takes file file_plain) (split_journal_fault s names split takes file file_plain)),
+      files_asked (codes "run") s run_files names plain behind
+          ∙ ap (λ (w : Walk). asked (codes "run", finished s.rules w.held)) (split_journal_walked s names split takes file file_plain),
     )

@@ -10,14 +10,14 @@ use Rattle.clap.specs.Simple.{is_simple, subcommand_of}
 use Rattle.clap.specs.Walk.{Row, Text, first_of}
 use Rattle.clap.specs.declared.error.kind.ErrorKind.{ErrorKind}
 use Rattle.clap.specs.declared.error.kind.ErrorKind.TheVariants as kinds
-use Rattle.hex.specs.Hex.{decode_of}
-use Rattle.hex.specs.declared.error.FromHexError.{FromHexError}
 use Rattle.answering.specs.Answers.{IsBodyInDigits}
-use Rattle.words.specs.Asked.{Asked, asked, asked_of, audit, audit_blocks, audit_blocks_in, audit_in, blocks, blocks_in, body_in, body_of, engine_in, help, names_in, one, one_in, pack, pack_in, run, run_in, serial, serial_in, show, show_in, version, workers_in}
+use Rattle.engine_choice.specs.declared.engine.Engine.{Engine}
+use Rattle.engine_choice.specs.declared.engine.Engine.TheVariants.{Locked, Split}
+use Rattle.words.specs.Asked.{Asked, Names, asked, asked_of, audit, audit_blocks, audit_blocks_in, audit_in, blocks, blocks_in, body_in, engine_in, help, names_in, one, one_in, pack, pack_in, run, run_by, run_in, run_with_journal, serial, serial_in, show, show_in, version, workers_in}
 use Rattle.words.specs.CommandLine.{command_line}
-use Rattle.words.specs.Words.{IsRead, IsReadOfKind, IsUsageFault, asked_in}
+use Rattle.words.specs.Words.{IsRead, IsReadOfKind, asked_in}
 use Rattle.words.specs.declared.command.Command.{Command}
-use Rattle.words.specs.declared.command.Command.TheVariants.{Help, Version, One, Serial, Run, Blocks, Audit, AuditBlocks, Show, Pack}
+use Rattle.words.specs.declared.command.Command.TheVariants.{Help, Version, One, Serial, Run, RunWithJournal, Blocks, Audit, AuditBlocks, Show, Pack}
 use Rattle.words.specs.declared.line_fault.LineFault.{LineFault}
 use Rattle.words.specs.declared.line_fault.LineFault.TheVariants.{Usage, OutOfMemory}
 
@@ -46,8 +46,9 @@ read_of_kind words kind (Ok Version) (inl memory) h = let both : kinds.DisplayVe
 read_of_kind words kind (Ok Version) (inr among) h = rw (← h) among
 read_of_kind words kind (Ok (One body)) among h = absurd h
 read_of_kind words kind (Ok (Serial names)) among h = absurd h
-read_of_kind words kind (Ok (Run names workers journal)) among h = absurd h
-read_of_kind words kind (Ok (Blocks names workers)) among h = absurd h
+read_of_kind words kind (Ok (Run names workers engine)) among h = absurd h
+read_of_kind words kind (Ok (RunWithJournal names workers journal)) among h = absurd h
+read_of_kind words kind (Ok (Blocks names workers engine)) among h = absurd h
 read_of_kind words kind (Ok (Audit names journal)) among h = absurd h
 read_of_kind words kind (Ok (AuditBlocks names)) among h = absurd h
 read_of_kind words kind (Ok (Show file)) among h = absurd h
@@ -62,8 +63,9 @@ is_of_subcommand (help text) = false
 is_of_subcommand version = false
 is_of_subcommand (one body) = true
 is_of_subcommand (serial names) = true
-is_of_subcommand (run names workers journal) = true
-is_of_subcommand (blocks names workers) = true
+is_of_subcommand (run names workers engine) = true
+is_of_subcommand (run_with_journal names workers journal) = true
+is_of_subcommand (blocks names workers engine) = true
 is_of_subcommand (audit names journal) = true
 is_of_subcommand (audit_blocks names) = true
 is_of_subcommand (show file) = true
@@ -79,6 +81,17 @@ of_two : {A B : Type 0} (f : A → B → Asked) → ((a : A) (b : B) → is_of_s
 of_two f each None y what h = cc
 of_two f each (Some a) y what h = of_one (f a) (each a) y what h
 
+of_each : {A : Type 0} (f : A → Option Asked) → ((a : A) (what : Asked) → f a ≡ Some what → is_of_subcommand what ≡ true) → (x : Option A) (what : Asked)
+    → option_and_then f x ≡ Some what → is_of_subcommand what ≡ true
+of_each f each None what h = cc
+of_each f each (Some a) what h = each a what h
+
+of_run : (names : Names) (workers : ℕ) (engine : Engine) (journal : Option Text) (what : Asked) → run_by names workers engine journal ≡ Some what
+    → is_of_subcommand what ≡ true
+of_run names workers engine None what h = let same : run names workers engine ≡ what = cc in rw (← same) refl
+of_run names workers Locked (Some journal) what h = let same : run_with_journal names workers journal ≡ what = cc in rw (← same) refl
+of_run names workers Split (Some journal) what h = cc
+
 of_subcommand : (a b c d e f g i : Bool) (rows : List Row) (what : Asked)
     → (if a then one_in rows
     else (if b then run_in rows
@@ -90,9 +103,15 @@ of_subcommand : (a b c d e f g i : Bool) (rows : List Row) (what : Asked)
     else (if i then pack_in rows else None)))))))) ≡ Some what → is_of_subcommand what ≡ true
 of_subcommand true b c d e f g i rows what h = of_one one (λ body. refl) (option_and_then body_in (first_of (codes "FRAME") rows)) what h
 of_subcommand false true c d e f g i rows what h =
-    of_two (λ names workers. run names workers (first_of (codes "journal") rows)) (λ names workers. refl) (names_in (codes "BATCH") rows) (engine_in rows) what h
+    of_each (λ names. option_and_then (λ workers. option_and_then (λ engine. run_by names workers engine (first_of (codes "journal") rows)) (engine_in rows)) (workers_in rows))
+    (λ names. of_each (λ workers. option_and_then (λ engine. run_by names workers engine (first_of (codes "journal") rows)) (engine_in rows))
+    (λ workers. of_each (λ engine. run_by names workers engine (first_of (codes "journal") rows))
+    (λ engine. of_run names workers engine (first_of (codes "journal") rows)) (engine_in rows)) (workers_in rows))
+    (names_in (codes "BATCH") rows) what h
 of_subcommand false false true d e f g i rows what h = of_one serial (λ names. refl) (names_in (codes "BATCH") rows) what h
-of_subcommand false false false true e f g i rows what h = of_two blocks (λ names workers. refl) (names_in (codes "FILE") rows) (engine_in rows) what h
+of_subcommand false false false true e f g i rows what h =
+    of_each (λ names. option_and_then (λ workers. option_map (blocks names workers) (engine_in rows)) (workers_in rows))
+    (λ names. of_two (blocks names) (λ workers engine. refl) (workers_in rows) (engine_in rows)) (names_in (codes "FILE") rows) what h
 of_subcommand false false false false true f g i rows what h =
     of_one (λ names. audit names (first_of (codes "journal") rows)) (λ names. refl) (names_in (codes "BATCH") rows) what h
 of_subcommand false false false false false true g i rows what h = of_one audit_blocks (λ names. refl) (names_in (codes "FILE") rows) what h
@@ -113,8 +132,9 @@ read_as words (Help text) fault h = let no : false ≡ true = met_asks (subcomma
 read_as words Version fault h = let no : false ≡ true = met_asks (subcommand_of command_line words) version (sym h) in cc
 read_as words (One body) fault h = (fault, sym h)
 read_as words (Serial names) fault h = (fault, sym h)
-read_as words (Run names workers journal) fault h = (fault, sym h)
-read_as words (Blocks names workers) fault h = (fault, sym h)
+read_as words (Run names workers engine) fault h = (fault, sym h)
+read_as words (RunWithJournal names workers journal) fault h = (fault, sym h)
+read_as words (Blocks names workers engine) fault h = (fault, sym h)
 read_as words (Audit names journal) fault h = (fault, sym h)
 read_as words (AuditBlocks names) fault h = (fault, sym h)
 read_as words (Show file) fault h = (fault, sym h)

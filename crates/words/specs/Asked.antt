@@ -1,11 +1,13 @@
 -- What words ask for, subcommand by subcommand.
-use Rattle.std.specs.Prelude.{◌≡◌, ◌&&◌, ℕ, List, Option, Some, None, Result, Ok, Err, codes, length, map, nat_lt, option_map, option_and_then, string_bytes, if◌then◌else◌}
+use Rattle.std.specs.Prelude.{◌&&◌, ℕ, List, Option, Some, None, Result, Ok, Err, codes, length, nat_lt, option_map, option_and_then, string_bytes, if◌then◌else◌}
 use Rattle.std.specs.Str.{bytes_eq}
 use Rattle.clap.specs.Walk.{Row, Text, byte_or_zero, first_of}
+use Rattle.engine_choice.specs.declared.engine.Engine.{Engine}
+use Rattle.engine_choice.specs.declared.engine.Engine.TheVariants.{Locked, Split}
 use Rattle.hex.specs.Hex.{decode_of}
 use Rattle.hex.specs.declared.error.FromHexError.{FromHexError}
 use Rattle.words.specs.declared.command.Command.{Command}
-use Rattle.words.specs.declared.command.Command.TheVariants.{Help, Version, One, Serial, Run, Blocks, Audit, AuditBlocks, Show, Pack}
+use Rattle.words.specs.declared.command.Command.TheVariants.{Help, Version, One, Serial, Run, RunWithJournal, Blocks, Audit, AuditBlocks, Show, Pack}
 use Rattle.words.specs.declared.asked.BatchWords.{BatchWords}
 use Rattle.files.specs.declared.batch_names.BatchNames.{BatchNames}
 
@@ -16,16 +18,17 @@ pub record Names : Type 0 where
   pub replies : Text
   pub new_book : Text
 
--- help; the version; one body on the sample book; a batch, one message after another, or by so many workers, with a journal or
--- with none; blocks by so many workers; an audit of a batch, against a journal or without, or of blocks; what a file holds; a
--- batch of a text
+-- help; the version; one body on the sample book; a batch, one message after another, or by so many workers of an engine, or with a
+-- journal; blocks by so many workers of an engine; an audit of a batch, against a journal or without, or of blocks; what a file
+-- holds; a batch of a text
 pub data Asked : Type 0 where
   help : Text → Asked
   version : Asked
   one : List ℕ → Asked
   serial : Names → Asked
-  run : Names → ℕ → Option Text → Asked
-  blocks : Names → ℕ → Asked
+  run : Names → ℕ → Engine → Asked
+  run_with_journal : Names → ℕ → Text → Asked
+  blocks : Names → ℕ → Engine → Asked
   audit : Names → Option Text → Asked
   audit_blocks : Names → Asked
   show : Text → Asked
@@ -44,14 +47,20 @@ abbrev pub body_in : Text → Option (List ℕ)
 body_in digits = body_of (decode_of digits)
 
 -- a number of workers, 1 to 64
-abbrev pub workers_in : Text → Option ℕ
-workers_in text = let n = byte_or_zero text in if nat_lt 0 n && nat_lt n 65 then Some n else None
+abbrev pub worker_count : Text → Option ℕ
+worker_count text = let n = byte_or_zero text in if nat_lt 0 n && nat_lt n 65 then Some n else None
 
--- the number behind `--workers`, where the engine behind `--engine` is the locked one
-abbrev pub engine_in : List Row → Option ℕ
-engine_in rows =
-    option_and_then (λ engine. if bytes_eq engine (codes "locked") then option_and_then workers_in (first_of (codes "workers") rows) else None)
-    (first_of (codes "engine") rows)
+-- the number behind `--workers`
+abbrev pub workers_in : List Row → Option ℕ
+workers_in rows = option_and_then worker_count (first_of (codes "workers") rows)
+
+-- the engine of this name
+abbrev pub engine_named : Text → Option Engine
+engine_named text = if bytes_eq text (codes "locked") then Some Locked else (if bytes_eq text (codes "split") then Some Split else None)
+
+-- the engine behind `--engine`
+abbrev pub engine_in : List Row → Option Engine
+engine_in rows = option_and_then engine_named (first_of (codes "engine") rows)
 
 -- the words BOOK, this one, REPLIES and NEWBOOK
 abbrev pub names_in : Text → List Row → Option Names
@@ -73,14 +82,31 @@ one_in rows = option_map one (option_and_then body_in (first_of (codes "FRAME") 
 abbrev pub serial_in : List Row → Option Asked
 serial_in rows = option_map serial (names_in (codes "BATCH") rows)
 
--- the files and the workers behind `run`, and the journal
+-- a run by this engine, or with this journal, which the locked engine alone keeps
+abbrev pub run_by : Names → ℕ → Engine → Option Text → Option Asked
+run_by names workers engine None = Some (run names workers engine)
+run_by names workers Locked (Some journal) = Some (run_with_journal names workers journal)
+run_by names workers Split (Some journal) = None
+
+-- the files, the workers and the engine behind `run`, and the journal
 abbrev pub run_in : List Row → Option Asked
 run_in rows =
-    option_and_then (λ names. option_map (λ workers. run names workers (first_of (codes "journal") rows)) (engine_in rows)) (names_in (codes "BATCH") rows)
+    option_and_then (λ names.
+    option_and_then (λ workers.
+    option_and_then (λ engine. run_by names workers engine (first_of (codes "journal") rows))
+    (engine_in rows))
+    (workers_in rows))
+    (names_in (codes "BATCH") rows)
 
--- the files and the workers behind `blocks`
+-- the files, the workers and the engine behind `blocks`
 abbrev pub blocks_in : List Row → Option Asked
-blocks_in rows = option_and_then (λ names. option_map (blocks names) (engine_in rows)) (names_in (codes "FILE") rows)
+blocks_in rows =
+    option_and_then (λ names.
+    option_and_then (λ workers.
+    option_map (blocks names workers)
+    (engine_in rows))
+    (workers_in rows))
+    (names_in (codes "FILE") rows)
 
 -- the files behind `audit`, and the journal
 abbrev pub audit_in : List Row → Option Asked
@@ -132,8 +158,9 @@ asked_of (Help text) = help (string_bytes text)
 asked_of Version = version
 asked_of (One body) = one body.items
 asked_of (Serial names) = serial (names_of names)
-asked_of (Run names workers journal) = run (names_of names) workers (option_map string_bytes journal)
-asked_of (Blocks names workers) = blocks (names_of names) workers
+asked_of (Run names workers engine) = run (names_of names) workers engine
+asked_of (RunWithJournal names workers journal) = run_with_journal (names_of names) workers (string_bytes journal)
+asked_of (Blocks names workers engine) = blocks (names_of names) workers engine
 asked_of (Audit names journal) = audit (names_of names) (option_map string_bytes journal)
 asked_of (AuditBlocks names) = audit_blocks (names_of names)
 asked_of (Show file) = show (string_bytes file)

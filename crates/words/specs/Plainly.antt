@@ -2,7 +2,8 @@
 use Rattle.std.specs.Prelude.{◌≢◌, ℕ, List, [], ◌∷◌, Some, None, codes}
 use Rattle.clap.specs.Walk.{Text}
 use Rattle.answering.specs.Answers.{IsBodyInDigits}
-use Rattle.words.specs.Asked.{Names, audit, audit_blocks, blocks, one, run, serial}
+use Rattle.engine_choice.specs.declared.engine.Engine.TheVariants.{Locked, Split}
+use Rattle.words.specs.Asked.{Names, audit, audit_blocks, blocks, one, run, run_with_journal, serial}
 use Rattle.words.specs.Words.{Asks, IsHelp, IsUsageFault, IsVersion}
 
 -- `one FRAME` asks for the body that FRAME stands for
@@ -40,22 +41,32 @@ words_of name subcommand names behind = name ∷ subcommand ∷ names.book ∷ n
 abbrev pub SerialIsRead : Text → Names → Type 0
 SerialIsRead name names = ArePlain names → Asks (words_of name (codes "serial") names []) (serial names)
 
--- `run` with its files asks for 4 workers and no journal
+-- `run` with its files asks for 4 workers of the locked engine and no journal
 abbrev pub RunIsRead : Text → Names → Type 0
-RunIsRead name names = ArePlain names → Asks (words_of name (codes "run") names []) (run names 4 None)
+RunIsRead name names = ArePlain names → Asks (words_of name (codes "run") names []) (run names 4 Locked)
 
 -- with `--journal FILE` behind them, for the journal in FILE too
 abbrev pub JournalIsRead : Text → Names → Text → Type 0
 JournalIsRead name names file =
-    ArePlain names → IsPlain file → Asks (words_of name (codes "run") names (codes "--journal" ∷ file ∷ [])) (run names 4 (Some file))
+    ArePlain names → IsPlain file → Asks (words_of name (codes "run") names (codes "--journal" ∷ file ∷ [])) (run_with_journal names 4 file)
 
--- with `--engine split` behind them they are a usage fault
-abbrev pub SplitIsNone : Text → Names → Type 0
-SplitIsNone name names = ArePlain names → IsUsageFault (words_of name (codes "run") names (codes "--engine" ∷ codes "split" ∷ []))
+-- with `--engine split` behind them, for 4 workers of the split engine
+abbrev pub SplitIsRead : Text → Names → Type 0
+SplitIsRead name names = ArePlain names → Asks (words_of name (codes "run") names (codes "--engine" ∷ codes "split" ∷ [])) (run names 4 Split)
 
--- `blocks` with its files asks for 4 workers
+-- with both behind them they are a usage fault
+abbrev pub SplitJournalIsNone : Text → Names → Text → Type 0
+SplitJournalIsNone name names file =
+    ArePlain names → IsPlain file
+    → IsUsageFault (words_of name (codes "run") names (codes "--engine" ∷ codes "split" ∷ codes "--journal" ∷ file ∷ []))
+
+-- `blocks` with its files asks for 4 workers of the locked engine, and with `--engine split` behind them for 4 of the split engine
 abbrev pub BlocksAreRead : Text → Names → Type 0
-BlocksAreRead name names = ArePlain names → Asks (words_of name (codes "blocks") names []) (blocks names 4)
+BlocksAreRead name names = ArePlain names → Asks (words_of name (codes "blocks") names []) (blocks names 4 Locked)
+
+abbrev pub SplitBlocksAreRead : Text → Names → Type 0
+SplitBlocksAreRead name names =
+    ArePlain names → Asks (words_of name (codes "blocks") names (codes "--engine" ∷ codes "split" ∷ [])) (blocks names 4 Split)
 
 -- `audit` with its files asks for an audit without a journal, and with `--journal FILE` behind them for one against FILE
 abbrev pub AuditIsRead : Text → Names → Type 0

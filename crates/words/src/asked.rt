@@ -3,7 +3,7 @@ ghost use Rattle.clap.specs.Matches.{found_of};
 ghost use Rattle.clap.specs.Simple.{subcommand_rows_of};
 ghost use Rattle.clap.specs.Values.{kind_of};
 ghost use Rattle.clap.specs.Walk.{first_of, rows_of};
-ghost use Rattle.words.specs.Asked.{asked, asked_of, audit_blocks_in, audit_in, blocks_in, engine_in, names_in, names_of, names_of_words, one_in, pack_in, run_in, serial_in, show_in, workers_in};
+ghost use Rattle.words.specs.Asked.{asked, asked_of, audit_blocks_in, audit_in, blocks_in, engine_in, names_in, names_of, names_of_words, one_in, pack_in, run_by, run_in, serial_in, show_in, workers_in};
 ghost use Rattle.words.specs.Words.{IsRead, IsReadOfKind};
 
 use crate::command::Command;
@@ -13,6 +13,7 @@ use answering::body_of_digits;
 use clap::error::ErrorKind;
 use clap::{ArgMatches, Error};
 use engine::Workers;
+use engine_choice::Engine;
 use files::BatchNames;
 use std::alloc::{AllocError, Global};
 
@@ -51,13 +52,20 @@ fn command_of(alloc: Global, matches: &ArgMatches<'_>) -> Result<Option<Command>
 fn wrong_word(matches: &ArgMatches<'_>) -> &'static str {
     match matches.subcommand() {
         Some(("one", _)) => "FRAME is 1 to 512 pairs of hexadecimal digits",
-        Some((_, deciding)) => match word(deciding, "engine") {
-            Some("split") => "--engine split: the split engine is not built yet",
-            Some("locked") => "--workers is a number from 1 to 64",
-            _ => "--engine is locked, or split, which is not built yet",
-        },
+        Some((_, deciding)) => wrong_setting(deciding),
         None => "see --help",
     }
+}
+
+// What is wrong with the settings of a subcommand that decides.
+fn wrong_setting(deciding: &ArgMatches<'_>) -> &'static str {
+    if engine_of(deciding).is_none() {
+        return "--engine is locked or split";
+    }
+    if workers_of(deciding).is_none() {
+        return "--workers is a number from 1 to 64";
+    }
+    "--journal asks for --engine locked: the split engine keeps no journal"
 }
 
 // The word of this name.
@@ -90,7 +98,7 @@ fn serial_of(alloc: Global, matches: &ArgMatches<'_>) -> Result<Option<Command>,
     }
 }
 
-// The files and the workers behind `run`, and the journal.
+// The files, the workers and the engine behind `run`, and the journal.
 fn run_of(alloc: Global, matches: &ArgMatches<'_>) -> Result<Option<Command>, AllocError>
     ensures { IfOk result (λ command. option_map asked_of command ≡ run_in (rows_of (found_of matches.now))) }
 {
@@ -100,22 +108,55 @@ fn run_of(alloc: Global, matches: &ArgMatches<'_>) -> Result<Option<Command>, Al
     let Some(workers) = workers_of(matches) else {
         return Ok(None);
     };
-    Ok(Some(Command::Run {
-        names,
-        workers,
-        journal: journal_of(alloc, matches)?,
-    }))
+    let Some(engine) = engine_of(matches) else {
+        return Ok(None);
+    };
+    let journal = journal_of(alloc, matches)?;
+    Ok(run_by(names, workers, engine, journal))
 }
 
-// The files and the workers behind `blocks`.
+// A run by this engine. The split engine keeps no journal.
+fn run_by(
+    names: BatchNames,
+    workers: Workers,
+    engine: Engine,
+    journal: Option<String>,
+) -> Option<Command>
+    ensures { option_map asked_of result ≡ run_by (names_of names) workers engine (option_map string_bytes journal) }
+{
+    match journal {
+        None => Some(Command::Run {
+            names,
+            workers,
+            engine,
+        }),
+        Some(journal) => match engine {
+            Engine::Locked => Some(Command::RunWithJournal {
+                names,
+                workers,
+                journal,
+            }),
+            Engine::Split => None,
+        },
+    }
+}
+
+// The files, the workers and the engine behind `blocks`.
 fn blocks_of(alloc: Global, matches: &ArgMatches<'_>) -> Result<Option<Command>, AllocError>
     ensures { IfOk result (λ command. option_map asked_of command ≡ blocks_in (rows_of (found_of matches.now))) }
 {
     let Some(names) = names_of(alloc, matches, "FILE")? else {
         return Ok(None);
     };
-    match workers_of(matches) {
-        Some(workers) => Ok(Some(Command::Blocks(names, workers))),
+    let Some(workers) = workers_of(matches) else {
+        return Ok(None);
+    };
+    match engine_of(matches) {
+        Some(engine) => Ok(Some(Command::Blocks {
+            names,
+            workers,
+            engine,
+        })),
         None => Ok(None),
     }
 }
@@ -169,19 +210,20 @@ fn pack_of(alloc: Global, matches: &ArgMatches<'_>) -> Result<Option<Command>, A
     }))
 }
 
-// The number behind `--workers`, where the engine is one that is built.
-fn workers_of(matches: &ArgMatches<'_>) -> Option<Workers>
+// The engine behind `--engine`.
+fn engine_of(matches: &ArgMatches<'_>) -> Option<Engine>
     ensures { result ≡ engine_in (rows_of (found_of matches.now)) }
 {
     match word(matches, "engine")? {
-        "locked" => locked_workers_of(matches),
+        "locked" => Some(Engine::Locked),
+        "split" => Some(Engine::Split),
         _ => None,
     }
 }
 
 // The number behind `--workers`.
-fn locked_workers_of(matches: &ArgMatches<'_>) -> Option<Workers>
-    ensures { result ≡ option_and_then workers_in (first_of (codes "workers") (rows_of (found_of matches.now))) }
+fn workers_of(matches: &ArgMatches<'_>) -> Option<Workers>
+    ensures { result ≡ workers_in (rows_of (found_of matches.now)) }
 {
     let text = word(matches, "workers")?;
     let count = text.parse::<u8>().unwrap_or(0);

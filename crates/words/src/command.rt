@@ -1,4 +1,5 @@
 use engine::Workers;
+use engine_choice::Engine;
 use files::BatchNames;
 
 /// What the words ask for.
@@ -18,11 +19,27 @@ pub enum Command {
         names: BatchNames,
         /// How many workers decide.
         workers: Workers,
-        /// The name of the file for the run's journal, if it is wanted.
-        journal: Option<String>,
+        /// How they share their work.
+        engine: Engine,
     },
-    /// Decide blocks, one after another, each by so many workers. The batch is their file.
-    Blocks(BatchNames, Workers),
+    /// Decide a batch by several workers under one lock, and keep the run's journal.
+    RunWithJournal {
+        /// The names of its files.
+        names: BatchNames,
+        /// How many workers decide.
+        workers: Workers,
+        /// The name of the file for the journal.
+        journal: String,
+    },
+    /// Decide blocks, one after another, each by several workers. The batch is their file.
+    Blocks {
+        /// The names of their files.
+        names: BatchNames,
+        /// How many workers decide.
+        workers: Workers,
+        /// How they share their work.
+        engine: Engine,
+    },
     /// Compare replies and book of a batch with what deciding it comes to.
     Audit {
         /// The names of its files.

@@ -67,7 +67,7 @@ fn run_line<'a>(alloc: Global) -> Result<Command<'a>, AllocError>
     )?;
     with_engine(alloc, files)?.arg(journal_setting(
         alloc,
-        "Puts the run's journal into this file: a line for each thing that a worker asked of the core",
+        "Puts the run's journal into this file: a line for each thing that a worker asked of the core; the locked engine alone keeps one",
     ))
 }
 
@@ -200,7 +200,7 @@ fn with_engine<'a>(alloc: Global, line: Command<'a>) -> Result<Command<'a>, Allo
         alloc,
         "engine",
         "ENGINE",
-        "How they share their work: locked, under one lock; split is not built yet",
+        "How they share their work: locked, all of it under one lock; split, each row, message and commit under a lock of its own",
     );
     let counted = line.arg(workers.default_value("4"))?;
     counted.arg(engine.default_value("locked"))

@@ -1,4 +1,4 @@
-use Rattle.words.proofs.PlainLemmas.{audit_read, block_audit_read, blocks_read, help, journal_audit_read, journal_read, no_frame, no_word, one_frame, run_read, serial_read, split_read, version}
+use Rattle.words.proofs.PlainLemmas.{audit_read, block_audit_read, blocks_read, help, journal_audit_read, journal_read, no_frame, no_word, one_frame, run_read, serial_read, split_blocks_read, split_journal_none, split_read, version}
 use Rattle.words.proofs.laws.plain_words_are_read.Goals as goal
 
 pub returns : goal.returns
@@ -12,7 +12,9 @@ returns c = record {
   run = run_read;
   journal = journal_read;
   split = split_read;
+  split_journal = split_journal_none;
   blocks = blocks_read;
+  split_blocks = split_blocks_read;
   audit = audit_read;
   journal_audit = journal_audit_read;
   block_audit = block_audit_read;

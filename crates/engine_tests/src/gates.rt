@@ -1,7 +1,9 @@
 //! What passes the gate, and what is committed where a decision stops.
 ghost use Rattle.std.specs.Prelude.{◌≡◌};
 
-use engine::{Gate, OpenGate, Workers, run};
+use crate::deciding::decided_by;
+use engine::{Gate, OpenGate};
+use engine_choice::Engine;
 use fixtures::{answer_text, body, first_book_with, has_row};
 use fold::Outcome;
 use iso8583::Message;
@@ -95,17 +97,17 @@ fn is_decline(frame: &Frame) -> bool {
     }
 }
 
-// The bodies run with one decision and one gate.
+// The bodies, decided by one worker of this engine with one decision and one gate.
 fn outcome_of<R: Threads + Wait + Sync, F: Decide + Sync>(
     rt: &R,
     alloc: Global,
+    engine: Engine,
     decision: &F,
     gate: &WritingGate,
 ) -> Result<Outcome, Fail> {
     let book = first_book_with(alloc, &[])?;
     let frames = frames().ok_or("bodies")?;
-    let worker = Workers::new(1).ok_or("one worker")?;
-    Ok(run(rt, alloc, &book, &frames, worker, decision, gate)?)
+    decided_by(rt, alloc, engine, 1, &book, &frames, decision, gate)
 }
 
 fn gate() -> WritingGate {
@@ -114,42 +116,44 @@ fn gate() -> WritingGate {
     }
 }
 
-// Every message goes through the core, the decline and the bad body too: the rest that is decided one after another is empty.
+// The workers commit every message, the decline and the bad body too: the rest that is decided one after another is empty.
 #[test]
-fn the_core_commits_every_message(rt: HostRuntime) -> Result<(), Fail> {
-    let gate = gate();
-    let outcome = outcome_of(&rt, rt.alloc(), &Shipped, &gate)?;
-    assert_eq!(rt; (outcome.started, outcome.committed), (1, 4));
-    assert_eq!(rt; gate.calls.load(Ordering::SeqCst), 1020_1121_1222_1323);
-    assert_decided(&rt, rt.alloc(), &outcome)
+fn the_workers_commit_every_message(rt: HostRuntime) -> Result<(), Fail> {
+    for engine in [Engine::Locked, Engine::Split] {
+        let gate = gate();
+        let outcome = outcome_of(&rt, rt.alloc(), engine, &Shipped, &gate)?;
+        assert_eq!(rt; (outcome.started, outcome.committed), (1, 4));
+        assert_eq!(rt; gate.calls.load(Ordering::SeqCst), 1020_1121_1222_1323);
+        assert_decided(&rt, rt.alloc(), &outcome)?;
+    }
+    Ok(())
 }
 
-// Where a decision finds no memory its worker leaves. The caller then plays all messages alone, by the shipped decision and
-// without the gate, and the core that it plays on commits them.
+// Where a decision finds no memory its worker leaves. The rest is decided by the shipped decision and without the gate: with the
+// locked engine the caller plays all messages anew, and the core that it plays on commits them; with the split engine what is
+// committed is what the worker had committed before it left.
 #[test]
-fn all_is_played_anew_where_a_decision_stops(rt: HostRuntime) -> Result<(), Fail> {
-    let gate = gate();
-    let outcome = outcome_of(&rt, rt.alloc(), &WithoutMemory, &gate)?;
-    assert_eq!(rt; (outcome.started, outcome.committed), (1, 4));
-    assert_eq!(rt; gate.calls.load(Ordering::SeqCst), 10_2011);
-    assert_decided(&rt, rt.alloc(), &outcome)
+fn a_decision_that_stops_is_made_again_without_the_gate(rt: HostRuntime) -> Result<(), Fail> {
+    for (engine, committed) in [(Engine::Locked, 4), (Engine::Split, 1)] {
+        let gate = gate();
+        let outcome = outcome_of(&rt, rt.alloc(), engine, &WithoutMemory, &gate)?;
+        assert_eq!(rt; (outcome.started, outcome.committed), (1, committed));
+        assert_eq!(rt; gate.calls.load(Ordering::SeqCst), 10_2011);
+        assert_decided(&rt, rt.alloc(), &outcome)?;
+    }
+    Ok(())
 }
 
 // A gate that holds nothing is called too, by as many threads as there may be.
 #[test]
 fn an_open_gate_holds_nothing(rt: HostRuntime) -> Result<(), Fail> {
-    let book = first_book_with(rt.alloc(), &[])?;
+    let alloc = rt.alloc();
+    let book = first_book_with(alloc, &[])?;
     let frames = frames().ok_or("bodies")?;
-    let workers = Workers::new(64).ok_or("64 workers")?;
-    let outcome = run(
-        &rt,
-        rt.alloc(),
-        &book,
-        &frames,
-        workers,
-        &Shipped,
-        &OpenGate,
-    )?;
-    assert_eq!(rt; outcome.committed, 4);
-    assert_decided(&rt, rt.alloc(), &outcome)
+    for engine in [Engine::Locked, Engine::Split] {
+        let outcome = decided_by(&rt, alloc, engine, 64, &book, &frames, &Shipped, &OpenGate)?;
+        assert_eq!(rt; outcome.committed, 4);
+        assert_decided(&rt, alloc, &outcome)?;
+    }
+    Ok(())
 }

@@ -1,7 +1,9 @@
 //! Where the gate's two calls stand: before a message's decision begins, and after it ended.
 ghost use Rattle.std.specs.Prelude.{◌≡◌};
 
-use engine::{Gate, Workers, run};
+use crate::deciding::decided_by;
+use engine::Gate;
+use engine_choice::Engine;
 use fixtures::{answer_text, body, first_book_with};
 use fold::Outcome;
 use iso8583::Message;
@@ -132,21 +134,28 @@ fn the_gate_stands_round_each_decision(rt: HostRuntime) -> Result<(), Fail> {
     let alloc = rt.alloc();
     let book = first_book_with(alloc, &[])?;
     let frames = frames().ok_or("bodies")?;
-    let worker = Workers::new(1).ok_or("one worker")?;
-    let diary = Diary::new(alloc)?;
-    let gate = NotingGate { diary: &diary };
-    let decision = NotingDecision { diary: &diary };
-    let outcome = run(&rt, alloc, &book, &frames, worker, &decision, &gate)?;
-    assert_eq!(rt; outcome.committed, 4);
-    assert_answers(&rt, alloc, &outcome)?;
+    let turns = turns(alloc)?;
+    for engine in [Engine::Locked, Engine::Split] {
+        let diary = Diary::new(alloc)?;
+        let gate = NotingGate { diary: &diary };
+        let decision = NotingDecision { diary: &diary };
+        let outcome = decided_by(&rt, alloc, engine, 1, &book, &frames, &decision, &gate)?;
+        assert_eq!(rt; outcome.committed, 4);
+        assert_answers(&rt, alloc, &outcome)?;
+        assert_eq!(rt; diary.text(alloc)?.as_str(), turns.as_str());
+    }
+    Ok(())
+}
+
+// The events of each message, one message after another.
+fn turns(alloc: Global) -> Result<String, Fail> {
     let mut turns = String::new(alloc);
     for trace in TRACES {
         for event in ["before", "begins", "ends", "after"] {
             turns.push_str(format!(in alloc; "{event} {trace}\n")?.as_str())?;
         }
     }
-    assert_eq!(rt; diary.text(alloc)?.as_str(), turns.as_str());
-    Ok(())
+    Ok(turns)
 }
 
 // How often each message's decision began and ended, and the gate was called round it; and how often a call came too early.
@@ -240,18 +249,19 @@ fn no_call_of_the_gate_comes_too_early(rt: HostRuntime) -> Result<(), Fail> {
     let alloc = rt.alloc();
     let book = first_book_with(alloc, &[])?;
     let frames = frames().ok_or("bodies")?;
-    let workers = Workers::new(4).ok_or("four workers")?;
-    let tally = Tally::new();
-    let gate = CountingGate { tally: &tally };
-    let decision = CountingDecision { tally: &tally };
-    let outcome = run(&rt, alloc, &book, &frames, workers, &decision, &gate)?;
-    assert_eq!(rt; outcome.committed, 4);
-    assert_answers(&rt, alloc, &outcome)?;
-    assert_eq!(rt; tally.too_early.load(Ordering::SeqCst), 0);
-    for (ended, after) in tally.ended.iter().zip(&tally.after) {
-        let recorded = after.load(Ordering::SeqCst);
-        assert!(rt; recorded > 0);
-        assert_eq!(rt; ended.load(Ordering::SeqCst), recorded);
+    for engine in [Engine::Locked, Engine::Split] {
+        let tally = Tally::new();
+        let gate = CountingGate { tally: &tally };
+        let decision = CountingDecision { tally: &tally };
+        let outcome = decided_by(&rt, alloc, engine, 4, &book, &frames, &decision, &gate)?;
+        assert_eq!(rt; outcome.committed, 4);
+        assert_answers(&rt, alloc, &outcome)?;
+        assert_eq!(rt; tally.too_early.load(Ordering::SeqCst), 0);
+        for (ended, after) in tally.ended.iter().zip(&tally.after) {
+            let recorded = after.load(Ordering::SeqCst);
+            assert!(rt; recorded > 0);
+            assert_eq!(rt; ended.load(Ordering::SeqCst), recorded);
+        }
     }
     Ok(())
 }

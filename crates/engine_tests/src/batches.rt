@@ -1,39 +1,35 @@
-//! Whole batches through the engine with split locks, with 1, 4 and 64 workers.
+//! Whole batches through both engines, with 1, 4 and 64 workers.
 
-use engine::{OpenGate, Workers};
+use crate::deciding::decided_by;
+use engine::OpenGate;
+use engine_choice::Engine;
 use fixtures::{
     ADVICE_RULES, Batch, REQUEST_RULES, REVERSAL_RULES, UNCHECKED_RULES, WORKED, answer_text,
     has_row,
 };
 use fold::Outcome;
 use rules::Shipped;
-use split::run_split;
 use std::alloc::Global;
 use std::process::Abort;
 use std::sync::Wait;
 use std::test::Fail;
 use std::thread::Threads;
 
-// The bodies of the batch, run on its book.
+// The bodies of the batch, decided on its book.
 fn outcome_of<R: Abort + Threads + Wait + Sync>(
     rt: &R,
     alloc: Global,
     batch: &Batch,
+    engine: Engine,
     workers: u32,
 ) -> Result<Outcome, Fail> {
     let frames = batch.frames(alloc)?;
     assert_eq!(rt; frames.len(), batch.bodies.len(), "{}", batch.name);
     assert!(rt; frames.len() <= 64);
-    let workers = Workers::new(workers).ok_or("1 to 64 workers")?;
-    Ok(run_split(
-        rt,
-        alloc,
-        &batch.opening(alloc)?,
-        &frames,
-        workers,
-        &Shipped,
-        &OpenGate,
-    )?)
+    let book = batch.opening(alloc)?;
+    decided_by(
+        rt, alloc, engine, workers, &book, &frames, &Shipped, &OpenGate,
+    )
 }
 
 fn assert_replies(
@@ -50,17 +46,12 @@ fn assert_replies(
     Ok(())
 }
 
-// The rows after the batch.
-fn assert_book(rt: &impl Abort, batch: &Batch, outcome: &Outcome) {
+// The rows after the batch; and the workers committed every message.
+fn assert_rows(rt: &impl Abort, batch: &Batch, outcome: &Outcome) {
     for line in batch.after {
         assert!(rt; has_row(&outcome.book, line), "{}: {line}", batch.name);
     }
     assert_eq!(rt; outcome.book.len(), batch.rows, "{}", batch.name);
-}
-
-// The rows after the batch; and the workers committed every message.
-fn assert_rows(rt: &impl Abort, batch: &Batch, outcome: &Outcome) {
-    assert_book(rt, batch, outcome);
     assert_eq!(rt;
         outcome.committed as usize,
         batch.bodies.len(),
@@ -75,8 +66,15 @@ fn assert_batches<R: Abort + Threads + Wait + Sync>(
     batches: &[Batch],
 ) -> Result<(), Fail> {
     for batch in batches {
-        for workers in [1, 4, 64] {
-            let outcome = outcome_of(rt, alloc, batch, workers)?;
+        for (engine, workers) in [
+            (Engine::Locked, 1),
+            (Engine::Locked, 4),
+            (Engine::Locked, 64),
+            (Engine::Split, 1),
+            (Engine::Split, 4),
+            (Engine::Split, 64),
+        ] {
+            let outcome = outcome_of(rt, alloc, batch, engine, workers)?;
             assert_replies(rt, alloc, batch, &outcome)?;
             assert_rows(rt, batch, &outcome);
         }

@@ -1,12 +1,13 @@
 //! Workers on threads: that they overlap, and that no lock is held while a message is decided.
 
-use engine::{Gate, OpenGate, Workers};
+use crate::deciding::decided_by;
+use engine::{Gate, OpenGate};
+use engine_choice::Engine;
 use fixtures::{answer_text, body, first_book_with, has_row};
 use fold::Outcome;
 use iso8583::Message;
 use rows::{Frame, ReplyBody};
 use rules::Shipped;
-use split::run_split;
 use std::alloc::Global;
 use std::process::Abort;
 use std::sync::atomic::{AtomicU64, Ordering};
@@ -92,14 +93,17 @@ impl Gate for HoldingGate {
 fn a_message_is_recorded_while_one_before_it_is_held(rt: HostRuntime) -> Result<(), Fail> {
     let alloc = rt.alloc();
     let book = first_book_with(alloc, &[])?;
-    let workers = Workers::new(2).ok_or("two workers")?;
-    let gate = HoldingGate::new(1);
-    let outcome = run_split(&rt, alloc, &book, &two_cards()?, workers, &Shipped, &gate)?;
-    assert_eq!(rt; gate.was_in_time.load(Ordering::SeqCst), 1);
-    assert_eq!(rt; outcome.started, 2);
-    assert!(rt; has_row(&outcome.book, "account A 9900 978"));
-    assert!(rt; has_row(&outcome.book, "account B 400 978"));
-    assert_answers(&rt, alloc, &outcome, &["000/000001", "000/000001"])
+    for engine in [Engine::Locked, Engine::Split] {
+        let gate = HoldingGate::new(1);
+        let frames = two_cards()?;
+        let outcome = decided_by(&rt, alloc, engine, 2, &book, &frames, &Shipped, &gate)?;
+        assert_eq!(rt; gate.was_in_time.load(Ordering::SeqCst), 1);
+        assert_eq!(rt; outcome.started, 2);
+        assert!(rt; has_row(&outcome.book, "account A 9900 978"));
+        assert!(rt; has_row(&outcome.book, "account B 400 978"));
+        assert_answers(&rt, alloc, &outcome, &["000/000001", "000/000001"])?;
+    }
+    Ok(())
 }
 
 // Two messages on one card are recorded while the one before them is held: both read old rows, and come out right.
@@ -107,13 +111,16 @@ fn a_message_is_recorded_while_one_before_it_is_held(rt: HostRuntime) -> Result<
 fn what_was_decided_too_early_is_decided_again(rt: HostRuntime) -> Result<(), Fail> {
     let alloc = rt.alloc();
     let book = first_book_with(alloc, &[])?;
-    let workers = Workers::new(3).ok_or("three workers")?;
-    let gate = HoldingGate::new(2);
-    let outcome = run_split(&rt, alloc, &book, &one_card()?, workers, &Shipped, &gate)?;
-    assert_eq!(rt; gate.was_in_time.load(Ordering::SeqCst), 1);
-    assert!(rt; has_row(&outcome.book, "account A 9700 978"));
     let answers = ["000/000001", "000/000002", "000/000003"];
-    assert_answers(&rt, alloc, &outcome, &answers)
+    for engine in [Engine::Locked, Engine::Split] {
+        let gate = HoldingGate::new(2);
+        let frames = one_card()?;
+        let outcome = decided_by(&rt, alloc, engine, 3, &book, &frames, &Shipped, &gate)?;
+        assert_eq!(rt; gate.was_in_time.load(Ordering::SeqCst), 1);
+        assert!(rt; has_row(&outcome.book, "account A 9700 978"));
+        assert_answers(&rt, alloc, &outcome, &answers)?;
+    }
+    Ok(())
 }
 
 // The shipped decision; but each of two messages raises its flag first, and waits for the other's.
@@ -155,21 +162,16 @@ fn is_first(frame: &Frame) -> bool {
 fn two_decisions_meet(rt: HostRuntime) -> Result<(), Fail> {
     let alloc = rt.alloc();
     let book = first_book_with(alloc, &[])?;
-    let workers = Workers::new(2).ok_or("two workers")?;
-    let meeting = Meeting {
-        first: AtomicU64::new(0),
-        second: AtomicU64::new(0),
-        met: AtomicU64::new(0),
-    };
-    let outcome = run_split(
-        &rt,
-        alloc,
-        &book,
-        &two_cards()?,
-        workers,
-        &meeting,
-        &OpenGate,
-    )?;
-    assert!(rt; meeting.met.load(Ordering::SeqCst) >= 2);
-    assert_answers(&rt, alloc, &outcome, &["000/000001", "000/000001"])
+    for engine in [Engine::Locked, Engine::Split] {
+        let meeting = Meeting {
+            first: AtomicU64::new(0),
+            second: AtomicU64::new(0),
+            met: AtomicU64::new(0),
+        };
+        let frames = two_cards()?;
+        let outcome = decided_by(&rt, alloc, engine, 2, &book, &frames, &meeting, &OpenGate)?;
+        assert!(rt; meeting.met.load(Ordering::SeqCst) >= 2);
+        assert_answers(&rt, alloc, &outcome, &["000/000001", "000/000001"])?;
+    }
+    Ok(())
 }

@@ -1,11 +1,12 @@
-//! The longest batch through the engine with split locks, with 1, 4 and 64 workers.
+//! The longest batch through both engines, with 1, 4 and 64 workers.
 
-use engine::{OpenGate, Workers};
+use crate::deciding::decided_by;
+use engine::OpenGate;
+use engine_choice::Engine;
 use fixtures::{answer_text, body, first_book_with, has_row};
 use fold::Outcome;
 use rows::{Frame, ReplyBody};
 use rules::Shipped;
-use split::run_split;
 use std::alloc::Global;
 use std::process::Abort;
 use std::sync::Wait;
@@ -50,40 +51,48 @@ fn assert_longest(rt: &impl Abort, alloc: Global, outcome: &Outcome) -> Result<(
     Ok(())
 }
 
-fn assert_run<R: Abort + Threads + Wait + Sync>(
-    rt: &R,
-    alloc: Global,
-    frames: &[Frame],
-    workers: u32,
-) -> Result<(), Fail> {
-    assert!(rt; frames.len() == 65_536);
-    let book = first_book_with(alloc, &[])?;
-    let workers = Workers::new(workers).ok_or("1 to 64 workers")?;
-    let outcome = run_split(rt, alloc, &book, frames, workers, &Shipped, &OpenGate)?;
-    assert_longest(rt, alloc, &outcome)
-}
-
-// The longest batch: the same replies with each number of workers.
+// The longest batch: the same replies with each engine and each number of workers.
 fn assert_runs_the_longest<R: Abort + Threads + Wait + Sync>(
     rt: &R,
     alloc: Global,
+    engine: Engine,
     workers: u32,
 ) -> Result<(), Fail> {
     let frames = requests(alloc, 65_536)?;
-    assert_run(rt, alloc, &frames, workers)
+    assert!(rt; frames.len() == 65_536);
+    let book = first_book_with(alloc, &[])?;
+    let outcome = decided_by(
+        rt, alloc, engine, workers, &book, &frames, &Shipped, &OpenGate,
+    )?;
+    assert_longest(rt, alloc, &outcome)
 }
 
 #[test]
-fn one_worker_runs_the_longest_batch(rt: HostRuntime) -> Result<(), Fail> {
-    assert_runs_the_longest(&rt, rt.alloc(), 1)
+fn one_locked_worker_runs_the_longest_batch(rt: HostRuntime) -> Result<(), Fail> {
+    assert_runs_the_longest(&rt, rt.alloc(), Engine::Locked, 1)
 }
 
 #[test]
-fn four_workers_run_the_longest_batch(rt: HostRuntime) -> Result<(), Fail> {
-    assert_runs_the_longest(&rt, rt.alloc(), 4)
+fn four_locked_workers_run_the_longest_batch(rt: HostRuntime) -> Result<(), Fail> {
+    assert_runs_the_longest(&rt, rt.alloc(), Engine::Locked, 4)
 }
 
 #[test]
-fn sixty_four_workers_run_the_longest_batch(rt: HostRuntime) -> Result<(), Fail> {
-    assert_runs_the_longest(&rt, rt.alloc(), 64)
+fn sixty_four_locked_workers_run_the_longest_batch(rt: HostRuntime) -> Result<(), Fail> {
+    assert_runs_the_longest(&rt, rt.alloc(), Engine::Locked, 64)
+}
+
+#[test]
+fn one_split_worker_runs_the_longest_batch(rt: HostRuntime) -> Result<(), Fail> {
+    assert_runs_the_longest(&rt, rt.alloc(), Engine::Split, 1)
+}
+
+#[test]
+fn four_split_workers_run_the_longest_batch(rt: HostRuntime) -> Result<(), Fail> {
+    assert_runs_the_longest(&rt, rt.alloc(), Engine::Split, 4)
+}
+
+#[test]
+fn sixty_four_split_workers_run_the_longest_batch(rt: HostRuntime) -> Result<(), Fail> {
+    assert_runs_the_longest(&rt, rt.alloc(), Engine::Split, 64)
 }

@@ -1,0 +1,6 @@
+//! Which engine decides a batch, by name.
+#![tactic(auto)]
+
+mod engine;
+
+pub use engine::Engine;
