@@ -18,8 +18,8 @@ use std::alloc::{AllocError, Global};
 use std::sync::Wait;
 use std::thread::Threads;
 
-/// Decides a block file by so many workers of an engine, block after block, files to files. Where a block can't be read, decided or answered,
-/// the blocks before it are kept.
+/// Decides a block file by so many workers of an engine, block after block, files to files. Where a block can't be read, decided or
+/// answered, the blocks before it are kept.
 pub fn run_blocks<R: Threads + Wait + Sync, F: Files>(
     rt: &R,
     alloc: Global,
