@@ -10,8 +10,8 @@ use rows::Frame;
 use sched::Task;
 use speccore_laws::{CoreFault, Seat};
 use std::alloc::Global;
-use std::sync::{Mutex, Wait};
 use std::mem;
+use std::sync::{Mutex, Wait};
 use view::{Decide, Execution, ReadSet, Recorder, RowSource, Stop, WriteSet};
 
 /// What a worker works with: the lock round the core and its journal, the bodies, the decision and the gate. Whatever it does or leaves undone,
