@@ -89,13 +89,14 @@ fn blocks_are_decided_one_after_another(rt: HostRuntime) -> Result<(), Fail> {
     assert_decided(&rt, alloc, &BLOCKS)?;
     let words = ["blocks", "--workers=1", "book", "file", "replies", "after"];
     assert_decided(&rt, alloc, &words)?;
-    for engine in ["locked", "split"] {
-        let words = [
-            "blocks", "book", "file", "replies", "after", "--engine", engine,
-        ];
-        assert_decided(&rt, alloc, &words)?;
-    }
-    Ok(())
+    let locked = [
+        "blocks", "book", "file", "replies", "after", "--engine", "locked",
+    ];
+    assert_decided(&rt, alloc, &locked)?;
+    let split = [
+        "blocks", "book", "file", "replies", "after", "--engine", "split",
+    ];
+    assert_decided(&rt, alloc, &split)
 }
 
 // A fault of the blocks leaves these replies and this book, and is told with how many blocks are kept.

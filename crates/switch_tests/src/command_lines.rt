@@ -164,6 +164,21 @@ fn words_that_are_no_command_are_a_usage_fault(rt: HostRuntime) -> Result<(), Fa
         alloc,
         &["run", "book", "batch", "replies", "after", "--journal"],
     )?;
+    assert_usage(
+        &rt,
+        alloc,
+        &[
+            "run",
+            "book",
+            "batch",
+            "replies",
+            "after",
+            "--journal",
+            "journal",
+            "--engine",
+            "split",
+        ],
+    )?;
     for workers in ["0", "65", "four", "-1", ""] {
         let words = [
             "run",
@@ -242,40 +257,24 @@ fn a_reversal_is_answered(rt: HostRuntime) -> Result<(), Fail> {
     assert_answer(&rt, alloc, reversal.as_str(), untraced.as_str())
 }
 
-// What is wrong with the settings of a run is told.
+// The split engine keeps no journal, and a word says so.
 #[test]
-fn a_wrong_setting_is_told(rt: HostRuntime) -> Result<(), Fail> {
-    for (settings, line) in [
-        (
-            ["--engine", "other", "--workers", "4"],
-            b"--engine is locked or split\n".as_slice(),
-        ),
-        (
-            ["--engine", "split", "--workers", "65"],
-            b"--workers is a number from 1 to 64\n".as_slice(),
-        ),
-        (
-            ["--engine", "split", "--journal", "journal"],
-            b"--journal asks for --engine locked: the split engine keeps no journal\n".as_slice(),
-        ),
-    ] {
-        let [name, value, other_name, other_value] = settings;
-        let words = [
-            "run",
-            "book",
-            "batch",
-            "replies",
-            "after",
-            name,
-            value,
-            other_name,
-            other_value,
-        ];
-        let acted = acted(&rt, rt.alloc(), &words)?;
-        assert_eq!(rt; acted.status, 2);
-        assert_eq!(rt; acted.err.as_slice(), line);
-        assert!(rt; acted.out.is_empty());
-    }
+fn the_split_engine_keeps_no_journal(rt: HostRuntime) -> Result<(), Fail> {
+    let words = [
+        "run",
+        "book",
+        "batch",
+        "replies",
+        "after",
+        "--engine",
+        "split",
+        "--journal",
+        "journal",
+    ];
+    let acted = acted(&rt, rt.alloc(), &words)?;
+    assert_eq!(rt; acted.status, 2);
+    let line = b"--journal asks for --engine locked: the split engine keeps no journal\n";
+    assert_eq!(rt; acted.err.as_slice(), line.as_slice());
     Ok(())
 }
 
@@ -331,18 +330,9 @@ fn help_says_what_there_is(rt: HostRuntime) -> Result<(), Fail> {
         "kept M",
     ];
     assert_help(&rt, alloc, &["--help"], &parts)?;
-    let run = [
-        "BOOK",
-        "I83B",
-        "I83R",
-        "--workers",
-        "--engine",
-        "locked",
-        "split",
-        "--journal",
-    ];
+    let run = ["BOOK", "I83B", "I83R", "--workers", "--engine", "--journal"];
     assert_help(&rt, alloc, &["run", "--help"], &run)?;
-    let blocks = ["BOOK", "I83M", "I83T", "--workers", "--engine", "split"];
+    let blocks = ["BOOK", "I83M", "I83T", "--workers", "--engine"];
     assert_help(&rt, alloc, &["blocks", "--help"], &blocks)?;
     let audit = ["I83B", "I83R", "--journal", "count differs"];
     assert_help(&rt, alloc, &["audit", "--help"], &audit)?;

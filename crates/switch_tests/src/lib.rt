@@ -12,10 +12,6 @@ mod blocks;
 #[cfg(test)]
 mod command_lines;
 #[cfg(test)]
-mod day;
-#[cfg(test)]
-mod engines;
-#[cfg(test)]
 mod faults;
 #[cfg(test)]
 mod journals;
