@@ -1,30 +1,35 @@
+use speccore_laws::Seat;
 use std::thread;
 
 // The longest rest, in turns that are given to other threads.
-const LONGEST: u32 = 1024;
+const LONGEST: u32 = 8192;
 
 /// How long a worker rests before it claims. Where others hold the lock most of the time, one more worker makes nothing faster: it
-/// waits for the lock with a message in hand, and what is executed behind that message has to be checked again.
+/// waits for the lock with a message in hand, and what is executed behind that message has to be checked again. The worker at the
+/// first seat never rests, so that there is one that goes on.
 #[derive(Clone, Copy, Debug)]
 pub(crate) struct Pace {
     // In turns that are given to other threads.
     rest: u32,
+    // The longest rest at this seat.
+    longest: u32,
 }
 
 impl Pace {
-    /// No rest.
-    pub(crate) fn new() -> Pace {
-        Pace { rest: 0 }
+    /// No rest yet.
+    pub(crate) fn of(seat: Seat) -> Pace {
+        let longest = if seat == Seat::first() { 0 } else { LONGEST };
+        Pace { rest: 0, longest }
     }
 
     /// The pace after the lock was found held, or free: a rest twice as long, or half as long.
     pub(crate) fn after(self, was_held: bool) -> Pace {
         let rest = if was_held {
-            self.rest.saturating_mul(2).max(1).min(LONGEST)
+            self.rest.saturating_mul(2).max(1).min(self.longest)
         } else {
             self.rest / 2
         };
-        Pace { rest }
+        Pace { rest, ..self }
     }
 
     /// Whether the worker rests before it claims.

@@ -30,7 +30,7 @@ impl<'a, R: Wait, F: Decide, G: Gate> Worker<'a, R, F, G> {
     /// Turns at this seat, until all is committed or the stop mark is set. A turn that has to leave sets it.
     pub(crate) fn work(&self, seat: Seat) {
         let mut sets = (ReadSet::new(self.alloc), WriteSet::new(self.alloc));
-        let mut pace = Pace::new();
+        let mut pace = Pace::of(seat);
         let mut turn = self.claim(seat);
         for _ in self.rt.forever() {
             turn = match turn {
