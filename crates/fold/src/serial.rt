@@ -43,7 +43,8 @@ pub fn decide_all_by<F: Decide>(
         let decided = decision.decide(frame, &mut recorder);
         let source;
         (source, reads, writes) = recorder.into_parts();
-        after.append(frame, &decided, &reads, &writes, &source.into_places())?;
+        let places = source.into_places();
+        after.append(frame, &decided, &reads, &writes, &places)?;
     }
     Ok(after)
 }
