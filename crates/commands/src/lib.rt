@@ -9,4 +9,4 @@ mod report;
 
 pub use fault::Fault;
 pub use printer::Printer;
-pub use program::act;
+pub use program::{act, print_fault};

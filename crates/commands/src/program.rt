@@ -87,7 +87,8 @@ fn print_report<W: Write>(report: &Report, out: &mut Printer<W>)
     }
 }
 
-fn print_fault<W: Write>(fault: &Fault, err: &mut Printer<W>)
+/// Prints the line of a fault.
+pub fn print_fault<W: Write>(fault: &Fault, err: &mut Printer<W>)
     ensures { PrintsLine (printed W.contents err.old) (printed W.contents err.new) (text_of fault.now) }
 {
     match fault {

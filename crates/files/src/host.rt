@@ -78,14 +78,14 @@ impl<'a, R: rt::Files> Files for HostFiles<'a, R> {
     fn open(&self, name: &str) -> Result<FromRead<R::File>, ReadFault> {
         match fs::open(self.host, name) {
             Ok(file) => Ok(FromRead::new(file)),
-            Err(_) => Err(ReadFault::Unreadable),
+            Err(error) => Err(unopened(&error)),
         }
     }
 
     fn create(&mut self, name: &str) -> Result<IntoWrite<R::File>, WriteFault> {
         match fs::create(self.host, name) {
             Ok(file) => Ok(IntoWrite::new(file)),
-            Err(_) => Err(WriteFault::Unwritable),
+            Err(error) => Err(unwritten(&error)),
         }
     }
 
@@ -97,7 +97,23 @@ impl<'a, R: rt::Files> Files for HostFiles<'a, R> {
     fn replace(&mut self, name: &str, bytes: &[u8]) -> Result<(), WriteFault> {
         match self.replace_file(name, bytes) {
             Ok(()) => Ok(()),
-            Err(_) => Err(WriteFault::Unwritable),
+            Err(error) => Err(unwritten(&error)),
         }
+    }
+}
+
+// Why a file is not opened.
+fn unopened(error: &io::Error) -> ReadFault {
+    match error.kind() {
+        ErrorKind::OutOfMemory => ReadFault::OutOfMemory,
+        _ => ReadFault::Unreadable,
+    }
+}
+
+// Why a file is not made or written.
+fn unwritten(error: &io::Error) -> WriteFault {
+    match error.kind() {
+        ErrorKind::OutOfMemory => WriteFault::OutOfMemory,
+        _ => WriteFault::Unwritable,
     }
 }

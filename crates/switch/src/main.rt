@@ -1,16 +1,39 @@
 //! `switch`: decides card messages for an issuer.
 #![tactic(auto)]
 
-use commands::{Printer, act};
+use commands::{Fault, Printer, act, print_fault};
 use files::HostFiles;
+use std::alloc::{AllocError, Global};
+use std::io::ErrorKind;
 use std::process::ExitCode;
 use std::{env, io};
 
-fn main(rt: HostRuntime) -> io::Result<ExitCode> {
-    let words: Vec<String> = env::args(&rt)?.collect(rt.alloc())?;
+fn main(rt: HostRuntime) -> ExitCode {
     let mut files = HostFiles::new(&rt, rt.alloc());
     let mut out = Printer::new(rt.stdout());
     let mut err = Printer::new(rt.stderr());
-    let status = act(&rt, rt.alloc(), &mut files, &words, &mut out, &mut err);
-    Ok(ExitCode::from(status))
+    let status = match words_of(&rt) {
+        Ok(words) => act(&rt, rt.alloc(), &mut files, &words, &mut out, &mut err),
+        Err(fault) => {
+            print_fault(&fault, &mut err);
+            fault.status()
+        }
+    };
+    ExitCode::from(status)
+}
+
+// The words that the program was started with.
+fn words_of(rt: &HostRuntime) -> Result<Vec<String>, Fault> {
+    match env::args(rt) {
+        Ok(words) => Ok(words.collect(rt.alloc())?),
+        Err(error) => Err(unread(rt.alloc(), &error)?),
+    }
+}
+
+// Why the words can't be read: memory ran out, or one is no text.
+fn unread(alloc: Global, error: &io::Error) -> Result<Fault, AllocError> {
+    match error.kind() {
+        ErrorKind::OutOfMemory => Ok(Fault::OutOfMemory),
+        _ => Ok(Fault::Usage(String::from_str(alloc, "a word is no UTF-8 text")?)),
+    }
 }
