@@ -191,15 +191,21 @@ impl<B: Room, R: Wait, F: Decide, G: Gate> Worker<'_, B, R, F, G> {
         Ok(())
     }
 
-    // Gives a message up that met an estimate, to be executed again.
+    // Gives a message up that met an estimate, to be executed again, and lets the one run that it waits for.
     fn block(&self, place: &mut Place<B>, index: u32) -> Result<(), Leave> {
-        let Some(mut slot) = self.board.slot(self.rt, index) else {
-            return Ok(());
-        };
-        if slot.give_up() == GivenUp::Worn {
+        if self.give_back(index) == GivenUp::Worn {
             return Err(Leave::Worn);
         }
         place.lower_execute(self.board, index);
+        thread::yield_now();
         Ok(())
+    }
+
+    // Gives a message back that was taken to be executed.
+    fn give_back(&self, index: u32) -> GivenUp {
+        match self.board.slot(self.rt, index) {
+            Some(mut slot) => slot.give_up(),
+            None => GivenUp::Kept,
+        }
     }
 }
