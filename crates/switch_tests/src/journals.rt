@@ -4,7 +4,9 @@ use crate::acting::{AFTER, BATCH, BOOK, REPLIES, assert_said, files_of};
 use files::MemoryFiles;
 use std::alloc::Global;
 use std::process::Abort;
+use std::sync::Wait;
 use std::test::Fail;
+use std::thread::Threads;
 
 const RUN: [&str; 7] = [
     "run",
@@ -51,6 +53,40 @@ fn a_run_leaves_its_journal(rt: HostRuntime) -> Result<(), Fail> {
     let text = str::from_utf8(journal).ok().ok_or("text")?;
     assert!(rt; text.contains(" f 0.0\n"));
     assert_said(&rt, alloc, &mut files, &AUDIT, 0, b"same\n")
+}
+
+// A run that is not done leaves an older journal under its name, and an older book.
+fn assert_older_stays<R: Abort + Threads + Wait + Sync>(
+    rt: &R,
+    alloc: Global,
+    book: &[u8],
+    batch: &[u8],
+    line: &[u8],
+) -> Result<(), Fail> {
+    let older = b"0 n\n".as_slice();
+    let mut files = files_of(
+        alloc,
+        &[
+            ("book", book),
+            ("batch", batch),
+            ("after", AFTER.as_bytes()),
+            ("journal", older),
+        ],
+    )?;
+    assert_said(rt, alloc, &mut files, &RUN, 1, line)?;
+    assert_eq!(rt; files.get("journal"), Some(older));
+    assert_eq!(rt; files.get("after"), Some(AFTER.as_bytes()));
+    Ok(())
+}
+
+#[test]
+fn an_older_journal_stays_after_a_fault(rt: HostRuntime) -> Result<(), Fail> {
+    let alloc = rt.alloc();
+    let book = BOOK.as_bytes();
+    let cut = BATCH.get(..109).ok_or("a batch without its last byte")?;
+    assert_older_stays(&rt, alloc, b"[", BATCH, b"book 1\n")?;
+    assert_older_stays(&rt, alloc, book, b"I83R", b"batch 1\n")?;
+    assert_older_stays(&rt, alloc, book, cut, b"batch 5\n")
 }
 
 // A journal that stops before its message is committed has no reply; other text is none, and neither is a finish of a version
