@@ -28,16 +28,12 @@ pub(crate) fn names(
     })
 }
 
-fn joined(alloc: Global, parts: &[&[u8]]) -> Result<Vec<u8>, Fail> {
-    let mut all = Vec::new(alloc);
+// Puts these texts, one behind the other, into a file.
+fn put(alloc: Global, files: &mut MemoryFiles, name: &str, parts: &[&str]) -> Result<(), Fail> {
+    let mut bytes = Vec::new(alloc);
     for part in parts {
-        all.extend_from_slice(part)?;
+        bytes.extend_from_slice(part.as_bytes())?;
     }
-    Ok(all)
-}
-
-fn put(alloc: Global, files: &mut MemoryFiles, name: &str, parts: &[&[u8]]) -> Result<(), Fail> {
-    let bytes = joined(alloc, parts)?;
     files.put(name, bytes).ok().ok_or("room for a file")?;
     Ok(())
 }
@@ -46,7 +42,7 @@ fn put(alloc: Global, files: &mut MemoryFiles, name: &str, parts: &[&[u8]]) -> R
 fn decide(
     alloc: Global,
     files: &mut MemoryFiles,
-    halves: &[&[u8]],
+    halves: &[&str],
     names: &BatchNames,
 ) -> Result<(), Fail> {
     put(alloc, files, "text", halves)?;
@@ -70,20 +66,24 @@ fn put_blocks(
     let bytes = files.get(whole).ok_or("a file of the day")?;
     let first = bytes.get(10..end).ok_or("bodies behind the head")?;
     let second = bytes.get(end..).ok_or("bodies of the other half")?;
-    let cut = joined(alloc, &[head, HALF, first, HALF, second])?;
+    let mut cut = Vec::new(alloc);
+    cut.extend_from_slice(head)?;
+    cut.extend_from_slice(HALF)?;
+    cut.extend_from_slice(first)?;
+    cut.extend_from_slice(HALF)?;
+    cut.extend_from_slice(second)?;
     files.put(blocks, cut).ok().ok_or("room for a file")?;
     Ok(())
 }
 
 // Files of the day: the batch `batch` with its `replies`, the block file `blocks` with its `block replies`, and the book `after`.
 pub(crate) fn decided_day(alloc: Global) -> Result<MemoryFiles, Fail> {
-    let (first, second) = (FIRST_HALF.as_bytes(), SECOND_HALF.as_bytes());
     let mut files = MemoryFiles::new(alloc);
-    put(alloc, &mut files, "book", &[BOOK.as_bytes()])?;
+    put(alloc, &mut files, "book", &[BOOK])?;
     let half = names(alloc, "half", "half replies", "half after")?;
-    decide(alloc, &mut files, &[first], &half)?;
+    decide(alloc, &mut files, &[FIRST_HALF], &half)?;
     let day = names(alloc, "batch", "replies", "after")?;
-    decide(alloc, &mut files, &[first, second], &day)?;
+    decide(alloc, &mut files, &[FIRST_HALF, SECOND_HALF], &day)?;
     put_blocks(alloc, &mut files, BLOCKS, "batch", "half", "blocks")?;
     put_blocks(
         alloc,

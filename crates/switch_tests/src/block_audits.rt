@@ -2,6 +2,7 @@
 
 use crate::acting::{BOOK, assert_said, files_of};
 use crate::blocks::{AFTER_BOTH, AUDIT, joined, two_blocks, two_replies};
+use files::MemoryFiles;
 use std::alloc::Global;
 use std::process::Abort;
 use std::sync::Wait;
@@ -23,25 +24,32 @@ fn otherwise(alloc: Global) -> Result<Vec<u8>, Fail> {
     joined(alloc, &[front, b"9".as_slice(), back])
 }
 
-// The audit of the two blocks with these replies and this book says so.
-fn assert_audited<R: Abort + Threads + Wait + Sync>(
-    rt: &R,
-    alloc: Global,
-    replies: &[u8],
-    after: &str,
-    status: u8,
-    line: &[u8],
-) -> Result<(), Fail> {
+// The two blocks with their replies and the book after them.
+fn decided(alloc: Global) -> Result<MemoryFiles, Fail> {
     let file = two_blocks(alloc)?;
-    let mut files = files_of(
+    let replies = two_replies(alloc)?;
+    files_of(
         alloc,
         &[
             ("book", BOOK.as_bytes()),
             ("file", file.as_slice()),
-            ("replies", replies),
-            ("after", after.as_bytes()),
+            ("replies", replies.as_slice()),
+            ("after", AFTER_BOTH.as_bytes()),
         ],
-    )?;
+    )
+}
+
+// With these bytes in one of the files the audit says so.
+fn assert_audited<R: Abort + Threads + Wait + Sync>(
+    rt: &R,
+    alloc: Global,
+    name: &str,
+    bytes: Vec<u8>,
+    status: u8,
+    line: &[u8],
+) -> Result<(), Fail> {
+    let mut files = decided(alloc)?;
+    files.put(name, bytes).ok().ok_or("room for a file")?;
     assert_said(rt, alloc, &mut files, &AUDIT, status, line)
 }
 
@@ -49,24 +57,30 @@ fn assert_audited<R: Abort + Threads + Wait + Sync>(
 fn the_first_difference_of_blocks_is_told(rt: HostRuntime) -> Result<(), Fail> {
     let alloc = rt.alloc();
     let replies = two_replies(alloc)?;
-    assert_audited(&rt, alloc, &replies, AFTER_BOTH, 0, b"same\n")?;
-    let none = b"I83T\x00\x01\x00\x00\x00\x00";
-    assert_audited(&rt, alloc, none, AFTER_BOTH, 3, b"count differs\n")?;
+    assert_audited(&rt, alloc, "replies", replies, 0, b"same\n")?;
+    let none = Vec::from_slice(alloc, b"I83T\x00\x01\x00\x00\x00\x00")?;
+    assert_audited(&rt, alloc, "replies", none, 3, b"count differs\n")?;
     let short = shorter(alloc)?;
-    assert_audited(&rt, alloc, &short, AFTER_BOTH, 3, b"count differs\n")?;
+    assert_audited(&rt, alloc, "replies", short, 3, b"count differs\n")?;
     let other = otherwise(alloc)?;
     let line = b"block 1 reply 0 differs\n";
-    assert_audited(&rt, alloc, &other, AFTER_BOTH, 3, line)?;
+    assert_audited(&rt, alloc, "replies", other, 3, line)?;
     let richer = AFTER_BOTH.replace(alloc, "4000", "4001")?;
+    let richer = Vec::from_slice(alloc, richer.as_bytes())?;
     let line = b"row acct:34313131313130303030303030303035 differs\n";
-    assert_audited(&rt, alloc, &replies, richer.as_str(), 3, line)
+    assert_audited(&rt, alloc, "after", richer, 3, line)
 }
 
 #[test]
 fn a_bad_file_of_an_audit_of_blocks_is_told(rt: HostRuntime) -> Result<(), Fail> {
     let alloc = rt.alloc();
-    let replies = two_replies(alloc)?;
-    assert_audited(&rt, alloc, b"I83T", AFTER_BOTH, 1, b"batch 5\n")?;
-    assert_audited(&rt, alloc, b"I83R", AFTER_BOTH, 1, b"batch 1\n")?;
-    assert_audited(&rt, alloc, &replies, "", 1, b"book 1\n")
+    for (name, line) in [
+        ("book", b"book 1\n".as_slice()),
+        ("file", b"batch 5\n".as_slice()),
+        ("replies", b"batch 5\n".as_slice()),
+        ("after", b"book 1\n".as_slice()),
+    ] {
+        assert_audited(&rt, alloc, name, Vec::new(alloc), 1, line)?;
+    }
+    Ok(())
 }
