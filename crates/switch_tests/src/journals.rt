@@ -63,10 +63,11 @@ fn assert_older_stays<R: Abort + Threads + Wait + Sync>(
     bytes: Vec<u8>,
     line: &[u8],
 ) -> Result<(), Fail> {
-    let mut files = decided(alloc, b"0 n\n")?;
+    let older = b"0 n\n".as_slice();
+    let mut files = decided(alloc, older)?;
     files.put(name, bytes).ok().ok_or("room for a file")?;
     assert_said(rt, alloc, &mut files, &RUN, 1, line)?;
-    assert_eq!(rt; files.get("journal"), Some(b"0 n\n".as_slice()));
+    assert_eq!(rt; files.get("journal"), Some(older));
     assert_eq!(rt; files.get("after"), Some(AFTER.as_bytes()));
     Ok(())
 }
