@@ -5,7 +5,7 @@ use crate::texts::{
     EMPTY, EMPTY_REPLIES, request_and_reversal, thousand_requests, two_replies, two_requests,
 };
 use batch::{IntoWrite, read_block_replies, read_blocks};
-use fixtures::{answer_text, has_row};
+use fixtures::{answer_text, first_book_with, has_row};
 use std::alloc::Global;
 use std::process::Abort;
 use std::test::Fail;
@@ -42,6 +42,7 @@ fn assert_blocks<R: Abort>(rt: &R, alloc: Global, file: &[u8], count: usize) -> 
     Ok(())
 }
 
+// It is read as no block; its replies are a head alone, and the book is the old one.
 #[test]
 fn no_block_is_a_file(rt: HostRuntime) -> Result<(), Fail> {
     let alloc = rt.alloc();
@@ -50,8 +51,9 @@ fn no_block_is_a_file(rt: HostRuntime) -> Result<(), Fail> {
     let came = decided(alloc, &mut source, &mut sink)?;
     assert_eq!(rt; came.fault, None);
     assert_eq!(rt; came.kept, 0);
-    assert_eq!(rt; came.book.len(), 4);
+    assert!(rt; came.book.is_same(&first_book_with(alloc, &[])?));
     assert_eq!(rt; sink.writer().as_slice(), EMPTY_REPLIES);
+    assert_answers(&rt, alloc, EMPTY_REPLIES, &[])?;
     assert_blocks(&rt, alloc, EMPTY, 0)
 }
 

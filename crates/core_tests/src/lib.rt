@@ -3,12 +3,20 @@
 #![tactic(auto)]
 
 #[cfg(test)]
-mod cores;
-#[cfg(test)]
 mod journals;
+#[cfg(test)]
+mod late_checks;
 #[cfg(test)]
 mod limits;
 #[cfg(test)]
+mod one_card;
+#[cfg(test)]
+mod refusals;
+#[cfg(test)]
+mod requests;
+#[cfg(test)]
 mod schedules;
+#[cfg(test)]
+mod steps;
 #[cfg(test)]
 mod versions;

@@ -8,14 +8,14 @@ use std::test::Fail;
 use std::thread::Threads;
 
 // The book after a request of 60.00 was approved, and another one declined.
-const AFTER_BOTH: &str =
+pub(crate) const AFTER_BOTH: &str =
     r#"{"accounts":[{"available":4000,"currency":"978","id":"4111110000000005"}],"ahead":[],"budgets":[],"cards":[{"account":"4111110000000005","approvals":1,"day_amount":20000,"day_count":3,"expiry":"2812","pan":"4111110000000005","second":null,"status":"active"}],"days":[{"count":1,"day":"260110","pan":"4111110000000005","sum":6000}],"originals":[{"account":"4111110000000005","acquirer":"123456","action":"000","amount":6000,"approval":"000001","kind":"request","paid":"account","pan":"4111110000000005","processing":"000000","reversed":null,"stamp":"260110120000","stay":6000,"trace":"000001"},{"account":null,"acquirer":"123456","action":"116","amount":6000,"approval":null,"kind":"request","paid":"nothing","pan":"4111110000000005","processing":"000000","reversed":null,"stamp":"260110120000","stay":0,"trace":"000002"}],"version":3}"#;
 
 const BLOCKS: [&str; 5] = ["blocks", "book", "file", "replies", "after"];
 
-const AUDIT: [&str; 5] = ["audit-blocks", "book", "file", "replies", "after"];
+pub(crate) const AUDIT: [&str; 5] = ["audit-blocks", "book", "file", "replies", "after"];
 
-fn joined(alloc: Global, parts: &[&[u8]]) -> Result<Vec<u8>, Fail> {
+pub(crate) fn joined(alloc: Global, parts: &[&[u8]]) -> Result<Vec<u8>, Fail> {
     let mut all = Vec::new(alloc);
     for part in parts {
         all.extend_from_slice(part)?;
@@ -37,7 +37,7 @@ fn block(alloc: Global, trace: &[u8]) -> Result<Vec<u8>, Fail> {
 }
 
 // A file of the two blocks.
-fn two_blocks(alloc: Global) -> Result<Vec<u8>, Fail> {
+pub(crate) fn two_blocks(alloc: Global) -> Result<Vec<u8>, Fail> {
     let first = block(alloc, b"000001")?;
     let second = block(alloc, b"000002")?;
     joined(
@@ -51,7 +51,7 @@ fn two_blocks(alloc: Global) -> Result<Vec<u8>, Fail> {
 }
 
 // The file of their replies: 000 with the approval code 000001, and 116.
-fn two_replies(alloc: Global) -> Result<Vec<u8>, Fail> {
+pub(crate) fn two_replies(alloc: Global) -> Result<Vec<u8>, Fail> {
     joined(
         alloc,
         &[
@@ -97,6 +97,32 @@ fn blocks_are_decided_one_after_another(rt: HostRuntime) -> Result<(), Fail> {
         "blocks", "book", "file", "replies", "after", "--engine", "split",
     ];
     assert_decided(&rt, alloc, &split)
+}
+
+// No block is decided by these words, the new book is the old one, and an audit finds it the same.
+fn assert_none_decided<R: Abort + Threads + Wait + Sync>(
+    rt: &R,
+    alloc: Global,
+    words: &[&str],
+) -> Result<(), Fail> {
+    let none = b"I83M\x00\x01\x00\x00\x00\x00".as_slice();
+    let mut files = files_of(alloc, &[("book", BOOK.as_bytes()), ("file", none)])?;
+    let line = b"decided 0 in 0 blocks\n";
+    assert_said(rt, alloc, &mut files, words, 0, line)?;
+    let replies = b"I83T\x00\x01\x00\x00\x00\x00".as_slice();
+    assert_eq!(rt; files.get("replies"), Some(replies));
+    assert_eq!(rt; files.get("after"), Some(BOOK.as_bytes()));
+    assert_said(rt, alloc, &mut files, &AUDIT, 0, b"same\n")
+}
+
+#[test]
+fn a_file_without_blocks_leaves_the_book(rt: HostRuntime) -> Result<(), Fail> {
+    let alloc = rt.alloc();
+    assert_none_decided(&rt, alloc, &BLOCKS)?;
+    let split = [
+        "blocks", "book", "file", "replies", "after", "--engine", "split",
+    ];
+    assert_none_decided(&rt, alloc, &split)
 }
 
 // A fault of the blocks leaves these replies and this book, and is told with how many blocks are kept.

@@ -4,7 +4,9 @@ use crate::acting::{AFTER, BATCH, BOOK, REPLIES, assert_said, files_of};
 use files::MemoryFiles;
 use std::alloc::Global;
 use std::process::Abort;
+use std::sync::Wait;
 use std::test::Fail;
+use std::thread::Threads;
 
 const RUN: [&str; 7] = [
     "run",
@@ -51,6 +53,34 @@ fn a_run_leaves_its_journal(rt: HostRuntime) -> Result<(), Fail> {
     let text = str::from_utf8(journal).ok().ok_or("text")?;
     assert!(rt; text.contains(" f 0.0\n"));
     assert_said(&rt, alloc, &mut files, &AUDIT, 0, b"same\n")
+}
+
+// A run with these bytes in one of its files is not done, and leaves an older journal and an older new book as they were.
+fn assert_older_stays<R: Abort + Threads + Wait + Sync>(
+    rt: &R,
+    alloc: Global,
+    name: &str,
+    bytes: Vec<u8>,
+    line: &[u8],
+) -> Result<(), Fail> {
+    let older = b"0 n\n".as_slice();
+    let mut files = decided(alloc, older)?;
+    files.put(name, bytes).ok().ok_or("room for a file")?;
+    assert_said(rt, alloc, &mut files, &RUN, 1, line)?;
+    assert_eq!(rt; files.get("journal"), Some(older));
+    assert_eq!(rt; files.get("after"), Some(AFTER.as_bytes()));
+    Ok(())
+}
+
+#[test]
+fn an_older_journal_stays_after_a_fault(rt: HostRuntime) -> Result<(), Fail> {
+    let alloc = rt.alloc();
+    assert_older_stays(&rt, alloc, "book", Vec::new(alloc), b"book 1\n")?;
+    let replies = Vec::from_slice(alloc, REPLIES)?;
+    assert_older_stays(&rt, alloc, "batch", replies, b"batch 1\n")?;
+    let cut = BATCH.get(..109).ok_or("a batch without its last byte")?;
+    let cut = Vec::from_slice(alloc, cut)?;
+    assert_older_stays(&rt, alloc, "batch", cut, b"batch 5\n")
 }
 
 // A journal that stops before its message is committed has no reply; other text is none, and neither is a finish of a version

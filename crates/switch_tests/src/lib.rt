@@ -8,6 +8,8 @@ mod answers;
 #[cfg(test)]
 mod batches;
 #[cfg(test)]
+mod block_audits;
+#[cfg(test)]
 mod blocks;
 #[cfg(test)]
 mod command_lines;
