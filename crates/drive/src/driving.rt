@@ -24,7 +24,8 @@ pub fn drive(
     for index in 0..seats.len() {
         let seat = seats[index];
         let place = seat.number() as usize;
-        hands[place] = take_turn(alloc, frames, &mut traced, seat, hands[place])?;
+        let next = take_turn(alloc, frames, &mut traced, seat, hands[place])?;
+        hands[place] = next;
     }
     Ok(traced)
 }

@@ -36,9 +36,15 @@ const OF_ALL: Requests = Requests {
     answers: ["000/000001", "116", "116"],
 };
 
-// So many turns are given at random; those of the seats in their order follow, as many as are allowed.
+// So many turns are chosen, in every way; those of the three seats in their order follow, as many as are allowed in all.
 const CHOSEN: usize = 10;
-const ALLOWED: usize = 200;
+
+const ALLOWED: usize = 3000;
+
+// Of the 59,049 ways to choose, every seventh is taken.
+const TAKEN: u32 = 8436;
+
+const STEP: u32 = 7;
 
 impl Requests {
     fn frames(&self) -> Result<[Frame; 3], Fail> {
@@ -49,16 +55,27 @@ impl Requests {
     }
 }
 
-// The list of this number: ten digits to the base of three; and then the three seats in turn.
-fn turns_of(alloc: Global, number: u32) -> Result<Vec<Seat>, Fail> {
+fn seat(number: u32) -> Result<Seat, Fail> {
+    Ok(Seat::new(number).ok_or("a seat")?)
+}
+
+// The three seats in their order, as many turns as are allowed.
+fn turns_in_order(alloc: Global) -> Result<Vec<Seat>, Fail> {
     let mut turns = Vec::with_capacity(alloc, ALLOWED)?;
-    let mut rest = number;
-    for place in 0..ALLOWED {
-        let digit = if place < CHOSEN { rest % 3 } else { (place % 3) as u32 };
-        turns.push(Seat::new(digit).ok_or("a seat")?)?;
-        rest /= 3;
+    for place in 0..ALLOWED as u32 {
+        turns.push(seat(place % 3)?)?;
     }
     Ok(turns)
+}
+
+// Puts the ten turns of this number first: its digits to the base of three.
+fn choose(turns: &mut [Seat], number: u32) -> Result<(), Fail> {
+    let mut rest = number;
+    for turn in turns.iter_mut().take(CHOSEN) {
+        *turn = seat(rest % 3)?;
+        rest /= 3;
+    }
+    Ok(())
 }
 
 // The committed replies are the first of these answers.
@@ -90,31 +107,33 @@ fn has_ended(traced: &Traced, seat: Seat) -> bool {
     ended
 }
 
+// The replies that are committed after the chosen turns begin the answers, and at the end they are the answers.
 fn assert_driven(
     rt: &impl Abort,
     alloc: Global,
     book: &Book,
     requests: &Requests,
-    number: u32,
+    turns: &[Seat],
 ) -> Result<(), Fail> {
     let frames = requests.frames()?;
-    let turns = turns_of(alloc, number)?;
-    let early = drive(alloc, book, &frames, &turns[..CHOSEN])?;
+    let chosen = turns.get(..CHOSEN).ok_or("ten turns")?;
+    let early = drive(alloc, book, &frames, chosen)?;
     assert_begins(rt, alloc, early, &requests.answers)?;
-    let traced = drive(alloc, book, &frames, &turns)?;
-    for digit in 0..3 {
-        assert!(rt; has_ended(&traced, Seat::new(digit).ok_or("a seat")?));
+    let traced = drive(alloc, book, &frames, turns)?;
+    for number in 0..3 {
+        assert!(rt; has_ended(&traced, seat(number)?));
     }
     let count = assert_begins(rt, alloc, traced, &requests.answers)?;
     assert_eq!(rt; count, 3);
     Ok(())
 }
 
-// Every seventh of the lists.
 fn assert_all_driven(rt: &impl Abort, alloc: Global, requests: &Requests) -> Result<(), Fail> {
     let book = first_book_with(alloc, &[])?;
-    for seventh in 0..843u32 {
-        assert_driven(rt, alloc, &book, requests, seventh * 70)?;
+    let mut turns = turns_in_order(alloc)?;
+    for taken in 0..TAKEN {
+        choose(&mut turns, taken * STEP)?;
+        assert_driven(rt, alloc, &book, requests, &turns)?;
     }
     Ok(())
 }

@@ -1,0 +1,3 @@
+mod Driving
+mod Kept
+mod Turning
