@@ -1,14 +1,15 @@
 ghost use Rattle.std.specs.Prelude.{◌≡◌, Some, Ok};
 ghost use Rattle.std.specs.FinMap as map;
 
-use rows::{Book, RowKey, RowVal};
+use rows::{Book, Places, RowKey, RowVal};
 use std::slice;
 use view::{RowSource, Stop};
 
-/// The rows of a book that stays as it is.
+/// The rows of a book that stays as it is, and where they were found.
 #[derive(Drop)]
 pub struct PlainRows<'a> {
     book: &'a Book,
+    places: Places,
 }
 
 impl<'a> PlainRows<'a> {
@@ -16,14 +17,22 @@ impl<'a> PlainRows<'a> {
     pub fn new(book: &'a Book) -> PlainRows<'a>
         ensures { result.book.now ≡ book.now }
     {
-        PlainRows { book }
+        PlainRows {
+            book,
+            places: Places::new(),
+        }
+    }
+
+    // Where the rows were found: a hint for those that are put.
+    pub(crate) fn into_places(self) -> Places {
+        self.places
     }
 }
 
 impl RowSource for PlainRows<'_> {
     ghost book = { λ source. Some source.book.now };
 
-    ghost answers = { λ old key result new. (result ≡ Ok (map.get old.book.now key)) × (new ≡ old) };
+    ghost answers = { λ old key result new. (result ≡ Ok (map.get old.book.now key)) × (new.book ≡ old.book) };
 
     fn read(&mut self, key: &RowKey) -> Result<Option<RowVal>, Stop> {
         Ok(self.book.get(key))
@@ -31,7 +40,7 @@ impl RowSource for PlainRows<'_> {
 
     #[inline(always)]
     fn read_into(&mut self, key: &RowKey, row: &mut Option<RowVal>) -> Result<(), Stop> {
-        match self.book.row(key) {
+        match self.book.find(key, &mut self.places) {
             Some(val) => put_over(row, val),
             None => *row = None,
         }

@@ -4,7 +4,7 @@ ghost use Rattle.rows.specs.Fold.{overlay, reply_of, rows_after_one};
 ghost use Rattle.view.specs.Recording.{AgreesWithBook};
 
 use crate::putting::put_all_or_none;
-use rows::{Book, Frame, ReplyBody};
+use rows::{Book, Frame, Places, ReplyBody};
 use std::alloc::{AllocError, Global};
 use view::{Execution, ReadSet, Stop, WriteSet};
 
@@ -56,6 +56,7 @@ impl Prefix {
         decided: &Result<ReplyBody, Stop>,
         reads: &ReadSet,
         writes: &WriteSet,
+        places: &Places,
     ) -> Result<(), AllocError>
         requires room { self.old.count + 1 < 2 ^ 32 }
         requires local { IfOk decided.now (λ reply. IsLocal frame.now reads.now writes.now reply) }
@@ -70,7 +71,7 @@ impl Prefix {
         match decided {
             Ok(reply) => {
                 self.replies.reserve(1)?;
-                put_each(&mut self.book, writes)?;
+                put_near(&mut self.book, writes, places)?;
                 push_copy(&mut self.replies, reply);
                 self.count += 1;
                 Ok(())
@@ -94,17 +95,17 @@ pub fn put_all(book: Book, writes: &WriteSet) -> Result<Book, AllocError>
     ensures { IfOk result (λ after. after ≡ overlay book writes.now) }
 {
     let mut after = book;
-    put_each(&mut after, writes)?;
+    put_near(&mut after, writes, &Places::new())?;
     Ok(after)
 }
 
-// Puts these rows, one after another.
-fn put_each(book: &mut Book, writes: &WriteSet) -> Result<(), AllocError>
+// Puts these rows, one after another, each where it was found.
+fn put_near(book: &mut Book, writes: &WriteSet, places: &Places) -> Result<(), AllocError>
     ensures { OnOk result (book.new ≡ overlay book.old writes.now) }
 {
     for index in 0..writes.len() {
         let (key, row) = writes.row(index);
-        book.put_copy(key, row)?;
+        book.put_copy_near(key, row, places)?;
     }
     Ok(())
 }

@@ -41,8 +41,9 @@ pub fn decide_all_by<F: Decide>(
     for frame in rest {
         let mut recorder = Recorder::over(PlainRows::new(&after.book), reads, writes);
         let decided = decision.decide(frame, &mut recorder);
-        (_, reads, writes) = recorder.into_parts();
-        after.append(frame, &decided, &reads, &writes)?;
+        let source;
+        (source, reads, writes) = recorder.into_parts();
+        after.append(frame, &decided, &reads, &writes, &source.into_places())?;
     }
     Ok(after)
 }

@@ -25,7 +25,7 @@ use Rattle.rows.specs.RowVal.{IsOfKind}
 use Rattle.rows.specs.declared.row_key.RowKey.{RowKey}
 use Rattle.rows.specs.declared.row_val.RowVal.{RowVal}
 
-key_eq_equivalence : IsEquivalence key_eq
+pub key_eq_equivalence : IsEquivalence key_eq
 key_eq_equivalence = subst IsEquivalence (λ i k q. same_test k q i) (eq_by_cmp_equiv key_cmp_total)
 
 find_is_value : (q : RowKey) (es : List (RowKey × RowVal)) → map.find key_cmp q es ≡ value_at es q

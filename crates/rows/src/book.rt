@@ -1,10 +1,11 @@
-ghost use Rattle.std.specs.Prelude.{◌≡◌, ◌↔◌, option_copied, OnOk, OnErr, IfOk, IfSome, IsTrue, IsPermutation, None, Some};
+ghost use Rattle.std.specs.Prelude.{◌≡◌, ◌<◌, ◌↔◌, length, slice_get, option_copied, OnOk, OnErr, IfOk, IfSome, IsTrue, IsFalse, IsPermutation, None, Some};
 ghost use Rattle.std.specs.FinMap as map;
 ghost use Rattle.indexmap.specs.IndexMap.{IsUnchanged, Updates};
 ghost use Rattle.rows.specs.Book.{AllOfKind, IsWithin, value_at};
 ghost use Rattle.rows.specs.RowVal.{IsOfKind};
 ghost use Rattle.rows.specs.RowKey.{key_cmp, key_eq};
 
+use crate::places::Places;
 use crate::row_key::RowKey;
 use crate::row_val::RowVal;
 use crate::sorted_rows::SortedRows;
@@ -65,6 +66,18 @@ impl Book {
         self.rows.get(key)
     }
 
+    /// The row's value where it stands, if there is such a row; its place is noted.
+    #[inline(always)]
+    #[tactic(auto, using(crate::proofs::BookLaws::get_seen))]
+    pub fn find(&self, key: &RowKey, places: &mut Places) -> Option<&RowVal>
+        ensures value { option_copied result ≡ map.get self.now key.now }
+        ensures kind { IfSome result (λ val. IsOfKind key.now val.now) }
+    {
+        let (place, _, val) = self.rows.get_full(key)?;
+        places.note(key, place);
+        Some(val)
+    }
+
     /// Puts the value at the key, over what was there. Only a row that wasn't there takes memory.
     pub fn put(&mut self, key: RowKey, val: RowVal) -> Result<(), AllocError>
         requires { IsOfKind key val }
@@ -82,6 +95,21 @@ impl Book {
         ensures err { OnErr result (self.new ≡ self.old) }
         ensures full { OnErr result (map.get self.old key.now ≡ None) }
     {
+        put_entry(&mut self.rows, key, val)
+    }
+
+    /// Puts a copy of the value at the key, over what was there, without a look-up where the row stands at its noted place.
+    /// Only a row that wasn't there takes memory.
+    #[inline(always)]
+    pub fn put_copy_near(&mut self, key: &RowKey, val: &RowVal, places: &Places) -> Result<(), AllocError>
+        requires { IsOfKind key.now val.now }
+        ensures ok { OnOk result (self.new ≡ map.insert self.old key.now val.now) }
+        ensures err { OnErr result (self.new ≡ self.old) }
+        ensures full { OnErr result (map.get self.old key.now ≡ None) }
+    {
+        if copy_at(&mut self.rows, places.last(key), key, val) {
+            return Ok(());
+        }
         put_entry(&mut self.rows, key, val)
     }
 
@@ -182,6 +210,32 @@ fn put_entry(
         }
     }
     Ok(())
+}
+
+// Writes a copy of a row over it, if it stands at this place.
+#[inline(always)]
+fn copy_at(rows: &mut IndexMap<RowKey, RowVal>, place: usize, key: &RowKey, val: &RowVal) -> bool
+    ensures found { IsTrue result → Updates key_eq rows.old rows.new key.now (Some val.now) }
+    ensures not_found { IsFalse result → rows.new.entries ≡ rows.old.entries }
+{
+    if !stands_at(rows, place, key) {
+        return false;
+    }
+    let (_, there) = rows.pair_mut(place);
+    copy_over(there, val);
+    true
+}
+
+// Whether the row stands at this place.
+#[inline(always)]
+fn stands_at(rows: &IndexMap<RowKey, RowVal>, place: usize, key: &RowKey) -> bool
+    ensures within { IsTrue result → place < length rows.now.entries }
+    ensures there { IsTrue result → (val : RowVal) × (slice_get rows.now.entries place ≡ Some (key.now, val)) }
+{
+    match rows.get_index(place) {
+        Some((there, _)) => there == key,
+        None => false,
+    }
 }
 
 // Writes a copy of a value over another: as a slice of one, so that it is copied once and not by way of a third place.

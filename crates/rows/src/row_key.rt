@@ -29,7 +29,7 @@ pub enum RowKey {
 impl RowKey {
     // The place of the key's kind among the five.
     #[inline(always)]
-    fn kind(&self) -> u8
+    pub(crate) fn kind(&self) -> u8
         ensures { result ≡ kind_of self.now }
     {
         match self {
