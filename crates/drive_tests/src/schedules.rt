@@ -1,5 +1,7 @@
 //! Turns of three workers in every order, on three requests of one card.
 
+ghost use Rattle.std.specs.Prelude.{◌≤◌};
+
 use drive::drive;
 use fixtures::{answer_text, body, first_book_with};
 use journal::{Event, Traced};
@@ -41,10 +43,8 @@ const CHOSEN: usize = 10;
 
 const ALLOWED: usize = 3000;
 
-// Of the 59,049 ways to choose, every seventh is taken.
-const TAKEN: u32 = 8436;
-
-const STEP: u32 = 7;
+// The turns are chosen in 59,049 ways, a third of them in each test.
+const THIRD: u32 = 19_683;
 
 impl Requests {
     fn frames(&self) -> Result<[Frame; 3], Fail> {
@@ -128,22 +128,50 @@ fn assert_driven(
     Ok(())
 }
 
-fn assert_all_driven(rt: &impl Abort, alloc: Global, requests: &Requests) -> Result<(), Fail> {
+// The lists from this number on, a third of all.
+fn assert_all_driven(
+    rt: &impl Abort,
+    alloc: Global,
+    requests: &Requests,
+    first: u32,
+) -> Result<(), Fail>
+    requires { first ≤ 39366 }
+{
     let book = first_book_with(alloc, &[])?;
     let mut turns = turns_in_order(alloc)?;
-    for taken in 0..TAKEN {
-        choose(&mut turns, taken * STEP)?;
+    for number in first..first + THIRD {
+        choose(&mut turns, number)?;
         assert_driven(rt, alloc, &book, requests, &turns)?;
     }
     Ok(())
 }
 
 #[test]
-fn requests_that_share_a_card(rt: HostRuntime) -> Result<(), Fail> {
-    assert_all_driven(&rt, rt.alloc(), &OF_100)
+fn requests_that_share_a_card_in_the_first_third(rt: HostRuntime) -> Result<(), Fail> {
+    assert_all_driven(&rt, rt.alloc(), &OF_100, 0)
 }
 
 #[test]
-fn requests_of_which_the_first_takes_all(rt: HostRuntime) -> Result<(), Fail> {
-    assert_all_driven(&rt, rt.alloc(), &OF_ALL)
+fn requests_that_share_a_card_in_the_second_third(rt: HostRuntime) -> Result<(), Fail> {
+    assert_all_driven(&rt, rt.alloc(), &OF_100, THIRD)
+}
+
+#[test]
+fn requests_that_share_a_card_in_the_last_third(rt: HostRuntime) -> Result<(), Fail> {
+    assert_all_driven(&rt, rt.alloc(), &OF_100, 2 * THIRD)
+}
+
+#[test]
+fn the_first_takes_all_in_the_first_third(rt: HostRuntime) -> Result<(), Fail> {
+    assert_all_driven(&rt, rt.alloc(), &OF_ALL, 0)
+}
+
+#[test]
+fn the_first_takes_all_in_the_second_third(rt: HostRuntime) -> Result<(), Fail> {
+    assert_all_driven(&rt, rt.alloc(), &OF_ALL, THIRD)
+}
+
+#[test]
+fn the_first_takes_all_in_the_last_third(rt: HostRuntime) -> Result<(), Fail> {
+    assert_all_driven(&rt, rt.alloc(), &OF_ALL, 2 * THIRD)
 }
