@@ -71,8 +71,10 @@ fn turns_in_order(alloc: Global) -> Result<Vec<Seat>, Fail> {
 // Puts the ten turns of this number first: its digits to the base of three.
 fn choose(turns: &mut [Seat], number: u32) -> Result<(), Fail> {
     let mut rest = number;
-    for turn in turns.iter_mut().take(CHOSEN) {
-        *turn = seat(rest % 3)?;
+    for place in 0..CHOSEN {
+        if let Some(turn) = turns.get_mut(place) {
+            *turn = seat(rest % 3)?;
+        }
         rest /= 3;
     }
     Ok(())
