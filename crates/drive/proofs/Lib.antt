@@ -1,3 +1,4 @@
 mod Driving
 mod Kept
+mod OneDrive
 mod Turning

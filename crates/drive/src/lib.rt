@@ -6,7 +6,9 @@ mod driving;
 mod hands;
 mod holding;
 mod kept_rows;
+mod laws;
 mod turns;
 
 pub use driving::drive;
 pub use holding::Holding;
+pub use laws::drives_are_determined;
