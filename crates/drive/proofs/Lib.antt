@@ -1,4 +1,4 @@
-mod Driving
+mod Drives
 mod Kept
 mod OneDrive
 mod Turning

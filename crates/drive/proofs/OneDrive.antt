@@ -45,15 +45,15 @@ block_answer (Ok u) = Blocked
 block_answer (Err fault) = Refused fault
 
 -- want of memory doesn't stand
-room : (fault : CoreFault) → stands (Refused fault) ≡ true → Err {A = core_got.Got} fault ≢ Err OutOfMemory
-room OutOfMemory stand out = false≢true stand
-room OtherReads stand out = false≢true stand
-room NotRunning stand out = cc
-room Outdated stand out = cc
-room Worn stand out = cc
+room : (fault : CoreFault) (e : Result core_got.Got CoreFault) → e ≡ Err fault → stands (Refused fault) ≡ true → e ≢ Err OutOfMemory
+room OutOfMemory e is stand out = false≢true stand
+room OtherReads e is stand out = false≢true stand
+room NotRunning e is stand out = cc
+room Outdated e is stand out = cc
+room Worn e is stand out = cc
 
-had_room : (got : core_got.Got) → Ok {E = CoreFault} got ≢ Err OutOfMemory
-had_room got out = cc
+had_room : (got : core_got.Got) (e : Result core_got.Got CoreFault) → e ≡ Ok got → e ≢ Err OutOfMemory
+had_room got e is out = cc
 
 -- a version is handed out, or not, whichever execution of it finished
 one_handed : (p : Play) (v : Version) (x y : Executed) (handed also : Bool) (t w : Play) → PlayStep p (call.Finish v x (Ok handed)) t → PlayStep p (call.Finish v y (Ok also)) w → handed ≡ also
@@ -91,10 +91,10 @@ same_finish p seat v answer other t w f g a b = absurd a
 -- an event is answered one way
 same_answer : (p : Play) (seat : ℕ) (event : Event) (answer other : Answer) (t w : Play) → stands answer ≡ true → stands other ≡ true → Answers p seat event answer t → Answers p seat event other w → answer ≡ other
 same_answer p seat Claim (Claimed a) (Claimed b) t w f g x y = ap (λ (given : Task). Claimed given) (one_task p a b t w x.1 y.1)
-same_answer p seat (Read v row) (Got a) (Got b) t w f g x y = ap got_answer (one_read p.state v row (Ok a) (Ok b) t.state w.state (had_room a) (had_room b) x.0 y.0)
-same_answer p seat (Read v row) (Got a) (Refused b) t w f g x y = ap got_answer (one_read p.state v row (Ok a) (Err b) t.state w.state (had_room a) (room b g) x.0 y.0)
-same_answer p seat (Read v row) (Refused a) (Got b) t w f g x y = ap got_answer (one_read p.state v row (Err a) (Ok b) t.state w.state (room a f) (had_room b) x.0 y.0)
-same_answer p seat (Read v row) (Refused a) (Refused b) t w f g x y = ap got_answer (one_read p.state v row (Err a) (Err b) t.state w.state (room a f) (room b g) x.0 y.0)
+same_answer p seat (Read v row) (Got a) (Got b) t w f g x y = ap got_answer (one_read p.state v row (Ok a) (Ok b) t.state w.state (had_room a _ refl) (had_room b _ refl) x.0 y.0)
+same_answer p seat (Read v row) (Got a) (Refused b) t w f g x y = ap got_answer (one_read p.state v row (Ok a) (Err b) t.state w.state (had_room a _ refl) (room b _ refl g) x.0 y.0)
+same_answer p seat (Read v row) (Refused a) (Got b) t w f g x y = ap got_answer (one_read p.state v row (Err a) (Ok b) t.state w.state (room a _ refl f) (had_room b _ refl) x.0 y.0)
+same_answer p seat (Read v row) (Refused a) (Refused b) t w f g x y = ap got_answer (one_read p.state v row (Err a) (Err b) t.state w.state (room a _ refl f) (room b _ refl g) x.0 y.0)
 same_answer p seat (Block v on) Blocked Blocked t w f g x y = refl
 same_answer p seat (Block v on) Blocked (Refused b) t w f g x y = ap block_answer (one_block p.state v on (Ok tt) (Err b) t.state w.state x.0 y.0)
 same_answer p seat (Block v on) (Refused a) Blocked t w f g x y = ap block_answer (one_block p.state v on (Err a) (Ok tt) t.state w.state x.0 y.0)

@@ -3,7 +3,7 @@ use Rattle.journal_laws.specs.Logged.{greatest}
 use Rattle.speccore_laws.specs.Play.{opening_play}
 use Rattle.speccore_laws.specs.Run.{IsReached}
 use Rattle.speccore_laws.specs.State.{seats}
-use Rattle.drive.proofs.Driving.{AreOfMessages}
+use Rattle.drive.proofs.Drives.{AreOfMessages}
 use Rattle.drive.proofs.driving.drive.Given as goal
 use Rattle.drive.specs.Drives.{IsDriven, empty_hands}
 
