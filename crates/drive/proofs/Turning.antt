@@ -1,5 +1,5 @@
 -- A turn of a seat, by what it holds.
-use Rattle.std.proofs.Common.{◌≡◌, ◌≢◌, ℕ, ◌<◌, List, [], ◌∷◌, ◌++◌, length, refl, sym, ap, ◌∙◌, subst, true, Ok, Err, inl, inr}
+use Rattle.std.proofs.Common.{◌≡◌, ◌≢◌, ℕ, ◌<◌, List, [], ◌∷◌, ◌++◌, length, refl, sym, ap, ◌∙◌, subst, true, false, Ok, Err, inl, inr}
 use Rattle.std.proofs.lemmas.List.{append-nil}
 use Rattle.std.specs.List.{AllByRecursion}
 use Rattle.rows.specs.Agreement.{Executed, Agrees, keys_read}
@@ -165,6 +165,14 @@ message_after : (p : Play) (seat : ℕ) (holding : Holding) (event : Event) (ans
     → IsOfMessage (length p.state.frames) (then_holds holding answer)
 message_after p seat holds.Nothing event (Claimed (task.Execute v)) t reached within makes a = subst (λ (n : ℕ). v.index < n) (Holds-reached p.state reached).paired (claimed_there p seat event v t makes a)
 message_after p seat (holds.Execution v) event (Got (got.Row value)) t reached within makes a = within
+message_after p seat (holds.Execution v) event (Finished true) t reached within makes a = tt
+message_after p seat (holds.Execution v) event (Finished false) t reached within makes a = tt
+message_after p seat (holds.Validation v) event (Checking true) t reached within makes a = tt
+message_after p seat (holds.Validation v) event (Checking false) t reached within makes a = tt
+message_after p seat holds.Reads event (Checking true) t reached within makes a = tt
+message_after p seat holds.Reads event (Checking false) t reached within makes a = tt
+message_after p seat holds.Commits event (Committed true) t reached within makes a = tt
+message_after p seat holds.Commits event (Committed false) t reached within makes a = tt
 message_after p seat holding event answer t reached within makes a = tt
 
 -- what a seat holds after its turn is of one of the messages
