@@ -1,11 +1,11 @@
 -- One turn more.
 use Rattle.std.proofs.Common.{◌≡◌, ◌≢◌, ℕ, ◌+◌, ◌<◌, List, [], ◌∷◌, ◌++◌, length, take, get_or, set, refl, sym, ap, ◌∙◌, subst, inl, inr, append_assoc, get_or-set_same, get_or-set_other}
-use Rattle.std.proofs.lemmas.Bool.{cases_eq}
-use Rattle.std.proofs.lemmas.List.{append-nil, take_more}
+use Rattle.std.proofs.lemmas.Bool.{cases_eq, cases_lt}
+use Rattle.std.proofs.lemmas.List.{append-nil, take_more, get_or_past, get_or-replicate}
 use Rattle.std.specs.Prelude.{slice_set}
 use Rattle.journal_text.specs.declared.entry.Entry.{Entry}
 use Rattle.speccore_laws.specs.Play.{Play}
-use Rattle.drive.specs.Drives.{Hands, IsDriven, hand}
+use Rattle.drive.specs.Drives.{Hands, IsDriven, empty_hands, hand}
 use Rattle.drive.specs.Turns.{IsTurn, IsOfMessage}
 use Rattle.drive.specs.declared.holding.Holding.{Holding}
 use Rattle.drive.specs.declared.holding.Holding.TheVariants as holds
@@ -42,6 +42,14 @@ IsDriven-more old before turns i entries after mid between seat made next new l 
 -- what each seat holds is of one of so many messages
 abbrev pub AreOfMessages : ℕ → Hands → Type 0
 AreOfMessages n hands = (seat : ℕ) → IsOfMessage n (hand hands seat)
+
+-- empty hands hold none
+pub AreOfMessages-empty : (n : ℕ) → AreOfMessages n empty_hands
+AreOfMessages-empty n seat =
+    elim (cases_lt seat 64) [
+      | inl l ↦ subst (IsOfMessage n) (sym (get_or-replicate 64 seat holds.Nothing holds.Nothing l)) tt
+      | inr past ↦ subst (IsOfMessage n) (sym (get_or_past empty_hands seat holds.Nothing past)) tt
+    ]
 
 -- the same after one of them holds something else
 pub AreOfMessages-set : (n : ℕ) (hands : Hands) (seat : ℕ) (next : Holding) → seat < length hands → AreOfMessages n hands → IsOfMessage n next → AreOfMessages n (slice_set hands seat next)

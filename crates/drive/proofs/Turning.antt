@@ -173,6 +173,7 @@ message_after p seat holds.Reads event (Checking true) t reached within makes a 
 message_after p seat holds.Reads event (Checking false) t reached within makes a = tt
 message_after p seat holds.Commits event (Committed true) t reached within makes a = tt
 message_after p seat holds.Commits event (Committed false) t reached within makes a = tt
+message_after p seat holds.Verdict event (Ended passed) t reached within makes a = tt
 message_after p seat holding event answer t reached within makes a = tt
 
 -- what a seat holds after its turn is of one of the messages
