@@ -2,6 +2,8 @@
 #![tactic(auto)]
 
 #[cfg(test)]
+mod foolish;
+#[cfg(test)]
 mod plays;
 #[cfg(test)]
 mod refusals;

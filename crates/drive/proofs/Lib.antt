@@ -1,0 +1,4 @@
+mod Drives
+mod Kept
+mod OneDrive
+mod Turning

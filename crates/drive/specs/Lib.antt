@@ -1,0 +1,2 @@
+pub mod Drives
+pub mod Turns

@@ -1,0 +1,31 @@
+ghost use Rattle.std.specs.Prelude.{◌≡◌, ◌≤◌, IfOk, length};
+ghost use Rattle.drive.specs.Drives.{IsDrive};
+
+use crate::hands::empty_hands;
+use crate::turns::take_turn;
+use journal::Traced;
+use rows::{Book, Frame};
+use speccore_laws::Seat;
+use std::alloc::{AllocError, Global};
+
+/// Takes one turn of a worker for each of these seats, one after another, on a core of this book and these bodies without limits but
+/// those of the numbers. A turn is one event; messages are decided by the decision table. The only fault is want of memory.
+pub fn drive(
+    alloc: Global,
+    book: &Book,
+    frames: &[Frame],
+    seats: &[Seat],
+) -> Result<Traced, AllocError>
+    requires { length frames.now ≤ 65536 }
+    ensures { IfOk result (λ traced. IsDrive book.now frames.now seats.now traced.entries traced.core) }
+{
+    let mut traced = Traced::new(alloc, book, frames)?;
+    let mut hands = empty_hands(alloc)?;
+    for index in 0..seats.len() {
+        let seat = seats[index];
+        let place = seat.number() as usize;
+        let next = take_turn(alloc, frames, &mut traced, seat, hands[place])?;
+        hands[place] = next;
+    }
+    Ok(traced)
+}

@@ -1,0 +1,179 @@
+//! Turns of three workers in every order, on three requests of one card.
+
+ghost use Rattle.std.specs.Prelude.{◌≤◌};
+
+use drive::drive;
+use fixtures::{answer_text, body, first_book_with};
+use journal::{Event, Traced};
+use rows::{Book, Frame};
+use speccore_laws::Seat;
+use std::alloc::Global;
+use std::process::Abort;
+use std::test::Fail;
+
+// Three requests on card A, and what they are answered one after another.
+#[derive(Clone, Copy)]
+struct Requests {
+    bodies: [&'static str; 3],
+    answers: [&'static str; 3],
+}
+
+// The second one reads what the first one puts.
+const OF_100: Requests = Requests {
+    bodies: [
+        "1100 000001 A 100",
+        "1100 000002 A 100",
+        "1100 000003 A 100",
+    ],
+    answers: ["000/000001", "000/000002", "000/000003"],
+};
+
+// The first one takes all that there is.
+const OF_ALL: Requests = Requests {
+    bodies: [
+        "1100 000001 A 10000",
+        "1100 000002 A 100",
+        "1100 000003 A 1",
+    ],
+    answers: ["000/000001", "116", "116"],
+};
+
+// So many turns are chosen, in every way; those of the three seats in their order follow, as many as are allowed in all.
+const CHOSEN: usize = 10;
+
+const ALLOWED: usize = 3000;
+
+// The turns are chosen in 59,049 ways, a third of them in each test.
+const THIRD: u32 = 19_683;
+
+impl Requests {
+    fn frames(&self) -> Result<[Frame; 3], Fail> {
+        let first = body(self.bodies[0]).ok_or("request")?;
+        let second = body(self.bodies[1]).ok_or("request")?;
+        let third = body(self.bodies[2]).ok_or("request")?;
+        Ok([first, second, third])
+    }
+}
+
+fn seat(number: u32) -> Result<Seat, Fail> {
+    Ok(Seat::new(number).ok_or("a seat")?)
+}
+
+// The three seats in their order, as many turns as are allowed.
+fn turns_in_order(alloc: Global) -> Result<Vec<Seat>, Fail> {
+    let mut turns = Vec::with_capacity(alloc, ALLOWED)?;
+    for place in 0..ALLOWED as u32 {
+        turns.push(seat(place % 3)?)?;
+    }
+    Ok(turns)
+}
+
+// Puts the ten turns of this number first: its digits to the base of three.
+fn choose(turns: &mut [Seat], number: u32) -> Result<(), Fail> {
+    let mut rest = number;
+    for place in 0..CHOSEN {
+        if let Some(turn) = turns.get_mut(place) {
+            *turn = seat(rest % 3)?;
+        }
+        rest /= 3;
+    }
+    Ok(())
+}
+
+// The committed replies are the first of these answers.
+fn assert_begins(
+    rt: &impl Abort,
+    alloc: Global,
+    traced: Traced,
+    answers: &[&str],
+) -> Result<usize, Fail> {
+    let (core, _) = traced.into_parts();
+    let prefix = core.into_prefix(alloc)?;
+    let count = prefix.replies.len();
+    assert_eq!(rt; prefix.count as usize, count);
+    assert!(rt; count <= answers.len());
+    for (reply, answer) in prefix.replies.iter().zip(answers) {
+        assert_eq!(rt; answer_text(alloc, reply)?.as_str(), *answer);
+    }
+    Ok(count)
+}
+
+// Whether the last entry of this seat is a claim: it was told that nothing is to be done any more.
+fn has_ended(traced: &Traced, seat: Seat) -> bool {
+    let mut ended = false;
+    for entry in traced.entries() {
+        if entry.seat == seat {
+            ended = entry.event == Event::Claim;
+        }
+    }
+    ended
+}
+
+// The replies that are committed after the chosen turns begin the answers, and at the end they are the answers.
+fn assert_driven(
+    rt: &impl Abort,
+    alloc: Global,
+    book: &Book,
+    requests: &Requests,
+    turns: &[Seat],
+) -> Result<(), Fail> {
+    let frames = requests.frames()?;
+    let chosen = turns.get(..CHOSEN).ok_or("ten turns")?;
+    let early = drive(alloc, book, &frames, chosen)?;
+    assert_begins(rt, alloc, early, &requests.answers)?;
+    let traced = drive(alloc, book, &frames, turns)?;
+    for number in 0..3 {
+        assert!(rt; has_ended(&traced, seat(number)?));
+    }
+    let count = assert_begins(rt, alloc, traced, &requests.answers)?;
+    assert_eq!(rt; count, 3);
+    Ok(())
+}
+
+// The lists from this number on, a third of all.
+fn assert_all_driven(
+    rt: &impl Abort,
+    alloc: Global,
+    requests: &Requests,
+    first: u32,
+) -> Result<(), Fail>
+    requires { first ≤ 39366 }
+{
+    let book = first_book_with(alloc, &[])?;
+    let mut turns = turns_in_order(alloc)?;
+    for number in first..first + THIRD {
+        choose(&mut turns, number)?;
+        assert_driven(rt, alloc, &book, requests, &turns)?;
+    }
+    Ok(())
+}
+
+#[test]
+fn requests_that_share_a_card_in_the_first_third(rt: HostRuntime) -> Result<(), Fail> {
+    assert_all_driven(&rt, rt.alloc(), &OF_100, 0)
+}
+
+#[test]
+fn requests_that_share_a_card_in_the_second_third(rt: HostRuntime) -> Result<(), Fail> {
+    assert_all_driven(&rt, rt.alloc(), &OF_100, THIRD)
+}
+
+#[test]
+fn requests_that_share_a_card_in_the_last_third(rt: HostRuntime) -> Result<(), Fail> {
+    assert_all_driven(&rt, rt.alloc(), &OF_100, 2 * THIRD)
+}
+
+#[test]
+fn the_first_takes_all_in_the_first_third(rt: HostRuntime) -> Result<(), Fail> {
+    assert_all_driven(&rt, rt.alloc(), &OF_ALL, 0)
+}
+
+#[test]
+fn the_first_takes_all_in_the_second_third(rt: HostRuntime) -> Result<(), Fail> {
+    assert_all_driven(&rt, rt.alloc(), &OF_ALL, THIRD)
+}
+
+#[test]
+fn the_first_takes_all_in_the_last_third(rt: HostRuntime) -> Result<(), Fail> {
+    assert_all_driven(&rt, rt.alloc(), &OF_ALL, 2 * THIRD)
+}
