@@ -1,15 +1,20 @@
 use speccore_laws::Seat;
+use std::sync::{Condvar, Wait};
 use std::thread;
+use std::time::Duration;
 
-// The longest rest, in turns that are given to other threads.
-const LONGEST: u32 = 8192;
+// The longest rest.
+const LONGEST: u32 = 4096;
+
+// The longest rest in which turns are given to other threads; in a longer one the worker sleeps, as many microseconds.
+const AWAKE: u32 = 16;
 
 /// How long a worker rests before it claims. Where others hold the lock most of the time, one more worker makes nothing faster: it
 /// waits for the lock with a message in hand, and what is executed behind that message has to be checked again. The worker at the
 /// first seat never rests, so that there is one that goes on.
 #[derive(Clone, Copy, Debug)]
 pub(crate) struct Pace {
-    // In turns that are given to other threads.
+    // In turns that are given to other threads, or in microseconds.
     rest: u32,
     // The longest rest at this seat.
     longest: u32,
@@ -37,8 +42,13 @@ impl Pace {
         self.rest > 0
     }
 
-    /// Rests: lets other threads run, once at least.
-    pub(crate) fn rest(self) {
+    /// Rests: lets other threads run, once at least, or sleeps, which nobody ends.
+    pub(crate) fn rest<R: Wait>(self, rt: &R, bed: &Condvar) {
+        if self.rest > AWAKE {
+            let time = Duration::from_micros(u64::from(self.rest));
+            bed.sleep(rt, bed.notifications(), time);
+            return;
+        }
         for _ in 0..self.rest.max(1) {
             thread::yield_now();
         }

@@ -11,7 +11,7 @@ use sched::Task;
 use speccore_laws::{CoreFault, Seat};
 use std::alloc::Global;
 use std::mem;
-use std::sync::{Mutex, Wait};
+use std::sync::{Condvar, Mutex, Wait};
 use view::{Decide, Execution, ReadSet, Recorder, RowSource, Stop, WriteSet};
 
 /// What a worker works with: the lock round the core and its journal, the bodies, the decision and the gate. Whatever it does or leaves undone,
@@ -31,12 +31,13 @@ impl<'a, R: Wait, F: Decide, G: Gate> Worker<'a, R, F, G> {
     pub(crate) fn work(&self, seat: Seat) {
         let mut sets = (ReadSet::new(self.alloc), WriteSet::new(self.alloc));
         let mut pace = Pace::of(seat);
+        let bed = Condvar::new();
         let mut turn = self.claim(seat);
         for _ in self.rt.forever() {
             turn = match turn {
                 Ok(Task::Done) => return,
                 Ok(Task::Idle) => {
-                    pace.rest();
+                    pace.rest(self.rt, &bed);
                     self.claim(seat)
                 }
                 Ok(Task::Execute(version)) => self.execute(seat, version, &mut sets, &mut pace),
@@ -77,7 +78,7 @@ impl<'a, R: Wait, F: Decide, G: Gate> Worker<'a, R, F, G> {
                 *sets = (reads, writes);
                 Ok(next)
             }
-            Err(Stop::Blocked(on)) => self.block(seat, version, on),
+            Err(Stop::Blocked(on)) => self.block(seat, version, on, pace),
             Err(Stop::OutOfMemory) => Err(Leave::OutOfMemory),
             Err(Stop::Lost) => Err(Leave::Lost),
         }
@@ -109,13 +110,24 @@ impl<'a, R: Wait, F: Decide, G: Gate> Worker<'a, R, F, G> {
         next_task(&mut traced, seat)
     }
 
-    // Gives a version up that met an estimate of the message at `on`. Then the next task.
-    fn block(&self, seat: Seat, version: Version, on: u32) -> Result<Task, Leave> {
+    // Gives a version up that met an estimate of the message at `on`. Then the next task; none yet where the worker is to rest.
+    fn block(
+        &self,
+        seat: Seat,
+        version: Version,
+        on: u32,
+        pace: &mut Pace,
+    ) -> Result<Task, Leave> {
         let mut traced = lock(self.rt, self.traced);
         match traced.step(seat, Event::Block(version, on)) {
-            Answer::Blocked => next_task(&mut traced, seat),
-            answer => Err(leave_at(answer)),
+            Answer::Blocked => {}
+            answer => return Err(leave_at(answer)),
         }
+        *pace = pace.after(true);
+        if pace.rests() {
+            return Ok(Task::Idle);
+        }
+        next_task(&mut traced, seat)
     }
 
     // Checks a version and commits what can be, while the lock is held. Then the next task.
