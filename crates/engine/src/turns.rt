@@ -111,13 +111,7 @@ impl<'a, R: Wait, F: Decide, G: Gate> Worker<'a, R, F, G> {
     }
 
     // Gives a version up that met an estimate of the message at `on`. Then the next task; none yet where the worker is to rest.
-    fn block(
-        &self,
-        seat: Seat,
-        version: Version,
-        on: u32,
-        pace: &mut Pace,
-    ) -> Result<Task, Leave> {
+    fn block(&self, seat: Seat, version: Version, on: u32, pace: &mut Pace) -> Result<Task, Leave> {
         let mut traced = lock(self.rt, self.traced);
         match traced.step(seat, Event::Block(version, on)) {
             Answer::Blocked => {}

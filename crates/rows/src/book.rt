@@ -101,7 +101,12 @@ impl Book {
     /// Puts a copy of the value at the key, over what was there, without a look-up where the row stands at its noted place.
     /// Only a row that wasn't there takes memory.
     #[inline(always)]
-    pub fn put_copy_near(&mut self, key: &RowKey, val: &RowVal, places: &Places) -> Result<(), AllocError>
+    pub fn put_copy_near(
+        &mut self,
+        key: &RowKey,
+        val: &RowVal,
+        places: &Places,
+    ) -> Result<(), AllocError>
         requires { IsOfKind key.now val.now }
         ensures ok { OnOk result (self.new ≡ map.insert self.old key.now val.now) }
         ensures err { OnErr result (self.new ≡ self.old) }
