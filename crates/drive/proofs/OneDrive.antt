@@ -1,5 +1,5 @@
 -- A list of turns makes one list of entries.
-use Rattle.std.proofs.Common.{◌≡◌, ◌≢◌, ℕ, List, [], ◌∷◌, ◌++◌, Result, Ok, Err, Bool, true, false, inl, inr, refl, sym, ap, ◌∙◌, subst}
+use Rattle.std.proofs.Common.{◌≡◌, ◌≢◌, ℕ, List, [], ◌∷◌, ◌++◌, Result, Ok, Err, Bool, true, inl, inr, refl, sym, ap, ◌∙◌, subst}
 use Rattle.std.proofs.lemmas.Bool.{false≢true}
 use Rattle.std.specs.List.{AllByRecursion}
 use Rattle.std.specs.Prelude.{slice_set}
@@ -7,7 +7,6 @@ use Rattle.rows.specs.Agreement.{Executed}
 use Rattle.rows.specs.Decision.{decision}
 use Rattle.rows.specs.declared.frame.Frame.{Frame}
 use Rattle.rows.specs.declared.row_key.RowKey.{RowKey}
-use Rattle.rows.specs.declared.row_val.RowVal.{RowVal}
 use Rattle.rows.specs.Plan.{Writes}
 use Rattle.mvmem.specs.Entries.{IsNewLocation}
 use Rattle.mvmem.specs.declared.version.Version.{Version}
@@ -31,7 +30,7 @@ use Rattle.journal_laws.specs.declared.answer.Answer.{Answer}
 use Rattle.journal_laws.specs.declared.answer.Answer.TheVariants.{Claimed, Got, Blocked, Finished, Checking, Ended, Committed, Refused}
 use Rattle.journal.specs.Answered.{checked, ended}
 use Rattle.drive.specs.Drives.{Hands, IsDriven, hand}
-use Rattle.drive.specs.Turns.{Makes, then_holds, Acts, Rests, IsTurn, IsFirstUnlogged, needs_on}
+use Rattle.drive.specs.Turns.{Makes, then_holds, Acts, IsTurn, IsFirstUnlogged, needs_on}
 use Rattle.drive.specs.declared.holding.Holding.{Holding}
 use Rattle.drive.specs.declared.holding.Holding.TheVariants as holds
 

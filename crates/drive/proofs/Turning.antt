@@ -1,5 +1,5 @@
 -- A turn of a seat, by what it holds.
-use Rattle.std.proofs.Common.{◌≡◌, ◌≢◌, ℕ, ◌<◌, List, [], ◌∷◌, ◌++◌, length, refl, sym, ap, ◌∙◌, subst, true, false, Ok, Err, inl, inr}
+use Rattle.std.proofs.Common.{◌≡◌, ◌≢◌, ℕ, ◌<◌, List, [], ◌∷◌, ◌++◌, length, refl, sym, ap, subst, true, false, Err, inl, inr}
 use Rattle.std.proofs.lemmas.List.{append-nil}
 use Rattle.std.specs.List.{AllByRecursion}
 use Rattle.rows.specs.Agreement.{Executed, Agrees, keys_read}
@@ -28,7 +28,7 @@ use Rattle.journal_laws.specs.Plays.{EntryStep}
 use Rattle.journal_laws.specs.declared.answer.Answer.{Answer}
 use Rattle.journal_laws.specs.declared.answer.Answer.TheVariants.{Claimed, Got, Blocked, Finished, Checking, Ended, Committed, Refused}
 use Rattle.journal.specs.Journaled.{Journaled}
-use Rattle.drive.specs.Turns.{Makes, then_holds, Rests, Acts, IsTurn, HasTurned, IsOfMessage, IsFirstUnlogged, needs_on}
+use Rattle.drive.specs.Turns.{Makes, then_holds, Acts, IsTurn, HasTurned, IsOfMessage, IsFirstUnlogged, needs_on}
 use Rattle.drive.specs.declared.holding.Holding.{Holding}
 use Rattle.drive.specs.declared.holding.Holding.TheVariants as holds
 

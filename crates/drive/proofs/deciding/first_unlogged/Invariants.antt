@@ -1,4 +1,4 @@
-use Rattle.std.proofs.Common.{◌≡◌, take}
+use Rattle.std.proofs.Common.{take}
 use Rattle.std.specs.List.{AllByRecursion}
 use Rattle.rows.specs.Agreement.{keys_read}
 use Rattle.speccore_laws.specs.State.{slot}
