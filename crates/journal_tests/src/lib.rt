@@ -2,8 +2,6 @@
 #![tactic(auto)]
 
 #[cfg(test)]
-mod foolish;
-#[cfg(test)]
 mod plays;
 #[cfg(test)]
 mod refusals;

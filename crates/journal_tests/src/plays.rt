@@ -48,13 +48,8 @@ fn execution_of(
     Ok(execute(alloc, frame, Logged { core, version }, &Shipped)?)
 }
 
-/// Does what the entry says, on a core that keeps its journal.
-pub fn ask(
-    alloc: Global,
-    traced: &mut Traced,
-    frames: &[Frame],
-    entry: Entry,
-) -> Result<Answer, Fail> {
+// Does what the entry says, on a core that keeps its journal.
+fn ask(alloc: Global, traced: &mut Traced, frames: &[Frame], entry: Entry) -> Result<Answer, Fail> {
     let Entry { seat, event } = entry;
     if let Event::Finish(version) = event {
         let execution = execution_of(alloc, traced.core(), frames, version)?;
