@@ -87,7 +87,7 @@ fn print_report<W: Write>(report: &Report, out: &mut Printer<W>)
     }
 }
 
-/// Prints the line of a fault.
+/// Prints the line of a fault, as `act` does for its own: what it is of and its number there, or what is wrong with the words.
 pub fn print_fault<W: Write>(fault: &Fault, err: &mut Printer<W>)
     ensures { PrintsLine (printed W.contents err.old) (printed W.contents err.new) (text_of fault.now) }
 {
