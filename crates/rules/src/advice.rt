@@ -27,9 +27,8 @@ pub(crate) fn decide_advice<S: RowSource>(
     ensures book { S.book rows.new.source ≡ S.book rows.old.source }
 {
     let key = RowKey::Original(advice.transaction.identity());
-    let mut row = None;
-    rows.ask(&key, &mut row)?;
-    match original_in(&row) {
+    rows.ask(&key)?;
+    match original_in(rows.latest()) {
         Some(row) => answer_again(advice, &row, rows),
         None => decide_fresh(advice, rows),
     }
@@ -49,9 +48,8 @@ fn decide_fresh<S: RowSource>(advice: &Advice, rows: &mut Recorder<S>) -> Result
         return acknowledge(advice, rows);
     }
     let key = RowKey::Card(advice.transaction.pan);
-    let mut row = None;
-    rows.ask(&key, &mut row)?;
-    let Some(card) = card_in(&row) else {
+    rows.ask(&key)?;
+    let Some(card) = card_in(rows.latest()) else {
         return acknowledge(advice, rows);
     };
     match card.accounts.account_of(&advice.account) {
@@ -76,9 +74,8 @@ fn decide_on_account<S: RowSource>(
 {
     let paying = id;
     let key = RowKey::Account(paying);
-    let mut row = None;
-    rows.ask(&key, &mut row)?;
-    let Some(account) = account_in(&row) else {
+    rows.ask(&key)?;
+    let Some(account) = account_in(rows.latest()) else {
         return acknowledge(advice, rows);
     };
     if advice.transaction.currency != account.currency {
@@ -103,9 +100,8 @@ fn decide_on_funds<S: RowSource>(
     ensures book { S.book rows.new.source ≡ S.book rows.old.source }
 {
     let key = RowKey::Budget(advice.transaction.pan.prefix());
-    let mut row = None;
-    rows.ask(&key, &mut row)?;
-    let budget = budget_in(&row);
+    rows.ask(&key)?;
+    let budget = budget_in(rows.latest());
     match advice_funds(&advice.transaction, id, account, &budget) {
         Some(paying) => accept(advice, &paying, rows),
         None => acknowledge(advice, rows),

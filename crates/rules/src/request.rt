@@ -41,9 +41,8 @@ fn decide_verdict<S: RowSource>(request: &Request, rows: &mut Recorder<S>) -> Re
     ensures book { S.book rows.new.source ≡ S.book rows.old.source }
 {
     let key = RowKey::Original(request.transaction.identity());
-    let mut row = None;
-    rows.ask(&key, &mut row)?;
-    match original_in(&row) {
+    rows.ask(&key)?;
+    match original_in(rows.latest()) {
         Some(row) => answer_again(request, &row, rows),
         None => decide_fresh(request, rows),
     }
@@ -63,9 +62,8 @@ fn decide_fresh<S: RowSource>(request: &Request, rows: &mut Recorder<S>) -> Resu
         return decline(request, code, rows);
     }
     let key = RowKey::Card(request.transaction.pan);
-    let mut row = None;
-    rows.ask(&key, &mut row)?;
-    let Some(card) = card_in(&row) else {
+    rows.ask(&key)?;
+    let Some(card) = card_in(rows.latest()) else {
         return decline(request, DeclineCode::NO_CARD_RECORD, rows);
     };
     match usable_account(request, &card) {
@@ -91,9 +89,8 @@ fn decide_on_account<S: RowSource>(
 {
     let paying = id;
     let key = RowKey::Account(paying);
-    let mut row = None;
-    rows.ask(&key, &mut row)?;
-    let Some(account) = account_in(&row) else {
+    rows.ask(&key)?;
+    let Some(account) = account_in(rows.latest()) else {
         return decline(request, DeclineCode::SYSTEM_MALFUNCTION, rows);
     };
     if request.transaction.currency != account.currency {
@@ -119,9 +116,8 @@ fn decide_on_day<S: RowSource>(
     ensures book { S.book rows.new.source ≡ S.book rows.old.source }
 {
     let key = RowKey::Velocity(request.transaction.pan, request.transaction.stamp.day());
-    let mut row = None;
-    rows.ask(&key, &mut row)?;
-    let day = spent_in(velocity_in(&row));
+    rows.ask(&key)?;
+    let day = spent_in(velocity_in(rows.latest()));
     decide_on_limits(request, card, id, account, &day, rows)
 }
 
@@ -146,9 +142,8 @@ fn decide_on_limits<S: RowSource>(
         return decline(request, code, rows);
     }
     let key = RowKey::Budget(request.transaction.pan.prefix());
-    let mut row = None;
-    rows.ask(&key, &mut row)?;
-    let budget = budget_in(&row);
+    rows.ask(&key)?;
+    let budget = budget_in(rows.latest());
     match request_funds(&request.transaction, id, account, &budget) {
         Ok(paying) => approve(request, card, day, &paying, rows),
         Err(code) => decline(request, code, rows),

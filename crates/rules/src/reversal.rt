@@ -30,9 +30,8 @@ pub(crate) fn decide_reversal<S: RowSource>(
     ensures book { S.book rows.new.source ≡ S.book rows.old.source }
 {
     let key = RowKey::Original(reversal.original.identity);
-    let mut row = None;
-    rows.ask(&key, &mut row)?;
-    match original_in(&row) {
+    rows.ask(&key)?;
+    match original_in(rows.latest()) {
         Some(row) => decide_on_row(reversal, &row, rows),
         None => mark_ahead(reversal, rows),
     }
@@ -124,9 +123,8 @@ fn decide_by_account<S: RowSource>(
 {
     let paying = id;
     let key = RowKey::Account(paying);
-    let mut row = None;
-    rows.ask(&key, &mut row)?;
-    let paid = account_funds(id, account_in(&row));
+    rows.ask(&key)?;
+    let paid = account_funds(id, account_in(rows.latest()));
     decide_on_paid(reversal, kept, &paid, rows)
 }
 
@@ -145,9 +143,8 @@ fn decide_by_budget<S: RowSource>(
     ensures book { S.book rows.new.source ≡ S.book rows.old.source }
 {
     let key = RowKey::Budget(kept.card().prefix());
-    let mut row = None;
-    rows.ask(&key, &mut row)?;
-    let paid = budget_funds(kept.card().prefix(), budget_in(&row));
+    rows.ask(&key)?;
+    let paid = budget_funds(kept.card().prefix(), budget_in(rows.latest()));
     decide_on_paid(reversal, kept, &paid, rows)
 }
 
@@ -191,9 +188,8 @@ fn decide_on_day<S: RowSource>(
     ensures book { S.book rows.new.source ≡ S.book rows.old.source }
 {
     let key = RowKey::Velocity(kept.card(), reversal.original.identity.stamp.day());
-    let mut row = None;
-    rows.ask(&key, &mut row)?;
-    match velocity_in(&row) {
+    rows.ask(&key)?;
+    match velocity_in(rows.latest()) {
         Some(day) => reverse_request(reversal, kept, paid, &day, rows),
         None => Ok(unchanged(reversal, Action::NOT_TRACED)),
     }

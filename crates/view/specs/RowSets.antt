@@ -1,5 +1,5 @@
 -- Rows that were read and rows that are put, each list in the order of first touch.
-use Rattle.std.specs.Prelude.{◌≡◌, ◌<◌, List, [], ◌∷◌, ◌++◌, length, map, Option, IfSome}
+use Rattle.std.specs.Prelude.{◌≡◌, ◌<◌, List, [], ◌∷◌, ◌++◌, length, map, Option, None, IfSome}
 use Rattle.std.specs.List.{AllByRecursion, IsDistinct}
 use Rattle.std.specs.Map.{lookup}
 use Rattle.indexmap.specs.IndexMap.{insert_entry}
@@ -21,6 +21,15 @@ IsOnceEach rows = IsDistinct key_eq (map (λ row. row.0) rows)
 -- one more row was read
 abbrev pub logged : Reads → RowKey → Option RowVal → Reads
 logged reads key row = reads ++ (key, row) ∷ []
+
+-- what the row that was read last was, where this one was read before them
+abbrev pub latest_after : Option RowVal → Reads → Option RowVal
+latest_after row [] = row
+latest_after row (read ∷ reads) = latest_after read.1 reads
+
+-- what the row that was read last was; nothing where no row was read
+abbrev pub latest : Reads → Option RowVal
+latest reads = latest_after None reads
 
 -- one more row is put: a row that is put again keeps its place
 abbrev pub put : Writes → RowKey → RowVal → Writes

@@ -1,8 +1,8 @@
-ghost use Rattle.std.specs.Prelude.{◌≡◌, ◌<◌, ◌^◌, ◌++◌, ◌∷◌, [], Some, None, length, take, slice_get, set, IfErr, IfSome, IfNone, OnOk, OnErr};
+ghost use Rattle.std.specs.Prelude.{◌≡◌, ◌+◌, ◌<◌, ◌^◌, ◌++◌, ◌∷◌, [], Some, None, length, take, slice_get, set, IfErr, IfSome, IfNone, OnOk, OnErr};
 ghost use Rattle.std.specs.FinMap as map;
 ghost use Rattle.rows.specs.RowVal.{IsOfKind};
 ghost use Rattle.view.specs.Recording.{answer_of, AsksOnce};
-ghost use Rattle.view.specs.RowSets.{value_in};
+ghost use Rattle.view.specs.RowSets.{value_in, latest, logged};
 
 use crate::row_source::RowSource;
 use crate::stop::Stop;
@@ -92,25 +92,31 @@ impl Few<RowVal> {
 }
 
 impl Few<Option<RowVal>> {
-    /// Makes room, asks the source for a row, and puts the answer last, which is written to a place of the caller's too.
-    pub(crate) fn ask<S: RowSource>(
-        &mut self,
-        key: &RowKey,
-        source: &mut S,
-        row: &mut Option<RowVal>,
-    ) -> Result<(), Stop>
-        ensures asked { AsksOnce S.answers source.old key.now (answer_of result row.new) source.new }
-        ensures ok { OnOk result (self.new ≡ self.old ++ (key.now, row.new) ∷ []) }
+    /// What the last row was.
+    #[inline(always)]
+    pub(crate) fn latest(&self) -> &Option<RowVal>
+        requires { 0 < length self.now }
+        ensures { result.now ≡ latest self.now }
+    {
+        let rows = self.as_slice();
+        &rows[rows.len() - 1].1
+    }
+
+    /// Makes room, asks the source for a row, and puts the answer last.
+    #[inline(always)]
+    pub(crate) fn ask<S: RowSource>(&mut self, key: &RowKey, source: &mut S) -> Result<(), Stop>
+        ensures asked { AsksOnce S.answers source.old key.now (answer_of result (latest self.new)) source.new }
+        ensures ok { OnOk result (self.new ≡ logged self.old key.now (latest self.new)) }
         ensures err { OnErr result (self.new ≡ self.old) }
-        ensures kind { OnOk result (IfSome row.new (IsOfKind key.now)) }
-        ensures known { OnOk result (IfSome (S.book source.old) (λ rows. row.new ≡ map.get rows key.now)) }
+        ensures kind { OnOk result (IfSome (latest self.new) (IsOfKind key.now)) }
+        ensures known { OnOk result (IfSome (S.book source.old) (λ rows. latest self.new ≡ map.get rows key.now)) }
         ensures stops { IfSome (S.book source.old) (λ _. IfErr result (λ stop. stop ≡ Stop.OutOfMemory)) }
         ensures same { S.book source.new ≡ S.book source.old }
     {
         if self.used == self.rows.len() {
             push_row(&mut self.rows, key, &None)?;
         }
-        read_at(&mut self.rows, self.used, key, source, row)?;
+        read_at(&mut self.rows, self.used, key, source)?;
         self.used += 1;
         Ok(())
     }
@@ -141,29 +147,27 @@ fn write_over(rows: &mut [(RowKey, RowVal)], place: usize, key: &RowKey, row: &R
     slice::from_mut(&mut there.1).copy_from_slice(slice::from_ref(row));
 }
 
-// Asks the source for a row, and writes the answer over the row at a place and to a place of the caller's.
+// Asks the source for a row, and writes the answer over the row at a place.
 #[inline(always)]
 fn read_at<S: RowSource>(
     rows: &mut [(RowKey, Option<RowVal>)],
     place: usize,
     key: &RowKey,
     source: &mut S,
-    row: &mut Option<RowVal>,
 ) -> Result<(), Stop>
     requires { place < length rows.old }
     ensures length { length rows.new ≡ length rows.old }
     ensures others { take place rows.new ≡ take place rows.old }
-    ensures ok { OnOk result (rows.new ≡ set rows.old place (key.now, row.new)) }
-    ensures answers { S.answers source.old key.now (answer_of result row.new) source.new }
-    ensures kind { OnOk result (IfSome row.new (IsOfKind key.now)) }
-    ensures known { OnOk result (IfSome (S.book source.old) (λ rows. row.new ≡ map.get rows key.now)) }
+    ensures ok { OnOk result (rows.new ≡ set rows.old place (key.now, latest (take (place + 1) rows.new))) }
+    ensures answers { S.answers source.old key.now (answer_of result (latest (take (place + 1) rows.new))) source.new }
+    ensures kind { OnOk result (IfSome (latest (take (place + 1) rows.new)) (IsOfKind key.now)) }
+    ensures known { OnOk result (IfSome (S.book source.old) (λ rows_known. latest (take (place + 1) rows.new) ≡ map.get rows_known key.now)) }
     ensures stops { IfSome (S.book source.old) (λ _. IfErr result (λ stop. stop ≡ Stop.OutOfMemory)) }
     ensures same { S.book source.new ≡ S.book source.old }
 {
     let there = &mut rows[place];
     there.0 = *key;
     source.read_into(key, &mut there.1)?;
-    slice::from_mut(row).copy_from_slice(slice::from_ref(&there.1));
     Ok(())
 }
 

@@ -2,7 +2,7 @@ ghost use Rattle.std.specs.Prelude.{◌≡◌, ◌↔◌, ◌<◌, [], Some, Non
 ghost use Rattle.std.specs.FinMap as map;
 ghost use Rattle.rows.specs.RowVal.{IsOfKind};
 ghost use Rattle.view.specs.Recording.{answer_of, AsksOnce};
-ghost use Rattle.view.specs.RowSets.{value_in, logged, IsOnceEach};
+ghost use Rattle.view.specs.RowSets.{value_in, latest, logged, IsOnceEach};
 
 use crate::behind::insert_copy;
 use crate::few::{FEW, Few, place_of};
@@ -95,28 +95,36 @@ impl ReadSet {
         }
     }
 
-    // Makes room, asks the source for a row that was not read yet, and logs the answer, which is written to a place of the
-    // caller's.
-    pub(crate) fn ask<S: RowSource>(
-        &mut self,
-        key: &RowKey,
-        source: &mut S,
-        row: &mut Option<RowVal>,
-    ) -> Result<(), Stop>
+    // What the row that was read last was.
+    #[inline(always)]
+    pub(crate) fn latest(&self) -> &Option<RowVal>
+        requires { 0 < length self.now }
+        ensures { result.now ≡ latest self.now }
+    {
+        match self.more.last() {
+            Some((_, row)) => row,
+            None => self.few.latest(),
+        }
+    }
+
+    // Makes room, asks the source for a row that was not read yet, and logs the answer.
+    #[inline(always)]
+    pub(crate) fn ask<S: RowSource>(&mut self, key: &RowKey, source: &mut S) -> Result<(), Stop>
         requires { value_in self.old key.now ≡ None }
-        ensures asked { AsksOnce S.answers source.old key.now (answer_of result row.new) source.new }
-        ensures ok { OnOk result (self.new ≡ logged self.old key.now row.new) }
+        ensures asked { AsksOnce S.answers source.old key.now (answer_of result (latest self.new)) source.new }
+        ensures ok { OnOk result (self.new ≡ logged self.old key.now (latest self.new)) }
+        ensures some { OnOk result (0 < length self.new) }
         ensures err { OnErr result (self.new ≡ self.old) }
-        ensures kind { OnOk result (IfSome row.new (IsOfKind key.now)) }
-        ensures known { OnOk result (IfSome (S.book source.old) (λ rows. row.new ≡ map.get rows key.now)) }
+        ensures kind { OnOk result (IfSome (latest self.new) (IsOfKind key.now)) }
+        ensures known { OnOk result (IfSome (S.book source.old) (λ rows. latest self.new ≡ map.get rows key.now)) }
         ensures stops { IfSome (S.book source.old) (λ _. IfErr result (λ stop. stop ≡ Stop.OutOfMemory)) }
         ensures same { S.book source.new ≡ S.book source.old }
     {
         if self.few.len() < FEW {
-            self.few.ask(key, source, row)?;
+            self.few.ask(key, source)?;
             return Ok(());
         }
-        ask_more(&mut self.more, key, source, row)?;
+        ask_more(&mut self.more, key, source)?;
         Ok(())
     }
 }
@@ -127,20 +135,20 @@ fn ask_more<S: RowSource>(
     more: &mut IndexMap<RowKey, Option<RowVal>>,
     key: &RowKey,
     source: &mut S,
-    answer: &mut Option<RowVal>,
 ) -> Result<(), Stop>
     requires { value_in more.old.entries key.now ≡ None }
-    ensures asked { AsksOnce S.answers source.old key.now (answer_of result answer.new) source.new }
-    ensures ok { OnOk result (more.new.entries ≡ logged more.old.entries key.now answer.new) }
+    ensures asked { AsksOnce S.answers source.old key.now (answer_of result (latest more.new.entries)) source.new }
+    ensures ok { OnOk result (more.new.entries ≡ logged more.old.entries key.now (latest more.new.entries)) }
     ensures err { OnErr result (more.new.entries ≡ more.old.entries) }
-    ensures kind { OnOk result (IfSome answer.new (IsOfKind key.now)) }
-    ensures known { OnOk result (IfSome (S.book source.old) (λ rows. answer.new ≡ map.get rows key.now)) }
+    ensures kind { OnOk result (IfSome (latest more.new.entries) (IsOfKind key.now)) }
+    ensures known { OnOk result (IfSome (S.book source.old) (λ rows. latest more.new.entries ≡ map.get rows key.now)) }
     ensures stops { IfSome (S.book source.old) (λ _. IfErr result (λ stop. stop ≡ Stop.OutOfMemory)) }
     ensures same { S.book source.new ≡ S.book source.old }
 {
     more.reserve(1)?;
-    source.read_into(key, answer)?;
-    match insert_copy(more, key, answer) {
+    let mut answer = None;
+    source.read_into(key, &mut answer)?;
+    match insert_copy(more, key, &answer) {
         Ok(()) => Ok(()),
         Err(_) => unreachable!(),
     }

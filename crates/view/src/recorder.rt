@@ -1,8 +1,8 @@
-ghost use Rattle.std.specs.Prelude.{◌≡◌, ◌⊎◌, [], Some, None, IfOk, IfErr, IfSome, OnOk, OnErr};
+ghost use Rattle.std.specs.Prelude.{◌≡◌, ◌⊎◌, ◌<◌, [], length, Some, None, IfOk, IfErr, IfSome, OnOk, OnErr};
 ghost use Rattle.std.specs.FinMap as map;
 ghost use Rattle.rows.specs.RowVal.{IsOfKind};
 ghost use Rattle.view.specs.Recording.{answer_of, kept, AgreesWithBook, AsksOnce, IsStopOf};
-ghost use Rattle.view.specs.RowSets.{value_in, logged, put};
+ghost use Rattle.view.specs.RowSets.{value_in, latest, logged, put};
 
 use crate::read_set::ReadSet;
 use crate::row_source::RowSource;
@@ -77,30 +77,38 @@ impl<S: RowSource> Recorder<S> {
         if let Some(row) = self.reads.get(key) {
             return Ok(row);
         }
-        let mut row = None;
-        self.reads.ask(key, &mut self.source, &mut row)?;
-        Ok(row)
+        self.reads.ask(key, &mut self.source)?;
+        Ok(*self.reads.latest())
     }
 
-    /// Writes to a place of the caller's what a row is that was neither put nor read yet: as the source answers, which is
-    /// then logged.
+    /// Reads a row that was neither put nor read yet: the source's answer is logged, and is the latest.
     #[inline(always)]
-    pub fn ask(&mut self, key: &RowKey, row: &mut Option<RowVal>) -> Result<(), Stop>
+    pub fn ask(&mut self, key: &RowKey) -> Result<(), Stop>
         requires { kept self.old key.now ≡ None }
 
         // The source is asked once, and its answer is logged.
-        ensures asked { AsksOnce S.answers self.old.source key.now (answer_of result row.new) self.new.source }
-        ensures logged { OnOk result (self.new.reads ≡ logged self.old.reads key.now row.new) }
+        ensures asked { AsksOnce S.answers self.old.source key.now (answer_of result (latest self.new.reads)) self.new.source }
+        ensures logged { OnOk result (self.new.reads ≡ logged self.old.reads key.now (latest self.new.reads)) }
+        ensures some { OnOk result (0 < length self.new.reads) }
         ensures err { OnErr result (self.new.reads ≡ self.old.reads) }
         ensures writes { self.new.writes ≡ self.old.writes }
-        ensures kind { OnOk result (IfSome row.new (IsOfKind key.now)) }
+        ensures kind { OnOk result (IfSome (latest self.new.reads) (IsOfKind key.now)) }
 
         // It stops where the source does or memory runs out. A known book stays, and there want of memory is all that stops it.
         ensures stop { IfErr result (λ stop. (stop ≡ Stop.OutOfMemory) ⊎ IsStopOf S.answers self.new.source stop) }
         ensures stops { IfSome (S.book self.old.source) (λ _. IfErr result (λ stop. stop ≡ Stop.OutOfMemory)) }
         ensures book { S.book self.new.source ≡ S.book self.old.source }
     {
-        self.reads.ask(key, &mut self.source, row)
+        self.reads.ask(key, &mut self.source)
+    }
+
+    /// What the row that was read last was.
+    #[inline(always)]
+    pub fn latest(&self) -> &Option<RowVal>
+        requires { 0 < length self.now.reads }
+        ensures { result.now ≡ latest self.now.reads }
+    {
+        self.reads.latest()
     }
 
     /// Puts a row, over the value that it has; a row that is put already takes no memory.

@@ -1,6 +1,7 @@
 use Rattle.std.proofs.Common.{refl, sym, ap, ◌∙◌}
 use Rattle.rows.specs.declared.row_key.RowKey.TheVariants as key
 use Rattle.rows.specs.AdviceTable as table
+use Rattle.rows.specs.Typed as typed
 use Rattle.rules.proofs.FollowingLaws.{unread, looked_as, follows_then, follows_else, follows_needs, same_number, other_number}
 use Rattle.rules.proofs.advice.decide_fresh.Goals as goal
 
@@ -22,7 +23,7 @@ acknowledge-requires-in_default g c =
       follows =
           looked_as _ _ _ _ _ _ _ _ _ _ (follows_then _ _ _ _ (table.looked_for_card a) _ c.requires.follows (same_number _ _ (sym c.code.ensures.value ∙ c.if-code-ne0.false)))
           c.in_ok-ask.ensures.logged c.in_ok-ask.ensures.writes refl
-          (ap (table.advice_on_card a) (sym c.card_in.ensures ∙ c.in_default.is));
+          (ap (table.advice_on_card a) (sym (c.card_in.ensures ∙ ap typed.card_in c.latest.ensures) ∙ c.in_default.is));
     }
 
 pub decide_on_account-requires-clause-follows : goal.decide_on_account-requires-clause-follows
@@ -30,7 +31,7 @@ decide_on_account-requires-clause-follows g c =
     let a = c.args.advice.now in
     looked_as _ _ _ _ _ _ _ _ _ _ (follows_then _ _ _ _ (table.looked_for_card a) _ c.requires.follows (same_number _ _ (sym c.code.ensures.value ∙ c.if-code-ne0.false)))
     c.in_ok-ask.ensures.logged c.in_ok-ask.ensures.writes refl
-    (ap (table.advice_on_card a) (sym c.card_in.ensures ∙ c.in-Some.is) ∙ ap (table.advice_on_named a) (sym c.account_of.ensures ∙ c.in-Some-account_of.is))
+    (ap (table.advice_on_card a) (sym (c.card_in.ensures ∙ ap typed.card_in c.latest.ensures) ∙ c.in-Some.is) ∙ ap (table.advice_on_named a) (sym c.account_of.ensures ∙ c.in-Some-account_of.is))
 
 pub acknowledge-requires-in-None : goal.acknowledge-requires-in-None
 acknowledge-requires-in-None g c =
@@ -39,5 +40,5 @@ acknowledge-requires-in-None g c =
       follows =
           looked_as _ _ _ _ _ _ _ _ _ _ (follows_then _ _ _ _ (table.looked_for_card a) _ c.requires.follows (same_number _ _ (sym c.code.ensures.value ∙ c.if-code-ne0.false)))
           c.in_ok-ask.ensures.logged c.in_ok-ask.ensures.writes refl
-          (ap (table.advice_on_card a) (sym c.card_in.ensures ∙ c.in-Some.is) ∙ ap (table.advice_on_named a) (sym c.account_of.ensures ∙ c.in-None.is));
+          (ap (table.advice_on_card a) (sym (c.card_in.ensures ∙ ap typed.card_in c.latest.ensures) ∙ c.in-Some.is) ∙ ap (table.advice_on_named a) (sym c.account_of.ensures ∙ c.in-None.is));
     }

@@ -1,6 +1,7 @@
 use Rattle.std.proofs.Common.{refl, sym, ap, ◌∙◌}
 use Rattle.rows.specs.declared.row_key.RowKey.TheVariants as key
 use Rattle.rows.specs.RequestTable as table
+use Rattle.rows.specs.Typed as typed
 use Rattle.rules.proofs.FollowingLaws.{unread, looked_as, follows_as, follows_needs}
 use Rattle.rules.proofs.request.decide_fresh.Goals as goal
 
@@ -16,7 +17,7 @@ decline-requires-in_default-card_in g c =
     record {
       follows =
           looked_as _ _ _ _ _ _ _ _ _ _ (follows_as _ _ _ _ (table.looked_for_card r) (ap (λ o. table.unless_refused r o (table.looked_for_card r)) (sym c.refused_unseen.ensures ∙ c.in_default.is)) c.requires.follows)
-          c.in_ok-ask.ensures.logged c.in_ok-ask.ensures.writes refl (ap (table.on_card r) (sym c.card_in.ensures ∙ c.in_default-card_in.is));
+          c.in_ok-ask.ensures.logged c.in_ok-ask.ensures.writes refl (ap (table.on_card r) (sym (c.card_in.ensures ∙ ap typed.card_in c.latest.ensures) ∙ c.in_default-card_in.is));
     }
 
 pub decide_on_account-requires-clause-follows : goal.decide_on_account-requires-clause-follows
@@ -24,7 +25,7 @@ decide_on_account-requires-clause-follows g c =
     let r = c.args.request.now in
     looked_as _ _ _ _ _ _ _ _ _ _ (follows_as _ _ _ _ (table.looked_for_card r) (ap (λ o. table.unless_refused r o (table.looked_for_card r)) (sym c.refused_unseen.ensures ∙ c.in_default.is)) c.requires.follows)
     c.in_ok-ask.ensures.logged c.in_ok-ask.ensures.writes refl
-    (ap (table.on_card r) (sym c.card_in.ensures ∙ c.in-Some-card_in.is) ∙ ap (table.on_usable r c.in-Some-card_in.card) (sym c.usable_account.ensures ∙ c.in-Ok.is))
+    (ap (table.on_card r) (sym (c.card_in.ensures ∙ ap typed.card_in c.latest.ensures) ∙ c.in-Some-card_in.is) ∙ ap (table.on_usable r c.in-Some-card_in.card) (sym c.usable_account.ensures ∙ c.in-Ok.is))
 
 pub decline-requires-in-Err : goal.decline-requires-in-Err
 decline-requires-in-Err g c =
@@ -33,5 +34,5 @@ decline-requires-in-Err g c =
       follows =
           looked_as _ _ _ _ _ _ _ _ _ _ (follows_as _ _ _ _ (table.looked_for_card r) (ap (λ o. table.unless_refused r o (table.looked_for_card r)) (sym c.refused_unseen.ensures ∙ c.in_default.is)) c.requires.follows)
           c.in_ok-ask.ensures.logged c.in_ok-ask.ensures.writes refl
-          (ap (table.on_card r) (sym c.card_in.ensures ∙ c.in-Some-card_in.is) ∙ ap (table.on_usable r c.in-Some-card_in.card) (sym c.usable_account.ensures ∙ c.in-Err.is));
+          (ap (table.on_card r) (sym (c.card_in.ensures ∙ ap typed.card_in c.latest.ensures) ∙ c.in-Some-card_in.is) ∙ ap (table.on_usable r c.in-Some-card_in.card) (sym c.usable_account.ensures ∙ c.in-Err.is));
     }

@@ -1,6 +1,7 @@
 use Rattle.std.proofs.Common.{refl, sym, ap, ◌∙◌}
 use Rattle.rows.specs.declared.row_key.RowKey.TheVariants as key
 use Rattle.rows.specs.RequestTable as table
+use Rattle.rows.specs.Typed as typed
 use Rattle.rules.proofs.FollowingLaws.{unread, looked_as, follows_then, follows_else, follows_needs, not_true, not_false}
 use Rattle.rows.specs.Facts.{is_same_currency}
 use Rattle.rules.proofs.request.decide_on_account.Goals as goal
@@ -15,7 +16,7 @@ pub decline-requires : goal.decline-requires
 decline-requires g c = record {
   follows =
       looked_as _ _ _ _ _ _ _ _ _ _ c.requires.follows c.in_ok-ask.ensures.logged c.in_ok-ask.ensures.writes refl
-      (ap (table.on_account c.args.request.now c.args.card.now c.args.id) (sym c.account_in.ensures ∙ c.in_default.is));
+      (ap (table.on_account c.args.request.now c.args.card.now c.args.id) (sym (c.account_in.ensures ∙ ap typed.account_in c.latest.ensures) ∙ c.in_default.is));
 }
 
 pub decline-requires-then-ne : goal.decline-requires-then-ne
@@ -23,7 +24,7 @@ decline-requires-then-ne g c = record {
   follows =
       follows_else _ _ _ (is_same_currency c.args.request.now.transaction.currency c.in-Some.account.currency) _ _
       (looked_as _ _ _ _ _ _ _ _ _ _ c.requires.follows c.in_ok-ask.ensures.logged c.in_ok-ask.ensures.writes refl
-      (ap (table.on_account c.args.request.now c.args.card.now c.args.id) (sym c.account_in.ensures ∙ c.in-Some.is)))
+      (ap (table.on_account c.args.request.now c.args.card.now c.args.id) (sym (c.account_in.ensures ∙ ap typed.account_in c.latest.ensures) ∙ c.in-Some.is)))
       (not_true _ (sym c.ne.ensures ∙ c.if-ne.true));
 }
 
@@ -31,5 +32,5 @@ pub decide_on_day-requires-clause-follows : goal.decide_on_day-requires-clause-f
 decide_on_day-requires-clause-follows g c =
     follows_then _ _ _ (is_same_currency c.args.request.now.transaction.currency c.in-Some.account.currency) _ _
     (looked_as _ _ _ _ _ _ _ _ _ _ c.requires.follows c.in_ok-ask.ensures.logged c.in_ok-ask.ensures.writes refl
-    (ap (table.on_account c.args.request.now c.args.card.now c.args.id) (sym c.account_in.ensures ∙ c.in-Some.is)))
+    (ap (table.on_account c.args.request.now c.args.card.now c.args.id) (sym (c.account_in.ensures ∙ ap typed.account_in c.latest.ensures) ∙ c.in-Some.is)))
     (not_false _ (sym c.ne.ensures ∙ c.if-ne.false))

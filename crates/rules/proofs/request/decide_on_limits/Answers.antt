@@ -1,6 +1,7 @@
 use Rattle.std.proofs.Common.{refl, sym, ap, ◌∙◌}
 use Rattle.rows.specs.declared.row_key.RowKey.TheVariants as key
 use Rattle.rows.specs.RequestTable as table
+use Rattle.rows.specs.Typed as typed
 use Rattle.rules.proofs.FollowingLaws.{unread, looked_as, follows_as, follows_needs}
 use Rattle.rules.proofs.request.decide_on_limits.Goals as goal
 
@@ -19,7 +20,7 @@ approve-requires-clause-follows g c =
     c.requires.follows)
     c.in_ok-ask.ensures.logged c.in_ok-ask.ensures.writes (λ i. key.Budget (c.prefix.ensures i))
     (ap (table.on_funds r c.args.card.now c.args.day.now)
-    (ap (table.request_funds r.transaction c.args.id c.args.account.now) (sym c.budget_in-budget.ensures) ∙ sym c.request_funds.ensures.funds ∙ c.in-Ok.is))
+    (ap (table.request_funds r.transaction c.args.id c.args.account.now) (sym (c.budget_in-budget.ensures ∙ ap typed.budget_in c.latest.ensures)) ∙ sym c.request_funds.ensures.funds ∙ c.in-Ok.is))
 
 pub decline-requires-in-Err : goal.decline-requires-in-Err
 decline-requires-in-Err g c =
@@ -32,5 +33,5 @@ decline-requires-in-Err g c =
           c.requires.follows)
           c.in_ok-ask.ensures.logged c.in_ok-ask.ensures.writes (λ i. key.Budget (c.prefix.ensures i))
           (ap (table.on_funds r c.args.card.now c.args.day.now)
-          (ap (table.request_funds r.transaction c.args.id c.args.account.now) (sym c.budget_in-budget.ensures) ∙ sym c.request_funds.ensures.funds ∙ c.in-Err.is));
+          (ap (table.request_funds r.transaction c.args.id c.args.account.now) (sym (c.budget_in-budget.ensures ∙ ap typed.budget_in c.latest.ensures)) ∙ sym c.request_funds.ensures.funds ∙ c.in-Err.is));
     }

@@ -1,6 +1,7 @@
 use Rattle.std.proofs.Common.{refl, sym, ap, ◌∙◌}
 use Rattle.rows.specs.declared.row_key.RowKey.TheVariants as key
 use Rattle.rows.specs.RequestTable as table
+use Rattle.rows.specs.Typed as typed
 use Rattle.rules.proofs.FollowingLaws.{unread, looked_as}
 use Rattle.rules.proofs.request.decide_verdict.Goals as goal
 
@@ -11,10 +12,10 @@ pub answer_again-requires : goal.answer_again-requires
 answer_again-requires g c = record {
   follows =
       looked_as _ _ _ _ _ _ _ _ _ _ c.requires.follows c.in_ok-ask.ensures.logged c.in_ok-ask.ensures.writes (λ i. key.Original (c.identity.ensures i))
-      (ap (table.on_original c.args.request.now) (sym c.original_in.ensures ∙ c.in-Some.is));
+      (ap (table.on_original c.args.request.now) (sym (c.original_in.ensures ∙ ap typed.original_in c.latest.ensures) ∙ c.in-Some.is));
 }
 
 pub decide_fresh-requires-clause-follows : goal.decide_fresh-requires-clause-follows
 decide_fresh-requires-clause-follows g c =
     looked_as _ _ _ _ _ _ _ _ _ _ c.requires.follows c.in_ok-ask.ensures.logged c.in_ok-ask.ensures.writes (λ i. key.Original (c.identity.ensures i))
-    (ap (table.on_original c.args.request.now) (sym c.original_in.ensures ∙ c.in-None.is))
+    (ap (table.on_original c.args.request.now) (sym (c.original_in.ensures ∙ ap typed.original_in c.latest.ensures) ∙ c.in-None.is))

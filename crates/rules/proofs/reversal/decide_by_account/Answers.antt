@@ -1,6 +1,7 @@
 use Rattle.std.proofs.Common.{refl, sym, ap, ◌∙◌, option_map}
 use Rattle.rows.specs.ReversalTable as table
 use Rattle.rows.specs.declared.row_key.RowKey.TheVariants as key
+use Rattle.rows.specs.Typed as typed
 use Rattle.rules.proofs.FollowingLaws.{unread, looked_as, follows_needs}
 use Rattle.rules.proofs.reversal.decide_by_account.Goals as goal
 
@@ -13,4 +14,4 @@ returns-in_err-ask-clause-so_far g c = follows_needs _ _ _ _ _ c.requires.follow
 pub decide_on_paid-requires-clause-follows : goal.decide_on_paid-requires-clause-follows
 decide_on_paid-requires-clause-follows g c =
     looked_as _ _ _ _ _ _ _ _ _ _ c.requires.follows c.in_ok-ask.ensures.logged c.in_ok-ask.ensures.writes refl
-    (ap (table.on_paid c.args.reversal.now c.args.kept.now) (ap (option_map _) (sym c.account_in.ensures) ∙ sym c.account_funds-paid.ensures))
+    (ap (table.on_paid c.args.reversal.now c.args.kept.now) (ap (option_map _) (sym (c.account_in.ensures ∙ ap typed.account_in c.latest.ensures)) ∙ sym c.account_funds-paid.ensures))

@@ -3,6 +3,7 @@ use Rattle.rows.specs.ReversalTable as table
 use Rattle.rows.specs.declared.row_key.RowKey.TheVariants as key
 use Rattle.rows.specs.Facts.{prefix_of}
 use Rattle.rows.specs.declared.funds.Funds.TheVariants as funds
+use Rattle.rows.specs.Typed as typed
 use Rattle.rules.proofs.FollowingLaws.{unread, looked_as, follows_needs}
 use Rattle.rules.proofs.reversal.decide_by_budget.Goals as goal
 
@@ -17,4 +18,4 @@ decide_on_paid-requires-clause-follows g c =
     let key_prefix = c.prefix.ensures ∙ ap prefix_of c.card.ensures.card in
     let row_prefix = c.prefix-2.ensures ∙ ap prefix_of c.card-2.ensures.card in
     looked_as _ _ _ _ _ _ _ _ _ _ c.requires.follows c.in_ok-ask.ensures.logged c.in_ok-ask.ensures.writes (λ i. key.Budget (key_prefix i))
-    (ap (table.on_paid c.args.reversal.now c.args.kept.now) (sym (c.budget_funds-paid.ensures ∙ (λ i. option_map (funds.Budget (row_prefix i)) (c.budget_in.ensures i)))))
+    (ap (table.on_paid c.args.reversal.now c.args.kept.now) (sym (c.budget_funds-paid.ensures ∙ (λ i. option_map (funds.Budget (row_prefix i)) ((c.budget_in.ensures ∙ ap typed.budget_in c.latest.ensures) i)))))
