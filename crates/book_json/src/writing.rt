@@ -1,6 +1,6 @@
 //! The text of a book.
 
-ghost use Rattle.std.specs.Prelude.{◌≡◌, ◌∷◌, Ok, OnOk, IfOk, IsTrue};
+ghost use Rattle.std.specs.Prelude.{◌≡◌, ◌∷◌, [], Ok, OnOk, IfOk, IsTrue};
 ghost use Rattle.std.specs.List.{AllByRecursion};
 ghost use Rattle.json.specs.Token.{key as key_token};
 ghost use Rattle.rows.specs.Book.{AllOfKind};
@@ -49,6 +49,18 @@ fn write_list(out: &mut Writer, list: RowList, rows: &SortedRows<'_>) -> Result<
     Ok(())
 }
 
+// About how many bytes the entry of an original takes, of which a book mostly consists.
+const BYTES_OF_A_ROW: usize = 350;
+
+// Room for the text of so many rows, so that the text isn't moved while it grows.
+fn room_for(alloc: Global, rows: usize) -> Result<Vec<u8>, AllocError>
+    ensures { IfOk result (λ text. text.items ≡ []) }
+{
+    let mut text = Vec::new(alloc);
+    text.reserve(rows.saturating_mul(BYTES_OF_A_ROW))?;
+    Ok(text)
+}
+
 /// The text of a book: JSON of version 3, without spaces, the keys of each object in byte order and the rows of each list
 /// in the order of their keys. It is read again as the book.
 pub fn write_book(alloc: Global, book: &Book) -> Result<Vec<u8>, AllocError>
@@ -56,7 +68,8 @@ pub fn write_book(alloc: Global, book: &Book) -> Result<Vec<u8>, AllocError>
     ensures back { IfOk result (λ text. reading text.items ≡ Ok book.now) }
 {
     let rows = book.sorted_rows(alloc)?;
-    let mut out = Writer::new(Vec::new(alloc));
+    let text = room_for(alloc, book.len())?;
+    let mut out = Writer::new(text);
     begin_object(&mut out)?;
     write_list(&mut out, RowList::Accounts, &rows)?;
     write_list(&mut out, RowList::Ahead, &rows)?;

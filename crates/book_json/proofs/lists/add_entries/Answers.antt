@@ -1,10 +1,6 @@
-use Rattle.std.proofs.Common.{sym, ap, subst, ◌∙◌, arith, Result}
+use Rattle.std.proofs.Common.{sym, ◌∙◌, arith}
 use Rattle.std.proofs.lemmas.List.{drop_all}
 use Rattle.std.proofs.lemmas.Result.{err_from_is_err_and}
-use Rattle.rows.specs.Fold.{Rows}
-use Rattle.book_json_laws.specs.Lists.{add_entries}
-use Rattle.book_json_laws.specs.Steps.{◌>>=◌, GivesOrMemory}
-use Rattle.serde_json.specs.View.{view, items_view}
 use Rattle.book_json_laws.proofs.ListLemmas.{here, stays, also, goes_on, entries_at, none_left}
 use Rattle.book_json.proofs.lists.add_entries.Goals as goal
 

@@ -1,5 +1,4 @@
-use Rattle.std.proofs.Common.{subst, ◌≡◌, ap, sym, ◌∙◌, Some, Option}
-use Rattle.rows.specs.Kept.{KeptOriginal}
+use Rattle.std.proofs.Common.{subst, ◌≡◌, Some}
 use Rattle.book_json_laws.specs.Originals.{kept_of}
 use Rattle.book_json_laws.specs.Ranges.{IsOriginalEntry}
 use Rattle.book_json_laws.specs.declared.original_entry.OriginalEntry.{OriginalEntry}

@@ -9,7 +9,7 @@ use Rattle.book_json_laws.specs.Parts.{list_key}
 use Rattle.book_json_laws.specs.Text.{Adds, ReadsBack, tokens_of, book_data, list_data, rows_of}
 use Rattle.book_json_laws.specs.declared.row_list.RowList.{RowList}
 use Rattle.book_json_laws.specs.declared.row_list.RowList.TheVariants.{Accounts, Ahead, Budgets, Cards, Days, Originals}
-use Rattle.book_json_laws.proofs.BookAgain.{AreReadBack, text_again}
+use Rattle.book_json_laws.proofs.BookAgain.{text_again}
 use Rattle.book_json_laws.proofs.WrittenTokens.{then, printed}
 use Rattle.rows.specs.declared.row_key.RowKey.{RowKey}
 use Rattle.rows.specs.declared.row_val.RowVal.{RowVal}
@@ -31,7 +31,7 @@ returns-clause-text c =
     (then (of_book Cards sorted c.in_ok-write_list-4.ensures.text) (then (of_book Days sorted c.in_ok-write_list-5.ensures.text) (then (of_book Originals sorted c.in_ok-write_list-6.ensures.text)
     (then c.in_ok-number_field.ensures c.in_ok-end_object.ensures))))))) in
     printed c.end_object.new.out c.into_inner.result.items (book_data c.args.book.now) c.into_inner.ensures.items
-    (all.kept ∙ c.new-out.ensures.before ∙ c.new.ensures.items)
+    (all.kept ∙ c.new-out.ensures.before ∙ c.in_ok-text.ensures)
     (all.written ∙ ap (λ (ts : List Token). ts ++ tokens_of (book_data c.args.book.now)) c.new-out.ensures.tokens)
 
 pub returns-clause-back : goal.returns-clause-back
@@ -42,7 +42,7 @@ returns-clause-back c =
     (then (of_book Cards sorted c.in_ok-write_list-4.ensures.text) (then (of_book Days sorted c.in_ok-write_list-5.ensures.text) (then (of_book Originals sorted c.in_ok-write_list-6.ensures.text)
     (then c.in_ok-number_field.ensures c.in_ok-end_object.ensures))))))) in
     let out = c.end_object.new.out in
-    let empty = all.kept ∙ c.new-out.ensures.before ∙ c.new.ensures.items in
+    let empty = all.kept ∙ c.new-out.ensures.before ∙ c.in_ok-text.ensures in
     let written = all.written ∙ ap (λ (ts : List Token). ts ++ tokens_of (book_data c.args.book.now)) c.new-out.ensures.tokens in
     let text = c.into_inner.ensures.items ∙ ap (λ (b : List ℕ). b ++ print out.tokens) empty in
     text_again c.args.book.now c.into_inner.result.items
