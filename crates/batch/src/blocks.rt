@@ -28,6 +28,7 @@ impl Window {
         requires room { R.failures source.old + 1 < 2 ^ 64 }
         ensures failures { R.failures source.new ≡ failures_after result (R.failures source.old) }
         ensures known { R.is_known source.old → R.is_known source.new }
+        ensures memory { IfErr result (λ e. e ≡ BatchFault.OutOfMemory → length self.new.field.items < 4) }
         ensures most { IfOk result (λ n. n ≤ 1000) }
         ensures gives { R.is_known source.old → Gives (λ n. n) result
             (ahead self.new (R.remaining source.new)) (block_count_at (ahead self.old (R.remaining source.old))) }

@@ -1,4 +1,4 @@
-ghost use Rattle.std.specs.Prelude.{◌≡◌, ◌+◌, ◌<◌, ◌≤◌, ◌^◌, IfOk};
+ghost use Rattle.std.specs.Prelude.{◌≡◌, ◌+◌, ◌<◌, ◌≤◌, ◌^◌, length, IfOk, IfErr};
 ghost use Rattle.batch_laws.specs.BatchFault.{failures_after};
 ghost use Rattle.batch_laws.specs.Reading.{Gives, magic_at, number_at, version_at, count_at, head_at, length_at, body_at};
 ghost use Rattle.batch.specs.Window.{ahead};
@@ -19,6 +19,7 @@ impl Window {
         requires room { R.failures source.old + 1 < 2 ^ 64 }
         ensures failures { R.failures source.new ≡ failures_after result (R.failures source.old) }
         ensures known { R.is_known source.old → R.is_known source.new }
+        ensures memory { IfErr result (λ e. e ≡ BatchFault.OutOfMemory → length self.new.field.items < 4) }
         ensures gives { R.is_known source.old → Gives (λ _. magic.now) result
             (ahead self.new (R.remaining source.new)) (magic_at magic.now (ahead self.old (R.remaining source.old))) }
     {
@@ -35,6 +36,7 @@ impl Window {
         requires room { R.failures source.old + 1 < 2 ^ 64 }
         ensures failures { R.failures source.new ≡ failures_after result (R.failures source.old) }
         ensures known { R.is_known source.old → R.is_known source.new }
+        ensures memory { IfErr result (λ e. e ≡ BatchFault.OutOfMemory → length self.new.field.items < 2) }
         ensures gives { R.is_known source.old → Gives (λ n. n) result
             (ahead self.new (R.remaining source.new)) (number_at 2 (ahead self.old (R.remaining source.old))) }
     {
@@ -48,6 +50,7 @@ impl Window {
         requires room { R.failures source.old + 1 < 2 ^ 64 }
         ensures failures { R.failures source.new ≡ failures_after result (R.failures source.old) }
         ensures known { R.is_known source.old → R.is_known source.new }
+        ensures memory { IfErr result (λ e. e ≡ BatchFault.OutOfMemory → length self.new.field.items < 4) }
         ensures gives { R.is_known source.old → Gives (λ n. n) result
             (ahead self.new (R.remaining source.new)) (number_at 4 (ahead self.old (R.remaining source.old))) }
     {
@@ -61,6 +64,7 @@ impl Window {
         requires room { R.failures source.old + 1 < 2 ^ 64 }
         ensures failures { R.failures source.new ≡ failures_after result (R.failures source.old) }
         ensures known { R.is_known source.old → R.is_known source.new }
+        ensures memory { IfErr result (λ e. e ≡ BatchFault.OutOfMemory → length self.new.field.items < 2) }
         ensures gives { R.is_known source.old → Gives (λ n. n) result
             (ahead self.new (R.remaining source.new)) (version_at (ahead self.old (R.remaining source.old))) }
     {
@@ -77,6 +81,7 @@ impl Window {
         requires room { R.failures source.old + 1 < 2 ^ 64 }
         ensures failures { R.failures source.new ≡ failures_after result (R.failures source.old) }
         ensures known { R.is_known source.old → R.is_known source.new }
+        ensures memory { IfErr result (λ e. e ≡ BatchFault.OutOfMemory → length self.new.field.items < 4) }
         ensures most { IfOk result (λ n. n ≤ 65536) }
         ensures gives { R.is_known source.old → Gives (λ n. n) result
             (ahead self.new (R.remaining source.new)) (count_at (ahead self.old (R.remaining source.old))) }
@@ -113,6 +118,7 @@ impl Window {
         requires room { R.failures source.old + 1 < 2 ^ 64 }
         ensures failures { R.failures source.new ≡ failures_after result (R.failures source.old) }
         ensures known { R.is_known source.old → R.is_known source.new }
+        ensures memory { IfErr result (λ e. e ≡ BatchFault.OutOfMemory → length self.new.field.items < 2) }
         ensures gives { R.is_known source.old → Gives (λ n. n) result
             (ahead self.new (R.remaining source.new)) (length_at (ahead self.old (R.remaining source.old))) }
     {

@@ -38,6 +38,9 @@ pub fn process<R: Source, W: Sink, E: Fn(&Book, &[Frame]) -> Result<Outcome, All
     ensures ok { IfOk result (λ outcome. (frames : List Frame) × IsFold book.now frames outcome
         × (R.is_known source.old → IsBatchOf (R.remaining source.old) frames)
         × (W.is_known sink.old → W.written sink.new ≡ W.written sink.old ++ replies_text (replies_to book.now frames))) }
+    // The answer is what `decide` answered to the batch, how many threads took part too.
+    ensures answered { IfOk result (λ outcome. (frames : _) × E.post decide.now book.entry frames (Ok outcome)
+        × (R.is_known source.old → IsBatchOf (R.remaining source.old) frames.now)) }
     ensures end { OnOk result (R.is_known source.old → R.remaining source.new ≡ []) }
     ensures fault { IfErr result (λ e. IsTrue (is_of_bytes e) → R.is_known source.old → bodies_of batch_magic (R.remaining source.old) ≡ Err e) }
     // Nothing is put unless the source was a batch that was decided, and then a beginning of its text is put.

@@ -20,7 +20,7 @@ pub(crate) struct Window {
 }
 
 impl Window {
-    ghost use Rattle.std.specs.Prelude.{◌≡◌, ◌+◌, ◌<◌, ◌≤◌, ◌^◌, ◌++◌, [], length, OnOk, IfOk, IfErr, IsTrue};
+    ghost use Rattle.std.specs.Prelude.{◌≡◌, ◌+◌, ◌<◌, ◌≤◌, ◌^◌, ◌++◌, [], length, OnOk, OnErr, IfOk, IfErr, IsTrue};
     ghost use Rattle.batch_laws.specs.BatchFault.{failures_after, is_of_bytes};
     ghost use Rattle.batch_laws.specs.Reading.{Gives, field_at};
     ghost use Rattle.batch.specs.Window.{part, ahead};
@@ -85,6 +85,7 @@ impl Window {
         requires some { self.old.start < self.old.end }
         ensures more { OnOk result (length self.old.field.items < length self.new.field.items) }
         ensures most { OnOk result (length self.new.field.items ≤ length self.old.field.items + wanted) }
+        ensures err { OnErr result (length self.new.field.items ≡ length self.old.field.items) }
         ensures bytes { OnOk result (
             self.new.field.items ++ part self.new.piece.items self.new.start self.new.end
             ≡ self.old.field.items ++ part self.old.piece.items self.old.start self.old.end) }
@@ -106,6 +107,8 @@ impl Window {
         ensures failures { R.failures source.new ≡ failures_after result (R.failures source.old) }
         ensures known { R.is_known source.old → R.is_known source.new }
         ensures size { OnOk result (length self.new.field.items ≡ size) }
+        // Memory is wanted for bytes of the field alone: a field that is whole is never answered so.
+        ensures memory { IfErr result (λ e. e ≡ BatchFault.OutOfMemory → length self.new.field.items < size) }
         ensures gives { R.is_known source.old → Gives (λ _. self.new.field.items) result
             (ahead self.new (R.remaining source.new)) (field_at size (ahead self.old (R.remaining source.old))) }
     {

@@ -1,6 +1,7 @@
 //! The lists of rows in a book's text.
 
-ghost use Rattle.std.specs.Prelude.{◌≡◌, IfOk};
+ghost use Rattle.std.specs.Prelude.{◌≡◌, None, IfOk, IfErr};
+ghost use Rattle.std.specs.FinMap as map;
 ghost use Rattle.rows.specs.RowVal.{IsOfKind};
 ghost use Rattle.serde_json.specs.View.{view, items_view};
 ghost use Rattle.book_json_laws.specs.Cards.{migrated_card};
@@ -45,7 +46,9 @@ fn entry_of(
 /// Puts a row into the book, unless an earlier entry has its key.
 fn put_new(list: RowList, key: RowKey, val: RowVal, book: &mut Book) -> Result<(), TextFault>
     requires { IsOfKind key val }
-    ensures { GivesOrMemory (λ _. book.new) result (with_row list book.old (key, val)) }
+    ensures gives { GivesOrMemory (λ _. book.new) result (with_row list book.old (key, val)) }
+    // Memory is wanted for a row that isn't there alone.
+    ensures full { IfErr result (λ fault. fault ≡ TextFault.OutOfMemory → map.get book.old key ≡ None) }
 {
     if book.get(&key).is_some() {
         return Err(TextFault::Shape(list.part()));
