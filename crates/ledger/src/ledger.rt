@@ -1,6 +1,6 @@
 ghost use Rattle.std.specs.Prelude.{◌≡◌, ◌≢◌, ◌≤◌, ◌↔◌, Ok, IfOk, IsTrue, length};
 ghost use Rattle.ledger.specs.Progress.{opened, further, book_of, replies_of, IsNext};
-ghost use Rattle.ledger.specs.declared.verdict.Verdict.TheVariants.{Committed};
+ghost use Rattle.ledger.specs.declared.verdict.Verdict.TheVariants.{Committed, Stale};
 
 use crate::agreement::agrees;
 use crate::frames::{are_same, is_at};
@@ -65,8 +65,10 @@ impl Ledger {
     }
 
     /// Commits the execution, where it is that of the next message and the book after those before it has each row as it was read.
+    /// To find that it isn't takes no memory.
     pub fn try_commit(&mut self, execution: &Execution) -> Result<Verdict, AllocError>
         ensures when { IfOk result (λ verdict. (verdict ≡ Committed) ↔ IsNext self.old execution.now) }
+        ensures stale { ¬ IsNext self.old execution.now → result ≡ Ok Stale }
         ensures committed { result ≡ Ok Committed → self.new ≡ further self.old }
         ensures otherwise { result ≢ Ok Committed → self.new ≡ self.old }
     {

@@ -2,7 +2,7 @@ ghost use Rattle.std.specs.Prelude.{◌≡◌, ◌≢◌, ◌≤◌, ◌↔◌, 
 ghost use Rattle.cursors.specs.CursorRule.{publisher};
 ghost use Rattle.ledger.specs.Progress.{further, IsNext};
 ghost use Rattle.published.specs.Standing.{advanced, told, stopping};
-ghost use Rattle.ledger.specs.declared.verdict.Verdict.TheVariants.{Committed};
+ghost use Rattle.ledger.specs.declared.verdict.Verdict.TheVariants.{Committed, Stale};
 
 use cursors::{CursorSeat, Cursors};
 use ledger::{Ledger, Verdict};
@@ -49,6 +49,7 @@ impl Published {
     /// Commits the execution, where it is that of the next message and the book after those before it has each row as it was read.
     pub fn try_commit(&mut self, execution: &Execution) -> Result<Verdict, AllocError>
         ensures when { IfOk result (λ verdict. (verdict ≡ Committed) ↔ IsNext self.old.ledger execution.now) }
+        ensures stale { ¬ IsNext self.old.ledger execution.now → result ≡ Ok Stale }
         ensures committed { result ≡ Ok Committed → self.new ≡ advanced self.old }
         ensures otherwise { result ≢ Ok Committed → self.new ≡ self.old }
     {

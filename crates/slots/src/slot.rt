@@ -88,7 +88,7 @@ impl Slot {
         ensures kept { result ≢ given.Ready → self.new ≡ self.old }
         ensures idle { result ≡ given.Kept → ¬ IsInHand self.old }
         ensures committed { self.old.stage ≡ stage.Committed → result ≡ given.Kept }
-        ensures worn { result ≡ given.Worn → self.old.incarnation + 1 ≡ 2 ^ 32 }
+        ensures worn { result ≡ given.Worn → IsInHand self.old × (self.old.incarnation + 1 ≡ 2 ^ 32) }
     {
         match self.stage {
             Stage::Ready | Stage::Committed => GivenUp::Kept,

@@ -1,4 +1,4 @@
-ghost use Rattle.std.specs.Prelude.{◌≡◌, [], length};
+ghost use Rattle.std.specs.Prelude.{◌≡◌, [], length, IfOk};
 ghost use Rattle.cursors.specs.CursorRule.{publisher};
 
 use crate::desk::Desk;
@@ -35,6 +35,7 @@ impl<B: Room> Board<B> {
     ) -> Result<(Board<B>, Place<B>), AllocError>
         requires table { (cursors ≡ B.table) × (seat.table_id ≡ B.table) }
         requires first { seat.me ≡ (publisher (length ledger.frames), []) }
+        ensures slots { IfOk result (λ made. length made.0.slots.items ≡ messages) }
     {
         let place = Place::new(cursors.another(&mut seat));
         let desk = Desk::new(Published::new(ledger, seat));
@@ -83,7 +84,9 @@ impl<B: Room> Board<B> {
 }
 
 // The slots of messages that were never executed.
-fn ready_slots(alloc: Global, messages: usize) -> Result<Vec<Mutex<Slot>>, AllocError> {
+fn ready_slots(alloc: Global, messages: usize) -> Result<Vec<Mutex<Slot>>, AllocError>
+    ensures { IfOk result (λ slots. length slots.items ≡ messages) }
+{
     let mut slots = Vec::with_capacity(alloc, messages)?;
     for _ in 0..messages {
         slots.push(Mutex::new(Slot::new()))?;

@@ -1,4 +1,7 @@
-ghost use Rattle.std.specs.Prelude.{◌≡◌};
+ghost use Rattle.std.specs.Prelude.{◌≡◌, ◌≢◌, ◌↔◌, Ok, IfOk};
+ghost use Rattle.ledger.specs.Progress.{IsNext};
+ghost use Rattle.ledger.specs.declared.verdict.Verdict.TheVariants.{Committed};
+ghost use Rattle.published.specs.Standing.{advanced, told, stopping};
 
 use crate::room::Room;
 use cursors::Cursors;
@@ -36,6 +39,9 @@ impl<B: Room> Desk<B> {
         execution: &Execution,
     ) -> Result<Verdict, AllocError>
         requires { cursors.now ≡ B.table }
+        ensures when { IfOk result (λ verdict. (verdict ≡ Committed) ↔ IsNext self.old.published.ledger execution.now) }
+        ensures committed { result ≡ Ok Committed → self.new.published ≡ told (advanced self.old.published) }
+        ensures otherwise { result ≢ Ok Committed → self.new.published ≡ self.old.published }
     {
         let verdict = self.published.try_commit(execution)?;
         if verdict == Verdict::Committed {
@@ -52,7 +58,9 @@ impl<B: Room> Desk<B> {
     }
 
     // Sets the stop mark.
-    pub(crate) fn stop(&mut self) {
+    pub(crate) fn stop(&mut self)
+        ensures { self.new.published ≡ stopping self.old.published }
+    {
         self.published.stop();
     }
 

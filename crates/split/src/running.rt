@@ -115,6 +115,7 @@ fn prefix_of(
     book: &Book,
     frames: &[Frame],
 ) -> Result<Prefix, AllocError>
+    ensures kept { (ledger.opening ≡ book.now) × (ledger.frames ≡ frames.now) → IfOk result (λ prefix. prefix.count ≡ ledger.count) }
     ensures count { IfOk result (λ prefix. prefix.count ≤ length frames.now) }
     ensures book { IfOk result (λ prefix. prefix.book ≡ rows_after book.now (take prefix.count frames.now)) }
     ensures replies { IfOk result (λ prefix. prefix.replies.items ≡ replies_to book.now (take prefix.count frames.now)) }
@@ -141,6 +142,7 @@ fn outcome_of(
     ensures replies { IfOk result (λ outcome. outcome.replies.items ≡ replies_to book.now frames.now) }
     ensures book { IfOk result (λ outcome. outcome.book ≡ rows_after book.now frames.now) }
     ensures started { IfOk result (λ outcome. outcome.started ≡ started) }
+    ensures kept { IfOk result (λ outcome. outcome.committed ≡ prefix.count) }
     ensures committed { IfOk result (λ outcome. outcome.committed ≤ length frames.now) }
 {
     let committed = prefix.count;
