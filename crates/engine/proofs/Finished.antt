@@ -19,7 +19,7 @@ use Rattle.speccore_laws.specs.State.{State, bounded}
 use Rattle.speccore_laws.specs.declared.core_fault.CoreFault.TheVariants.{Worn}
 use Rattle.speccore_laws.specs.declared.limits.Limits.{Limits}
 use Rattle.engine.proofs.Rest.{replies_of_both}
-use Rattle.engine.specs.Journals.{IsFinished, IsJournalOf}
+use Rattle.engine.specs.Journals.{IsFinished, IsJournalOf, AreCommitted}
 
 -- where nothing is to be done any more, all is committed
 pub done_finished : (old new : Play) (seat : ℕ) (entries : List Entry) → AnswersTo old seat Claim (Claimed Done) new → IsFinished new entries
@@ -78,3 +78,7 @@ journal_of core entries opening frames limits committed replies played reached b
           ∙ ap (λ (rows : Rows). replies_to rows s.frames) book ∙ ap (replies_to opening) bodies ∙ sym are;
       finished = finished;
     }
+
+-- what a journal says is committed, a run of a core committed
+pub committed_so : (start : Play) (entries : List Entry) (committed : ℕ) (replies : List ReplyBody) → IsJournalOf start entries committed replies → AreCommitted start committed replies
+committed_so start entries committed replies is = (entries, is)

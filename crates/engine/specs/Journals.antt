@@ -31,3 +31,8 @@ pub record IsJournalOf (start : Play) (entries : List Entry) (committed : ℕ) (
   pub rest : List ReplyBody
   pub begins : committed_replies core.state ++ rest ≡ replies
   pub finished : IsFinished core entries
+
+-- From this opening state some run of a core committed so many messages, all of them unless no incarnation or epoch was left; and its
+-- committed replies begin the replies.
+abbrev pub AreCommitted : Play → ℕ → List ReplyBody → Type 0
+AreCommitted start committed replies = (entries : List Entry) × IsJournalOf start entries committed replies

@@ -1,6 +1,6 @@
 ghost use Rattle.std.specs.Prelude.{◌≡◌, ◌≤◌, length, IfOk, IsTrue};
 ghost use Rattle.rows.specs.Fold.{replies_to, rows_after};
-ghost use Rattle.engine.specs.Journals.{IsFinished, IsJournalOf};
+ghost use Rattle.engine.specs.Journals.{IsFinished, IsJournalOf, AreCommitted};
 ghost use Rattle.engine.specs.Started.{IsStarted};
 ghost use Rattle.journal_laws.specs.Logged.{greatest};
 ghost use Rattle.speccore_laws.specs.Play.{opening_play};
@@ -23,7 +23,8 @@ use view::Decide;
 /// Decides a batch of at most 65,536 bodies through the speculative core, on several threads (Block-STM). Whatever the number of
 /// workers, replies and book are those of deciding the messages one after another in the order of their arrival. The only fault
 /// is want of memory. `started` is how many threads took part; one that can't be started is no fault. `committed` is how many
-/// messages the core had committed when the rest was decided one after another.
+/// messages the core had committed when the rest was decided one after another: all, unless no incarnation or epoch was left.
+#[tactic(auto, using(crate::proofs::Finished::committed_so))]
 pub fn run<R: Threads + Wait + Sync, F: Decide + Sync, G: Gate>(
     rt: &R,
     alloc: Global,
@@ -38,12 +39,14 @@ pub fn run<R: Threads + Wait + Sync, F: Decide + Sync, G: Gate>(
     ensures book { IfOk result (λ outcome. outcome.book ≡ rows_after book.now frames.now) }
     ensures started { IfOk result (λ outcome. IsStarted outcome.started workers) }
     ensures committed { IfOk result (λ outcome. outcome.committed ≤ length frames.now) }
+    ensures journal { IfOk result (λ outcome. AreCommitted (opening_play book.now frames.now greatest) outcome.committed outcome.replies.items) }
 {
     let (outcome, _) = run_traced(rt, alloc, book, frames, workers, decision, gate)?;
     Ok(outcome)
 }
 
 /// The same, with a core that comes to no greater incarnation and epoch; where it would, the rest is decided one after another.
+#[tactic(auto, using(crate::proofs::Finished::committed_so))]
 pub fn run_with_limits<R: Threads + Wait + Sync, F: Decide + Sync, G: Gate>(
     rt: &R,
     alloc: Global,
@@ -59,6 +62,7 @@ pub fn run_with_limits<R: Threads + Wait + Sync, F: Decide + Sync, G: Gate>(
     ensures book { IfOk result (λ outcome. outcome.book ≡ rows_after book.now frames.now) }
     ensures started { IfOk result (λ outcome. IsStarted outcome.started workers) }
     ensures committed { IfOk result (λ outcome. outcome.committed ≤ length frames.now) }
+    ensures journal { IfOk result (λ outcome. AreCommitted (opening_play book.now frames.now limits) outcome.committed outcome.replies.items) }
 {
     let (outcome, _) = run_from(rt, alloc, book, frames, workers, limits, decision, gate)?;
     Ok(outcome)
