@@ -1,6 +1,6 @@
 -- What one body is answered, from bytes to bytes.
-use Rattle.std.specs.Prelude.{◌≡◌, ◌≤◌, ℕ, List, length, Ok, Err}
-use Rattle.hex.specs.Hex.{decode_of, encode_lower}
+use Rattle.std.specs.Prelude.{◌≡◌, ℕ, List, Err}
+use Rattle.hex.specs.Hex.{encode_lower}
 use Rattle.codec_laws.specs.Messages.{Spells}
 use Rattle.codec_laws.specs.Reading.{reading}
 use Rattle.codec_laws.specs.Replies.{reply_spelling}
@@ -29,7 +29,3 @@ IsAnswerTo rows body text = (frame : Frame) × IsFrameOf body frame × (text ≡
 -- the text is that answer in hexadecimal, in small letters
 abbrev pub IsAnswerInDigits : Rows → List ℕ → List ℕ → Type 0
 IsAnswerInDigits rows body text = (reply : List ℕ) × IsAnswerTo rows body reply × (text ≡ encode_lower reply)
-
--- the digits are 1 to 512 pairs of hexadecimal digits, in either case, and stand for these bytes
-abbrev pub IsBodyInDigits : List ℕ → List ℕ → Type 0
-IsBodyInDigits digits body = (decode_of digits ≡ Ok body) × (1 ≤ length body) × (length body ≤ 512)

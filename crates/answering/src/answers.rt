@@ -2,12 +2,13 @@ ghost use Rattle.std.specs.Prelude.{◌≡◌, IfOk};
 ghost use Rattle.answering.specs.Answers.{IsFrameOf, IsAnswerTo, answer_text};
 
 use codec::{decode, encode_reply};
-use engine::{OpenGate, Workers, run};
+use engine::run;
 use rows::{Book, Frame, FrameFault, ReplyBody};
 use rules::Shipped;
 use std::alloc::{AllocError, Global};
 use std::sync::Wait;
 use std::thread::Threads;
+use workers::{OpenGate, Workers};
 
 /// The answer to one body on the book: the reply's bytes, or `F` with the fault of a body that is no message. The only
 /// fault is want of memory.

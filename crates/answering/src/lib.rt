@@ -6,5 +6,5 @@ mod hexadecimal;
 mod sample;
 
 pub use answers::answer_on;
-pub use hexadecimal::{body_of_digits, decide_one};
+pub use hexadecimal::decide_one;
 pub use sample::sample_book;

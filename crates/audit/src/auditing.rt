@@ -6,8 +6,9 @@ ghost use Rattle.audit.specs.Finding.{Finds};
 
 use crate::audited::Audit;
 use crate::comparing::{first_differing_reply, least_differing_row};
-use fold::{Prefix, decide_all};
+use fold::Prefix;
 use rows::{Book, Frame, ReplyBody};
+use rules::decide_all;
 use std::alloc::{AllocError, Global};
 
 /// Whether these are the replies, and this is the book after them, that deciding the bodies one after another on the

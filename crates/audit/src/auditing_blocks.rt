@@ -7,8 +7,9 @@ ghost use Rattle.audit.specs.Blocks.{FindsInBlocks, counts};
 
 use crate::block_audit::BlockAudit;
 use crate::comparing::{first_differing_reply, least_differing_row};
-use fold::{Prefix, decide_all};
+use fold::Prefix;
 use rows::{Book, Frame, ReplyBody};
+use rules::decide_all;
 use std::alloc::{AllocError, Global};
 
 /// Whether these are the replies to each block, and this is the book after all of them, that deciding the bodies of all

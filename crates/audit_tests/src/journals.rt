@@ -2,7 +2,7 @@
 
 use crate::worked::{BODIES, book_after, frames_of, opening, replies_to};
 use audit::{Audit, audit_journal};
-use engine::{OpenGate, Workers, run_traced};
+use engine::run_traced;
 use journal::{Entry, ReplayFault};
 use rules::Shipped;
 use std::alloc::Global;
@@ -10,6 +10,7 @@ use std::process::Abort;
 use std::sync::Wait;
 use std::test::Fail;
 use std::thread::Threads;
+use workers::{OpenGate, Workers};
 
 // The journal of a run of the worked batch on two threads.
 fn journal<R: Threads + Wait + Abort + Sync>(rt: &R, alloc: Global) -> Result<Vec<Entry>, Fail> {

@@ -1,8 +1,9 @@
 //! A batch that was worked out by hand: 60.00, 60.00, the first taken back, 60.00.
 
 use fixtures::{body, first_book_with, with_rows};
-use fold::{Prefix, decide_all};
+use fold::Prefix;
 use rows::{Book, Frame, ReplyBody};
+use rules::decide_all;
 use std::alloc::Global;
 use std::process::Abort;
 use std::test::Fail;

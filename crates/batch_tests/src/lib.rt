@@ -1,8 +1,6 @@
-//! Tests of batch files, reply files and block files, over sources and sinks that fail.
+//! Tests of batch files and reply files, over sources and sinks that fail.
 #![tactic(auto)]
 
-#[cfg(test)]
-mod block_files;
 #[cfg(test)]
 mod devices;
 #[cfg(test)]

@@ -1,11 +1,12 @@
-//! Files that are decided one body after another.
+//! Batch files that are decided one body after another.
 
 ghost use Rattle.std.specs.Prelude.{◌+◌, ◌<◌, ◌≤◌, ◌^◌, length};
 ghost use Rattle.batch.specs.Processing.{AnswersFold};
 
-use batch::{BatchFault, BlocksOutcome, Halted, Sink, Source, process, process_blocks};
-use fold::{Outcome, Prefix, decide_all};
+use batch::{BatchFault, Sink, Source, process};
+use fold::{Outcome, Prefix};
 use rows::{Book, Frame};
+use rules::decide_all;
 use std::alloc::{AllocError, Global};
 
 fn decide_serially(alloc: Global, book: &Book, frames: &[Frame]) -> Result<Outcome, AllocError>
@@ -36,21 +37,4 @@ pub(crate) fn process_serially<R: Source, W: Sink>(
         ensures { AnswersFold book.entry.now frames.entry.now result }
     { decide_serially(alloc, book, frames) };
     process(alloc, book, source, sink, &decide)
-}
-
-// The same of a block file.
-pub(crate) fn process_blocks_serially<R: Source, W: Sink>(
-    alloc: Global,
-    book: Book,
-    source: &mut R,
-    sink: &mut W,
-) -> Result<BlocksOutcome, Halted>
-    requires source { R.failures source.old + 1 < 2 ^ 64 }
-    requires sink { W.failures sink.old + 1 < 2 ^ 64 }
-{
-    let decide = |book: &Book, frames: &[Frame]| -> Result<Outcome, AllocError>
-        requires { length frames.now ≤ 65536 }
-        ensures { AnswersFold book.entry.now frames.entry.now result }
-    { decide_serially(alloc, book, frames) };
-    process_blocks(alloc, book, source, sink, &decide)
 }

@@ -1,13 +1,12 @@
 -- What an audit of block files finds.
-use Rattle.std.specs.Prelude.{◌≡◌, ℕ, List, Ok}
+use Rattle.std.specs.Prelude.{ℕ, List}
 use Rattle.audit.specs.Blocks.{FindsInBlocks}
 use Rattle.audit.specs.declared.block_audit.BlockAudit.{BlockAudit}
 use Rattle.batch_laws.specs.Blocks.{IsBlockFileOf, IsBlockReplyFileOf, rows_after_blocks, replies_to_blocks}
-use Rattle.book_json_laws.specs.Reading.{reading}
 use Rattle.rows.specs.Fold.{Rows}
 use Rattle.rows.specs.declared.frame.Frame.{Frame}
 use Rattle.rows.specs.declared.reply_body.ReplyBody.{ReplyBody}
-use Rattle.jobs.specs.Decided.{Holding}
+use Rattle.jobs.specs.Decided.{Holding, IsBookOf}
 
 -- Replies and new book, as the files hold them, are compared with what deciding the blocks on the book, one after another, comes to.
 pub record AreBlocksAudited (old : Holding) (book batch replies new_book : List ℕ) (found : BlockAudit) : Type 0 where
@@ -15,8 +14,8 @@ pub record AreBlocksAudited (old : Holding) (book batch replies new_book : List 
   pub blocks : List (List Frame)
   pub answers : List (List ReplyBody)
   pub rows_after_them : Rows
-  pub opening : (bytes : List ℕ) → old book bytes → reading bytes ≡ Ok rows
+  pub opening : IsBookOf old book rows
   pub read : (bytes : List ℕ) → old batch bytes → IsBlockFileOf bytes blocks
   pub answered : (bytes : List ℕ) → old replies bytes → IsBlockReplyFileOf bytes answers
-  pub after : (bytes : List ℕ) → old new_book bytes → reading bytes ≡ Ok rows_after_them
+  pub after : IsBookOf old new_book rows_after_them
   pub finds : FindsInBlocks answers rows_after_them (replies_to_blocks rows blocks) (rows_after_blocks rows blocks) found

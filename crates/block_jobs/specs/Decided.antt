@@ -4,11 +4,10 @@ use Rattle.batch_laws.specs.BatchFault.{is_of_bytes}
 use Rattle.batch_laws.specs.Blocks.{AreBlocks, IsBlockFileOf, FailsBehind, block_head_at, blocks_magic, block_replies_magic, block_replies_text, blocks_text, block_text, messages_in, rows_after_blocks, replies_to_blocks}
 use Rattle.batch_laws.specs.Files.{head_text}
 use Rattle.batch_laws.specs.declared.batch_fault.BatchFault.{BatchFault}
-use Rattle.book_json_laws.specs.Reading.{reading}
 use Rattle.book_json_laws.specs.Text.{book_text}
 use Rattle.rows.specs.Fold.{Rows, replies_to}
 use Rattle.rows.specs.declared.frame.Frame.{Frame}
-use Rattle.jobs.specs.Decided.{Holding}
+use Rattle.jobs.specs.Decided.{Holding, IsBookOf}
 
 -- The book and the blocks that the files held were decided, each block on the book after those before it; where it is known what
 -- files hold, the file of the new book holds the text of the book after all blocks, and the file of the replies, where it is
@@ -18,7 +17,7 @@ pub record AreBlocksDecided (known : Type 0) (old new : Holding) (book batch rep
   pub blocks : List (List Frame)
   pub number : count ≡ length blocks
   pub all : messages ≡ messages_in blocks
-  pub opening : (bytes : List ℕ) → old book bytes → reading bytes ≡ Ok rows
+  pub opening : IsBookOf old book rows
   pub read : (bytes : List ℕ) → old batch bytes → IsBlockFileOf bytes blocks
   pub after : known → new new_book (book_text (rows_after_blocks rows blocks))
   pub answered : known → replies ≢ new_book → new replies (block_replies_text (replies_to_blocks rows blocks))
@@ -74,7 +73,7 @@ pub record AreBlocksKept (known : Type 0) (old new : Holding) (book batch replie
   pub blocks : List (List Frame)
   pub number : count ≡ length blocks
   pub total : ℕ
-  pub opening : (bytes : List ℕ) → old book bytes → reading bytes ≡ Ok rows
+  pub opening : IsBookOf old book rows
   pub read : (bytes : List ℕ) → old batch bytes → (blocks ≡ []) ⊎ BeginsWithBlocks total bytes blocks
   pub fails : (bytes : List ℕ) → old batch bytes → IsTrue (is_of_bytes fault) → FailsBehindBlocks total bytes blocks fault
   pub after : known → new new_book (book_text (rows_after_blocks rows blocks))

@@ -5,10 +5,8 @@ mod auditing;
 mod block_count;
 mod deciding;
 mod halt;
-mod running;
 
 pub use auditing::audit_block_files;
 pub use block_count::BlockCount;
 pub use deciding::decide_blocks;
 pub use halt::Halt;
-pub use running::run_blocks;

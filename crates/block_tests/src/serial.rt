@@ -5,8 +5,9 @@ ghost use Rattle.batch.specs.Processing.{AnswersFold};
 
 use batch::{BatchFault, Sink, Source, process_blocks};
 use fixtures::first_book_with;
-use fold::{Outcome, Prefix, decide_all};
+use fold::{Outcome, Prefix};
 use rows::{Book, Frame};
+use rules::decide_all;
 use std::alloc::{AllocError, Global};
 use std::test::Fail;
 

@@ -3,7 +3,7 @@ use Rattle.std.proofs.Common.{◌≡◌, ◌≢◌, ℕ, List, Option, Some, Non
 use Rattle.batch_laws.specs.declared.batch_fault.BatchFault.{BatchFault}
 use Rattle.block_jobs.specs.Decided.{AreBlocksKept}
 use Rattle.block_jobs.specs.Faults.{IsBlocksFault}
-use Rattle.engine_choice.specs.declared.engine.Engine.{Engine}
+use Rattle.workers.specs.declared.engine.Engine.{Engine}
 use Rattle.jobs.specs.Decided.{Holding}
 use Rattle.jobs.specs.declared.job_fault.JobFault.{JobFault}
 use Rattle.jobs.specs.declared.job_fault.JobFault.TheVariants.{Batch}

@@ -16,7 +16,8 @@ use Rattle.jobs.specs.Audited.{IsAudited}
 use Rattle.jobs.specs.Decided.{Holding, IsDecided}
 use Rattle.jobs.specs.Faults.{IsAuditingFault, IsDecidingFault}
 use Rattle.jobs.specs.JournalFaults.{IsJournalAuditingFault}
-use Rattle.jobs.specs.Journaled.{IsAuditedWithJournal, IsDecidedWithJournal}
+use Rattle.jobs.specs.Journaled.{IsAuditedWithJournal}
+use Rattle.run_jobs.specs.Journaled.{IsDecidedWithJournal}
 use Rattle.jobs.specs.Packed.{IsPacked, IsPackingFault}
 use Rattle.jobs.specs.Shown.{IsShowingFault, IsShown}
 use Rattle.jobs.specs.declared.job_fault.JobFault.{JobFault}

@@ -6,18 +6,15 @@ use crate::fault::Fault;
 use crate::report::Report;
 use answering::decide_one;
 use audit::{audit_text, block_audit_text};
-use block_jobs::{audit_block_files, run_blocks};
-use engine::Workers;
-use engine_choice::Engine;
+use block_jobs::audit_block_files;
 use files::{BatchNames, Files};
-use jobs::{
-    audit_batch, audit_batch_with_journal, pack_batch, run_batch, run_batch_with_journal,
-    serial_batch, show_file,
-};
+use jobs::{audit_batch, audit_batch_with_journal, pack_batch, serial_batch, show_file};
+use run_jobs::{run_batch, run_batch_with_journal, run_blocks};
 use std::alloc::Global;
 use std::sync::Wait;
 use std::thread::Threads;
 use words::Command;
+use workers::{Engine, Workers};
 
 /// Does what the command asks for.
 pub(crate) fn done<R: Threads + Wait + Sync, F: Files>(

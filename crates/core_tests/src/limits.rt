@@ -1,13 +1,14 @@
 //! Whole batches through a core that comes to no second incarnation or epoch.
 
-use engine::{OpenGate, Workers, run_with_limits};
-use fixtures::{Batch, WORKED, answer_text, has_row};
+use engine::run_with_limits;
+use fixtures::{Batch, answer_text, has_row, worked};
 use fold::Outcome;
 use rules::Shipped;
 use speccore_laws::Limits;
 use std::alloc::Global;
 use std::process::Abort;
 use std::test::Fail;
+use workers::{OpenGate, Workers};
 
 fn assert_replies(
     rt: &impl Abort,
@@ -39,7 +40,7 @@ fn runs_where_no_second_incarnation_is_left(rt: HostRuntime) -> Result<(), Fail>
         incarnation: 0,
         epoch: 1,
     };
-    for batch in WORKED {
+    for batch in worked() {
         let frames = batch.frames(alloc)?;
         assert!(rt; frames.len() <= 64);
         let workers = Workers::new(4).ok_or("4 workers")?;

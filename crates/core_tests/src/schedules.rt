@@ -95,39 +95,62 @@ fn assert_floors(rt: &impl Abort, schedule: &Sched, epoch: u64, floors: [u64; 4]
     }
 }
 
-// Message 1 read what message 0 put only afterwards, and fails its check; message 2 waits for it.
+// Message 1 reads what message 0 puts only afterwards.
+fn both_finish(rt: &impl Abort, schedule: &mut Sched) -> Result<(), Fail> {
+    assert_eq!(rt; schedule.next_task(), Task::Execute(version(0, 0)));
+    assert_eq!(rt; schedule.next_task(), Task::Execute(version(1, 0)));
+    assert!(rt; !finish(schedule, version(1, 0), true)?);
+    assert_floors(rt, schedule, 2, [0, 0, 2, 0]);
+    assert!(rt; !finish(schedule, version(0, 0), true)?);
+    assert_floors(rt, schedule, 3, [0, 3, 2, 0]);
+    Ok(())
+}
+
+// It fails its check.
+fn one_is_given_up(rt: &impl Abort, schedule: &mut Sched) -> Result<(), Fail> {
+    assert_eq!(rt; schedule.next_task(), Task::Validate(version(0, 0)));
+    pass(schedule, version(0, 0), 3)?;
+    assert_eq!(rt; schedule.next_task(), Task::Validate(version(1, 0)));
+    abort(schedule, version(1, 0))?;
+    assert_floors(rt, schedule, 4, [0, 3, 4, 0]);
+    Ok(())
+}
+
+// Message 2 waits for it until it is executed again.
+fn one_waits(rt: &impl Abort, schedule: &mut Sched) -> Result<(), Fail> {
+    assert_eq!(rt; schedule.next_task(), Task::Execute(version(1, 1)));
+    assert_eq!(rt; schedule.next_task(), Task::Execute(version(2, 0)));
+    block(schedule, version(2, 0), 1)?;
+    assert_eq!(rt; status(schedule, 2), Some(Status::Waiting(1)));
+    assert!(rt; finish(schedule, version(1, 1), false)?);
+    pass(schedule, version(1, 1), 4)?;
+    Ok(())
+}
+
+fn the_last_passes(rt: &impl Abort, schedule: &mut Sched) -> Result<(), Fail> {
+    assert_eq!(rt; schedule.next_task(), Task::Execute(version(2, 1)));
+    assert!(rt; !finish(schedule, version(2, 1), true)?);
+    assert_floors(rt, schedule, 5, [0, 3, 4, 5]);
+    assert_eq!(rt; schedule.next_task(), Task::Validate(version(2, 1)));
+    pass(schedule, version(2, 1), 5)
+}
+
 #[test]
 fn three_messages_share_a_card(rt: HostRuntime) -> Result<(), Fail> {
     let mut schedule = Sched::new(rt.alloc(), 3)?;
     assert!(rt; !schedule.is_empty());
-    assert_eq!(rt; schedule.next_task(), Task::Execute(version(0, 0)));
-    assert_eq!(rt; schedule.next_task(), Task::Execute(version(1, 0)));
-    assert!(rt; !finish(&mut schedule, version(1, 0), true)?);
-    assert_floors(&rt, &schedule, 2, [0, 0, 2, 0]);
-    assert!(rt; !finish(&mut schedule, version(0, 0), true)?);
-    assert_floors(&rt, &schedule, 3, [0, 3, 2, 0]);
-    assert_eq!(rt; schedule.next_task(), Task::Validate(version(0, 0)));
-    pass(&mut schedule, version(0, 0), 3)?;
-    assert_eq!(rt; schedule.next_task(), Task::Validate(version(1, 0)));
-    abort(&mut schedule, version(1, 0))?;
-    assert_floors(&rt, &schedule, 4, [0, 3, 4, 0]);
-    assert_eq!(rt; schedule.next_task(), Task::Execute(version(1, 1)));
-    assert_eq!(rt; schedule.next_task(), Task::Execute(version(2, 0)));
-    block(&mut schedule, version(2, 0), 1)?;
-    assert_eq!(rt; status(&schedule, 2), Some(Status::Waiting(1)));
-    assert!(rt; finish(&mut schedule, version(1, 1), false)?);
-    pass(&mut schedule, version(1, 1), 4)?;
-    assert_eq!(rt; schedule.next_task(), Task::Execute(version(2, 1)));
-    assert!(rt; !finish(&mut schedule, version(2, 1), true)?);
-    assert_floors(&rt, &schedule, 5, [0, 3, 4, 5]);
-    assert_eq!(rt; schedule.next_task(), Task::Validate(version(2, 1)));
-    pass(&mut schedule, version(2, 1), 5)?;
+    both_finish(&rt, &mut schedule)?;
+    one_is_given_up(&rt, &mut schedule)?;
+    one_waits(&rt, &mut schedule)?;
+    the_last_passes(&rt, &mut schedule)?;
     for (index, epoch) in [(0, 3), (1, 4), (2, 5)] {
         assert_eq!(rt; stamp(&schedule, index), Some(epoch));
         assert!(rt; schedule.commit());
     }
     assert!(rt; !schedule.commit());
-    assert_eq!(rt; schedule.committed(), 3);
-    assert_eq!(rt; schedule.next_task(), Task::Done);
+    assert_eq!(rt;
+        (schedule.committed(), schedule.next_task()),
+        (3, Task::Done)
+    );
     Ok(())
 }

@@ -74,8 +74,8 @@ then_holds holding answer = holds.Nothing
 abbrev pub Rests : Play → Holding → List Entry → Holding → Play → Type 0
 Rests old holding made next new = (holding ≡ holds.Ended) × (made ≡ []) × (next ≡ holding) × (new ≡ old)
 
--- The seat makes its event. The core answers it, and not for want of memory; what is answered enters it, unless it was a claim that
--- nothing was handed out for.
+-- The seat makes its event. The core answers it, and refuses it neither for want of memory nor because other rows were read; what is
+-- answered enters it, unless it was a claim that nothing was handed out for.
 pub record Acts (old : Play) (seat : ℕ) (holding : Holding) (made : List Entry) (next : Holding) (new : Play) : Type 0 where
   pub event : Event
   pub answer : Answer

@@ -1,4 +1,4 @@
-ghost use Rattle.std.specs.Prelude.{◌≡◌, ◌↔◌, ℕ, None, Ok, Err, IfOk};
+ghost use Rattle.std.specs.Prelude.{◌≡◌, ◌↔◌, ℕ, None, Ok, Err};
 ghost use Rattle.speccore_laws.specs.declared.core_fault.CoreFault.TheVariants as fault;
 ghost use Rattle.speccore.specs.declared.unread.Unread.TheVariants as unread;
 ghost use Rattle.view.specs.declared.stop.Stop.TheVariants as stop;
@@ -63,7 +63,7 @@ impl<R: Wait> RowSource for CoreRows<'_, R> {
 
 /// Why the decision stops where no row was answered: an estimate blocks it.
 pub(crate) fn answered(answer: Result<(), Unread>) -> Result<(), Stop>
-    ensures row { IfOk result (λ _. answer ≡ Ok tt) }
+    ensures row { (result ≡ Ok tt) ↔ (answer ≡ Ok tt) }
     ensures blocked { (at : ℕ) → (result ≡ Err (stop.Blocked at)) ↔ (answer ≡ Err (unread.Estimate at)) }
     ensures memory { (result ≡ Err stop.OutOfMemory) ↔ (answer ≡ Err (unread.Refused fault.OutOfMemory)) }
 {

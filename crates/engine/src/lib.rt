@@ -4,16 +4,12 @@
 mod alone;
 mod checking;
 mod core_rows;
-mod gate;
 mod leave;
 mod locking;
 mod pace;
 mod running;
 mod traced_rows;
 mod turns;
-mod workers;
 
 pub use core_rows::CoreRows;
-pub use gate::{Gate, OpenGate};
 pub use running::{run, run_traced, run_with_limits};
-pub use workers::Workers;

@@ -1,24 +1,24 @@
 ghost use Rattle.std.specs.Prelude.{◌≡◌, ◌≤◌, length, IfOk, IsTrue};
 ghost use Rattle.rows.specs.Fold.{replies_to, rows_after};
 ghost use Rattle.engine.specs.Journals.{IsFinished, IsJournalOf, AreCommitted};
-ghost use Rattle.engine.specs.Started.{IsStarted};
+ghost use Rattle.workers.specs.Started.{IsStarted};
 ghost use Rattle.journal_laws.specs.Logged.{greatest};
 ghost use Rattle.speccore_laws.specs.Play.{opening_play};
 ghost use Rattle.speccore_laws.specs.State.{bounded};
 
 use crate::alone::played_alone;
-use crate::gate::Gate;
 use crate::turns::Worker;
-use crate::workers::Workers;
-use fold::{Outcome, Prefix, decide_all};
+use fold::{Outcome, Prefix};
 use journal::{Entry, Traced};
 use rows::{Book, Frame};
+use rules::decide_all;
 use speccore_laws::{Limits, Seat};
 use std::alloc::{AllocError, Global};
 use std::sync::{Mutex, Wait};
 use std::thread;
 use std::thread::Threads;
 use view::Decide;
+use workers::{Gate, Workers};
 
 /// Decides a batch of at most 65,536 bodies through the speculative core, on several threads (Block-STM). Whatever the number of
 /// workers, replies and book are those of deciding the messages one after another in the order of their arrival. The only fault

@@ -1,6 +1,5 @@
 use crate::checking::check;
 use crate::core_rows::CoreRows;
-use crate::gate::Gate;
 use crate::leave::Leave;
 use crate::locking::lock;
 use crate::pace::Pace;
@@ -13,6 +12,7 @@ use std::alloc::Global;
 use std::mem;
 use std::sync::{Condvar, Mutex, Wait};
 use view::{Decide, Execution, ReadSet, Recorder, RowSource, Stop, WriteSet};
+use workers::Gate;
 
 /// What a worker works with: the lock round the core and its journal, the bodies, the decision and the gate. Whatever it does or leaves undone,
 /// the core's type keeps what is committed right.

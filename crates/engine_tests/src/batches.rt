@@ -1,11 +1,9 @@
 //! Whole batches through both engines, with 1, 4 and 64 workers.
 
 use crate::deciding::decided_by;
-use engine::OpenGate;
-use engine_choice::Engine;
 use fixtures::{
-    ADVICE_RULES, Batch, REQUEST_RULES, REVERSAL_RULES, UNCHECKED_RULES, WORKED, answer_text,
-    has_row,
+    Batch, advice_rules, answer_text, has_row, request_rules, reversal_rules, unchecked_rules,
+    worked,
 };
 use fold::Outcome;
 use rules::Shipped;
@@ -14,6 +12,7 @@ use std::process::Abort;
 use std::sync::Wait;
 use std::test::Fail;
 use std::thread::Threads;
+use workers::{Engine, OpenGate};
 
 // The bodies of the batch, decided on its book.
 fn outcome_of<R: Abort + Threads + Wait + Sync>(
@@ -84,25 +83,25 @@ fn assert_batches<R: Abort + Threads + Wait + Sync>(
 
 #[test]
 fn runs_the_worked_batches(rt: HostRuntime) -> Result<(), Fail> {
-    assert_batches(&rt, rt.alloc(), WORKED)
+    assert_batches(&rt, rt.alloc(), worked())
 }
 
 #[test]
 fn runs_requests_by_each_rule(rt: HostRuntime) -> Result<(), Fail> {
-    assert_batches(&rt, rt.alloc(), REQUEST_RULES)
+    assert_batches(&rt, rt.alloc(), request_rules())
 }
 
 #[test]
 fn runs_advices_by_each_rule(rt: HostRuntime) -> Result<(), Fail> {
-    assert_batches(&rt, rt.alloc(), ADVICE_RULES)
+    assert_batches(&rt, rt.alloc(), advice_rules())
 }
 
 #[test]
 fn runs_reversals_by_each_rule(rt: HostRuntime) -> Result<(), Fail> {
-    assert_batches(&rt, rt.alloc(), REVERSAL_RULES)
+    assert_batches(&rt, rt.alloc(), reversal_rules())
 }
 
 #[test]
 fn runs_on_books_that_no_check_takes(rt: HostRuntime) -> Result<(), Fail> {
-    assert_batches(&rt, rt.alloc(), UNCHECKED_RULES)
+    assert_batches(&rt, rt.alloc(), unchecked_rules())
 }

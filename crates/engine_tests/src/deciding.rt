@@ -1,8 +1,7 @@
 //! A batch that is decided by either engine.
 ghost use Rattle.std.specs.Prelude.{◌≤◌, length};
 
-use engine::{Gate, Workers, run};
-use engine_choice::Engine;
+use engine::run;
 use fold::Outcome;
 use rows::{Book, Frame};
 use split::run_split;
@@ -11,6 +10,7 @@ use std::sync::Wait;
 use std::test::Fail;
 use std::thread::Threads;
 use view::Decide;
+use workers::{Engine, Gate, Workers};
 
 // The bodies, decided on the book by so many workers of this engine.
 pub(crate) fn decided_by<R: Threads + Wait + Sync, F: Decide + Sync, G: Gate>(

@@ -2,17 +2,18 @@
 ghost use Rattle.std.specs.Prelude.{◌≡◌};
 
 use crate::deciding::decided_by;
-use engine::Gate;
-use engine_choice::Engine;
 use fixtures::{answer_text, body, first_book_with};
 use fold::Outcome;
 use iso8583::Message;
-use rows::{Frame, ReplyBody};
+use rows::{Book, Frame, ReplyBody};
 use std::alloc::{AllocFailed, Global};
 use std::process::Abort;
+use std::sync::Wait;
 use std::sync::atomic::{AtomicU8, AtomicU64, Ordering};
 use std::test::Fail;
+use std::thread::Threads;
 use view::{Decide, Recorder, RowSource, Stop};
+use workers::{Engine, Gate};
 
 // Requests on one card, a repeat among them, each with its index as trace number and a minor unit more than the last.
 const BODIES: [&str; 4] = [
@@ -128,6 +129,23 @@ fn assert_answers(rt: &impl Abort, alloc: Global, outcome: &Outcome) -> Result<(
     Ok(())
 }
 
+// What is noted of the batch, decided by one worker.
+fn noted_by<R: Abort + Threads + Wait + Sync>(
+    rt: &R,
+    alloc: Global,
+    engine: Engine,
+    book: &Book,
+    frames: &[Frame; 4],
+) -> Result<String, Fail> {
+    let diary = Diary::new(alloc)?;
+    let gate = NotingGate { diary: &diary };
+    let decision = NotingDecision { diary: &diary };
+    let outcome = decided_by(rt, alloc, engine, 1, book, frames, &decision, &gate)?;
+    assert_eq!(rt; outcome.committed, 4);
+    assert_answers(rt, alloc, &outcome)?;
+    diary.text(alloc)
+}
+
 // With one worker the messages have their turns one after another.
 #[test]
 fn the_gate_stands_round_each_decision(rt: HostRuntime) -> Result<(), Fail> {
@@ -136,13 +154,8 @@ fn the_gate_stands_round_each_decision(rt: HostRuntime) -> Result<(), Fail> {
     let frames = frames().ok_or("bodies")?;
     let turns = turns(alloc)?;
     for engine in [Engine::Locked, Engine::Split] {
-        let diary = Diary::new(alloc)?;
-        let gate = NotingGate { diary: &diary };
-        let decision = NotingDecision { diary: &diary };
-        let outcome = decided_by(&rt, alloc, engine, 1, &book, &frames, &decision, &gate)?;
-        assert_eq!(rt; outcome.committed, 4);
-        assert_answers(&rt, alloc, &outcome)?;
-        assert_eq!(rt; diary.text(alloc)?.as_str(), turns.as_str());
+        let noted = noted_by(&rt, alloc, engine, &book, &frames)?;
+        assert_eq!(rt; noted.as_str(), turns.as_str());
     }
     Ok(())
 }
@@ -185,6 +198,16 @@ impl Tally {
             ended: zeros(),
             after: zeros(),
             too_early: AtomicU64::new(0),
+        }
+    }
+
+    // None came too early, and each message's last decision that ended was recorded.
+    fn assert_in_order(&self, rt: &impl Abort) {
+        assert_eq!(rt; self.too_early.load(Ordering::SeqCst), 0);
+        for (ended, after) in self.ended.iter().zip(&self.after) {
+            let recorded = after.load(Ordering::SeqCst);
+            assert!(rt; recorded > 0);
+            assert_eq!(rt; ended.load(Ordering::SeqCst), recorded);
         }
     }
 
@@ -244,24 +267,31 @@ impl Decide for CountingDecision<'_> {
 
 // Of each message, with four workers: no decision begins before the gate's first call, no second call comes before a decision
 // ended, and each that ended is recorded.
+// Decides the batch by four workers, whose calls are counted.
+fn assert_counted<R: Abort + Threads + Wait + Sync>(
+    rt: &R,
+    alloc: Global,
+    engine: Engine,
+    book: &Book,
+    frames: &[Frame; 4],
+) -> Result<(), Fail> {
+    let tally = Tally::new();
+    let gate = CountingGate { tally: &tally };
+    let decision = CountingDecision { tally: &tally };
+    let outcome = decided_by(rt, alloc, engine, 4, book, frames, &decision, &gate)?;
+    assert_eq!(rt; outcome.committed, 4);
+    assert_answers(rt, alloc, &outcome)?;
+    tally.assert_in_order(rt);
+    Ok(())
+}
+
 #[test]
 fn no_call_of_the_gate_comes_too_early(rt: HostRuntime) -> Result<(), Fail> {
     let alloc = rt.alloc();
     let book = first_book_with(alloc, &[])?;
     let frames = frames().ok_or("bodies")?;
     for engine in [Engine::Locked, Engine::Split] {
-        let tally = Tally::new();
-        let gate = CountingGate { tally: &tally };
-        let decision = CountingDecision { tally: &tally };
-        let outcome = decided_by(&rt, alloc, engine, 4, &book, &frames, &decision, &gate)?;
-        assert_eq!(rt; outcome.committed, 4);
-        assert_answers(&rt, alloc, &outcome)?;
-        assert_eq!(rt; tally.too_early.load(Ordering::SeqCst), 0);
-        for (ended, after) in tally.ended.iter().zip(&tally.after) {
-            let recorded = after.load(Ordering::SeqCst);
-            assert!(rt; recorded > 0);
-            assert_eq!(rt; ended.load(Ordering::SeqCst), recorded);
-        }
+        assert_counted(&rt, alloc, engine, &book, &frames)?;
     }
     Ok(())
 }

@@ -2,8 +2,6 @@
 ghost use Rattle.std.specs.Prelude.{◌≡◌};
 
 use crate::deciding::decided_by;
-use engine::{Gate, OpenGate};
-use engine_choice::Engine;
 use fixtures::{answer_text, body, first_book_with, has_row};
 use fold::Outcome;
 use iso8583::Message;
@@ -16,6 +14,7 @@ use std::sync::atomic::{AtomicU64, Ordering};
 use std::test::Fail;
 use std::thread::Threads;
 use view::{Decide, Recorder, RowSource, Stop};
+use workers::{Engine, Gate, OpenGate};
 
 // An approved request, a decline, a body that is no message, and a request on the other card.
 const BODIES: [&str; 4] = [

@@ -1,43 +1,15 @@
 //! The longest batch through both engines, with 1, 4 and 64 workers.
 
 use crate::deciding::decided_by;
-use engine::OpenGate;
-use engine_choice::Engine;
-use fixtures::{answer_text, body, first_book_with, has_row};
+use fixtures::{answer_at, count_of, first_book_with, has_row, requests};
 use fold::Outcome;
-use rows::{Frame, ReplyBody};
 use rules::Shipped;
 use std::alloc::Global;
 use std::process::Abort;
 use std::sync::Wait;
 use std::test::Fail;
 use std::thread::Threads;
-
-// As many requests of 1 on card A, with a trace number each.
-fn requests(alloc: Global, many: u32) -> Result<Vec<Frame>, Fail> {
-    let mut frames = Vec::new(alloc);
-    for trace in 0..many {
-        let line = format!(in alloc; "1100 {trace:06} A 1")?;
-        frames.push(body(line.as_str()).ok_or("a body")?)?;
-    }
-    Ok(frames)
-}
-
-// Action and approval code of the reply at this place.
-fn answer_at(alloc: Global, replies: &[ReplyBody], index: usize) -> Result<String, Fail> {
-    Ok(answer_text(alloc, replies.get(index).ok_or("a reply")?)?)
-}
-
-// How many of the replies have this text.
-fn count_of(alloc: Global, replies: &[ReplyBody], text: &str) -> Result<u64, Fail> {
-    let mut count = 0u64;
-    for reply in replies {
-        if answer_text(alloc, reply)?.as_str() == text {
-            count = count.saturating_add(1);
-        }
-    }
-    Ok(count)
-}
+use workers::{Engine, OpenGate};
 
 // Three requests are approved, then the day's limit is reached; and the workers committed every message.
 fn assert_longest(rt: &impl Abort, alloc: Global, outcome: &Outcome) -> Result<(), Fail> {

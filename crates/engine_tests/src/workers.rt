@@ -1,8 +1,6 @@
 //! Workers on threads: that they overlap, and that no lock is held while a message is decided.
 
 use crate::deciding::decided_by;
-use engine::{Gate, OpenGate};
-use engine_choice::Engine;
 use fixtures::{answer_text, body, first_book_with, has_row};
 use fold::Outcome;
 use iso8583::Message;
@@ -14,6 +12,7 @@ use std::sync::atomic::{AtomicU64, Ordering};
 use std::test::Fail;
 use std::thread;
 use view::{Decide, Recorder, RowSource, Stop};
+use workers::{Engine, Gate, OpenGate};
 
 // How often a thread looks whether another got on, before the test fails.
 const TURNS: u64 = 50_000_000;

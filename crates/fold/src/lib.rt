@@ -10,4 +10,4 @@ mod serial;
 pub use outcome::Outcome;
 pub use plain_rows::PlainRows;
 pub use prefix::{Prefix, put_all};
-pub use serial::{decide_all, decide_all_by};
+pub use serial::decide_all_by;

@@ -11,8 +11,7 @@ use Rattle.journal_text.specs.declared.replay_fault.ReplayFault.TheVariants as r
 use Rattle.rows.specs.Fold.{Rows}
 use Rattle.rows.specs.declared.frame.Frame.{Frame}
 use Rattle.speccore_laws.specs.Play.{opening_play}
-use Rattle.jobs.specs.Decided.{Holding}
-use Rattle.jobs.specs.Faults.{IsBookOf}
+use Rattle.jobs.specs.Decided.{Holding, IsBookOf}
 use Rattle.jobs.specs.JobFault.{fault_of_read}
 use Rattle.jobs.specs.JournalFaults.{IsJournalFault, IsUnplayed, IsWrongJournal}
 

@@ -1,6 +1,6 @@
 -- The bodies that a text has are ones that a batch can have; and why a text is not packed.
-use Rattle.std.proofs.Common.{◌≡◌, ℕ, ◌+◌, ◌≤◌, Bool, true, false, cond, List, [], ◌∷◌, ◌++◌, length, map, Option, Some, None, Result, Ok, Err, refl, subst, inr, IfOk}
-use Rattle.std.specs.Prelude.{◌<◌, ◌&&◌, ◌==◌, nat_le}
+use Rattle.std.proofs.Common.{◌≡◌, ℕ, ◌+◌, ◌≤◌, Bool, true, false, cond, List, [], ◌∷◌, ◌++◌, length, map, Option, Some, None, Result, Ok, Err, refl, subst, inr}
+use Rattle.std.specs.Prelude.{◌&&◌, ◌==◌, nat_le}
 use Rattle.std.specs.Global.{Vec}
 use Rattle.std.specs.List.{AllByRecursion}
 use Rattle.std.proofs.lemmas.Bool.{and_parts, leb-true}
@@ -13,7 +13,7 @@ use Rattle.files.specs.declared.read_fault.ReadFault.{ReadFault}
 use Rattle.files.specs.declared.read_fault.ReadFault.TheVariants as read
 use Rattle.files.specs.declared.write_fault.WriteFault.{WriteFault}
 use Rattle.files.specs.declared.write_fault.WriteFault.TheVariants as write
-use Rattle.listing.specs.Bodies.{alone, body_of, bodies_from, bodies_of, fitting, line_bodies, lines_of, then_bodies}
+use Rattle.listing.specs.Bodies.{HasTooMany, alone, body_of, bodies_from, bodies_of, fitting, line_bodies, lines_of, then_bodies}
 use Rattle.listing.specs.declared.text_fault.TextFault.{TextFault}
 use Rattle.listing.specs.declared.text_fault.TextFault.TheVariants as text
 use Rattle.jobs.specs.Decided.{Holding}
@@ -84,7 +84,7 @@ unread_text old name read_failed read.OutOfMemory h = tt
 -- a text that has no bodies, or too many
 pub no_bodies : (old : Holding) (name : List ℕ) (read_failed : Type 0) (e : TextFault)
     → ((n : ℕ) → e ≡ text.Line n → (bytes : List ℕ) → old name bytes → bodies_of bytes ≡ Err n)
-    → (e ≡ text.Count → (bytes : List ℕ) → old name bytes → IfOk (bodies_of bytes) (λ bodies. 65536 < length bodies))
+    → (e ≡ text.Count → (bytes : List ℕ) → old name bytes → HasTooMany bytes)
     → IsTextFault old name read_failed (fault_of_text e)
 no_bodies old name read_failed (text.Line n) line count = line n refl
 no_bodies old name read_failed text.Count line count = (refl, count refl)

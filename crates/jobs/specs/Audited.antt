@@ -1,14 +1,13 @@
 -- What an audit of files finds.
-use Rattle.std.specs.Prelude.{◌≡◌, ℕ, List, Ok}
+use Rattle.std.specs.Prelude.{ℕ, List}
 use Rattle.audit.specs.Finding.{Finds}
 use Rattle.audit.specs.declared.audited.Audit.{Audit}
 use Rattle.batch_laws.specs.Frames.{IsBatchOf}
 use Rattle.batch_laws.specs.Replies.{IsReplyFileOf}
-use Rattle.book_json_laws.specs.Reading.{reading}
 use Rattle.rows.specs.Fold.{Rows, rows_after, replies_to}
 use Rattle.rows.specs.declared.frame.Frame.{Frame}
 use Rattle.rows.specs.declared.reply_body.ReplyBody.{ReplyBody}
-use Rattle.jobs.specs.Decided.{Holding}
+use Rattle.jobs.specs.Decided.{Holding, IsBookOf}
 
 -- Replies and new book, as the files hold them, are compared with what deciding the batch on the book comes to.
 pub record IsAudited (old : Holding) (book batch replies new_book : List ℕ) (found : Audit) : Type 0 where
@@ -16,8 +15,8 @@ pub record IsAudited (old : Holding) (book batch replies new_book : List ℕ) (f
   pub frames : List Frame
   pub answers : List ReplyBody
   pub rows_after_it : Rows
-  pub opening : (bytes : List ℕ) → old book bytes → reading bytes ≡ Ok rows
+  pub opening : IsBookOf old book rows
   pub messages : (bytes : List ℕ) → old batch bytes → IsBatchOf bytes frames
   pub answered : (bytes : List ℕ) → old replies bytes → IsReplyFileOf bytes answers
-  pub after : (bytes : List ℕ) → old new_book bytes → reading bytes ≡ Ok rows_after_it
+  pub after : IsBookOf old new_book rows_after_it
   pub finds : Finds answers rows_after_it (replies_to rows frames) (rows_after rows frames) found

@@ -1,5 +1,5 @@
 -- Why a job on files is not done: the first fault of what a file holds, where its bytes are known; a call that failed; or want of memory.
-use Rattle.std.specs.Prelude.{◌≡◌, ◌≢◌, ◌⊎◌, ℕ, List, [], Ok, Err, IsTrue}
+use Rattle.std.specs.Prelude.{◌≡◌, ◌≢◌, ◌⊎◌, ℕ, List, [], Err, IsTrue}
 use Rattle.batch_laws.specs.BatchFault.{is_of_bytes}
 use Rattle.batch_laws.specs.Reading.{bodies_of, batch_magic}
 use Rattle.batch_laws.specs.Frames.{IsBatchOf}
@@ -9,13 +9,9 @@ use Rattle.book_json_laws.specs.Reading.{IsAnswer, reading}
 use Rattle.rows.specs.Fold.{Rows}
 use Rattle.rows.specs.declared.frame.Frame.{Frame}
 use Rattle.rows.specs.declared.reply_body.ReplyBody.{ReplyBody}
-use Rattle.jobs.specs.Decided.{Holding}
+use Rattle.jobs.specs.Decided.{Holding, IsBookOf}
 use Rattle.jobs.specs.declared.job_fault.JobFault.{JobFault}
 use Rattle.jobs.specs.declared.job_fault.JobFault.TheVariants.{Unreadable, Unwritable, Book, Batch, Journal, Text, OutOfMemory}
-
--- the file of this name, where its bytes are known, is a sound book of these rows
-abbrev pub IsBookOf : Holding → List ℕ → Rows → Type 0
-IsBookOf old name rows = (bytes : List ℕ) → old name bytes → IsAnswer (reading bytes) (Ok rows)
 
 -- the file of this name, where its bytes are known, is some sound book
 abbrev pub IsSomeBook : Holding → List ℕ → Type 0

@@ -9,8 +9,8 @@ use Rattle.journal_text.specs.declared.replay_fault.ReplayFault.TheVariants as r
 use Rattle.rows.specs.Fold.{Rows}
 use Rattle.rows.specs.declared.frame.Frame.{Frame}
 use Rattle.speccore_laws.specs.Play.{opening_play}
-use Rattle.jobs.specs.Decided.{Holding}
-use Rattle.jobs.specs.Faults.{IsBookOf, IsFaultInOrder}
+use Rattle.jobs.specs.Decided.{Holding, IsBookOf}
+use Rattle.jobs.specs.Faults.{IsFaultInOrder}
 use Rattle.jobs.specs.declared.job_fault.JobFault.{JobFault}
 use Rattle.jobs.specs.declared.job_fault.JobFault.TheVariants.{Unreadable, Unwritable, Book, Batch, Journal, Text, OutOfMemory}
 

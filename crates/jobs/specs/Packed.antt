@@ -1,9 +1,9 @@
 -- What a file holds after bodies were packed into a batch.
-use Rattle.std.specs.Prelude.{◌≡◌, ◌⊎◌, ◌<◌, ℕ, List, Ok, Err, IfOk, IsTrue, length}
+use Rattle.std.specs.Prelude.{◌≡◌, ◌⊎◌, ℕ, List, Ok, Err, IsTrue, length}
 use Rattle.batch_laws.specs.BatchFault.{is_of_bytes}
 use Rattle.batch_laws.specs.Files.{batch_text}
 use Rattle.batch_laws.specs.declared.batch_fault.BatchFault.TheVariants.{Count, Device}
-use Rattle.listing.specs.Bodies.{bodies_of}
+use Rattle.listing.specs.Bodies.{HasTooMany, bodies_of}
 use Rattle.jobs.specs.Decided.{Holding}
 use Rattle.jobs.specs.declared.job_fault.JobFault.{JobFault}
 use Rattle.jobs.specs.declared.job_fault.JobFault.TheVariants.{Unreadable, Unwritable, Book, Batch, Journal, Text, OutOfMemory}
@@ -24,7 +24,7 @@ IsSomeText old name = (bodies : List (List ℕ)) × ((bytes : List ℕ) → old 
 abbrev pub IsTextFault : Holding → List ℕ → Type 0 → JobFault → Type 0
 IsTextFault old name read_failed (Text line) = (bytes : List ℕ) → old name bytes → bodies_of bytes ≡ Err line
 IsTextFault old name read_failed (Batch fault) =
-    (fault ≡ Count) × ((bytes : List ℕ) → old name bytes → IfOk (bodies_of bytes) (λ bodies. 65536 < length bodies))
+    (fault ≡ Count) × ((bytes : List ℕ) → old name bytes → HasTooMany bytes)
 IsTextFault old name read_failed Unreadable = (bytes : List ℕ) → old name bytes → read_failed
 IsTextFault old name read_failed OutOfMemory = Unit {0}
 IsTextFault old name read_failed Unwritable = ⊥

@@ -6,15 +6,13 @@ mod deciding;
 mod job_fault;
 mod opening;
 mod packing;
-mod running;
+mod serial;
 mod showing;
-mod tracing;
 
 pub use auditing::{audit_batch, audit_batch_with_journal};
 pub use deciding::{decide_batch, put_book};
 pub use job_fault::{JobFault, fault_of_closing};
 pub use opening::open_book;
 pub use packing::pack_batch;
-pub use running::{decide_by, run_batch, serial_batch};
+pub use serial::serial_batch;
 pub use showing::show_file;
-pub use tracing::run_batch_with_journal;

@@ -3,7 +3,8 @@ ghost use Rattle.batch_laws.specs.Frames.{IsBatchOf};
 ghost use Rattle.batch_laws.specs.Replies.{IsReplyFileOf};
 ghost use Rattle.files.specs.Failing.{HasFailed};
 ghost use Rattle.journal_text.specs.Journal.{AreEntries, journal_text};
-ghost use Rattle.jobs.specs.Faults.{IsBatchFault, IsBookFault, IsBookOf, IsReplyFileFault};
+ghost use Rattle.jobs.specs.Decided.{IsBookOf};
+ghost use Rattle.jobs.specs.Faults.{IsBatchFault, IsBookFault, IsReplyFileFault};
 ghost use Rattle.jobs.specs.JournalFaults.{IsJournalFault};
 
 use crate::job_fault::JobFault;

@@ -5,7 +5,7 @@ use Rattle.speccore_laws.specs.Play.{Play, opening_play}
 use Rattle.journal_laws.specs.Answers.{Answers, stands}
 use Rattle.journal_laws.specs.declared.answer.Answer.{Answer}
 
--- The entry leads from old to new: its event is answered, and not for want of memory.
+-- The entry leads from old to new: its event is answered, and refused neither for want of memory nor because other rows were read.
 abbrev pub EntryStep : Play → Entry → Play → Type 0
 EntryStep old entry new = (answer : Answer) × (stands answer ≡ true) × Answers old entry.seat entry.event answer new
 

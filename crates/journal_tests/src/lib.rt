@@ -2,6 +2,10 @@
 #![tactic(auto)]
 
 #[cfg(test)]
+mod expected;
+#[cfg(test)]
+mod foolish;
+#[cfg(test)]
 mod plays;
 #[cfg(test)]
 mod refusals;

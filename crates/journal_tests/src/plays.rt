@@ -1,7 +1,8 @@
 //! Journals that are kept, and played again: to the same core.
 ghost use Rattle.std.specs.Prelude.{None};
 
-use crate::scripts::{COMES_LATE, Script, WAITS, journal_of, text_of};
+use crate::expected::Expected;
+use crate::scripts::{Script, comes_late, journal_of, waits};
 use fixtures::{answer_text, body, first_book_with, has_row};
 use journal::{Answer, Entry, Event, Traced, read_journal, replay, write_journal};
 use mvmem::Version;
@@ -48,8 +49,8 @@ fn execution_of(
     Ok(execute(alloc, frame, Logged { core, version }, &Shipped)?)
 }
 
-// Does what the entry says, on a core that keeps its journal.
-fn ask(alloc: Global, traced: &mut Traced, frames: &[Frame], entry: Entry) -> Result<Answer, Fail> {
+/// Does what the entry says, on a core that keeps its journal.
+pub fn ask(alloc: Global, traced: &mut Traced, frames: &[Frame], entry: Entry) -> Result<Answer, Fail> {
     let Entry { seat, event } = entry;
     if let Event::Finish(version) = event {
         let execution = execution_of(alloc, traced.core(), frames, version)?;
@@ -58,8 +59,8 @@ fn ask(alloc: Global, traced: &mut Traced, frames: &[Frame], entry: Entry) -> Re
     Ok(traced.step(seat, event))
 }
 
-// The epoch, the floors and the stamps of the core, and how many messages are committed.
-fn assert_marks(rt: &impl Abort, core: &Core, book: &Book, frames: &[Frame], script: &Script) {
+/// The epoch, the floors and the stamps of the core, and how many messages are committed.
+pub fn assert_marks(rt: &impl Abort, core: &Core, book: &Book, frames: &[Frame], script: &Script) {
     assert!(rt; frames.len() == 3);
     assert!(rt; core.opened_with(book, frames));
     assert_eq!(rt; (core.epoch(), core.committed()), (script.epoch, 3));
@@ -91,19 +92,12 @@ fn assert_kept(
 ) -> Result<(), Fail> {
     let frames = frames_of(script)?;
     assert!(rt; traced.entries().is_empty());
-    let mut tasks = script.tasks.iter();
-    let mut refusals = script.refusals.iter();
+    let mut expected = Expected::new(script);
     for entry in entries {
-        match ask(alloc, traced, &frames, *entry)? {
-            Answer::Claimed(task) => {
-                let text = text_of(alloc, &task)?;
-                assert_eq!(rt; Some(&text.as_str()), tasks.next());
-            }
-            Answer::Refused(fault) => assert_eq!(rt; Some(&fault), refusals.next()),
-            _ => {}
-        }
+        let answer = ask(alloc, traced, &frames, *entry)?;
+        expected.meet(rt, alloc, answer)?;
     }
-    assert!(rt; tasks.next().is_none() && refusals.next().is_none());
+    assert!(rt; expected.is_met());
     assert_eq!(rt; traced.entries(), entries);
     assert!(rt; !traced.stopped());
     traced.stop();
@@ -112,8 +106,8 @@ fn assert_kept(
     Ok(())
 }
 
-// What is committed after the journal was played again.
-fn assert_committed(
+/// What is committed at the end.
+pub fn assert_committed(
     rt: &impl Abort,
     alloc: Global,
     core: Core,
@@ -179,10 +173,10 @@ fn assert_played(rt: &impl Abort, alloc: Global, script: &Script) -> Result<(), 
 
 #[test]
 fn a_request_that_waits_for_another(rt: HostRuntime) -> Result<(), Fail> {
-    assert_played(&rt, rt.alloc(), &WAITS)
+    assert_played(&rt, rt.alloc(), &waits())
 }
 
 #[test]
 fn a_check_that_comes_too_late(rt: HostRuntime) -> Result<(), Fail> {
-    assert_played(&rt, rt.alloc(), &COMES_LATE)
+    assert_played(&rt, rt.alloc(), &comes_late())
 }

@@ -1,7 +1,7 @@
 //! Journals that no core kept, and what enters none.
 
 use crate::plays::frames_of;
-use crate::scripts::{WAITS, journal_of};
+use crate::scripts::{journal_of, waits};
 use fixtures::{body, first_book_with};
 use journal::{Answer, Event, ReplayFault, Traced, read_journal, replay};
 use mvmem::Version;
@@ -28,7 +28,7 @@ fn fault_of(
 fn a_row_that_was_not_logged(rt: HostRuntime) -> Result<(), Fail> {
     let alloc = rt.alloc();
     let book = first_book_with(alloc, &[])?;
-    let frames = frames_of(&WAITS)?;
+    let frames = frames_of(&waits())?;
     let early = ["0 n", "0 r 0.0 card:4111110000000005", "0 f 0.0"];
     assert_eq!(rt;
         fault_of(alloc, &book, &frames, &early)?,
@@ -55,7 +55,7 @@ fn a_row_that_was_not_logged(rt: HostRuntime) -> Result<(), Fail> {
 fn foolish_entries_play(rt: HostRuntime) -> Result<(), Fail> {
     let alloc = rt.alloc();
     let book = first_book_with(alloc, &[])?;
-    let frames = frames_of(&WAITS)?;
+    let frames = frames_of(&waits())?;
     let foolish = [
         "0 f 0.0",
         "1 f 7.0",
@@ -92,7 +92,7 @@ fn assert_entered(rt: &impl Abort, traced: &mut Traced, seat: Seat) {
 fn an_idle_claim_enters_nothing(rt: HostRuntime) -> Result<(), Fail> {
     let alloc = rt.alloc();
     let book = first_book_with(alloc, &[])?;
-    let frames = [body(WAITS.bodies[0]).ok_or("request")?];
+    let frames = [body(waits().bodies[0]).ok_or("request")?];
     let limits = Limits {
         incarnation: 4,
         epoch: 3,

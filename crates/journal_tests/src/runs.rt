@@ -1,6 +1,6 @@
 //! The journals of runs on threads.
 
-use engine::{Gate, OpenGate, Workers, run_traced};
+use engine::run_traced;
 use fixtures::{answer_text, body, first_book_with};
 use fold::Outcome;
 use journal::{Entry, Event, replay};
@@ -11,6 +11,7 @@ use std::process::Abort;
 use std::sync::atomic::{AtomicU64, Ordering};
 use std::test::Fail;
 use std::thread;
+use workers::{Gate, OpenGate, Workers};
 
 // How often a thread looks whether another got on, before the test fails.
 const TURNS: u64 = 50_000_000;

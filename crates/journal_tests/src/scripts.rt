@@ -27,9 +27,9 @@ pub struct Script {
     pub account: &'static str,
 }
 
-/// The second request reads the opening book before the first one is recorded, fails its check and is decided again; the third one
-/// meets its estimate meanwhile, and waits for it.
-pub const WAITS: Script = Script {
+// The second request reads the opening book before the first one is recorded, fails its check and is decided again; the third one
+// meets its estimate meanwhile, and waits for it.
+const WAITS: Script = Script {
     bodies: [
         "1100 000001 A 100",
         "1100 000002 A 100",
@@ -87,9 +87,9 @@ pub const WAITS: Script = Script {
     account: "account A 9700 978",
 };
 
-/// The first request takes all. The second one read the opening book, and puts no card when it is decided again. A check of the third
-/// one fails meanwhile, is left open, and ends when all is committed.
-pub const COMES_LATE: Script = Script {
+// The first request takes all. The second one read the opening book, and puts no card when it is decided again. A check of the third
+// one fails meanwhile, is left open, and ends when all is committed.
+const COMES_LATE: Script = Script {
     bodies: [
         "1100 000001 A 10000",
         "1100 000002 A 100",
@@ -144,6 +144,16 @@ pub const COMES_LATE: Script = Script {
     answers: ["000/000001", "116", "116"],
     account: "account A 0 978",
 };
+
+/// The second request reads the opening book before the first one is recorded, and is decided again; the third one waits for it.
+pub fn waits() -> Script {
+    WAITS
+}
+
+/// The first request takes all, so that the second one puts other rows when it is decided again; a check of the third one ends late.
+pub fn comes_late() -> Script {
+    COMES_LATE
+}
 
 /// The task, as a script has it.
 pub fn text_of(alloc: Global, task: &Task) -> Result<String, Fail> {

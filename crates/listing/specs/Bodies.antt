@@ -1,5 +1,5 @@
 -- The text of a batch: one body a line, in hexadecimal. Lines end at a line feed, 10; a comment begins with `#`, 35.
-use Rattle.std.specs.Prelude.{◌≡◌, ◌≢◌, ℕ, ◌+◌, ◌==◌, ◌&&◌, nat_le, if◌then◌else◌, List, [], ◌∷◌, ◌++◌, length, Option, Some, None, Result, Ok, Err}
+use Rattle.std.specs.Prelude.{◌≡◌, ◌≢◌, ℕ, ◌+◌, ◌<◌, ◌==◌, ◌&&◌, nat_le, if◌then◌else◌, List, [], ◌∷◌, ◌++◌, length, Option, Some, None, Result, Ok, Err}
 use Rattle.std.specs.List.{AllByRecursion}
 use Rattle.hex.specs.Hex.{decode_of}
 use Rattle.hex.specs.declared.FromHexError.{FromHexError}
@@ -56,3 +56,7 @@ bodies_from n (line ∷ lines) = then_bodies n (line_bodies line) (bodies_from (
 -- the bodies of a text, or the number of its first wrong line, counted from 1
 abbrev pub bodies_of : List ℕ → Result (List (List ℕ)) ℕ
 bodies_of text = bodies_from 1 (lines_of text)
+
+-- the text has more bodies than a batch may have
+abbrev pub HasTooMany : List ℕ → Type 0
+HasTooMany text = (bodies : List (List ℕ)) × (bodies_of text ≡ Ok bodies) × (65536 < length bodies)

@@ -1,7 +1,7 @@
 //! Bodies in hexadecimal.
 
-ghost use Rattle.std.specs.Prelude.{◌≡◌, ℕ, ◌<◌, ◌≤◌, ◌∷◌, ◌++◌, Ok, Err, length, map, IfOk, IfSome, IfNone, Some, None, IsTrue, IsFalse};
-ghost use Rattle.listing.specs.Bodies.{body_of, bodies_of, line_bodies, AddsBodies, HasNoFeed};
+ghost use Rattle.std.specs.Prelude.{◌≡◌, ℕ, ◌≤◌, ◌∷◌, ◌++◌, Ok, Err, length, map, IfOk, IfSome, IfNone, Some, None, IsTrue, IsFalse};
+ghost use Rattle.listing.specs.Bodies.{body_of, bodies_of, line_bodies, AddsBodies, HasNoFeed, HasTooMany};
 
 use crate::text_fault::TextFault;
 use hex::FromHexError;
@@ -15,7 +15,7 @@ pub fn read_bodies(alloc: Global, text: &[u8]) -> Result<Vec<Vec<u8>>, TextFault
     ensures ok { IfOk result (λ bodies. bodies_of text.now ≡ Ok (map (λ body. body.items) bodies.items)) }
     ensures few { IfOk result (λ bodies. length bodies.items ≤ 65536) }
     ensures line { (n : ℕ) → result ≡ Err (TextFault.Line n) → bodies_of text.now ≡ Err n }
-    ensures count { result ≡ Err TextFault.Count → IfOk (bodies_of text.now) (λ bodies. 65536 < length bodies) }
+    ensures count { result ≡ Err TextFault.Count → HasTooMany text.now }
 {
     let bodies = match all_bodies(alloc, text) {
         Ok(bodies) => bodies,

@@ -1,9 +1,10 @@
 //! Bodies and replies as lines.
 
 use fixtures::{body, first_book_with};
-use fold::{Prefix, decide_all};
+use fold::Prefix;
 use listing::{frame_line, reply_line};
 use rows::Frame;
+use rules::decide_all;
 use std::process::Abort;
 use std::test::Fail;
 

@@ -60,7 +60,7 @@ pub record AreListed (chains : Chains) (numbers : List ℕ) (index : ℕ) : Type
   pub rows : (k n : ℕ) → slice_get numbers k ≡ Some n → n < length chains
   pub entries : (row : RowKey) (entry : Held) → stands chains row index ≡ Some entry → (k n : ℕ) × (slice_get numbers k ≡ Some n) × (row_at chains n ≡ Some row)
 
--- each row has one chain, and each message's list is that of its entries
+-- each row has one chain, and each message's list names the rows of all its entries
 pub record AreKept (chains : Chains) (lists : List RowList) : Type 0 where
   pub once : IsOnceEach chains
   pub listed : (index : ℕ) → AreListed chains (list_at lists index).numbers index

@@ -1,11 +1,12 @@
 //! Whole batches, one message after another.
 
 use fixtures::{
-    ADVICE_RULES, Batch, REQUEST_RULES, REVERSAL_RULES, UNCHECKED_RULES, WORKED, answer_text,
-    has_row,
+    Batch, advice_rules, answer_text, has_row, request_rules, reversal_rules, unchecked_rules,
+    worked,
 };
-use fold::{Prefix, decide_all};
+use fold::Prefix;
 use rows::{Book, ReplyBody};
+use rules::decide_all;
 use std::alloc::Global;
 use std::process::Abort;
 use std::test::Fail;
@@ -52,25 +53,25 @@ fn assert_batches(rt: &impl Abort, alloc: Global, batches: &[Batch]) -> Result<(
 
 #[test]
 fn decides_the_worked_batches(rt: HostRuntime) -> Result<(), Fail> {
-    assert_batches(&rt, rt.alloc(), WORKED)
+    assert_batches(&rt, rt.alloc(), worked())
 }
 
 #[test]
 fn decides_requests_by_each_rule(rt: HostRuntime) -> Result<(), Fail> {
-    assert_batches(&rt, rt.alloc(), REQUEST_RULES)
+    assert_batches(&rt, rt.alloc(), request_rules())
 }
 
 #[test]
 fn decides_advices_by_each_rule(rt: HostRuntime) -> Result<(), Fail> {
-    assert_batches(&rt, rt.alloc(), ADVICE_RULES)
+    assert_batches(&rt, rt.alloc(), advice_rules())
 }
 
 #[test]
 fn decides_reversals_by_each_rule(rt: HostRuntime) -> Result<(), Fail> {
-    assert_batches(&rt, rt.alloc(), REVERSAL_RULES)
+    assert_batches(&rt, rt.alloc(), reversal_rules())
 }
 
 #[test]
 fn decides_on_books_that_no_check_takes(rt: HostRuntime) -> Result<(), Fail> {
-    assert_batches(&rt, rt.alloc(), UNCHECKED_RULES)
+    assert_batches(&rt, rt.alloc(), unchecked_rules())
 }

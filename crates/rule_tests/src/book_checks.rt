@@ -1,8 +1,8 @@
 //! What is wrong with a book.
 
 use fixtures::{
-    ADVICE_RULES, Batch, REQUEST_RULES, REVERSAL_RULES, UNCHECKED_RULES, WORKED, first_book_with,
-    with_row,
+    Batch, advice_rules, first_book_with, request_rules, reversal_rules, unchecked_rules, with_row,
+    worked,
 };
 use rows::{Book, BookFault, check_book};
 use std::alloc::Global;
@@ -194,10 +194,10 @@ fn assert_taken(
 #[test]
 fn takes_the_books_of_the_batches(rt: HostRuntime) -> Result<(), Fail> {
     let alloc = rt.alloc();
-    for batches in [WORKED, REQUEST_RULES, ADVICE_RULES, REVERSAL_RULES] {
+    for batches in [worked(), request_rules(), advice_rules(), reversal_rules()] {
         assert_taken(&rt, alloc, batches, true)?;
     }
-    assert_taken(&rt, alloc, UNCHECKED_RULES, false)
+    assert_taken(&rt, alloc, unchecked_rules(), false)
 }
 
 #[test]

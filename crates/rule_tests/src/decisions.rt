@@ -90,14 +90,42 @@ fn reads_the_rows_that_it_needs(rt: HostRuntime) -> Result<(), Fail> {
     Ok(())
 }
 
+// Asserts that the execution read and put nothing, and answers a fault.
+fn assert_fault_alone(rt: &impl Abort, execution: Execution) {
+    let (_, reads, writes, reply) = execution.into_parts();
+    assert!(rt; matches!(reply, ReplyBody::Fault(_)));
+    assert!(rt; reads.is_empty() && writes.is_empty());
+}
+
 #[test]
 fn a_bad_body_reads_nothing(rt: HostRuntime) -> Result<(), Fail> {
     let bad = body("bad").ok_or("a body")?;
     let execution = execute(rt.alloc(), &bad, source_of(rt.alloc(), &[])?, &Shipped)?;
     assert_eq!(rt; execution.frame(), bad);
-    let (_, reads, writes, reply) = execution.into_parts();
-    assert!(rt; matches!(reply, ReplyBody::Fault(_)));
-    assert!(rt; reads.is_empty() && writes.is_empty());
+    assert_fault_alone(&rt, execution);
+    Ok(())
+}
+
+// Asks twice for a row that is there, and for one that isn't.
+fn ask_twice(
+    rt: &impl Abort,
+    recorder: &mut Recorder<Told>,
+    there: (RowKey, RowVal),
+    absent: RowKey,
+) -> Result<(), Fail> {
+    for _ in 0..2 {
+        assert_eq!(rt; recorder.read(&there.0)?, Some(there.1));
+        assert_eq!(rt; recorder.read(&absent)?, None);
+    }
+    Ok(())
+}
+
+// Puts a row, which is answered then.
+fn put(rt: &impl Abort, recorder: &mut Recorder<Told>, row: (RowKey, RowVal)) -> Result<(), Fail> {
+    let (key, val) = row;
+    assert!(rt; val.suits(&key));
+    recorder.write(key, val)?;
+    assert_eq!(rt; recorder.read(&key)?, Some(val));
     Ok(())
 }
 
@@ -105,17 +133,14 @@ fn a_bad_body_reads_nothing(rt: HostRuntime) -> Result<(), Fail> {
 #[test]
 fn asks_once_and_answers_what_it_put(rt: HostRuntime) -> Result<(), Fail> {
     let alloc = rt.alloc();
-    let (there, before) = row(ACCOUNT).ok_or("a row")?;
-    let (_, after) = row("account A 4000 978").ok_or("a row")?;
-    let (absent, _) = row(CARD).ok_or("a row")?;
-    assert!(rt; after.suits(&there));
     let mut recorder = Recorder::new(alloc, source_of(alloc, &[ACCOUNT])?);
-    for _ in 0..2 {
-        assert_eq!(rt; recorder.read(&there)?, Some(before));
-        assert_eq!(rt; recorder.read(&absent)?, None);
-    }
-    recorder.write(there, after)?;
-    assert_eq!(rt; recorder.read(&there)?, Some(after));
+    let (absent, _) = row(CARD).ok_or("a row")?;
+    ask_twice(&rt, &mut recorder, row(ACCOUNT).ok_or("a row")?, absent)?;
+    put(
+        &rt,
+        &mut recorder,
+        row("account A 4000 978").ok_or("a row")?,
+    )?;
     let (source, reads, writes) = recorder.into_parts();
     assert_eq!(rt; (source.asked, reads.len(), writes.len()), (2, 2, 1));
     Ok(())

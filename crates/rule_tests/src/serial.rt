@@ -1,39 +1,13 @@
 //! The serial answer beside its batches: the longest one, a prefix that is gone on with, and a book as a source.
 
-use fixtures::{answer_text, body, first_book_with, has_row};
-use fold::{PlainRows, Prefix, decide_all, decide_all_by, put_all};
-use rows::{Frame, ReplyBody, RowKey};
-use rules::Shipped;
+use fixtures::{answer_at, body, count_of, first_book_with, has_row, requests};
+use fold::{PlainRows, Prefix, decide_all_by, put_all};
+use rows::{Book, RowKey};
+use rules::{Shipped, decide_all};
 use std::alloc::Global;
 use std::process::Abort;
 use std::test::Fail;
 use view::{RowSource, execute};
-
-// As many requests of 1 on card A, with a trace number each.
-fn requests(alloc: Global, many: u32) -> Result<Vec<Frame>, Fail> {
-    let mut frames = Vec::new(alloc);
-    for trace in 0..many {
-        let line = format!(in alloc; "1100 {trace:06} A 1")?;
-        frames.push(body(line.as_str()).ok_or("a body")?)?;
-    }
-    Ok(frames)
-}
-
-// Action and approval code of the reply at this place.
-fn answer_at(alloc: Global, replies: &[ReplyBody], index: usize) -> Result<String, Fail> {
-    Ok(answer_text(alloc, replies.get(index).ok_or("a reply")?)?)
-}
-
-// How many of the replies have this text.
-fn count_of(alloc: Global, replies: &[ReplyBody], text: &str) -> Result<u64, Fail> {
-    let mut count = 0u64;
-    for reply in replies {
-        if answer_text(alloc, reply)?.as_str() == text {
-            count = count.saturating_add(1);
-        }
-    }
-    Ok(count)
-}
 
 // The longest batch: three requests are approved, then the day's limit is reached.
 #[test]
@@ -83,14 +57,19 @@ fn a_book_is_a_source(rt: HostRuntime) -> Result<(), Fail> {
     Ok(())
 }
 
+// A copy of the book, with the rows of the body's decision put on it.
+fn book_after(alloc: Global, book: &Book, line: &str) -> Result<Book, Fail> {
+    let frame = body(line).ok_or("a body")?;
+    let execution = execute(alloc, &frame, PlainRows::new(book), &Shipped)?;
+    Ok(put_all(book.copy()?, execution.writes())?)
+}
+
 // The rows of a decision are put on a copy of its book; the book itself stays.
 #[test]
 fn puts_what_was_decided(rt: HostRuntime) -> Result<(), Fail> {
     let alloc = rt.alloc();
     let book = first_book_with(alloc, &[])?;
-    let request = body("1100 000001 A 6000").ok_or("a body")?;
-    let execution = execute(alloc, &request, PlainRows::new(&book), &Shipped)?;
-    let after = put_all(book.copy()?, execution.writes())?;
+    let after = book_after(alloc, &book, "1100 000001 A 6000")?;
     assert!(rt; has_row(&after, "account A 4000 978"));
     assert!(rt; has_row(&book, "account A 10000 978"));
     assert_eq!(rt; (after.len(), book.len()), (6, 4));

@@ -1,4 +1,4 @@
-//! The shipped decision: what a message is answered, and which rows it puts.
+//! The shipped decision: what a message is answered, and which rows it puts; and bodies decided by it one after another.
 #![tactic(auto)]
 
 mod advice;
@@ -12,7 +12,9 @@ mod reversal;
 mod reversal_answers;
 mod reversal_facts;
 mod reversal_refunds;
+mod serial;
 mod shipped;
 mod typed;
 
+pub use serial::decide_all;
 pub use shipped::{Shipped, decide};

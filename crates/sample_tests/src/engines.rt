@@ -1,16 +1,15 @@
 //! The day decided by each engine, with 1 and with 4 workers.
 
 use crate::deciding::{decided_day, names};
-use block_jobs::{BlockCount, run_blocks};
-use engine::Workers;
-use engine_choice::Engine;
+use block_jobs::BlockCount;
 use files::MemoryFiles;
-use jobs::run_batch;
+use run_jobs::{run_batch, run_blocks};
 use std::alloc::Global;
 use std::process::Abort;
 use std::sync::Wait;
 use std::test::Fail;
 use std::thread::Threads;
+use workers::{Engine, Workers};
 
 // As one batch, the replies and the book have the bytes of deciding one message after another.
 fn assert_batch<R: Abort + Threads + Wait + Sync>(

@@ -61,7 +61,7 @@ IsOpen b v = IsExecutedAs (mark b v.index) v.incarnation × (b.committed ≤ v.i
 abbrev pub IsFloored : Board → ℕ → ℕ → Type 0
 IsFloored b j epoch = (t : ℕ) → t ≤ j → floor b t ≤ epoch
 
--- The message at j is executed, and a check that it passed began when no floor up to j was higher than now.
+-- The message at j is executed, it has a stamp, and no floor up to j is above that.
 abbrev pub IsFresh : Board → ℕ → Type 0
 IsFresh b j = IsExecuted b j × (stamp : ℕ) × ((mark b j).stamp ≡ Some stamp) × IsFloored b j stamp
 

@@ -1,5 +1,5 @@
 -- What is seen of a row in the shards.
-use Rattle.std.specs.Prelude.{ℕ, Option, Some, None, IfSome}
+use Rattle.std.specs.Prelude.{◌≡◌, ℕ, Option, Some, None}
 use Rattle.mvmem.specs.declared.link.Link.{Link}
 use Rattle.rows.specs.RowVal.{IsOfKind}
 use Rattle.rows.specs.declared.row_key.RowKey.{RowKey}
@@ -27,8 +27,8 @@ abbrev pub row_over : Option Link → Option RowVal → Option RowVal
 row_over (Some link) was = over link.value was
 row_over None was = was
 
--- where something was put, it is of its key's kind
-abbrev pub IsSightOfKind : RowKey → Sight → Option RowVal → Type 0
-IsSightOfKind key Base now = Unit {0}
-IsSightOfKind key (Put version) now = IfSome now (IsOfKind key)
-IsSightOfKind key (Estimate at) now = Unit {0}
+-- With this sight of a row, what stands in the caller's place: where it was put, a row of its key's kind; else what stood there.
+abbrev pub IsSeenSo : RowKey → Sight → Option RowVal → Option RowVal → Type 0
+IsSeenSo key Base was now = now ≡ was
+IsSeenSo key (Put version) was now = (value : RowVal) × (now ≡ Some value) × IsOfKind key value
+IsSeenSo key (Estimate at) was now = now ≡ was

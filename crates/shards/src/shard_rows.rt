@@ -2,7 +2,7 @@ ghost use Rattle.std.specs.Prelude.{◌≡◌, ◌↔◌, ℕ, None, Ok, Err, If
 ghost use Rattle.std.specs.FinMap as map;
 ghost use Rattle.mvmem.specs.declared.version.Version.{Version};
 ghost use Rattle.rows.specs.RowVal.{IsOfKind};
-ghost use Rattle.shards.specs.Sighted.{IsSightOfKind};
+ghost use Rattle.shards.specs.Sighted.{IsSeenSo};
 ghost use Rattle.shards.specs.declared.sight.Sight.TheVariants as sights;
 ghost use Rattle.view.specs.declared.stop.Stop.TheVariants as stop;
 
@@ -74,7 +74,7 @@ fn row_seen(
     sight: Sight,
     row: Option<RowVal>,
 ) -> Result<Option<RowVal>, Stop>
-    requires { IsSightOfKind key.now sight row }
+    requires { IsSeenSo key.now sight None row }
     ensures base { sight ≡ sights.Base → result ≡ Ok (map.get opening.now key.now) }
     ensures put { (version : Version) → sight ≡ sights.Put version → result ≡ Ok row }
     ensures blocked { (at : ℕ) → (result ≡ Err (stop.Blocked at)) ↔ (sight ≡ sights.Estimate at) }

@@ -1,5 +1,5 @@
 ghost use Rattle.std.specs.Prelude.{◌≡◌, length, IfOk};
-ghost use Rattle.shards.specs.Sighted.{IsSightOfKind};
+ghost use Rattle.shards.specs.Sighted.{IsSeenSo};
 
 use crate::log::LoggedSight;
 use crate::shard_of::shard_of;
@@ -33,8 +33,9 @@ impl Shards {
 
     /// Whose row the message at this index sees. What was put is written to a place of the caller's, which stays as it was where nothing
     /// was.
+    #[tactic(auto, using(crate::proofs::Sights::seen_so))]
     pub fn look<R: Wait>(&self, rt: &R, key: &RowKey, index: u32, row: &mut Option<RowVal>) -> Sight
-        ensures { IsSightOfKind key.now result row.new }
+        ensures { IsSeenSo key.now result row.old row.new }
     {
         let memory = self.shards[shard_of(key)].lock(rt);
         let (link, _) = memory.look(key, index);

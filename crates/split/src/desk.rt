@@ -1,6 +1,6 @@
 ghost use Rattle.std.specs.Prelude.{◌≡◌, ◌≢◌, ◌↔◌, Ok, IfOk};
 ghost use Rattle.ledger.specs.Progress.{IsNext};
-ghost use Rattle.ledger.specs.declared.verdict.Verdict.TheVariants.{Committed};
+ghost use Rattle.ledger.specs.declared.verdict.Verdict.TheVariants.{Committed, Stale};
 ghost use Rattle.published.specs.Standing.{advanced, told, stopping};
 
 use crate::room::Room;
@@ -40,6 +40,7 @@ impl<B: Room> Desk<B> {
     ) -> Result<Verdict, AllocError>
         requires { cursors.now ≡ B.table }
         ensures when { IfOk result (λ verdict. (verdict ≡ Committed) ↔ IsNext self.old.published.ledger execution.now) }
+        ensures stale { ¬ IsNext self.old.published.ledger execution.now → result ≡ Ok Stale }
         ensures committed { result ≡ Ok Committed → self.new.published ≡ told (advanced self.old.published) }
         ensures otherwise { result ≢ Ok Committed → self.new.published ≡ self.old.published }
     {

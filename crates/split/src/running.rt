@@ -1,7 +1,7 @@
 ghost use Rattle.std.specs.Prelude.{◌≡◌, ◌≤◌, [], take, length, IfOk};
 ghost use Rattle.rows.specs.Fold.{replies_to, rows_after};
 ghost use Rattle.cursors.specs.CursorRule.{publisher};
-ghost use Rattle.engine.specs.Started.{IsStarted};
+ghost use Rattle.workers.specs.Started.{IsStarted};
 ghost use Rattle.ledger.specs.Progress.{opened};
 
 use crate::board::Board;
@@ -9,16 +9,17 @@ use crate::place::Place;
 use crate::room::Room;
 use crate::turns::Worker;
 use cursors::{CursorSeat, Cursors};
-use engine::{Gate, Workers};
-use fold::{Outcome, Prefix, decide_all};
+use fold::{Outcome, Prefix};
 use ledger::Ledger;
 use rows::{Book, Frame};
+use rules::decide_all;
 use std::alloc::{AllocError, Global};
 use std::marker::Brand;
 use std::sync::Wait;
 use std::thread;
 use std::thread::Threads;
 use view::Decide;
+use workers::{Gate, Workers};
 
 /// Decides a batch of at most 65,536 bodies on several threads that share no one lock (Block-STM). Whatever the number of workers,
 /// replies and book are those of deciding the messages one after another in the order of their arrival. The only fault is want of

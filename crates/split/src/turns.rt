@@ -3,7 +3,6 @@ use crate::desk::Desk;
 use crate::leave::Leave;
 use crate::place::Place;
 use crate::room::Room;
-use engine::Gate;
 use ledger::Verdict;
 use mvmem::Version;
 use rows::{Book, Frame};
@@ -13,6 +12,7 @@ use std::alloc::Global;
 use std::sync::Wait;
 use std::thread;
 use view::{Decide, Execution, Recorder, Stop};
+use workers::Gate;
 
 /// What a worker works with: the board, the opening book, the bodies, the decision and the gate. Whatever it does or leaves undone, the
 /// ledger's type keeps what is committed right.
@@ -179,16 +179,21 @@ impl<B: Room, R: Wait, F: Decide, G: Gate> Worker<'_, B, R, F, G> {
             .board
             .shards()
             .record(self.rt, self.alloc, version, writes, former)?;
-        if let Some(mut slot) = self.board.slot(self.rt, index) {
-            slot.put(shards, attempt);
-        }
+        self.hand_in(index, shards, attempt);
         self.gate.after_record(index, incarnation);
         if is_new {
             place.lower_validate(self.board, index);
-        } else {
-            self.validate(place, index)?;
+            return Ok(());
         }
+        self.validate(place, index)?;
         Ok(())
+    }
+
+    // Puts an execution into its message's slot.
+    fn hand_in(&self, index: u32, shards: ShardSet, attempt: Attempt) {
+        if let Some(mut slot) = self.board.slot(self.rt, index) {
+            slot.put(shards, attempt);
+        }
     }
 
     // Gives a message up that met an estimate, to be executed again, and lets the one run that it waits for.

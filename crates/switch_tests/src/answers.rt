@@ -1,15 +1,16 @@
 //! One body's way through the program, part by part.
 
-use answering::{answer_on, body_of_digits, decide_one, sample_book};
+use answering::{answer_on, decide_one, sample_book};
 use commands::{Printer, act};
-use engine::Workers;
 use files::MemoryFiles;
+use listing::body_of_digits;
 use std::alloc::Global;
 use std::io;
 use std::io::{ErrorKind, Write};
 use std::process::Abort;
 use std::test::Fail;
 use words::{Command, plain_words_are_read, read_words};
+use workers::Workers;
 
 fn words(alloc: Global, words: &[&str]) -> Result<Vec<String>, Fail> {
     let mut all = Vec::new(alloc);
@@ -23,7 +24,7 @@ fn words(alloc: Global, words: &[&str]) -> Result<Vec<String>, Fail> {
 #[test]
 fn a_body_is_answered_in_bytes_and_in_digits(rt: HostRuntime) -> Result<(), Fail> {
     let alloc = rt.alloc();
-    let body = body_of_digits(alloc, "31")?.ok_or("a body")?;
+    let body = body_of_digits(alloc, b"31")?.ok_or("a body")?;
     assert_eq!(rt; body.as_slice(), b"1".as_slice());
     let book = sample_book(alloc)?;
     for count in [1, 64] {

@@ -117,88 +117,61 @@ fn a_body_that_is_no_message_is_answered_its_fault(rt: HostRuntime) -> Result<()
     Ok(())
 }
 
+// Words, with one space between them, that are no command.
+const NO_COMMANDS: &[&str] = &[
+    "one",
+    "one 3",
+    "one 3g",
+    "one 31 31",
+    "run",
+    "run book batch replies",
+    "audit book batch replies",
+    "show",
+    "pack text",
+    "blocks book file replies",
+    "audit-blocks book file replies",
+    "serial book batch replies after --journal journal",
+    "blocks book file replies after --journal journal",
+    "run book batch replies after --journal",
+    "run book batch replies after --journal journal --engine split",
+    "run book batch replies after --workers 0",
+    "run book batch replies after --workers 65",
+    "run book batch replies after --workers four",
+    "run book batch replies after --workers -1",
+    "run book batch replies after --engine other",
+    "run book batch replies after --engine Locked",
+    "blocks book batch replies after --engine other",
+    "blocks book batch replies after --engine Locked",
+];
+
 #[test]
 fn words_that_are_no_command_are_a_usage_fault(rt: HostRuntime) -> Result<(), Fail> {
     let alloc = rt.alloc();
     assert_usage(&rt, alloc, &[])?;
-    assert_usage(&rt, alloc, &["one"])?;
-    assert_usage(&rt, alloc, &["one", ""])?;
-    assert_usage(&rt, alloc, &["one", "3"])?;
-    assert_usage(&rt, alloc, &["one", "3g"])?;
-    assert_usage(&rt, alloc, &["one", "31", "31"])?;
-    assert_usage(&rt, alloc, &["run"])?;
-    assert_usage(&rt, alloc, &["run", "book", "batch", "replies"])?;
-    assert_usage(&rt, alloc, &["audit", "book", "batch", "replies"])?;
-    assert_usage(&rt, alloc, &["show"])?;
-    assert_usage(&rt, alloc, &["pack", "text"])?;
-    assert_usage(&rt, alloc, &["blocks", "book", "file", "replies"])?;
-    assert_usage(&rt, alloc, &["audit-blocks", "book", "file", "replies"])?;
-    assert_usage(
-        &rt,
-        alloc,
-        &[
-            "serial",
-            "book",
-            "batch",
-            "replies",
-            "after",
-            "--journal",
-            "journal",
-        ],
-    )?;
-    assert_usage(
-        &rt,
-        alloc,
-        &[
-            "blocks",
-            "book",
-            "file",
-            "replies",
-            "after",
-            "--journal",
-            "journal",
-        ],
-    )?;
-    assert_usage(
-        &rt,
-        alloc,
-        &["run", "book", "batch", "replies", "after", "--journal"],
-    )?;
-    assert_usage(
-        &rt,
-        alloc,
-        &[
-            "run",
-            "book",
-            "batch",
-            "replies",
-            "after",
-            "--journal",
-            "journal",
-            "--engine",
-            "split",
-        ],
-    )?;
-    for workers in ["0", "65", "four", "-1", ""] {
-        let words = [
-            "run",
-            "book",
-            "batch",
-            "replies",
-            "after",
-            "--workers",
-            workers,
-        ];
+    for line in NO_COMMANDS {
+        let mut words = Vec::new(alloc);
+        for word in line.split(' ') {
+            words.push(word)?;
+        }
         assert_usage(&rt, alloc, &words)?;
     }
-    for engine in ["other", "Locked", "split ", ""] {
-        for command in ["run", "blocks"] {
-            let words = [
-                command, "book", "batch", "replies", "after", "--engine", engine,
-            ];
-            assert_usage(&rt, alloc, &words)?;
-        }
+    Ok(())
+}
+
+#[test]
+fn no_word_is_empty_or_ends_with_a_space(rt: HostRuntime) -> Result<(), Fail> {
+    let alloc = rt.alloc();
+    assert_usage(&rt, alloc, &["one", ""])?;
+    for (option, value) in [("--workers", ""), ("--engine", ""), ("--engine", "split ")] {
+        let words = ["run", "book", "batch", "replies", "after", option, value];
+        assert_usage(&rt, alloc, &words)?;
     }
+    Ok(())
+}
+
+#[test]
+fn a_body_has_at_most_512_bytes(rt: HostRuntime) -> Result<(), Fail> {
+    let alloc = rt.alloc();
     let too_many = "00".repeat(alloc, 513)?;
     assert_usage(&rt, alloc, &["one", too_many.as_str()])?;
     let most = "00".repeat(alloc, 512)?;

@@ -10,10 +10,10 @@ use Rattle.clap.specs.Simple.{is_simple, subcommand_of}
 use Rattle.clap.specs.Walk.{Row, Text, first_of}
 use Rattle.clap.specs.declared.error.kind.ErrorKind.{ErrorKind}
 use Rattle.clap.specs.declared.error.kind.ErrorKind.TheVariants as kinds
-use Rattle.answering.specs.Answers.{IsBodyInDigits}
-use Rattle.engine_choice.specs.declared.engine.Engine.{Engine}
-use Rattle.engine_choice.specs.declared.engine.Engine.TheVariants.{Locked, Split}
-use Rattle.words.specs.Asked.{Asked, Names, asked, asked_of, audit, audit_blocks, audit_blocks_in, audit_in, blocks, blocks_in, body_in, engine_in, help, names_in, one, one_in, pack, pack_in, run, run_by, run_in, run_with_journal, serial, serial_in, show, show_in, version, workers_in}
+use Rattle.listing.specs.Bodies.{body_of}
+use Rattle.workers.specs.declared.engine.Engine.{Engine}
+use Rattle.workers.specs.declared.engine.Engine.TheVariants.{Locked, Split}
+use Rattle.words.specs.Asked.{Asked, Names, asked, asked_of, audit, audit_blocks, audit_blocks_in, audit_in, blocks, blocks_in, engine_in, help, names_in, one, one_in, pack, pack_in, run, run_by, run_in, run_with_journal, serial, serial_in, show, show_in, version, workers_in}
 use Rattle.words.specs.CommandLine.{command_line}
 use Rattle.words.specs.Words.{IsRead, IsReadOfKind, asked_in}
 use Rattle.words.specs.declared.command.Command.{Command}
@@ -29,13 +29,6 @@ simple_line = refl
 pub free_line : is_simple_and_free command_line ≡ true
 unfolding clap_on_literals
 free_line = refl
-
--- digits that stand for a body, or for none
-pub body_found : (digits : Text) (body : List ℕ) → IsBodyInDigits digits body → body_in digits ≡ Some body
-body_found digits body h =
-    let low : nat_lt 0 (length body) ≡ true = grind (arith, nat_tests, h.1) in
-    let high : nat_lt (length body) 513 ≡ true = grind (arith, nat_tests, h.2) in
-    rw (h.0, low, high) refl
 
 -- what the words' reader says where it has an error of this kind
 pub read_of_kind : (words : List Text) (kind : ErrorKind) (result : Result Command LineFault) → (kind ≡ kinds.OutOfMemory) ⊎ IsAmong kind (fault_of command_line words)
@@ -101,7 +94,7 @@ of_subcommand : (a b c d e f g i : Bool) (rows : List Row) (what : Asked)
     else (if f then audit_blocks_in rows
     else (if g then show_in rows
     else (if i then pack_in rows else None)))))))) ≡ Some what → is_of_subcommand what ≡ true
-of_subcommand true b c d e f g i rows what h = of_one one (λ body. refl) (option_and_then body_in (first_of (codes "FRAME") rows)) what h
+of_subcommand true b c d e f g i rows what h = of_one one (λ body. refl) (option_and_then body_of (first_of (codes "FRAME") rows)) what h
 of_subcommand false true c d e f g i rows what h =
     of_each (λ names. option_and_then (λ workers. option_and_then (λ engine. run_by names workers engine (first_of (codes "journal") rows)) (engine_in rows)) (workers_in rows))
     (λ names. of_each (λ workers. option_and_then (λ engine. run_by names workers engine (first_of (codes "journal") rows)) (engine_in rows))

@@ -1,11 +1,10 @@
 -- What words ask for, subcommand by subcommand.
-use Rattle.std.specs.Prelude.{◌&&◌, ℕ, List, Option, Some, None, Result, Ok, Err, codes, length, nat_lt, option_map, option_and_then, string_bytes, if◌then◌else◌}
+use Rattle.std.specs.Prelude.{◌&&◌, ℕ, List, Option, Some, None, codes, nat_lt, option_map, option_and_then, string_bytes, if◌then◌else◌}
 use Rattle.std.specs.Str.{bytes_eq}
 use Rattle.clap.specs.Walk.{Row, Text, byte_or_zero, first_of}
-use Rattle.engine_choice.specs.declared.engine.Engine.{Engine}
-use Rattle.engine_choice.specs.declared.engine.Engine.TheVariants.{Locked, Split}
-use Rattle.hex.specs.Hex.{decode_of}
-use Rattle.hex.specs.declared.error.FromHexError.{FromHexError}
+use Rattle.workers.specs.declared.engine.Engine.{Engine}
+use Rattle.workers.specs.declared.engine.Engine.TheVariants.{Locked, Split}
+use Rattle.listing.specs.Bodies.{body_of}
 use Rattle.words.specs.declared.command.Command.{Command}
 use Rattle.words.specs.declared.command.Command.TheVariants.{Help, Version, One, Serial, Run, RunWithJournal, Blocks, Audit, AuditBlocks, Show, Pack}
 use Rattle.words.specs.declared.asked.BatchWords.{BatchWords}
@@ -33,18 +32,6 @@ pub data Asked : Type 0 where
   audit_blocks : Names → Asked
   show : Text → Asked
   pack : Text → Text → Asked
-
--- so many bytes as a body can have
-abbrev pub of_length : List ℕ → Option (List ℕ)
-of_length body = if nat_lt 0 (length body) && nat_lt (length body) 513 then Some body else None
-
-abbrev pub body_of : Result (List ℕ) FromHexError → Option (List ℕ)
-body_of (Ok body) = of_length body
-body_of (Err e) = None
-
--- the body that 1 to 512 pairs of hexadecimal digits stand for
-abbrev pub body_in : Text → Option (List ℕ)
-body_in digits = body_of (decode_of digits)
 
 -- a number of workers, 1 to 64
 abbrev pub worker_count : Text → Option ℕ
@@ -76,7 +63,7 @@ names_in input rows =
 
 -- the body behind `one`
 abbrev pub one_in : List Row → Option Asked
-one_in rows = option_map one (option_and_then body_in (first_of (codes "FRAME") rows))
+one_in rows = option_map one (option_and_then body_of (first_of (codes "FRAME") rows))
 
 -- the files behind `serial`
 abbrev pub serial_in : List Row → Option Asked

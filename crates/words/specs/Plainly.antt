@@ -1,14 +1,14 @@
 -- What plain words are read as.
-use Rattle.std.specs.Prelude.{◌≢◌, ℕ, List, [], ◌∷◌, Some, None, codes}
+use Rattle.std.specs.Prelude.{◌≡◌, ◌≢◌, ℕ, List, [], ◌∷◌, Some, None, codes}
 use Rattle.clap.specs.Walk.{Text}
-use Rattle.answering.specs.Answers.{IsBodyInDigits}
-use Rattle.engine_choice.specs.declared.engine.Engine.TheVariants.{Locked, Split}
+use Rattle.listing.specs.Bodies.{body_of}
+use Rattle.workers.specs.declared.engine.Engine.TheVariants.{Locked, Split}
 use Rattle.words.specs.Asked.{Names, audit, audit_blocks, blocks, one, run, run_with_journal, serial}
 use Rattle.words.specs.Words.{Asks, IsHelp, IsUsageFault, IsVersion}
 
 -- `one FRAME` asks for the body that FRAME stands for
 abbrev pub OneFrameIsRead : Text → Text → List ℕ → Type 0
-OneFrameIsRead name digits body = IsBodyInDigits digits body → Asks (name ∷ codes "one" ∷ digits ∷ []) (one body)
+OneFrameIsRead name digits body = body_of digits ≡ Some body → Asks (name ∷ codes "one" ∷ digits ∷ []) (one body)
 
 -- `--help` asks for help
 abbrev pub HelpIsRead : Text → Type 0

@@ -9,13 +9,12 @@ ghost use Rattle.words.specs.Words.{IsRead, IsReadOfKind};
 use crate::command::Command;
 use crate::command_line::command_line;
 use crate::line_fault::LineFault;
-use answering::body_of_digits;
 use clap::error::ErrorKind;
 use clap::{ArgMatches, Error};
-use engine::Workers;
-use engine_choice::Engine;
 use files::BatchNames;
+use listing::body_of_digits;
 use std::alloc::{AllocError, Global};
+use workers::{Engine, Workers};
 
 /// Reads the program's words, of which the first is its name. Words that are no command are a usage fault.
 pub fn read_words(alloc: Global, words: &[String]) -> Result<Command, LineFault>
@@ -82,7 +81,7 @@ fn one_of(alloc: Global, matches: &ArgMatches<'_>) -> Result<Option<Command>, Al
     let Some(frame) = word(matches, "FRAME") else {
         return Ok(None);
     };
-    match body_of_digits(alloc, frame)? {
+    match body_of_digits(alloc, frame.as_bytes())? {
         Some(body) => Ok(Some(Command::One(body))),
         None => Ok(None),
     }

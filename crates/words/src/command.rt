@@ -1,6 +1,5 @@
-use engine::Workers;
-use engine_choice::Engine;
 use files::BatchNames;
+use workers::{Engine, Workers};
 
 /// What the words ask for.
 #[derive(Debug, Drop)]

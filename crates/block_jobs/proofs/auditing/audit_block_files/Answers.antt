@@ -9,10 +9,10 @@ returns-clause-audited g c = record {
   blocks = frames_of c.in_ok-blocks.blocks.items;
   answers = replies_of c.in_ok-replies.replies.items;
   rows_after_them = c.in_ok-after.after;
-  opening = λ bytes h. (c.in_ok-book.ensures.book bytes (rw c.as_str.ensures.value h)).0;
+  opening = λ bytes h. c.in_ok-book.ensures.book bytes (rw c.as_str.ensures.value h);
   read = λ bytes h. c.in_ok-blocks.ensures.blocks bytes (rw c.as_str-2.ensures.value h);
   answered = λ bytes h. c.in_ok-replies.ensures.replies bytes (rw c.as_str-3.ensures.value h);
-  after = λ bytes h. (c.in_ok-after.ensures.book bytes (rw c.as_str-4.ensures.value h)).0;
+  after = λ bytes h. c.in_ok-after.ensures.book bytes (rw c.as_str-4.ensures.value h);
   finds = rw (c.deref.ensures.value, c.deref-2.ensures.value) at c.in_ok-audit_blocks.ensures;
 }
 

@@ -1,6 +1,6 @@
 use Rattle.std.proofs.Common.{◌≡◌, ℕ, Result, Ok, Err, IfOk, sym, subst}
 use Rattle.fold.specs.declared.outcome.Outcome.{Outcome}
-use Rattle.engine.specs.Started.{IsStarted}
+use Rattle.workers.specs.Started.{IsStarted}
 use Rattle.engine.proofs.running.run_from.Goals as goal
 
 started_so : {X E : Type 0} (r : Result (Outcome × X) E) (n workers : ℕ) → IfOk r (λ run. run.0.started ≡ n) → IsStarted n workers → IfOk r (λ run. IsStarted run.0.started workers)

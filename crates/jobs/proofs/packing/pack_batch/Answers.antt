@@ -1,8 +1,19 @@
-use Rattle.std.proofs.Common.{inl, inr, arith, refl}
+use Rattle.std.proofs.Common.{◌∙◌, inl, inr, arith, refl, rules}
+use Rattle.std.proofs.lemmas.List.{length-map}
 use Rattle.std.proofs.lemmas.Result.{err_from_is_err_and}
 use Rattle.batch.specs.Bodies.{bytes_of}
 use Rattle.jobs.proofs.TextFaults.{text_fits, unclosed_batch, unmade_batch}
 use Rattle.jobs.proofs.packing.pack_batch.Goals as goal
+
+pub returns-in-Ok-Ok-clause-packed : goal.returns-in-Ok-Ok-clause-packed
+returns-in-Ok-Ok-clause-packed g c =
+    let read = rw c.deref.ensures.value at c.in_ok-bodies.ensures.ok in
+    record {
+      bodies = bytes_of c.in_ok-bodies.bodies.items;
+      lines = λ bytes h. rw (← c.in_ok-lines.ensures.read bytes h) read;
+      counted = rw length-map (c.len.ensures ∙ c.in_ok-bodies.bodies.ok.0);
+      packed = search rules;
+    }
 
 pub returns-in_err-output-clause-fault : goal.returns-in_err-output-clause-fault
 returns-in_err-output-clause-fault g c =

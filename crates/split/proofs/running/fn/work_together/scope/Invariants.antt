@@ -1,4 +1,4 @@
-use Rattle.engine.specs.Started.{IsStarted}
+use Rattle.workers.specs.Started.{IsStarted}
 use Rattle.split.proofs.running.fn.work_together.scope.Given as goal
 
 abbrev pub invariant-loop-number : goal.invariant-loop-number

@@ -1,7 +1,7 @@
 use Rattle.std.proofs.Common.{inl, inr, string_bytes}
 use Rattle.files.specs.Failing.{HasFailed, HasRefused}
 use Rattle.jobs.proofs.Faults.{one_failed, unclosed}
-use Rattle.jobs.proofs.tracing.answer_traced.Goals as goal
+use Rattle.run_jobs.proofs.tracing.answer_traced.Goals as goal
 
 pub returns-in-Ok-Err-clause-fault : goal.returns-in-Ok-Err-clause-fault
 returns-in-Ok-Err-clause-fault g c =

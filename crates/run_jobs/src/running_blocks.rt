@@ -5,18 +5,16 @@ ghost use Rattle.files.specs.Failing.{HasFailed, HasRefused};
 ghost use Rattle.block_jobs.specs.Decided.{AreBlocksDecided, AreBlocksKept};
 ghost use Rattle.block_jobs.specs.Faults.{IsBlocksFault};
 
-use crate::block_count::BlockCount;
-use crate::deciding::decide_blocks;
-use crate::halt::Halt;
-use engine::Workers;
-use engine_choice::Engine;
+use crate::running::decide_by;
+use block_jobs::{BlockCount, Halt, decide_blocks};
 use files::{BatchNames, Files};
 use fold::Outcome;
-use jobs::{JobFault, decide_by};
+use jobs::JobFault;
 use rows::{Book, Frame};
 use std::alloc::{AllocError, Global};
 use std::sync::Wait;
 use std::thread::Threads;
+use workers::{Engine, Workers};
 
 /// Decides a block file by so many workers of an engine, block after block, files to files. Where a block can't be read, decided or
 /// answered, the blocks before it are kept.

@@ -1,6 +1,6 @@
 use Rattle.std.proofs.Common.{length, ap, ◌∙◌, inl, inr}
 use Rattle.std.proofs.lemmas.Result.{err_from_is_err_and}
-use Rattle.jobs.proofs.tracing.run_batch_with_journal.Goals as goal
+use Rattle.run_jobs.proofs.tracing.run_batch_with_journal.Goals as goal
 
 pub returns-in_err-outcome-clause-fault : goal.returns-in_err-outcome-clause-fault
 returns-in_err-outcome-clause-fault g c =
@@ -43,7 +43,7 @@ returns-clause-decided g c =
       entries = c.in_ok-outcome.entries.items;
       committed = c.in_ok-outcome.outcome.committed;
       counted = c.len.ensures ∙ c.in_ok-outcome.outcome.replies.ok.0 ∙ ap length answered.1.0;
-      opening = λ bytes h. (c.in_ok-book.ensures.book bytes (rw c.as_str.ensures.value h)).0;
+      opening = λ bytes h. c.in_ok-book.ensures.book bytes (rw c.as_str.ensures.value h);
       messages = answered.3;
       are = rw c.deref.ensures.value at c.in_ok-put_journal.ensures.are;
       ran = answered.2;

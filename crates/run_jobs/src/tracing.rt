@@ -9,21 +9,20 @@ ghost use Rattle.journal_text.specs.Journal.{AreEntries, journal_text};
 ghost use Rattle.rows.specs.Fold.{replies_to};
 ghost use Rattle.rows.specs.declared.frame.Frame.{Frame};
 ghost use Rattle.jobs.specs.Faults.{HoldsSameOrNothing, IsBatchFault, IsDecidingFault, IsOfBytes, IsPuttingFault};
-ghost use Rattle.jobs.specs.Journaled.{IsDecidedWithJournal, IsRunJournal};
+ghost use Rattle.run_jobs.specs.Journaled.{IsDecidedWithJournal, IsRunJournal};
 
-use crate::deciding::put_book;
-use crate::job_fault::{JobFault, fault_of_closing};
-use crate::opening::open_book;
 use batch::{BatchFault, Sink, Source, read_batch, write_replies};
-use engine::{OpenGate, Workers, run_traced};
+use engine::run_traced;
 use files::{BatchNames, Files};
 use fold::Outcome;
+use jobs::{JobFault, fault_of_closing, open_book, put_book};
 use journal_text::{Entry, write_journal};
 use rows::Book;
 use rules::Shipped;
 use std::alloc::Global;
 use std::sync::Wait;
 use std::thread::Threads;
+use workers::{OpenGate, Workers};
 
 /// Decides a batch by so many workers, files to files, as [`run_batch`](crate::run_batch), and puts the journal of the run into a
 /// file. The journal is put before the new book, so that after any fault the file of the new book is as it was.

@@ -1,7 +1,7 @@
 use Rattle.std.proofs.Common.{◌≡◌, ◌≤◌, length, ap, ◌∙◌}
 use Rattle.std.proofs.lemmas.Result.{err_from_is_err_and}
 use Rattle.batch.proofs.Folds.{as_many, no_fault}
-use Rattle.jobs.proofs.tracing.trace_batch.Goals as goal
+use Rattle.run_jobs.proofs.tracing.trace_batch.Goals as goal
 
 pub returns-in_err-write_replies-clause-fault : goal.returns-in_err-write_replies-clause-fault
 returns-in_err-write_replies-clause-fault g c =

@@ -1,0 +1,34 @@
+-- What files hold after a batch was decided and the run's journal was kept.
+use Rattle.std.specs.Prelude.{◌≡◌, ◌≢◌, ℕ, List, length}
+use Rattle.batch_laws.specs.Files.{replies_text}
+use Rattle.batch_laws.specs.Frames.{IsBatchOf}
+use Rattle.book_json_laws.specs.Text.{book_text}
+use Rattle.engine.specs.Journals.{IsJournalOf}
+use Rattle.journal_laws.specs.Logged.{greatest}
+use Rattle.journal_text.specs.Journal.{AreEntries, journal_text}
+use Rattle.journal_text.specs.declared.entry.Entry.{Entry}
+use Rattle.rows.specs.Fold.{Rows, rows_after, replies_to}
+use Rattle.rows.specs.declared.frame.Frame.{Frame}
+use Rattle.speccore_laws.specs.Play.{opening_play}
+use Rattle.jobs.specs.Decided.{Holding, IsBookOf}
+
+-- the entries are the journal of a run of these frames on these rows, which committed so many of them
+abbrev pub IsRunJournal : Rows → List Frame → List Entry → ℕ → Type 0
+IsRunJournal rows frames entries committed = IsJournalOf (opening_play rows frames greatest) entries committed (replies_to rows frames)
+
+-- The book and the batch that the files held were decided, so many messages, and the entries are the journal of that run. Where it is
+-- known what files hold, the file of the new book holds the text of the book after the batch, that of the journal, where it is
+-- another, the entries' text, and that of the replies, where it is a third, theirs.
+pub record IsDecidedWithJournal (known : Type 0) (old new : Holding) (book batch replies new_book journal : List ℕ) (count : ℕ) : Type 0 where
+  pub rows : Rows
+  pub frames : List Frame
+  pub entries : List Entry
+  pub committed : ℕ
+  pub counted : count ≡ length (replies_to rows frames)
+  pub opening : IsBookOf old book rows
+  pub messages : (bytes : List ℕ) → old batch bytes → IsBatchOf bytes frames
+  pub are : AreEntries entries
+  pub ran : IsRunJournal rows frames entries committed
+  pub after : known → new new_book (book_text (rows_after rows frames))
+  pub logged : known → journal ≢ new_book → new journal (journal_text entries)
+  pub answered : known → replies ≢ journal → replies ≢ new_book → new replies (replies_text (replies_to rows frames))

@@ -1,0 +1,62 @@
+ghost use Rattle.std.specs.Prelude.{◌≡◌, ◌≢◌, ◌≤◌, ℕ, List, IfOk, IfErr, OnErr, length, string_bytes};
+ghost use Rattle.batch.specs.Processing.{AnswersFold};
+ghost use Rattle.files.specs.Failing.{HasFailed, HasRefused};
+ghost use Rattle.jobs.specs.Decided.{IsDecided};
+ghost use Rattle.jobs.specs.Faults.{HoldsSameOrNothing, IsDecidingFault, IsOfBytes};
+
+use engine::run;
+use files::{BatchNames, Files};
+use fold::Outcome;
+use jobs::{JobFault, decide_batch};
+use rows::{Book, Frame};
+use rules::Shipped;
+use split::run_split;
+use std::alloc::{AllocError, Global};
+use std::sync::Wait;
+use std::thread::Threads;
+use workers::{Engine, OpenGate, Workers};
+
+/// Decides a batch by so many workers of an engine, files to files. Whatever their number and the engine, the files hold what
+/// deciding one message after another comes to.
+pub fn run_batch<R: Threads + Wait + Sync, F: Files>(
+    rt: &R,
+    alloc: Global,
+    files: &mut F,
+    names: &BatchNames,
+    workers: Workers,
+    engine: Engine,
+) -> Result<usize, JobFault>
+    ensures decided { IfOk result (IsDecided (F.is_known files.old) (F.holds files.old) (F.holds files.new)
+        (string_bytes names.now.book) (string_bytes names.now.batch) (string_bytes names.now.replies) (string_bytes names.now.new_book)) }
+    ensures fault { IfErr result (IsDecidingFault (F.holds files.old) (string_bytes names.now.book) (string_bytes names.now.batch)
+        (HasFailed F.Input.failures) (HasFailed F.Output.failures) (HasRefused F.refuses)) }
+    ensures kept { OnErr result (string_bytes names.now.new_book ≢ string_bytes names.now.replies → (held : List ℕ)
+        → F.holds files.old (string_bytes names.now.new_book) held → F.holds files.new (string_bytes names.now.new_book) held) }
+    ensures unanswered { IfErr result (λ fault. IsOfBytes fault → F.is_known files.old
+        → HoldsSameOrNothing (F.holds files.old) (F.holds files.new) (string_bytes names.now.replies)) }
+    ensures known { F.is_known files.old → F.is_known files.new }
+{
+    let decide = |book: &Book, frames: &[Frame]| -> Result<Outcome, AllocError>
+        requires { length frames.now ≤ 65536 }
+        ensures { AnswersFold book.entry.now frames.entry.now result }
+    { decide_by(rt, alloc, book, frames, workers, engine) };
+    decide_batch(alloc, files, names, &decide)
+}
+
+/// Decides a batch on a book by so many workers of an engine.
+pub fn decide_by<R: Threads + Wait + Sync>(
+    rt: &R,
+    alloc: Global,
+    book: &Book,
+    frames: &[Frame],
+    workers: Workers,
+    engine: Engine,
+) -> Result<Outcome, AllocError>
+    requires { length frames.now ≤ 65536 }
+    ensures { AnswersFold book.now frames.now result }
+{
+    match engine {
+        Engine::Locked => run(rt, alloc, book, frames, workers, &Shipped, &OpenGate),
+        Engine::Split => run_split(rt, alloc, book, frames, workers, &Shipped, &OpenGate),
+    }
+}

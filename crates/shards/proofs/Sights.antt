@@ -1,0 +1,18 @@
+-- What is seen of a row by the entry that was found for it.
+use Rattle.std.proofs.Common.{ℕ, Option, Some, None, refl}
+use Rattle.mvmem.specs.Chains.{seen_by, seen_of}
+use Rattle.mvmem.specs.Resolves.{IsSeenOfKind}
+use Rattle.mvmem.specs.declared.link.Link.{Link}
+use Rattle.rows.specs.declared.row_key.RowKey.{RowKey}
+use Rattle.rows.specs.declared.row_val.RowVal.{RowVal}
+use Rattle.shards.specs.Sighted.{IsSeenSo, entry_sight, over, row_over, sight_of}
+
+value_seen_so : (key : RowKey) (index incarnation : ℕ) (value was : Option RowVal) → IsSeenOfKind key (seen_by index incarnation value)
+    → IsSeenSo key (entry_sight index incarnation value) was (over value was)
+value_seen_so key index incarnation (Some value) was kind = (value, refl, kind)
+value_seen_so key index incarnation None was kind = refl
+
+pub seen_so : (key : RowKey) (entry : Option Link) (was : Option RowVal) → IsSeenOfKind key (seen_of entry)
+    → IsSeenSo key (sight_of entry) was (row_over entry was)
+seen_so key (Some link) was kind = value_seen_so key link.index link.incarnation link.value was kind
+seen_so key None was kind = refl
