@@ -265,8 +265,6 @@ impl Decide for CountingDecision<'_> {
     }
 }
 
-// Of each message, with four workers: no decision begins before the gate's first call, no second call comes before a decision
-// ended, and each that ended is recorded.
 // Decides the batch by four workers, whose calls are counted.
 fn assert_counted<R: Abort + Threads + Wait + Sync>(
     rt: &R,
@@ -285,6 +283,8 @@ fn assert_counted<R: Abort + Threads + Wait + Sync>(
     Ok(())
 }
 
+// Of each message, with four workers: no decision begins before the gate's first call, no second call comes before a decision
+// ended, and each that ended is recorded.
 #[test]
 fn no_call_of_the_gate_comes_too_early(rt: HostRuntime) -> Result<(), Fail> {
     let alloc = rt.alloc();

@@ -12,4 +12,4 @@ mod gates;
 #[cfg(test)]
 mod longest;
 #[cfg(test)]
-mod workers;
+mod overlaps;

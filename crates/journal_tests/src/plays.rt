@@ -50,7 +50,12 @@ fn execution_of(
 }
 
 /// Does what the entry says, on a core that keeps its journal.
-pub fn ask(alloc: Global, traced: &mut Traced, frames: &[Frame], entry: Entry) -> Result<Answer, Fail> {
+pub fn ask(
+    alloc: Global,
+    traced: &mut Traced,
+    frames: &[Frame],
+    entry: Entry,
+) -> Result<Answer, Fail> {
     let Entry { seat, event } = entry;
     if let Event::Finish(version) = event {
         let execution = execution_of(alloc, traced.core(), frames, version)?;
