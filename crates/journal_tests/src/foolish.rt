@@ -71,8 +71,8 @@ fn finish_on_the_other_book(
     traced: &mut Traced,
     other: &Book,
     frames: &[Frame; 3],
-) -> Result<u32, Fail> {
-    let mut calls = 0u32;
+) -> Result<usize, Fail> {
+    let mut calls = 0usize;
     for (index, incarnation) in [(0, 0), (1, 0), (1, 1), (2, 0), (2, 1)] {
         let version = Version { index, incarnation };
         if traced.core().is_running(version) {
@@ -131,12 +131,12 @@ fn check_what_is_ready(
     traced: &mut Traced,
     book: &Book,
     frames: &[Frame; 3],
-) -> Result<u32, Fail> {
+) -> Result<usize, Fail> {
     let versions = ready_versions(alloc, traced.core(), book, frames)?;
     for version in &versions {
         assert_refused(rt, traced, Event::BeginCheck(*version), CoreFault::Outdated)?;
     }
-    Ok(versions.len() as u32)
+    Ok(versions.len())
 }
 
 // Gives each committed message up. Answers how many there are.
@@ -146,16 +146,16 @@ fn block_what_is_committed(
     traced: &mut Traced,
     book: &Book,
     frames: &[Frame; 3],
-) -> Result<u32, Fail> {
+) -> Result<usize, Fail> {
     let versions = committed_versions(alloc, traced.core(), book, frames)?;
     for version in &versions {
         assert_refused(rt, traced, Event::Block(*version, 0), CoreFault::NotRunning)?;
     }
-    Ok(versions.len() as u32)
+    Ok(versions.len())
 }
 
 // Reads for an incarnation that there never is.
-fn read_for_nobody(rt: &impl Abort, traced: &mut Traced) -> Result<u32, Fail> {
+fn read_for_nobody(rt: &impl Abort, traced: &mut Traced) -> Result<usize, Fail> {
     let nobody = Version {
         index: 0,
         incarnation: 9,
@@ -173,7 +173,7 @@ fn make(
     books: &Books,
     frames: &[Frame; 3],
     foolish: Foolish,
-) -> Result<u32, Fail> {
+) -> Result<usize, Fail> {
     match foolish {
         Foolish::Read => read_for_nobody(rt, traced),
         Foolish::Finish => finish_on_the_other_book(rt, alloc, traced, &books.other, frames),
@@ -198,12 +198,12 @@ fn played_with(
     frames: &[Frame; 3],
     script: &Script,
     foolish: Foolish,
-) -> Result<(Core, u32), Fail> {
+) -> Result<(Core, usize), Fail> {
     let text = journal_of(alloc, script.lines)?;
     let entries = read_journal(alloc, text.as_bytes())?;
     let mut traced = Traced::new(alloc, &books.own, frames)?;
     let mut expected = Expected::new(script);
-    let mut calls = 0u32;
+    let mut calls = 0usize;
     for entry in &entries {
         let answer = ask(alloc, &mut traced, frames, *entry)?;
         expected.meet(rt, alloc, answer)?;
@@ -220,7 +220,7 @@ fn assert_unmoved(
     rt: &impl Abort,
     alloc: Global,
     foolish: Foolish,
-    often: u32,
+    often: usize,
 ) -> Result<(), Fail> {
     let script = waits();
     let books = both_books(alloc)?;

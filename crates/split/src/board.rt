@@ -35,7 +35,8 @@ impl<B: Room> Board<B> {
     ) -> Result<(Board<B>, Place<B>), AllocError>
         requires table { (cursors ≡ B.table) × (seat.table_id ≡ B.table) }
         requires first { seat.me ≡ (publisher (length ledger.frames), []) }
-        ensures slots { IfOk result (λ made. length made.0.slots.items ≡ messages) }
+        requires messages { messages ≡ length ledger.frames }
+        ensures slots { IfOk result (λ made. length made.0.slots.items ≡ length ledger.frames) }
     {
         let place = Place::new(cursors.another(&mut seat));
         let desk = Desk::new(Published::new(ledger, seat));

@@ -64,6 +64,7 @@ fn ledger_of<B: Room + Send + Sync, R: Threads + Wait + Sync, F: Decide + Sync, 
 ) -> Result<(Ledger, u32), AllocError>
     requires table { (cursors ≡ B.table) × (seat.table_id ≡ B.table) }
     requires first { seat.me ≡ (publisher (length ledger.frames), []) }
+    requires bodies { ledger.frames ≡ frames.now }
     ensures { IfOk result (λ left. IsStarted left.1 workers) }
 {
     let (board, place): (Board<B>, _) = Board::new(alloc, cursors, seat, ledger, frames.len())?;
