@@ -39,6 +39,9 @@ pub fn decide_blocks<F: Files, E: Fn(&Book, &[Frame]) -> Result<Outcome, AllocEr
     // Where no new book was written, nothing of the older one is lost.
     ensures kept { IfErr result (λ halt. halt.kept ≡ None → (held : List ℕ) → string_bytes names.now.new_book ≢ string_bytes names.now.replies
         → F.holds files.old (string_bytes names.now.new_book) held → F.holds files.new (string_bytes names.now.new_book) held) }
+    // Other files stay as they were.
+    ensures others { (other held : List ℕ) → other ≢ string_bytes names.now.replies → other ≢ string_bytes names.now.new_book
+        → F.holds files.old other held → F.holds files.new other held }
     ensures known { F.is_known files.old → F.is_known files.new }
 {
     let book = open_book(alloc, files, names.book.as_str())?;

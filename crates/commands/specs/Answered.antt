@@ -108,6 +108,15 @@ IsUndone old new (run_with_journal names workers journal) = names.new_book ≢ j
 IsUndone old new (blocks names workers engine) = IsBookAsItWas old new names
 IsUndone old new what = Unit {0}
 
+-- the file of this name is none of those that are written for what is asked for
+abbrev pub Spares : Asked → List ℕ → Type 0
+Spares (serial names) file = (file ≢ names.replies) × (file ≢ names.new_book)
+Spares (run names workers engine) file = (file ≢ names.replies) × (file ≢ names.new_book)
+Spares (run_with_journal names workers journal) file = (file ≢ names.replies) × (file ≢ names.new_book) × (file ≢ journal)
+Spares (blocks names workers engine) file = (file ≢ names.replies) × (file ≢ names.new_book)
+Spares (pack text batch) file = file ≢ batch
+Spares what file = Unit {0}
+
 -- what may fail of files: a call of one that is read, or of one that is written; or a name is refused
 pub record Failing : Type 1 where
   pub reading : Type 0
@@ -152,6 +161,10 @@ abbrev pub IsFaultOf : Type 0 → Holding → Holding → Failing → List (List
 IsFaultOf known old new devices words (Usage text) = IsUsageFault words
 IsFaultOf known old new devices words OutOfMemory = Unit {0}
 IsFaultOf known old new devices words fault = (what : Asked) × Asks words what × IsFaultIn known old new devices what fault
+
+-- the file of this name is none of those that are written for what the words ask for
+abbrev pub AreSparing : List (List ℕ) → List ℕ → Type 0
+AreSparing words file = (what : Asked) → Asks words what → Spares what file
 
 -- what is printed on standard output and on standard error, before and after
 pub record Pages : Type 0 where

@@ -1,6 +1,6 @@
-ghost use Rattle.std.specs.Prelude.{◌≡◌, MatchResult, None, Some, option_map, string_bytes};
+ghost use Rattle.std.specs.Prelude.{◌≡◌, MatchResult, ℕ, List, None, Some, option_map, string_bytes};
 ghost use Rattle.words.specs.Asked.{asked_of, audit, audit_blocks, blocks, names_of, one, pack, run, run_with_journal, serial, show};
-ghost use Rattle.commands.specs.Answered.{IsDoneAs, IsFaultIn, failing};
+ghost use Rattle.commands.specs.Answered.{IsDoneAs, IsFaultIn, Spares, failing};
 
 use crate::fault::Fault;
 use crate::report::Report;
@@ -23,9 +23,10 @@ pub(crate) fn done<R: Threads + Wait + Sync, F: Files>(
     files: &mut F,
     command: Command,
 ) -> Result<Report, Fault>
-    ensures { MatchResult result
+    ensures done { MatchResult result
         (IsDoneAs (F.is_known files.old) (F.holds files.old) (F.holds files.new) (asked_of command))
         (IsFaultIn (F.is_known files.old) (F.holds files.old) (F.holds files.new) (failing F.Input.failures F.Output.failures F.refuses) (asked_of command)) }
+    ensures others { (other held : List ℕ) → Spares (asked_of command) other → F.holds files.old other held → F.holds files.new other held }
 {
     match command {
         Command::Help(text) => Ok(Report::Help(text)),
@@ -59,9 +60,10 @@ pub(crate) fn done<R: Threads + Wait + Sync, F: Files>(
 
 // A batch is decided one message after another.
 fn serial<F: Files>(alloc: Global, files: &mut F, names: &BatchNames) -> Result<Report, Fault>
-    ensures { MatchResult result
+    ensures done { MatchResult result
         (IsDoneAs (F.is_known files.old) (F.holds files.old) (F.holds files.new) (serial (names_of names.now)))
         (IsFaultIn (F.is_known files.old) (F.holds files.old) (F.holds files.new) (failing F.Input.failures F.Output.failures F.refuses) (serial (names_of names.now))) }
+    ensures others { (other held : List ℕ) → Spares (serial (names_of names.now)) other → F.holds files.old other held → F.holds files.new other held }
 {
     let count = serial_batch(alloc, files, names)?;
     Ok(Report::Decided(count))
@@ -76,9 +78,10 @@ fn run<R: Threads + Wait + Sync, F: Files>(
     workers: Workers,
     engine: Engine,
 ) -> Result<Report, Fault>
-    ensures { MatchResult result
+    ensures done { MatchResult result
         (IsDoneAs (F.is_known files.old) (F.holds files.old) (F.holds files.new) (run (names_of names.now) workers engine))
         (IsFaultIn (F.is_known files.old) (F.holds files.old) (F.holds files.new) (failing F.Input.failures F.Output.failures F.refuses) (run (names_of names.now) workers engine)) }
+    ensures others { (other held : List ℕ) → Spares (run (names_of names.now) workers engine) other → F.holds files.old other held → F.holds files.new other held }
 {
     let count = run_batch(rt, alloc, files, names, workers, engine)?;
     Ok(Report::Decided(count))
@@ -93,9 +96,10 @@ fn run_with_journal<R: Threads + Wait + Sync, F: Files>(
     workers: Workers,
     journal: &str,
 ) -> Result<Report, Fault>
-    ensures { MatchResult result
+    ensures done { MatchResult result
         (IsDoneAs (F.is_known files.old) (F.holds files.old) (F.holds files.new) (run_with_journal (names_of names.now) workers journal.now))
         (IsFaultIn (F.is_known files.old) (F.holds files.old) (F.holds files.new) (failing F.Input.failures F.Output.failures F.refuses) (run_with_journal (names_of names.now) workers journal.now)) }
+    ensures others { (other held : List ℕ) → Spares (run_with_journal (names_of names.now) workers journal.now) other → F.holds files.old other held → F.holds files.new other held }
 {
     let count = run_batch_with_journal(rt, alloc, files, names, workers, journal)?;
     Ok(Report::Decided(count))
@@ -110,9 +114,10 @@ fn blocks<R: Threads + Wait + Sync, F: Files>(
     workers: Workers,
     engine: Engine,
 ) -> Result<Report, Fault>
-    ensures { MatchResult result
+    ensures done { MatchResult result
         (IsDoneAs (F.is_known files.old) (F.holds files.old) (F.holds files.new) (blocks (names_of names.now) workers engine))
         (IsFaultIn (F.is_known files.old) (F.holds files.old) (F.holds files.new) (failing F.Input.failures F.Output.failures F.refuses) (blocks (names_of names.now) workers engine)) }
+    ensures others { (other held : List ℕ) → Spares (blocks (names_of names.now) workers engine) other → F.holds files.old other held → F.holds files.new other held }
 {
     let count = run_blocks(rt, alloc, files, names, workers, engine)?;
     Ok(Report::DecidedBlocks(count))
@@ -168,9 +173,10 @@ fn show<F: Files>(alloc: Global, files: &F, file: &str) -> Result<Report, Fault>
 
 // A text is packed.
 fn pack<F: Files>(alloc: Global, files: &mut F, text: &str, batch: &str) -> Result<Report, Fault>
-    ensures { MatchResult result
+    ensures done { MatchResult result
         (IsDoneAs (F.is_known files.old) (F.holds files.old) (F.holds files.new) (pack text.now batch.now))
         (IsFaultIn (F.is_known files.old) (F.holds files.old) (F.holds files.new) (failing F.Input.failures F.Output.failures F.refuses) (pack text.now batch.now)) }
+    ensures others { (other held : List ℕ) → Spares (pack text.now batch.now) other → F.holds files.old other held → F.holds files.new other held }
 {
     let count = pack_batch(alloc, files, text, batch)?;
     Ok(Report::Packed(count))

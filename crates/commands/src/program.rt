@@ -1,5 +1,5 @@
-ghost use Rattle.std.specs.Prelude.{◌≡◌, ◌≤◌, map, MatchResult, string_bytes};
-ghost use Rattle.commands.specs.Answered.{IsActed, IsAskedFor, IsFaultOf, failing, status_of_report, text_of_report};
+ghost use Rattle.std.specs.Prelude.{◌≡◌, ◌≤◌, ℕ, List, map, MatchResult, string_bytes};
+ghost use Rattle.commands.specs.Answered.{AreSparing, IsActed, IsAskedFor, IsFaultOf, failing, status_of_report, text_of_report};
 ghost use Rattle.commands.specs.Fault.{text_of};
 ghost use Rattle.commands.specs.declared.fault.Fault.TheVariants.{Halted};
 ghost use Rattle.commands.specs.Printed.{printed, Prints, PrintsLine};
@@ -32,6 +32,8 @@ pub fn act<R: Threads + Wait + Sync, F: Files, O: Write, E: Write>(
     ensures acted { IsActed (F.is_known files.old) (F.holds files.old) (F.holds files.new) (failing F.Input.failures F.Output.failures F.refuses) (map string_bytes words.now)
         (record { out = printed O.contents out.old; err = printed E.contents err.old })
         (record { out = printed O.contents out.new; err = printed E.contents err.new }) result }
+    // A file that is none of those that are written for what the words ask for stays as it was.
+    ensures others { (other held : List ℕ) → AreSparing (map string_bytes words.now) other → F.holds files.old other held → F.holds files.new other held }
 {
     match answer(rt, alloc, files, words) {
         Ok(report) => {
@@ -52,9 +54,10 @@ fn answer<R: Threads + Wait + Sync, F: Files>(
     files: &mut F,
     words: &[String],
 ) -> Result<Report, Fault>
-    ensures { MatchResult result
+    ensures answered { MatchResult result
         (IsAskedFor (F.is_known files.old) (F.holds files.old) (F.holds files.new) (map string_bytes words.now))
         (IsFaultOf (F.is_known files.old) (F.holds files.old) (F.holds files.new) (failing F.Input.failures F.Output.failures F.refuses) (map string_bytes words.now)) }
+    ensures others { (other held : List ℕ) → AreSparing (map string_bytes words.now) other → F.holds files.old other held → F.holds files.new other held }
 {
     let command = read_words(alloc, words)?;
     done(rt, alloc, files, command)

@@ -41,6 +41,9 @@ pub fn decide_batch<F: Files, E: Fn(&Book, &[Frame]) -> Result<Outcome, AllocErr
     // No reply is put before all of the batch is read.
     ensures unanswered { IfErr result (λ fault. IsOfBytes fault → F.is_known files.old
         → HoldsSameOrNothing (F.holds files.old) (F.holds files.new) (string_bytes names.now.replies)) }
+    // Other files stay as they were.
+    ensures others { (other held : List ℕ) → other ≢ string_bytes names.now.replies → other ≢ string_bytes names.now.new_book
+        → F.holds files.old other held → F.holds files.new other held }
     ensures known { F.is_known files.old → F.is_known files.new }
 {
     let book = open_book(alloc, files, names.book.as_str())?;

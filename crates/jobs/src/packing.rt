@@ -1,4 +1,4 @@
-ghost use Rattle.std.specs.Prelude.{◌≡◌, IfOk, IfErr};
+ghost use Rattle.std.specs.Prelude.{◌≡◌, ◌≢◌, ℕ, List, IfOk, IfErr};
 ghost use Rattle.files.specs.Failing.{HasFailed, HasRefused};
 ghost use Rattle.jobs.specs.Packed.{IsPacked, IsPackingFault};
 
@@ -17,6 +17,8 @@ pub fn pack_batch<F: Files>(
 ) -> Result<usize, JobFault>
     ensures packed { IfOk result (IsPacked (F.is_known files.old) (F.holds files.old) (F.holds files.new) text.now batch.now) }
     ensures fault { IfErr result (IsPackingFault (F.holds files.old) text.now (HasFailed F.Input.failures) (HasFailed F.Output.failures) (HasRefused F.refuses)) }
+    // Other files stay as they were.
+    ensures others { (other held : List ℕ) → other ≢ batch.now → F.holds files.old other held → F.holds files.new other held }
 {
     let lines = read_file(alloc, files, text)?;
     let bodies = read_bodies(alloc, &lines)?;

@@ -34,6 +34,8 @@ pub fn run_batch<R: Threads + Wait + Sync, F: Files>(
         → F.holds files.old (string_bytes names.now.new_book) held → F.holds files.new (string_bytes names.now.new_book) held) }
     ensures unanswered { IfErr result (λ fault. IsOfBytes fault → F.is_known files.old
         → HoldsSameOrNothing (F.holds files.old) (F.holds files.new) (string_bytes names.now.replies)) }
+    ensures others { (other held : List ℕ) → other ≢ string_bytes names.now.replies → other ≢ string_bytes names.now.new_book
+        → F.holds files.old other held → F.holds files.new other held }
     ensures known { F.is_known files.old → F.is_known files.new }
 {
     let decide = |book: &Book, frames: &[Frame]| -> Result<Outcome, AllocError>

@@ -35,6 +35,8 @@ pub fn run_blocks<R: Threads + Wait + Sync, F: Files>(
         (HasFailed F.Input.failures) (HasFailed F.Output.failures) (HasRefused F.refuses) halt.fault) }
     ensures kept { IfErr result (λ halt. halt.kept ≡ None → (held : List ℕ) → string_bytes names.now.new_book ≢ string_bytes names.now.replies
         → F.holds files.old (string_bytes names.now.new_book) held → F.holds files.new (string_bytes names.now.new_book) held) }
+    ensures others { (other held : List ℕ) → other ≢ string_bytes names.now.replies → other ≢ string_bytes names.now.new_book
+        → F.holds files.old other held → F.holds files.new other held }
     ensures known { F.is_known files.old → F.is_known files.new }
 {
     let decide = |book: &Book, frames: &[Frame]| -> Result<Outcome, AllocError>

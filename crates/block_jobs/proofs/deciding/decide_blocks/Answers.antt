@@ -55,3 +55,15 @@ returns-in-Err-clause-fault g c =
     let book = rw c.as_str.ensures.value at c.in_ok-book.ensures.book in
     let stopped = rw c.in-Err.is at c.in_ok-outcome.ensures.stopped in
     rw c.keep_blocks.ensures.fault (inr ((c.in_ok-book.book, book), inl stopped))
+
+pub returns-in_ok-put_book-in-Ok-clause-others : goal.returns-in_ok-put_book-in-Ok-clause-others
+returns-in_ok-put_book-in-Ok-clause-others g c other held replies book h =
+    c.in_ok-put_book-in-Ok.ensures.others other held (rw c.as_str-in-Ok.ensures.value book) (c.in_ok-outcome.ensures.others other held replies h)
+
+pub returns-in_err-put_book-in-Ok-clause-others : goal.returns-in_err-put_book-in-Ok-clause-others
+returns-in_err-put_book-in-Ok-clause-others g c other held replies book h =
+    c.in_err-put_book-in-Ok.ensures.others other held (rw c.as_str-in-Ok.ensures.value book) (c.in_ok-outcome.ensures.others other held replies h)
+
+pub returns-in-Err-clause-others : goal.returns-in-Err-clause-others
+returns-in-Err-clause-others g c other held replies book h =
+    c.keep_blocks.ensures.others other held (rw c.as_str-in-Err.ensures.value book) (c.in_ok-outcome.ensures.others other held replies h)

@@ -33,3 +33,11 @@ returns-in_err-put_book-clause-kept g c =
     let p = err_from_is_err_and c.from_residual-in_err-put_book.result c.from_residual-in_err-put_book.ensures.1 in
     let kept = rw c.as_str-2.ensures.value at c.in_err-put_book.ensures.kept in
     rw p.1 (λ other held h. kept held (c.in_ok-outcome.ensures.others _ held other h))
+
+pub returns-clause-others : goal.returns-clause-others
+returns-clause-others g c other held replies book h =
+    c.in_ok-put_book.ensures.others other held (rw c.as_str-2.ensures.value book) (c.in_ok-outcome.ensures.others other held replies h)
+
+pub returns-in_err-put_book-clause-others : goal.returns-in_err-put_book-clause-others
+returns-in_err-put_book-clause-others g c other held replies book h =
+    c.in_err-put_book.ensures.others other held (rw c.as_str-2.ensures.value book) (c.in_ok-outcome.ensures.others other held replies h)

@@ -51,3 +51,13 @@ returns-clause-decided g c =
       logged = λ k other. c.in_ok-put_book.ensures.others _ _ (rw c.as_str-2.ensures.value other) (entries (c.in_ok-outcome.ensures.known k));
       answered = λ k other another. c.in_ok-put_book.ensures.others _ _ (rw c.as_str-2.ensures.value another) (c.in_ok-put_journal.ensures.others _ _ other (answered.4 k));
     }
+
+pub returns-clause-others : goal.returns-clause-others
+returns-clause-others g c other held replies book journal h =
+    c.in_ok-put_book.ensures.others other held (rw c.as_str-2.ensures.value book)
+    (c.in_ok-put_journal.ensures.others other held journal (c.in_ok-outcome.ensures.others other held replies h))
+
+pub returns-in_err-put_book-clause-others : goal.returns-in_err-put_book-clause-others
+returns-in_err-put_book-clause-others g c other held replies book journal h =
+    c.in_err-put_book.ensures.others other held (rw c.as_str-2.ensures.value book)
+    (c.in_ok-put_journal.ensures.others other held journal (c.in_ok-outcome.ensures.others other held replies h))
