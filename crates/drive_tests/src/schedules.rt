@@ -5,7 +5,7 @@ ghost use Rattle.std.specs.Prelude.{◌≤◌};
 use drive::drive;
 use fixtures::{answer_text, body, first_book_with};
 use journal::{Event, Traced};
-use rows::{Book, Frame};
+use rows::{Book, Frame, ReplyBody};
 use speccore_laws::Seat;
 use std::alloc::Global;
 use std::process::Abort;
@@ -80,7 +80,21 @@ fn choose(turns: &mut [Seat], number: u32) -> Result<(), Fail> {
     Ok(())
 }
 
-// The committed replies are the first of these answers.
+// These replies are the first of these answers.
+fn assert_answered(
+    rt: &impl Abort,
+    alloc: Global,
+    replies: &[ReplyBody],
+    answers: &[&str],
+) -> Result<(), Fail> {
+    assert!(rt; replies.len() <= answers.len());
+    for (reply, answer) in replies.iter().zip(answers) {
+        assert_eq!(rt; answer_text(alloc, reply)?.as_str(), *answer);
+    }
+    Ok(())
+}
+
+// The committed replies are the first of these answers. Answers how many there are.
 fn assert_begins(
     rt: &impl Abort,
     alloc: Global,
@@ -89,13 +103,9 @@ fn assert_begins(
 ) -> Result<usize, Fail> {
     let (core, _) = traced.into_parts();
     let prefix = core.into_prefix(alloc)?;
-    let count = prefix.replies.len();
-    assert_eq!(rt; prefix.count as usize, count);
-    assert!(rt; count <= answers.len());
-    for (reply, answer) in prefix.replies.iter().zip(answers) {
-        assert_eq!(rt; answer_text(alloc, reply)?.as_str(), *answer);
-    }
-    Ok(count)
+    assert_eq!(rt; prefix.count as usize, prefix.replies.len());
+    assert_answered(rt, alloc, &prefix.replies, answers)?;
+    Ok(prefix.replies.len())
 }
 
 // Whether the last entry of this seat is a claim: it was told that nothing is to be done any more.
@@ -109,25 +119,38 @@ fn has_ended(traced: &Traced, seat: Seat) -> bool {
     ended
 }
 
-// The replies that are committed after the chosen turns begin the answers, and at the end they are the answers.
-fn assert_driven(
+// The replies that are committed after these turns begin the answers.
+fn assert_begun(
     rt: &impl Abort,
     alloc: Global,
     book: &Book,
     requests: &Requests,
     turns: &[Seat],
 ) -> Result<(), Fail> {
-    let frames = requests.frames()?;
-    let chosen = turns.get(..CHOSEN).ok_or("ten turns")?;
-    let early = drive(alloc, book, &frames, chosen)?;
-    assert_begins(rt, alloc, early, &requests.answers)?;
-    let traced = drive(alloc, book, &frames, turns)?;
+    let traced = drive(alloc, book, &requests.frames()?, turns)?;
+    assert_begins(rt, alloc, traced, &requests.answers)?;
+    Ok(())
+}
+
+// The replies that are committed after these turns are the answers, and each worker has ended.
+fn assert_done(
+    rt: &impl Abort,
+    alloc: Global,
+    book: &Book,
+    requests: &Requests,
+    turns: &[Seat],
+) -> Result<(), Fail> {
+    let traced = drive(alloc, book, &requests.frames()?, turns)?;
     for number in 0..3 {
         assert!(rt; has_ended(&traced, seat(number)?));
     }
-    let count = assert_begins(rt, alloc, traced, &requests.answers)?;
-    assert_eq!(rt; count, 3);
+    assert_eq!(rt; assert_begins(rt, alloc, traced, &requests.answers)?, 3);
     Ok(())
+}
+
+// The turns that are chosen, the first ten.
+fn chosen(turns: &[Seat]) -> Result<&[Seat], Fail> {
+    Ok(turns.get(..CHOSEN).ok_or("ten turns")?)
 }
 
 // The lists from this number on, a third of all.
@@ -143,7 +166,8 @@ fn assert_all_driven(
     let mut turns = turns_in_order(alloc)?;
     for number in first..first + THIRD {
         choose(&mut turns, number)?;
-        assert_driven(rt, alloc, &book, requests, &turns)?;
+        assert_begun(rt, alloc, &book, requests, chosen(&turns)?)?;
+        assert_done(rt, alloc, &book, requests, &turns)?;
     }
     Ok(())
 }

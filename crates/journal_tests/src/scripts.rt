@@ -6,6 +6,14 @@ use speccore_laws::CoreFault;
 use std::alloc::Global;
 use std::test::Fail;
 
+// The rows that a request on card A needs behind that of its identity.
+const OTHER_ROWS: &[&str] = &[
+    "card:4111110000000005",
+    "acct:34313131313130303030303030303035",
+    "day:4111110000000005:260110",
+    "budget:411111",
+];
+
 /// A journal in short lines, and what it plays to.
 #[derive(Clone, Copy)]
 pub struct Script {
@@ -197,17 +205,21 @@ fn push_line(alloc: Global, text: &mut String, line: &str) -> Result<(), Fail> {
 
 // The five reads of a request of this trace number, in their order.
 fn reads(alloc: Global, seat: &str, version: &str, trace: &str) -> Result<String, Fail> {
-    let mut text = String::new(alloc);
-    let identity = format!(in alloc; "{seat} r {version} orig:123456:{trace}:260110120000\n")?;
-    text.push_str(identity.as_str())?;
-    for row in [
-        "card:4111110000000005",
-        "acct:34313131313130303030303030303035",
-        "day:4111110000000005:260110",
-        "budget:411111",
-    ] {
-        let line = format!(in alloc; "{seat} r {version} {row}\n")?;
-        text.push_str(line.as_str())?;
+    let mut text = format!(in alloc; "{seat} r {version} orig:123456:{trace}:260110120000\n")?;
+    for row in OTHER_ROWS {
+        push_read(alloc, &mut text, seat, version, row)?;
     }
     Ok(text)
+}
+
+fn push_read(
+    alloc: Global,
+    text: &mut String,
+    seat: &str,
+    version: &str,
+    row: &str,
+) -> Result<(), Fail> {
+    let line = format!(in alloc; "{seat} r {version} {row}\n")?;
+    text.push_str(line.as_str())?;
+    Ok(())
 }

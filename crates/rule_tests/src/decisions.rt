@@ -129,20 +129,22 @@ fn put(rt: &impl Abort, recorder: &mut Recorder<Told>, row: (RowKey, RowVal)) ->
     Ok(())
 }
 
+// The source was asked for two rows, these are logged, and one was put.
+fn assert_counts(rt: &impl Abort, recorder: Recorder<Told>) {
+    let (source, reads, writes) = recorder.into_parts();
+    assert_eq!(rt; (source.asked, reads.len(), writes.len()), (2, 2, 1));
+}
+
 // A row that was read, and one that isn't there, are asked for once; a row that is put is answered as it is put.
 #[test]
 fn asks_once_and_answers_what_it_put(rt: HostRuntime) -> Result<(), Fail> {
-    let alloc = rt.alloc();
-    let mut recorder = Recorder::new(alloc, source_of(alloc, &[ACCOUNT])?);
+    let there = row(ACCOUNT).ok_or("a row")?;
     let (absent, _) = row(CARD).ok_or("a row")?;
-    ask_twice(&rt, &mut recorder, row(ACCOUNT).ok_or("a row")?, absent)?;
-    put(
-        &rt,
-        &mut recorder,
-        row("account A 4000 978").ok_or("a row")?,
-    )?;
-    let (source, reads, writes) = recorder.into_parts();
-    assert_eq!(rt; (source.asked, reads.len(), writes.len()), (2, 2, 1));
+    let after = row("account A 4000 978").ok_or("a row")?;
+    let mut recorder = Recorder::new(rt.alloc(), source_of(rt.alloc(), &[ACCOUNT])?);
+    ask_twice(&rt, &mut recorder, there, absent)?;
+    put(&rt, &mut recorder, after)?;
+    assert_counts(&rt, recorder);
     Ok(())
 }
 

@@ -42,6 +42,16 @@ pub(crate) fn files_of(alloc: Global, files: &[(&str, &[u8])]) -> Result<MemoryF
     Ok(kept)
 }
 
+// The program's name, and these words.
+pub(crate) fn named_words(alloc: Global, words: &[&str]) -> Result<Vec<String>, Fail> {
+    let mut all = Vec::new(alloc);
+    all.push(String::from_str(alloc, "switch")?)?;
+    for word in words {
+        all.push(String::from_str(alloc, word)?)?;
+    }
+    Ok(all)
+}
+
 // What the words come to over these files.
 pub(crate) fn acted<R: Threads + Wait + Sync>(
     rt: &R,
@@ -49,11 +59,7 @@ pub(crate) fn acted<R: Threads + Wait + Sync>(
     files: &mut MemoryFiles,
     words: &[&str],
 ) -> Result<Said, Fail> {
-    let mut all = Vec::new(alloc);
-    all.push(String::from_str(alloc, "switch")?)?;
-    for word in words {
-        all.push(String::from_str(alloc, word)?)?;
-    }
+    let all = named_words(alloc, words)?;
     let mut out = Printer::new(Vec::new(alloc));
     let mut err = Printer::new(Vec::new(alloc));
     let status = act(rt, alloc, files, &all, &mut out, &mut err);

@@ -1,5 +1,6 @@
 //! One body's way through the program, part by part.
 
+use crate::acting::named_words;
 use answering::{answer_on, decide_one, sample_book};
 use commands::{Printer, act};
 use files::MemoryFiles;
@@ -8,30 +9,33 @@ use std::alloc::Global;
 use std::io;
 use std::io::{ErrorKind, Write};
 use std::process::Abort;
+use std::sync::Wait;
 use std::test::Fail;
+use std::thread::Threads;
 use words::{Command, plain_words_are_read, read_words};
 use workers::Workers;
 
-fn words(alloc: Global, words: &[&str]) -> Result<Vec<String>, Fail> {
-    let mut all = Vec::new(alloc);
-    for word in words {
-        all.push(String::from_str(alloc, word)?)?;
-    }
-    Ok(all)
+// So many workers answer that a body of one byte is too short.
+fn assert_too_short<R: Abort + Threads + Wait + Sync>(
+    rt: &R,
+    alloc: Global,
+    body: &[u8],
+    count: u32,
+) -> Result<(), Fail> {
+    let book = sample_book(alloc)?;
+    let workers = Workers::new(count).ok_or("1 to 64 workers")?;
+    let answer = answer_on(rt, alloc, &book, body, workers)?;
+    assert_eq!(rt; answer.as_slice(), b"F01000".as_slice());
+    Ok(())
 }
 
-// A body of one byte is too short, whatever the number of workers.
 #[test]
 fn a_body_is_answered_in_bytes_and_in_digits(rt: HostRuntime) -> Result<(), Fail> {
     let alloc = rt.alloc();
     let body = body_of_digits(alloc, b"31")?.ok_or("a body")?;
     assert_eq!(rt; body.as_slice(), b"1".as_slice());
-    let book = sample_book(alloc)?;
-    for count in [1, 64] {
-        let workers = Workers::new(count).ok_or("1 to 64 workers")?;
-        let answer = answer_on(&rt, alloc, &book, &body, workers)?;
-        assert_eq!(rt; answer.as_slice(), b"F01000".as_slice());
-    }
+    assert_too_short(&rt, alloc, &body, 1)?;
+    assert_too_short(&rt, alloc, &body, 64)?;
     assert_eq!(rt; decide_one(&rt, alloc, &body)?.as_str(), "463031303030");
     Ok(())
 }
@@ -40,7 +44,7 @@ fn a_body_is_answered_in_bytes_and_in_digits(rt: HostRuntime) -> Result<(), Fail
 fn words_are_read(rt: HostRuntime) -> Result<(), Fail> {
     let alloc = rt.alloc();
     plain_words_are_read();
-    match read_words(alloc, &words(alloc, &["switch", "one", "3a"])?) {
+    match read_words(alloc, &named_words(alloc, &["one", "3a"])?) {
         Ok(Command::One(body)) => assert_eq!(rt; body.as_slice(), b":".as_slice()),
         _ => return Err(Fail::new("one body")),
     }
@@ -65,7 +69,7 @@ impl Write for Closed {
 #[test]
 fn what_is_not_taken_is_dropped(rt: HostRuntime) -> Result<(), Fail> {
     for (frame, status) in [("31", 0), ("3", 2)] {
-        let words = words(rt.alloc(), &["switch", "one", frame])?;
+        let words = named_words(rt.alloc(), &["one", frame])?;
         let mut out = Printer::new(Closed);
         let mut err = Printer::new(Closed);
         let mut files = MemoryFiles::new(rt.alloc());
