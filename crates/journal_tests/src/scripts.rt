@@ -212,6 +212,7 @@ fn reads(alloc: Global, seat: &str, version: &str, trace: &str) -> Result<String
     Ok(text)
 }
 
+// Adds the read of a row.
 fn push_read(
     alloc: Global,
     text: &mut String,
