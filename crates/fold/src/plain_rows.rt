@@ -2,7 +2,6 @@ ghost use Rattle.std.specs.Prelude.{◌≡◌, Some, Ok};
 ghost use Rattle.std.specs.FinMap as map;
 
 use rows::{Book, Places, RowKey, RowVal};
-use std::slice;
 use view::{RowSource, Stop};
 
 /// The rows of a book that stays as it is, and where they were found.
@@ -42,19 +41,19 @@ impl RowSource for PlainRows<'_> {
     fn read_into(&mut self, key: &RowKey, row: &mut Option<RowVal>) -> Result<(), Stop> {
         match self.book.find(key, &mut self.places) {
             Some(val) => put_over(row, val),
-            None => *row = None,
+            None if row.is_some() => *row = None,
+            None => {}
         }
         Ok(())
     }
 }
 
-// Writes a copy of a value to a place: as a slice of one where a value stands there, so that it is copied once and not by way
-// of a third place.
+// Writes a copy of a value to a place.
 fn put_over(row: &mut Option<RowVal>, val: &RowVal)
     ensures { row.new ≡ Some val.now }
 {
     match row {
-        Some(there) => slice::from_mut(there).copy_from_slice(slice::from_ref(val)),
+        Some(there) => there.copy_from(val),
         None => *row = Some(*val),
     }
 }

@@ -25,6 +25,7 @@ pub fn decide_all_by<F: Decide>(
     let mut reads = ReadSet::new(alloc);
     let mut writes = WriteSet::new(alloc);
     let rest = &frames[after.count as usize..];
+    after.book.reserve(rest.len())?;
     for frame in rest {
         let mut recorder = Recorder::over(PlainRows::new(&after.book), reads, writes);
         let decided = decision.decide(frame, &mut recorder);

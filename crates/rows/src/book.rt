@@ -13,7 +13,6 @@ use indexmap::IndexMap;
 use indexmap::map::{Entry, Iter};
 use std::alloc::{AllocError, Global};
 use std::marker::Model;
-use std::slice;
 
 /// The issuer's rows: a finite map from row keys to row values, each of its key's kind. A row is found by its key's hash.
 #[derive(Drop)]
@@ -76,6 +75,14 @@ impl Book {
         let (place, _, val) = self.rows.get_full(key)?;
         places.note(key, place);
         Some(val)
+    }
+
+    /// Makes room for as many more rows, so that they are put without moving those that are there.
+    pub fn reserve(&mut self, additional: usize) -> Result<(), AllocError>
+        ensures { self.new ≡ self.old }
+    {
+        self.rows.reserve(additional)?;
+        Ok(())
     }
 
     /// Puts the value at the key, over what was there. Only a row that wasn't there takes memory.
@@ -208,7 +215,7 @@ fn put_entry(
 {
     match rows.entry(*key)? {
         Entry::Occupied(entry) => {
-            copy_over(entry.into_mut(), val);
+            entry.into_mut().copy_from(val);
         }
         Entry::Vacant(entry) => {
             entry.insert(*val);
@@ -227,7 +234,7 @@ fn copy_at(rows: &mut IndexMap<RowKey, RowVal>, place: usize, key: &RowKey, val:
         return false;
     }
     let (_, there) = rows.pair_mut(place);
-    copy_over(there, val);
+    there.copy_from(val);
     true
 }
 
@@ -241,11 +248,4 @@ fn stands_at(rows: &IndexMap<RowKey, RowVal>, place: usize, key: &RowKey) -> boo
         Some((there, _)) => there == key,
         None => false,
     }
-}
-
-// Writes a copy of a value over another: as a slice of one, so that it is copied once and not by way of a third place.
-fn copy_over(there: &mut RowVal, val: &RowVal)
-    ensures { there.new ≡ val.now }
-{
-    slice::from_mut(there).copy_from_slice(slice::from_ref(val));
 }

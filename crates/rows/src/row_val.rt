@@ -42,6 +42,21 @@ impl RowVal {
         }
     }
 
+    /// Makes this a copy of the other. Where they are of one kind, no more is copied than values of that kind have.
+    pub fn copy_from(&mut self, other: &RowVal)
+        ensures { self.new ≡ other.now }
+    {
+        match (&mut *self, other) {
+            (RowVal::Card(mine), RowVal::Card(theirs)) => *mine = *theirs,
+            (RowVal::Velocity(mine), RowVal::Velocity(theirs)) => *mine = *theirs,
+            (RowVal::Budget(mine), RowVal::Budget(theirs)) => *mine = *theirs,
+            (RowVal::Kept(mine), RowVal::Kept(theirs)) => *mine = *theirs,
+            (RowVal::Ahead(mine), RowVal::Ahead(theirs)) => *mine = *theirs,
+            (RowVal::Account(mine), RowVal::Account(theirs)) => *mine = *theirs,
+            (mine, theirs) => *mine = *theirs,
+        }
+    }
+
     /// Whether the value is of the key's kind.
     pub fn suits(&self, key: &RowKey) -> bool
         ensures { IsTrue result ↔ IsOfKind key.now self.now }

@@ -6,32 +6,18 @@ ghost use Rattle.rules.specs.Following.{Follows, Concludes, kinds_read};
 ghost use Rattle.rules.specs.Needs.{ReadsNeeds};
 ghost use Rattle.view.specs.Recording.{IsStopOf};
 
-use crate::request_answers::{answer_again, approve, decline, reply_to};
+use crate::request_answers::{answer_again, approve, decline};
 use crate::request_facts::{refused_by_limits, refused_unseen, request_funds, usable_account};
 use crate::typed::{account_in, budget_in, card_in, original_in, spent_in, velocity_in};
 use iso8583::{AccountId, DeclineCode, Request, Verdict};
-use rows::{AccountRow, CardRow, ReplyBody, RowKey, VelocityRow};
+use rows::{AccountRow, CardRow, RowKey, VelocityRow};
 use view::{Recorder, RowSource, Stop};
 
-// Decides an authorization request.
+// Decides an authorization request: approved, or what it is declined for.
 pub(crate) fn decide_request<S: RowSource>(
     request: &Request,
     rows: &mut Recorder<S>,
-) -> Result<ReplyBody, Stop>
-    requires follows { Follows (Good (message.Request request.now)) rows.old.reads rows.old.writes (table.request_plan request.now) }
-    requires kinds { kinds_read rows.old.reads ≡ [] }
-    ensures done { IfOk result (λ reply. Concludes (Good (message.Request request.now)) rows.new.reads rows.new.writes reply) }
-    ensures so_far { ReadsNeeds (Good (message.Request request.now)) rows.new.reads }
-    ensures stop { IfErr result (λ stop. (stop ≡ Stop.OutOfMemory) ⊎ IsStopOf S.answers rows.new.source stop) }
-    ensures stops { IfSome (S.book rows.old.source) (λ _. IfErr result (λ stop. stop ≡ Stop.OutOfMemory)) }
-    ensures book { S.book rows.new.source ≡ S.book rows.old.source }
-{
-    let verdict = decide_verdict(request, rows)?;
-    Ok(reply_to(request, verdict))
-}
-
-// Decides an authorization request: approved, or what it is declined for.
-fn decide_verdict<S: RowSource>(request: &Request, rows: &mut Recorder<S>) -> Result<Verdict, Stop>
+) -> Result<Verdict, Stop>
     requires follows { Follows (Good (message.Request request.now)) rows.old.reads rows.old.writes (table.request_plan request.now) }
     requires kinds { kinds_read rows.old.reads ≡ [] }
     ensures done { IfOk result (λ verdict. Concludes (Good (message.Request request.now)) rows.new.reads rows.new.writes (table.reply_to_request request.now verdict)) }

@@ -11,22 +11,11 @@ ghost use Rattle.view.specs.Recording.{IsStopOf};
 
 use crate::facts::{is_marked, is_of_same, kept_of};
 use crate::request_facts::kept_verdict;
-use iso8583::{Answer, Approval, DeclineCode, OriginalKind, Reply, Request, Verdict};
+use iso8583::{Approval, DeclineCode, OriginalKind, Request, Verdict};
 use rows::{
-    CardRow, Funds, Kept, Mark, OriginalRow, Outcome, Payment, ReplyBody, RowKey, RowVal,
-    VelocityRow,
+    CardRow, Funds, Kept, Mark, OriginalRow, Outcome, Payment, RowKey, RowVal, VelocityRow,
 };
 use view::{Recorder, RowSource, Stop};
-
-// The reply to a request: it repeats the request's elements beside its verdict.
-pub(crate) fn reply_to(request: &Request, verdict: Verdict) -> ReplyBody
-    ensures { result ≡ table.reply_to_request request.now verdict }
-{
-    ReplyBody::Reply(Reply {
-        transaction: request.transaction,
-        answer: Answer::Request(verdict, request.account),
-    })
-}
 
 // Declines a request, and keeps that.
 pub(crate) fn decline<S: RowSource>(
@@ -145,14 +134,14 @@ pub(crate) fn approve<S: RowSource>(
         settlement: None,
     };
     let kept = kept_of(&request.transaction, Outcome::Approved(code, payment));
-    let card_key = RowKey::Card(request.transaction.pan);
-    let day_key = RowKey::Velocity(request.transaction.pan, request.transaction.stamp.day());
-    let charged = CardRow { approvals, ..*card };
-    let spent = VelocityRow { count, sum };
-    let paid = paying.with_balance(balance);
     rows.write_copy(&RowKey::Original(request.transaction.identity()), &kept)?;
+    let charged = CardRow { approvals, ..*card };
+    let card_key = RowKey::Card(request.transaction.pan);
     rows.write_copy(&card_key, &RowVal::Card(charged))?;
+    let day_key = RowKey::Velocity(request.transaction.pan, request.transaction.stamp.day());
+    let spent = VelocityRow { count, sum };
     rows.write_copy(&day_key, &RowVal::Velocity(spent))?;
+    let paid = paying.with_balance(balance);
     rows.write_copy(&paying.key(), &paid.row())?;
     Ok(verdict)
 }

@@ -8,13 +8,12 @@ ghost use Rattle.view.specs.Recording.{IsNew, IsStopOf};
 use crate::advice::decide_advice;
 use crate::request::decide_request;
 use crate::reversal::decide_reversal;
-use iso8583::Message;
+use iso8583::{Answer, Message, Reply};
 use rows::{Frame, ReplyBody};
 use view::{Decide, Recorder, RowSource, Stop};
 
 /// Decides one body by the decision table, over any source of rows. It reads the rows that the table needs, each where
 /// the table comes to it, and no other.
-#[tactic(auto, using(crate::proofs::FollowingLaws::concluded_all))]
 pub fn decide<S: RowSource>(frame: &Frame, rows: &mut Recorder<S>) -> Result<ReplyBody, Stop>
     requires { IsNew rows.old }
     ensures local { IfOk result (λ reply. IsLocal frame.now rows.new.reads rows.new.writes reply) }
@@ -29,7 +28,7 @@ pub fn decide<S: RowSource>(frame: &Frame, rows: &mut Recorder<S>) -> Result<Rep
     ensures stops { IfSome (S.book rows.old.source) (λ _. IfErr result (λ stop. stop ≡ Stop.OutOfMemory)) }
     ensures book { S.book rows.new.source ≡ S.book rows.old.source }
 {
-    follow(frame, rows)
+    Shipped.decide(frame, rows)
 }
 
 // Follows the plan of one body to its end.
@@ -44,7 +43,13 @@ fn follow<S: RowSource>(frame: &Frame, rows: &mut Recorder<S>) -> Result<ReplyBo
 {
     match frame {
         Frame::Good(message) => match message {
-            Message::Request(request) => decide_request(request, rows),
+            Message::Request(request) => {
+                let verdict = decide_request(request, rows)?;
+                Ok(ReplyBody::Reply(Reply {
+                    transaction: request.transaction,
+                    answer: Answer::Request(verdict, request.account),
+                }))
+            }
             Message::Advice(advice) => decide_advice(advice, rows),
             Message::Reversal(reversal) => decide_reversal(reversal, rows),
         },
@@ -57,6 +62,7 @@ fn follow<S: RowSource>(frame: &Frame, rows: &mut Recorder<S>) -> Result<ReplyBo
 pub struct Shipped;
 
 impl Decide for Shipped {
+    #[tactic(auto, using(crate::proofs::FollowingLaws::concluded_all))]
     fn decide<S: RowSource>(&self, frame: &Frame, rows: &mut Recorder<S>) -> Result<ReplyBody, Stop>
         requires { IsNew rows.old }
         ensures local { IfOk result (λ reply. IsLocal frame.now rows.new.reads rows.new.writes reply) }
@@ -67,6 +73,6 @@ impl Decide for Shipped {
         ensures stops { IfSome (S.book rows.old.source) (λ _. IfErr result (λ stop. stop ≡ Stop.OutOfMemory)) }
         ensures book { S.book rows.new.source ≡ S.book rows.old.source }
     {
-        decide(frame, rows)
+        follow(frame, rows)
     }
 }

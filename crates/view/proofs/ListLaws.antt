@@ -142,6 +142,11 @@ module _ {V : Type 0} where
         | false ↦ λ rest. ap (λ done. x ∷ done) (put_behind xs ys key value rest)
       ] none
 
+-- no row stands twice where there is none
+pub once_none : (V : Type 0) → IsOnceEach {V = V} []
+unfolding IsDistinct
+once_none V = tt
+
 -- nothing behind
 nothing_behind : {A : Type 0} (xs : List A) → xs ++ [] ≡ xs
 nothing_behind [] = refl

@@ -1,5 +1,5 @@
 -- Rows that were read and rows that are put, each list in the order of first touch.
-use Rattle.std.specs.Prelude.{◌≡◌, ◌<◌, List, [], ◌∷◌, ◌++◌, length, map, Option, None, IfSome}
+use Rattle.std.specs.Prelude.{◌≡◌, ◌<◌, List, [], ◌∷◌, ◌++◌, length, map, Option, Some, None, IfSome}
 use Rattle.std.specs.List.{AllByRecursion, IsDistinct}
 use Rattle.std.specs.Map.{lookup}
 use Rattle.indexmap.specs.IndexMap.{insert_entry}
@@ -42,6 +42,11 @@ AreReadsOfKind reads = AllByRecursion (λ read. IfSome read.1 (IsOfKind read.0))
 -- what is put is of its key's kind
 abbrev pub AreWritesOfKind : Writes → Type 0
 AreWritesOfKind writes = AllByRecursion (λ write. IsOfKind write.0 write.1) writes
+
+-- the rows of a list that need not be there
+abbrev pub rows_in : {V : Type 0} → Option (List (RowKey × V)) → List (RowKey × V)
+rows_in None = []
+rows_in (Some rows) = rows
 
 -- rows stand behind the first few only where those are all there
 abbrev pub IsFilled : {V : Type 0} → List (RowKey × V) → List (RowKey × V) → Type 0

@@ -9,7 +9,6 @@ use crate::stop::Stop;
 use rows::{RowKey, RowVal};
 use std::alloc::{AllocError, Global};
 use std::marker::Model;
-use std::slice;
 
 /// How many rows of a set stand in its list.
 pub(crate) const FEW: usize = 8;
@@ -57,6 +56,11 @@ impl<V> Few<V> {
         ensures small { length self.now < 2 ^ 63 }
     {
         self.as_slice().len()
+    }
+
+    /// What its memory is asked of.
+    pub(crate) fn allocator(&self) -> Global {
+        *self.rows.allocator()
     }
 
     /// The rows.
@@ -136,7 +140,7 @@ fn push_row<V: Copy + Drop>(
     Ok(())
 }
 
-// Writes a copy of a row over the one at a place: as a slice of one, so that it is copied once and not by way of a third place.
+// Writes a copy of a row over the one at a place.
 #[inline(always)]
 fn write_over(rows: &mut [(RowKey, RowVal)], place: usize, key: &RowKey, row: &RowVal)
     requires { place < length rows.old }
@@ -144,7 +148,7 @@ fn write_over(rows: &mut [(RowKey, RowVal)], place: usize, key: &RowKey, row: &R
 {
     let there = &mut rows[place];
     there.0 = *key;
-    slice::from_mut(&mut there.1).copy_from_slice(slice::from_ref(row));
+    there.1.copy_from(row);
 }
 
 // Asks the source for a row, and writes the answer over the row at a place.

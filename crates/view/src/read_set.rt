@@ -4,11 +4,10 @@ ghost use Rattle.rows.specs.RowVal.{IsOfKind};
 ghost use Rattle.view.specs.Recording.{answer_of, AsksOnce};
 ghost use Rattle.view.specs.RowSets.{value_in, latest, logged, IsOnceEach};
 
-use crate::behind::insert_copy;
+use crate::behind::Behind;
 use crate::few::{FEW, Few, place_of};
 use crate::row_source::RowSource;
 use crate::stop::Stop;
-use indexmap::IndexMap;
 use rows::{RowKey, RowVal};
 use std::alloc::Global;
 use std::marker::Model;
@@ -20,7 +19,7 @@ pub struct ReadSet {
     // The first rows, where one is found by comparing keys.
     few: Few<Option<RowVal>>,
     // All behind them, where one is found by its key's hash.
-    more: IndexMap<RowKey, Option<RowVal>>,
+    more: Behind<Option<RowVal>>,
 }
 
 impl Model for ReadSet {
@@ -30,9 +29,9 @@ impl Model for ReadSet {
 
     ghost Value = { Reads };
 
-    ghost view = { λ set. set.few ++ set.more.entries };
+    ghost view = { λ set. set.few ++ set.more };
 
-    ghost invariant = { λ set. AreReadsOfKind (set.few ++ set.more.entries) × IsOnceEach (set.few ++ set.more.entries) × IsFilled set.few set.more.entries };
+    ghost invariant = { λ set. AreReadsOfKind (set.few ++ set.more) × IsOnceEach (set.few ++ set.more) × IsFilled set.few set.more };
 }
 
 impl ReadSet {
@@ -42,7 +41,7 @@ impl ReadSet {
     {
         ReadSet {
             few: Few::new(alloc),
-            more: IndexMap::new(alloc),
+            more: Behind::new(),
         }
     }
 
@@ -78,7 +77,7 @@ impl ReadSet {
         if index < self.few.len() {
             return self.few.as_slice()[index];
         }
-        match self.more.get_index(index - self.few.len()) {
+        match self.more.row(index - self.few.len()) {
             Some((key, row)) => (*key, *row),
             None => unreachable!(),
         }
@@ -101,9 +100,13 @@ impl ReadSet {
         requires { 0 < length self.now }
         ensures { result.now ≡ latest self.now }
     {
-        match self.more.last() {
+        let behind = self.more.len();
+        if behind == 0 {
+            return self.few.latest();
+        }
+        match self.more.row(behind - 1) {
             Some((_, row)) => row,
-            None => self.few.latest(),
+            None => unreachable!(),
         }
     }
 
@@ -124,32 +127,8 @@ impl ReadSet {
             self.few.ask(key, source)?;
             return Ok(());
         }
-        ask_more(&mut self.more, key, source)?;
+        let alloc = self.few.allocator();
+        self.more.ask_more(alloc, key, source)?;
         Ok(())
-    }
-}
-
-// Makes room behind the first rows, asks the source for a row that was not read yet, and logs the answer.
-#[inline(never)]
-fn ask_more<S: RowSource>(
-    more: &mut IndexMap<RowKey, Option<RowVal>>,
-    key: &RowKey,
-    source: &mut S,
-) -> Result<(), Stop>
-    requires { value_in more.old.entries key.now ≡ None }
-    ensures asked { AsksOnce S.answers source.old key.now (answer_of result (latest more.new.entries)) source.new }
-    ensures ok { OnOk result (more.new.entries ≡ logged more.old.entries key.now (latest more.new.entries)) }
-    ensures err { OnErr result (more.new.entries ≡ more.old.entries) }
-    ensures kind { OnOk result (IfSome (latest more.new.entries) (IsOfKind key.now)) }
-    ensures known { OnOk result (IfSome (S.book source.old) (λ rows. latest more.new.entries ≡ map.get rows key.now)) }
-    ensures stops { IfSome (S.book source.old) (λ _. IfErr result (λ stop. stop ≡ Stop.OutOfMemory)) }
-    ensures same { S.book source.new ≡ S.book source.old }
-{
-    more.reserve(1)?;
-    let mut answer = None;
-    source.read_into(key, &mut answer)?;
-    match insert_copy(more, key, &answer) {
-        Ok(()) => Ok(()),
-        Err(_) => unreachable!(),
     }
 }

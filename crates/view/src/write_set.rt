@@ -2,9 +2,8 @@ ghost use Rattle.std.specs.Prelude.{◌≡◌, ◌<◌, ◌↔◌, [], Some, len
 ghost use Rattle.rows.specs.RowVal.{IsOfKind};
 ghost use Rattle.view.specs.RowSets.{value_in, put, IsOnceEach};
 
-use crate::behind::insert_copy;
+use crate::behind::Behind;
 use crate::few::{FEW, Few, place_of};
-use indexmap::IndexMap;
 use rows::{RowKey, RowVal};
 use std::alloc::{AllocError, Global};
 use std::marker::Model;
@@ -15,7 +14,7 @@ pub struct WriteSet {
     // The first rows, where one is found by comparing keys.
     few: Few<RowVal>,
     // All behind them, where one is found by its key's hash.
-    more: IndexMap<RowKey, RowVal>,
+    more: Behind<RowVal>,
 }
 
 impl Model for WriteSet {
@@ -25,9 +24,9 @@ impl Model for WriteSet {
 
     ghost Value = { Writes };
 
-    ghost view = { λ set. set.few ++ set.more.entries };
+    ghost view = { λ set. set.few ++ set.more };
 
-    ghost invariant = { λ set. AreWritesOfKind (set.few ++ set.more.entries) × IsOnceEach (set.few ++ set.more.entries) × IsFilled set.few set.more.entries };
+    ghost invariant = { λ set. AreWritesOfKind (set.few ++ set.more) × IsOnceEach (set.few ++ set.more) × IsFilled set.few set.more };
 }
 
 impl WriteSet {
@@ -37,7 +36,7 @@ impl WriteSet {
     {
         WriteSet {
             few: Few::new(alloc),
-            more: IndexMap::new(alloc),
+            more: Behind::new(),
         }
     }
 
@@ -85,7 +84,7 @@ impl WriteSet {
             let (key, row) = &self.few.as_slice()[index];
             return (key, row);
         }
-        match self.more.get_index(index - self.few.len()) {
+        match self.more.row(index - self.few.len()) {
             Some(entry) => entry,
             None => unreachable!(),
         }
@@ -129,7 +128,7 @@ impl WriteSet {
                 Ok(())
             }
             None => {
-                insert_copy(&mut self.more, key, row)?;
+                self.more.insert_copy(self.few.allocator(), key, row)?;
                 Ok(())
             }
         }

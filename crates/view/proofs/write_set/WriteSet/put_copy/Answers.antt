@@ -10,12 +10,12 @@ use Rattle.view.specs.RowSets.{value_in, put, AreWritesOfKind, IsOnceEach}
 use Rattle.view.proofs.write_set.WriteSet.put_copy.Goals as goal
 
 -- the row that is put again keeps its place among the first ones
-again : (c : goal.After-set_copy) → insert_entry key_eq (c.self.inside.few ++ c.self.inside.more.entries) c.args.key.now c.args.row.now ≡ c.set_copy.new.self ++ c.self.inside.more.entries
+again : (c : goal.After-set_copy) → insert_entry key_eq (c.self.inside.few ++ c.self.inside.more) c.args.key.now c.args.row.now ≡ c.set_copy.new.self ++ c.self.inside.more
 again c =
     let there = c.in-Some.ensures.found in
-    put_front c.self.inside.few c.self.inside.more.entries c.in-Some.place c.args.key.now there.0 c.args.row.now c.self.invariant.1
+    put_front c.self.inside.few c.self.inside.more c.in-Some.place c.args.key.now there.0 c.args.row.now c.self.invariant.1
     (ap (λ (rows : Writes). slice_get rows c.in-Some.place) (sym c.as_slice.ensures) ∙ there.1)
-    ∙ ap (λ (rows : Writes). rows ++ c.self.inside.more.entries) (sym c.set_copy.ensures)
+    ∙ ap (λ (rows : Writes). rows ++ c.self.inside.more) (sym c.set_copy.ensures)
 
 -- rows with one more that is put are of their kinds, each once
 all_put : (rows now : Writes) (k : _) (v : _) → insert_entry key_eq rows k v ≡ now → AreWritesOfKind rows → IsOnceEach rows → IsOfKind k v → AreWritesOfKind now × IsOnceEach now
@@ -30,10 +30,10 @@ pub returns-in-Some-clause-ok : goal.returns-in-Some-clause-ok
 returns-in-Some-clause-ok c = sym (again c) ∙ ap (λ (rows : Writes). put rows c.args.key.now c.args.row.now) c.self.view_is
 
 -- the row that is put goes last among the first ones
-among : (c : goal.In_ok-push_copy-in-None) → insert_entry key_eq (c.self.inside.few ++ c.self.inside.more.entries) c.args.key.now c.args.row.now ≡ c.push_copy.new.self ++ c.self.inside.more.entries
+among : (c : goal.In_ok-push_copy-in-None) → insert_entry key_eq (c.self.inside.few ++ c.self.inside.more) c.args.key.now c.args.row.now ≡ c.push_copy.new.self ++ c.self.inside.more
 among c =
     let none = ap (λ (rows : Writes). value_in rows c.args.key.now) (sym c.as_slice.ensures) ∙ c.in-None.ensures.absent in
-    put_among c.self.inside.few c.self.inside.more.entries c.args.key.now c.args.row.now none c.push_copy.new.self (c.self.invariant.2 (search rules))
+    put_among c.self.inside.few c.self.inside.more c.args.key.now c.args.row.now none c.push_copy.new.self (c.self.invariant.2 (search rules))
     c.in_ok-push_copy-in-None.ensures.ok
 
 pub invariant_of-self-then-len-lt-FEW : goal.invariant_of-self-then-len-lt-FEW
@@ -45,10 +45,10 @@ pub returns-in_ok-push_copy-in-None-clause-ok : goal.returns-in_ok-push_copy-in-
 returns-in_ok-push_copy-in-None-clause-ok c = sym (among c) ∙ ap (λ (rows : Writes). put rows c.args.key.now c.args.row.now) c.self.view_is
 
 -- the row that is put goes behind the first ones
-behind : (c : goal.In_ok-insert_copy-in-None-2) → insert_entry key_eq (c.self.inside.few ++ c.self.inside.more.entries) c.args.key.now c.args.row.now ≡ c.self.inside.few ++ c.insert_copy.new.rows.entries
+behind : (c : goal.In_ok-insert_copy-in-None-2) → insert_entry key_eq (c.self.inside.few ++ c.self.inside.more) c.args.key.now c.args.row.now ≡ c.self.inside.few ++ c.insert_copy.new.self
 behind c =
     let none = ap (λ (rows : Writes). value_in rows c.args.key.now) (sym c.as_slice.ensures) ∙ c.in-None-2.ensures.absent in
-    put_behind c.self.inside.few c.self.inside.more.entries c.args.key.now c.args.row.now none
+    put_behind c.self.inside.few c.self.inside.more c.args.key.now c.args.row.now none
     ∙ ap (λ (rest : Writes). c.self.inside.few ++ rest) (sym c.in_ok-insert_copy-in-None-2.ensures.ok)
 
 pub invariant_of-self-in-None-2 : goal.invariant_of-self-in-None-2
@@ -62,4 +62,4 @@ returns-in_ok-insert_copy-in-None-2-clause-ok c = sym (behind c) ∙ ap (λ (row
 pub returns-in_err-insert_copy-in-None-2-clause-absent : goal.returns-in_err-insert_copy-in-None-2-clause-absent
 returns-in_err-insert_copy-in-None-2-clause-absent c =
     let none = ap (λ (rows : Writes). value_in rows c.args.key.now) (sym c.as_slice.ensures) ∙ c.in-None-2.ensures.absent in
-    on_err _ (ap (λ (rows : Writes). value_in rows c.args.key.now) (sym c.self.view_is) ∙ found_behind c.self.inside.few c.self.inside.more.entries c.args.key.now none ∙ c.in_err-insert_copy-in-None-2.ensures.absent)
+    on_err _ (ap (λ (rows : Writes). value_in rows c.args.key.now) (sym c.self.view_is) ∙ found_behind c.self.inside.few c.self.inside.more c.args.key.now none ∙ c.in_err-insert_copy-in-None-2.ensures.absent)

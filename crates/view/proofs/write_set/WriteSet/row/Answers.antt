@@ -5,6 +5,6 @@ use Rattle.view.proofs.write_set.WriteSet.row.Goals as goal
 
 pub returns-clause-kind : goal.returns-clause-kind
 returns-clause-kind c =
-    standing_suits IsOfKind c.self.inside.more.entries _ _
-    (suits_behind IsOfKind c.self.inside.few c.self.inside.more.entries c.self.invariant.0)
-    (sym c.in-Some.ensures.entry)
+    standing_suits IsOfKind c.self.inside.more _ _
+    (suits_behind IsOfKind c.self.inside.few c.self.inside.more c.self.invariant.0)
+    (sym c.in-Some.ensures)

@@ -4,7 +4,7 @@ use Rattle.rows.specs.Plan.{Writes}
 use Rattle.rows.specs.declared.frame.Frame.{Frame}
 use Rattle.rows.specs.declared.reply_body.ReplyBody.{ReplyBody}
 use Rattle.rules.proofs.FollowingLaws.{concluded_local}
-use Rattle.rules.proofs.shipped.decide.Goals as goal
+use Rattle.rules.proofs.shipped.ShippedDecide.decide.Goals as goal
 use Rattle.rules.specs.Following.{Concludes}
 use Rattle.view.specs.declared.stop.Stop.{Stop}
 

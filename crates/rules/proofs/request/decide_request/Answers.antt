@@ -3,7 +3,7 @@ use Rattle.rows.specs.declared.row_key.RowKey.TheVariants as key
 use Rattle.rows.specs.RequestTable as table
 use Rattle.rows.specs.Typed as typed
 use Rattle.rules.proofs.FollowingLaws.{unread, looked_as}
-use Rattle.rules.proofs.request.decide_verdict.Goals as goal
+use Rattle.rules.proofs.request.decide_request.Goals as goal
 
 pub ask-requires : goal.ask-requires
 ask-requires g c = unread c.args.rows.now _ _ _ (key.Original c.identity.result) c.requires.follows c.requires.kinds refl
