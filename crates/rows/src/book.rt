@@ -77,7 +77,8 @@ impl Book {
         Some(val)
     }
 
-    /// Makes room for as many more rows, so that they are put without moving those that are there.
+    /// Makes room for as many more rows, so that they are put without moving those that are there. It fails where memory
+    /// runs out; the book is the same either way.
     pub fn reserve(&mut self, additional: usize) -> Result<(), AllocError>
         ensures { self.new ≡ self.old }
     {
