@@ -26,6 +26,7 @@ pub fn decide_all_by<F: Decide>(
     let mut writes = WriteSet::new(alloc);
     let rest = &frames[after.count as usize..];
     after.book.reserve(rest.len())?;
+    after.replies.reserve(rest.len())?;
     for frame in rest {
         let mut recorder = Recorder::over(PlainRows::new(&after.book), reads, writes);
         let decided = decision.decide(frame, &mut recorder);

@@ -69,12 +69,10 @@ impl LocalStamp {
     }
 
     /// The month of the stamp, YYMM.
-    pub fn month(&self) -> &[u8]
-        ensures text { result.now ≡ take 4 self.now }
-        ensures digits { IsDigits result.now }
-        ensures len { length result.now ≡ 4 }
+    pub fn month(&self) -> Digits<4>
+        ensures { result ≡ take 4 self.now }
     {
-        &self.as_slice()[..4]
+        Digits::of_text(&self.as_slice()[..4])
     }
 
     /// The day of the stamp.

@@ -1,5 +1,5 @@
-ghost use Rattle.std.specs.Prelude.{◌≡◌, ◌<◌, ◌≤◌, ◌-◌};
-ghost use Rattle.iso8583.specs.Luhn.{doubled, luhn_value, luhn_sum, passes_luhn};
+ghost use Rattle.std.specs.Prelude.{◌≡◌, ◌≤◌};
+ghost use Rattle.iso8583.specs.Luhn.{doubled, passes_luhn};
 
 use crate::pan::Pan;
 
@@ -7,24 +7,27 @@ use crate::pan::Pan;
 pub fn luhn(pan: &Pan) -> bool
     ensures { result ≡ passes_luhn pan.now.0 }
 {
+    // In pairs up to the last digit: of each pair the first is doubled.
     let digits = pan.as_slice();
-    let mut sum = 0u32;
-    let mut right = digits.len();
-    for c in digits {
-        right -= 1;
-        sum += u32::from(luhn_value(right, *c - b'0'));
+    let mut place = digits.len() % 2;
+    let mut sum = if place == 1 {
+        u32::from(digits[0] - b'0')
+    } else {
+        0
+    };
+    while place < digits.len() {
+        sum += u32::from(doubled(digits[place] - b'0') + (digits[place + 1] - b'0'));
+        place += 2;
     }
     sum % 10 == 0
 }
 
-fn luhn_value(right: usize, digit: u8) -> u8
+// A digit doubled, less 9 where that passes 9.
+fn doubled(digit: u8) -> u8
     requires { digit ≤ 9 }
-    ensures value { result ≡ luhn_value right digit }
+    ensures value { result ≡ doubled digit }
     ensures bound { result ≤ 9 }
 {
-    if right % 2 == 0 {
-        return digit;
-    }
-    let doubled = 2 * digit;
-    if doubled > 9 { doubled - 9 } else { doubled }
+    let twice = 2 * digit;
+    if twice > 9 { twice - 9 } else { twice }
 }

@@ -1,4 +1,5 @@
 pub mod BackingLaws
 pub mod BookLaws
+pub mod ExpiryLaws
 pub mod KeyLaws
 pub mod PutsOnce

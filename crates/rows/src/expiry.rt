@@ -58,9 +58,10 @@ impl Expiry {
     }
 
     /// Whether the month is before that of the date and time; years compare as two digits.
+    #[tactic(auto, using(crate::proofs::ExpiryLaws::less_by_digits))]
     pub fn is_before(&self, stamp: &LocalStamp) -> bool
         ensures { result ≡ nat_lt (number_of self.now) (number_of (month_of stamp.now)) }
     {
-        number_of(self.as_slice()) < number_of(stamp.month())
+        self.digits < stamp.month()
     }
 }

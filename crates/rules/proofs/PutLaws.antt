@@ -2,9 +2,8 @@
 use Rattle.std.proofs.Common.{◌≡◌, ℕ, List, [], ◌∷◌, refl, ap, ◌∙◌}
 use Rattle.iso8583.specs.declared.identity.Identity.{Identity}
 use Rattle.iso8583.specs.declared.pan.Pan.{Pan}
-use Rattle.rows.specs.Funds.{key_of_funds, row_of_funds, with_balance}
+use Rattle.rows.specs.Funds.{key_of_funds}
 use Rattle.rows.specs.Plan.{Writes}
-use Rattle.rows.specs.RowVal.{IsOfKind}
 use Rattle.rows.specs.declared.funds.Funds.{Funds}
 use Rattle.rows.specs.declared.funds.Funds.TheVariants as funds
 use Rattle.rows.specs.declared.row_key.RowKey.{RowKey}
@@ -36,11 +35,6 @@ pub funds_put_second : (f : Funds) (identity : Identity) (a d : RowVal)
     → put ((key.Original identity, a) ∷ []) (key_of_funds f) d ≡ (key.Original identity, a) ∷ (key_of_funds f, d) ∷ []
 funds_put_second (funds.Account id row) identity a d = refl
 funds_put_second (funds.Budget prefix row) identity a d = refl
-
--- the row of what pays is of its key's kind
-pub funds_of_kind : (f : Funds) (balance : ℕ) → IsOfKind (key_of_funds f) (row_of_funds (with_balance f balance))
-funds_of_kind (funds.Account id row) balance = refl
-funds_of_kind (funds.Budget prefix row) balance = refl
 
 -- four rows of an approval, put one after another over none
 module _ {S : Type 0} (old one two three four : Recording S) (identity : Identity) (pan other : Pan) (day : List ℕ) (a b c : RowVal) (f : Funds) (last : RowKey) (d : RowVal) where

@@ -10,6 +10,7 @@ ghost use Rattle.rules.specs.Needs.{ReadsNeeds};
 ghost use Rattle.view.specs.Recording.{IsStopOf};
 
 use crate::facts::{is_marked, is_of_same, kept_of};
+use crate::put_funds::put_funds;
 use iso8583::{Action, Advice, Answer, OriginalKind, Reply};
 use rows::{Funds, Kept, Mark, OriginalRow, Outcome, Payment, ReplyBody, RowKey, UnpostedAction};
 use view::{Recorder, RowSource, Stop};
@@ -124,8 +125,7 @@ pub(crate) fn accept<S: RowSource>(
         settlement: None,
     };
     let kept = kept_of(&advice.transaction, Outcome::Accepted(payment));
-    let paid = paying.with_balance(balance);
     rows.write(RowKey::Original(advice.transaction.identity()), kept)?;
-    rows.write(paying.key(), paid.row())?;
+    put_funds(paying, balance, rows)?;
     Ok(reply_to(advice, Action::LIABILITY_ACCEPTED))
 }

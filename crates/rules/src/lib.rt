@@ -5,6 +5,7 @@ mod advice;
 mod advice_answers;
 mod advice_facts;
 mod facts;
+mod put_funds;
 mod request;
 mod request_answers;
 mod request_facts;

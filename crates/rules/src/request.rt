@@ -1,5 +1,6 @@
 ghost use Rattle.std.specs.Prelude.{◌≡◌, ◌⊎◌, ◌∷◌, [], Ok, IfOk, IfErr, IfSome};
 ghost use Rattle.iso8583.specs.declared.message.Message.TheVariants as message;
+ghost use Rattle.rows.specs.Facts.{identity_of};
 ghost use Rattle.rows.specs.RequestTable as table;
 ghost use Rattle.rows.specs.declared.frame.Frame.TheVariants.{Good};
 ghost use Rattle.rules.specs.Following.{Follows, Concludes, kinds_read};
@@ -29,13 +30,18 @@ pub(crate) fn decide_request<S: RowSource>(
     let key = RowKey::Original(request.transaction.identity());
     rows.ask(&key)?;
     match original_in(rows.latest()) {
-        Some(row) => answer_again(request, &row, rows),
-        None => decide_fresh(request, rows),
+        Some(row) => answer_again(request, &key, &row, rows),
+        None => decide_fresh(request, &key, rows),
     }
 }
 
 // Decides a request whose identity wasn't seen before: what it is refused for before its card is known, then its card.
-fn decide_fresh<S: RowSource>(request: &Request, rows: &mut Recorder<S>) -> Result<Verdict, Stop>
+fn decide_fresh<S: RowSource>(
+    request: &Request,
+    key: &RowKey,
+    rows: &mut Recorder<S>,
+) -> Result<Verdict, Stop>
+    requires named { key.now ≡ RowKey.Original (identity_of request.now.transaction) }
     requires follows { Follows (Good (message.Request request.now)) rows.old.reads rows.old.writes (table.fresh_request request.now) }
     requires kinds { kinds_read rows.old.reads ≡ 3 ∷ [] }
     ensures done { IfOk result (λ verdict. Concludes (Good (message.Request request.now)) rows.new.reads rows.new.writes (table.reply_to_request request.now verdict)) }
@@ -45,26 +51,27 @@ fn decide_fresh<S: RowSource>(request: &Request, rows: &mut Recorder<S>) -> Resu
     ensures book { S.book rows.new.source ≡ S.book rows.old.source }
 {
     if let Some(code) = refused_unseen(request) {
-        return decline(request, code, rows);
+        return decline(request, key, code, rows);
     }
-    let key = RowKey::Card(request.transaction.pan);
-    rows.ask(&key)?;
+    rows.ask(&RowKey::Card(request.transaction.pan))?;
     let Some(card) = card_in(rows.latest()) else {
-        return decline(request, DeclineCode::NO_CARD_RECORD, rows);
+        return decline(request, key, DeclineCode::NO_CARD_RECORD, rows);
     };
     match usable_account(request, &card) {
-        Ok(id) => decide_on_account(request, &card, id, rows),
-        Err(code) => decline(request, code, rows),
+        Ok(id) => decide_on_account(request, key, &card, id, rows),
+        Err(code) => decline(request, key, code, rows),
     }
 }
 
 // Decides a request that its card doesn't refuse: its account.
 fn decide_on_account<S: RowSource>(
     request: &Request,
+    key: &RowKey,
     card: &CardRow,
     id: AccountId,
     rows: &mut Recorder<S>,
 ) -> Result<Verdict, Stop>
+    requires named { key.now ≡ RowKey.Original (identity_of request.now.transaction) }
     requires follows { Follows (Good (message.Request request.now)) rows.old.reads rows.old.writes (table.on_usable request.now card.now (Ok id)) }
     requires kinds { kinds_read rows.old.reads ≡ 3 ∷ 0 ∷ [] }
     ensures done { IfOk result (λ verdict. Concludes (Good (message.Request request.now)) rows.new.reads rows.new.writes (table.reply_to_request request.now verdict)) }
@@ -74,25 +81,26 @@ fn decide_on_account<S: RowSource>(
     ensures book { S.book rows.new.source ≡ S.book rows.old.source }
 {
     let paying = id;
-    let key = RowKey::Account(paying);
-    rows.ask(&key)?;
+    rows.ask(&RowKey::Account(paying))?;
     let Some(account) = account_in(rows.latest()) else {
-        return decline(request, DeclineCode::SYSTEM_MALFUNCTION, rows);
+        return decline(request, key, DeclineCode::SYSTEM_MALFUNCTION, rows);
     };
     if request.transaction.currency != account.currency {
-        return decline(request, DeclineCode::DO_NOT_HONOUR, rows);
+        return decline(request, key, DeclineCode::DO_NOT_HONOUR, rows);
     }
-    decide_on_day(request, card, id, &account, rows)
+    decide_on_day(request, key, card, id, &account, rows)
 }
 
 // Decides a request in its account's currency: what was spent on its day.
 fn decide_on_day<S: RowSource>(
     request: &Request,
+    key: &RowKey,
     card: &CardRow,
     id: AccountId,
     account: &AccountRow,
     rows: &mut Recorder<S>,
 ) -> Result<Verdict, Stop>
+    requires named { key.now ≡ RowKey.Original (identity_of request.now.transaction) }
     requires follows { Follows (Good (message.Request request.now)) rows.old.reads rows.old.writes (table.looked_for_day request.now card.now id account.now) }
     requires kinds { kinds_read rows.old.reads ≡ 3 ∷ 0 ∷ 4 ∷ [] }
     ensures done { IfOk result (λ verdict. Concludes (Good (message.Request request.now)) rows.new.reads rows.new.writes (table.reply_to_request request.now verdict)) }
@@ -101,21 +109,23 @@ fn decide_on_day<S: RowSource>(
     ensures stops { IfSome (S.book rows.old.source) (λ _. IfErr result (λ stop. stop ≡ Stop.OutOfMemory)) }
     ensures book { S.book rows.new.source ≡ S.book rows.old.source }
 {
-    let key = RowKey::Velocity(request.transaction.pan, request.transaction.stamp.day());
-    rows.ask(&key)?;
+    let day_key = RowKey::Velocity(request.transaction.pan, request.transaction.stamp.day());
+    rows.ask(&day_key)?;
     let day = spent_in(velocity_in(rows.latest()));
-    decide_on_limits(request, card, id, account, &day, rows)
+    decide_on_limits(request, key, card, id, account, &day, rows)
 }
 
 // Decides a request whose day is known: the limits of its card, then what pays.
 fn decide_on_limits<S: RowSource>(
     request: &Request,
+    key: &RowKey,
     card: &CardRow,
     id: AccountId,
     account: &AccountRow,
     day: &VelocityRow,
     rows: &mut Recorder<S>,
 ) -> Result<Verdict, Stop>
+    requires named { key.now ≡ RowKey.Original (identity_of request.now.transaction) }
     requires follows { Follows (Good (message.Request request.now)) rows.old.reads rows.old.writes (table.on_day request.now card.now id account.now day.now) }
     requires kinds { kinds_read rows.old.reads ≡ 3 ∷ 0 ∷ 4 ∷ 1 ∷ [] }
     ensures done { IfOk result (λ verdict. Concludes (Good (message.Request request.now)) rows.new.reads rows.new.writes (table.reply_to_request request.now verdict)) }
@@ -125,13 +135,12 @@ fn decide_on_limits<S: RowSource>(
     ensures book { S.book rows.new.source ≡ S.book rows.old.source }
 {
     if let Some(code) = refused_by_limits(request, card, day) {
-        return decline(request, code, rows);
+        return decline(request, key, code, rows);
     }
-    let key = RowKey::Budget(request.transaction.pan.prefix());
-    rows.ask(&key)?;
+    rows.ask(&RowKey::Budget(request.transaction.pan.prefix()))?;
     let budget = budget_in(rows.latest());
     match request_funds(&request.transaction, id, account, &budget) {
-        Ok(paying) => approve(request, card, day, &paying, rows),
-        Err(code) => decline(request, code, rows),
+        Ok(paying) => approve(request, key, card, day, &paying, rows),
+        Err(code) => decline(request, key, code, rows),
     }
 }

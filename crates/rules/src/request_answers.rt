@@ -1,28 +1,33 @@
-ghost use Rattle.std.specs.Prelude.{◌≡◌, ◌⊎◌, ◌+◌, ◌^◌, ◌<◌, ◌≤◌, ◌&&◌, IfOk, IfErr, IfSome};
+ghost use Rattle.std.specs.Prelude.{◌≡◌, ◌⊎◌, ◌+◌, ◌^◌, ◌<◌, ◌≤◌, ◌&&◌, IfOk, IfErr, IfSome, OnOk, OnErr};
 ghost use Rattle.iso8583.specs.declared.message.Message.TheVariants as message;
 ghost use Rattle.iso8583.specs.declared.original_kind.OriginalKind.TheVariants as kind;
-ghost use Rattle.rows.specs.Facts.{is_of_same};
+ghost use Rattle.rows.specs.Facts.{day_of, identity_of, is_of_same};
 ghost use Rattle.rows.specs.Funds.{balance_of};
 ghost use Rattle.rows.specs.RequestTable as table;
 ghost use Rattle.rows.specs.declared.frame.Frame.TheVariants.{Good};
 ghost use Rattle.rules.specs.Following.{Follows, Concludes};
 ghost use Rattle.rules.specs.Needs.{ReadsNeeds};
 ghost use Rattle.view.specs.Recording.{IsStopOf};
+ghost use Rattle.view.specs.RowSets.{put};
 
 use crate::facts::{is_marked, is_of_same, kept_of};
+use crate::put_funds::put_funds;
 use crate::request_facts::kept_verdict;
-use iso8583::{Approval, DeclineCode, OriginalKind, Request, Verdict};
+use iso8583::{Approval, DeclineCode, OriginalKind, Request, Transaction, Verdict};
 use rows::{
-    CardRow, Funds, Kept, Mark, OriginalRow, Outcome, Payment, RowKey, RowVal, VelocityRow,
+    Balance, CardRow, Count, Funds, Kept, Mark, OriginalRow, Outcome, Payment, RowKey, RowVal,
+    VelocityRow,
 };
 use view::{Recorder, RowSource, Stop};
 
 // Declines a request, and keeps that.
 pub(crate) fn decline<S: RowSource>(
     request: &Request,
+    key: &RowKey,
     code: DeclineCode,
     rows: &mut Recorder<S>,
 ) -> Result<Verdict, Stop>
+    requires named { key.now ≡ RowKey.Original (identity_of request.now.transaction) }
     requires follows { Follows (Good (message.Request request.now)) rows.old.reads rows.old.writes (table.declined_request request.now code) }
     ensures done { IfOk result (λ verdict. Concludes (Good (message.Request request.now)) rows.new.reads rows.new.writes (table.reply_to_request request.now verdict)) }
     ensures so_far { ReadsNeeds (Good (message.Request request.now)) rows.new.reads }
@@ -30,18 +35,19 @@ pub(crate) fn decline<S: RowSource>(
     ensures stops { IfSome (S.book rows.old.source) (λ _. IfErr result (λ stop. stop ≡ Stop.OutOfMemory)) }
     ensures book { S.book rows.new.source ≡ S.book rows.old.source }
 {
-    let key = RowKey::Original(request.transaction.identity());
     let kept = kept_of(&request.transaction, Outcome::Declined(code, None));
-    rows.write(key, kept)?;
+    rows.write_copy(key, &kept)?;
     Ok(Verdict::Declined(code))
 }
 
 // Answers a request of an identity that was seen before.
 pub(crate) fn answer_again<S: RowSource>(
     request: &Request,
+    key: &RowKey,
     row: &OriginalRow,
     rows: &mut Recorder<S>,
 ) -> Result<Verdict, Stop>
+    requires named { key.now ≡ RowKey.Original (identity_of request.now.transaction) }
     requires follows { Follows (Good (message.Request request.now)) rows.old.reads rows.old.writes (table.request_again request.now row.now) }
     ensures done { IfOk result (λ verdict. Concludes (Good (message.Request request.now)) rows.new.reads rows.new.writes (table.reply_to_request request.now verdict)) }
     ensures so_far { ReadsNeeds (Good (message.Request request.now)) rows.new.reads }
@@ -50,7 +56,7 @@ pub(crate) fn answer_again<S: RowSource>(
     ensures book { S.book rows.new.source ≡ S.book rows.old.source }
 {
     match row {
-        OriginalRow::Ahead(mark) => answer_marked(request, mark, rows),
+        OriginalRow::Ahead(mark) => answer_marked(request, key, mark, rows),
         OriginalRow::Kept(kept) => Ok(answer_kept(request, kept, rows)),
     }
 }
@@ -58,9 +64,11 @@ pub(crate) fn answer_again<S: RowSource>(
 // Answers a request of an identity that a mark stands at.
 fn answer_marked<S: RowSource>(
     request: &Request,
+    key: &RowKey,
     mark: &Mark,
     rows: &mut Recorder<S>,
 ) -> Result<Verdict, Stop>
+    requires named { key.now ≡ RowKey.Original (identity_of request.now.transaction) }
     requires follows { Follows (Good (message.Request request.now)) rows.old.reads rows.old.writes (table.request_again request.now (OriginalRow.Ahead mark.now)) }
     ensures done { IfOk result (λ verdict. Concludes (Good (message.Request request.now)) rows.new.reads rows.new.writes (table.reply_to_request request.now verdict)) }
     ensures so_far { ReadsNeeds (Good (message.Request request.now)) rows.new.reads }
@@ -71,9 +79,8 @@ fn answer_marked<S: RowSource>(
     if !is_marked(mark, &request.transaction, OriginalKind::Request) {
         return Ok(Verdict::Declined(DeclineCode::DUPLICATE));
     }
-    let key = RowKey::Original(request.transaction.identity());
     let outcome = Outcome::Declined(DeclineCode::NOT_TRACED, Some(mark.reversal));
-    rows.write(key, kept_of(&request.transaction, outcome))?;
+    rows.write_copy(key, &kept_of(&request.transaction, outcome))?;
     Ok(Verdict::Declined(DeclineCode::NOT_TRACED))
 }
 
@@ -99,11 +106,13 @@ fn answer_kept<S: RowSource>(request: &Request, kept: &Kept, rows: &Recorder<S>)
 // Approves a request: it is kept, the card's approvals and its day rise, and the amount is taken from what pays.
 pub(crate) fn approve<S: RowSource>(
     request: &Request,
+    key: &RowKey,
     card: &CardRow,
     day: &VelocityRow,
     paying: &Funds,
     rows: &mut Recorder<S>,
 ) -> Result<Verdict, Stop>
+    requires named { key.now ≡ RowKey.Original (identity_of request.now.transaction) }
     requires follows { Follows (Good (message.Request request.now)) rows.old.reads rows.old.writes (table.approved request.now card.now day.now paying.now) }
     requires approvals { card.now.approvals < 999999 }
     requires count { day.now.count < 999999 }
@@ -134,14 +143,41 @@ pub(crate) fn approve<S: RowSource>(
         settlement: None,
     };
     let kept = kept_of(&request.transaction, Outcome::Approved(code, payment));
-    rows.write_copy(&RowKey::Original(request.transaction.identity()), &kept)?;
-    let charged = CardRow { approvals, ..*card };
-    let card_key = RowKey::Card(request.transaction.pan);
-    rows.write_copy(&card_key, &RowVal::Card(charged))?;
-    let day_key = RowKey::Velocity(request.transaction.pan, request.transaction.stamp.day());
-    let spent = VelocityRow { count, sum };
-    rows.write_copy(&day_key, &RowVal::Velocity(spent))?;
-    let paid = paying.with_balance(balance);
-    rows.write_copy(&paying.key(), &paid.row())?;
+    rows.write_copy(key, &kept)?;
+    charge_card(&request.transaction, card, approvals, rows)?;
+    charge_day(&request.transaction, count, sum, rows)?;
+    put_funds(paying, balance, rows)?;
     Ok(verdict)
+}
+
+// Puts the card with so many approvals. A function of its own, so that the card is copied as a whole.
+#[inline(never)]
+fn charge_card<S: RowSource>(
+    transaction: &Transaction,
+    card: &CardRow,
+    approvals: Count,
+    rows: &mut Recorder<S>,
+) -> Result<(), Stop>
+    ensures ok { OnOk result (rows.new ≡ record rows.old { writes = put rows.old.writes (RowKey.Card transaction.now.pan) (RowVal.Card (record card.now { approvals = approvals })) }) }
+    ensures err { OnErr result (rows.new ≡ rows.old) }
+    ensures stop { IfErr result (λ stop. stop ≡ Stop.OutOfMemory) }
+{
+    let charged = CardRow { approvals, ..*card };
+    rows.write_copy(&RowKey::Card(transaction.pan), &RowVal::Card(charged))
+}
+
+// Puts what was spent with the card on its day. A function of its own, so that nothing of another row is copied with it.
+#[inline(never)]
+fn charge_day<S: RowSource>(
+    transaction: &Transaction,
+    count: Count,
+    sum: Balance,
+    rows: &mut Recorder<S>,
+) -> Result<(), Stop>
+    ensures ok { OnOk result (rows.new ≡ record rows.old { writes = put rows.old.writes (RowKey.Velocity transaction.now.pan (day_of transaction.now.stamp)) (RowVal.Velocity (record { count = count; sum = sum })) }) }
+    ensures err { OnErr result (rows.new ≡ rows.old) }
+    ensures stop { IfErr result (λ stop. stop ≡ Stop.OutOfMemory) }
+{
+    let key = RowKey::Velocity(transaction.pan, transaction.stamp.day());
+    rows.write_copy(&key, &RowVal::Velocity(VelocityRow { count, sum }))
 }

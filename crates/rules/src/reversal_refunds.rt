@@ -8,6 +8,7 @@ ghost use Rattle.rules.specs.Following.{Follows, Concludes};
 ghost use Rattle.rules.specs.Needs.{ReadsNeeds};
 ghost use Rattle.view.specs.Recording.{IsStopOf};
 
+use crate::put_funds::put_funds;
 use crate::reversal_answers::unchanged;
 use crate::reversal_facts::{day_is_short, given_back, spent_less};
 use iso8583::{Action, Reversal};
@@ -39,10 +40,9 @@ pub(crate) fn reverse_advice<S: RowSource>(
     let Some(balance) = paid.balance().checked_add(given_back(reversal, kept)) else {
         return Ok(unchanged(reversal, Action::SYSTEM_MALFUNCTION));
     };
-    let refunded = paid.with_balance(balance);
     let original = RowVal::Kept(reversed(reversal, kept));
     rows.write(RowKey::Original(reversal.original.identity), original)?;
-    rows.write(paid.key(), refunded.row())?;
+    put_funds(paid, balance, rows)?;
     Ok(unchanged(reversal, Action::REVERSED))
 }
 
@@ -67,12 +67,11 @@ pub(crate) fn reverse_request<S: RowSource>(
     if day_is_short(reversal, kept, day) {
         return Ok(unchanged(reversal, Action::SYSTEM_MALFUNCTION));
     }
-    let refunded = paid.with_balance(balance);
     let original = RowVal::Kept(reversed(reversal, kept));
     let day_key = RowKey::Velocity(kept.card(), reversal.original.identity.stamp.day());
     let spent = RowVal::Velocity(spent_less(reversal, kept, day));
     rows.write(RowKey::Original(reversal.original.identity), original)?;
     rows.write(day_key, spent)?;
-    rows.write(paid.key(), refunded.row())?;
+    put_funds(paid, balance, rows)?;
     Ok(unchanged(reversal, Action::REVERSED))
 }

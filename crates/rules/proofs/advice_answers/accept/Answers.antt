@@ -1,21 +1,18 @@
-use Rattle.std.proofs.Common.{◌≡◌, ◌-◌, [], ◌∷◌, None, ap, ◌∙◌}
+use Rattle.std.proofs.Common.{◌≡◌, ◌-◌, [], ◌∷◌, None, refl, ap, ◌∙◌}
 use Rattle.rows.specs.AdviceTable.{kept_of_advice, accepted_writes}
 use Rattle.rows.specs.Funds.{balance_of, with_balance, key_of_funds, row_of_funds, paid_by}
 use Rattle.rows.specs.declared.outcome.Outcome.TheVariants as outcome
 use Rattle.rows.specs.declared.row_key.RowKey.TheVariants as key
 use Rattle.rules.proofs.FollowingLaws.{follows_needs, concluded, concluded_needs}
-use Rattle.rules.proofs.PutLaws.{two_puts, funds_of_kind}
+use Rattle.rules.proofs.PutLaws.{two_puts}
 use Rattle.rules.proofs.advice_answers.accept.Goals as goal
 
 pub returns-in_err-write-clause-so_far : goal.returns-in_err-write-clause-so_far
 returns-in_err-write-clause-so_far g c = follows_needs _ _ _ _ _ c.requires.follows (ap (λ (r : _). r.reads) c.in_err-write.ensures.err)
 
-pub write-requires-2 : goal.write-requires-2
-write-requires-2 g c = rw (c.key.ensures, c.row.ensures, c.with_balance-paid.ensures) (funds_of_kind c.args.paying.now c.in-Some.balance)
-
-pub returns-in_err-write-2-clause-so_far : goal.returns-in_err-write-2-clause-so_far
-returns-in_err-write-2-clause-so_far g c =
-    follows_needs _ _ _ _ _ c.requires.follows (ap (λ (r : _). r.reads) c.in_err-write-2.ensures.err ∙ ap (λ (r : _). r.reads) c.in_ok-write.ensures.ok)
+pub returns-in_err-put_funds-clause-so_far : goal.returns-in_err-put_funds-clause-so_far
+returns-in_err-put_funds-clause-so_far g c =
+    follows_needs _ _ _ _ _ c.requires.follows (ap (λ (r : _). r.reads) c.in_err-put_funds.ensures.err ∙ ap (λ (r : _). r.reads) c.in_ok-write.ensures.ok)
 
 pub returns-clause-done : goal.returns-clause-done
 returns-clause-done g c =
@@ -25,11 +22,10 @@ returns-clause-done g c =
     λ i. outcome.Accepted (record { payer = c.payer.ensures i; settlement = None }) in
     let kept = c.kept_of-kept.ensures ∙ ap (kept_of_advice a) outcome in
     let balance : c.in-Some.balance ≡ balance_of paying - a.transaction.amount = c.in-Some.ensures.1 ∙ ap (λ n. n - a.transaction.amount) c.balance.ensures in
-    let paid : c.with_balance-paid.result ≡ with_balance paying (balance_of paying - a.transaction.amount) = c.with_balance-paid.ensures ∙ ap (with_balance paying) balance in
-    let row = c.row.ensures ∙ ap row_of_funds paid in
-    let puts = two_puts c.args.rows.now _ _ _ _ paying _ _ c.requires.follows.unput c.in_ok-write.ensures.ok c.in_ok-write-2.ensures.ok c.key.ensures in
-    let table : c.write-2.new.self.writes ≡ accepted_writes a paying =
-    puts.1 ∙ (λ i. (key.Original (c.identity.ensures i), kept i) ∷ (key_of_funds paying, row i) ∷ []) in
+    let paid = ap (λ n. row_of_funds (with_balance paying n)) balance in
+    let puts = two_puts c.args.rows.now _ _ _ _ paying _ _ c.requires.follows.unput c.in_ok-write.ensures.ok c.in_ok-put_funds.ensures.ok refl in
+    let table : c.put_funds.new.rows.writes ≡ accepted_writes a paying =
+    puts.1 ∙ (λ i. (key.Original (c.identity.ensures i), kept i) ∷ (key_of_funds paying, paid i) ∷ []) in
     concluded _ _ _ _ _ _ _ _ c.requires.follows puts.0 table c.reply_to.ensures
 
 pub returns-clause-so_far : goal.returns-clause-so_far

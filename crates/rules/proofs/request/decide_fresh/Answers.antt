@@ -15,6 +15,7 @@ pub decline-requires-in_default-card_in : goal.decline-requires-in_default-card_
 decline-requires-in_default-card_in g c =
     let r = c.args.request.now in
     record {
+      named = c.requires.named;
       follows =
           looked_as _ _ _ _ _ _ _ _ _ _ (follows_as _ _ _ _ (table.looked_for_card r) (ap (λ o. table.unless_refused r o (table.looked_for_card r)) (sym c.refused_unseen.ensures ∙ c.in_default.is)) c.requires.follows)
           c.in_ok-ask.ensures.logged c.in_ok-ask.ensures.writes refl (ap (table.on_card r) (sym (c.card_in.ensures ∙ ap typed.card_in c.latest.ensures) ∙ c.in_default-card_in.is));
@@ -31,6 +32,7 @@ pub decline-requires-in-Err : goal.decline-requires-in-Err
 decline-requires-in-Err g c =
     let r = c.args.request.now in
     record {
+      named = c.requires.named;
       follows =
           looked_as _ _ _ _ _ _ _ _ _ _ (follows_as _ _ _ _ (table.looked_for_card r) (ap (λ o. table.unless_refused r o (table.looked_for_card r)) (sym c.refused_unseen.ensures ∙ c.in_default.is)) c.requires.follows)
           c.in_ok-ask.ensures.logged c.in_ok-ask.ensures.writes refl

@@ -14,6 +14,7 @@ returns-in_err-ask-clause-so_far g c = follows_needs _ _ _ _ _ c.requires.follow
 
 pub decline-requires : goal.decline-requires
 decline-requires g c = record {
+  named = c.requires.named;
   follows =
       looked_as _ _ _ _ _ _ _ _ _ _ c.requires.follows c.in_ok-ask.ensures.logged c.in_ok-ask.ensures.writes refl
       (ap (table.on_account c.args.request.now c.args.card.now c.args.id) (sym (c.account_in.ensures ∙ ap typed.account_in c.latest.ensures) ∙ c.in_default.is));
@@ -21,6 +22,7 @@ decline-requires g c = record {
 
 pub decline-requires-then-ne : goal.decline-requires-then-ne
 decline-requires-then-ne g c = record {
+  named = c.requires.named;
   follows =
       follows_else _ _ _ (is_same_currency c.args.request.now.transaction.currency c.in-Some.account.currency) _ _
       (looked_as _ _ _ _ _ _ _ _ _ _ c.requires.follows c.in_ok-ask.ensures.logged c.in_ok-ask.ensures.writes refl

@@ -26,6 +26,7 @@ pub decline-requires-in-Err : goal.decline-requires-in-Err
 decline-requires-in-Err g c =
     let r = c.args.request.now in
     record {
+      named = c.requires.named;
       follows =
           looked_as _ _ _ _ _ _ _ _ _ _
           (follows_as _ _ _ _ (table.looked_for_funds r c.args.card.now c.args.id c.args.account.now c.args.day.now)

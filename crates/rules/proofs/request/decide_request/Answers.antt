@@ -10,6 +10,7 @@ ask-requires g c = unread c.args.rows.now _ _ _ (key.Original c.identity.result)
 
 pub answer_again-requires : goal.answer_again-requires
 answer_again-requires g c = record {
+  named = λ i. key.Original (c.identity.ensures i);
   follows =
       looked_as _ _ _ _ _ _ _ _ _ _ c.requires.follows c.in_ok-ask.ensures.logged c.in_ok-ask.ensures.writes (λ i. key.Original (c.identity.ensures i))
       (ap (table.on_original c.args.request.now) (sym (c.original_in.ensures ∙ ap typed.original_in c.latest.ensures) ∙ c.in-Some.is));

@@ -1,4 +1,5 @@
-use Rattle.std.proofs.Common.{◌≡◌, ◌-◌, [], ◌∷◌, None, ap, ◌∙◌}
+use Rattle.std.proofs.Common.{◌≡◌, ◌-◌, [], ◌∷◌, None, refl, ap, ◌∙◌}
+use Rattle.rows.specs.Facts.{identity_of, day_of}
 use Rattle.rows.specs.Funds.{balance_of, with_balance, key_of_funds, row_of_funds, paid_by}
 use Rattle.iso8583.specs.Number.{fixed_digits}
 use Rattle.rows.specs.RequestTable.{approval_code, kept_of_request, reply_to_request, approved_writes}
@@ -6,29 +7,27 @@ use Rattle.rows.specs.declared.outcome.Outcome.TheVariants as outcome
 use Rattle.iso8583.specs.declared.verdict.Verdict.TheVariants as verdict
 use Rattle.rows.specs.declared.row_key.RowKey.TheVariants as key
 use Rattle.rows.specs.declared.row_val.RowVal.TheVariants as val
+use Rattle.view.specs.RowSets.{put}
 use Rattle.rules.proofs.FollowingLaws.{follows_needs, concluded, concluded_needs}
-use Rattle.rules.proofs.PutLaws.{four_puts, funds_of_kind}
+use Rattle.rules.proofs.PutLaws.{four_puts}
 use Rattle.rules.proofs.request_answers.approve.Goals as goal
 
 pub returns-in_err-write_copy-clause-so_far : goal.returns-in_err-write_copy-clause-so_far
 returns-in_err-write_copy-clause-so_far g c = follows_needs _ _ _ _ _ c.requires.follows (ap (λ (r : _). r.reads) c.in_err-write_copy.ensures.err)
 
-pub returns-in_err-write_copy-2-clause-so_far : goal.returns-in_err-write_copy-2-clause-so_far
-returns-in_err-write_copy-2-clause-so_far g c =
-    follows_needs _ _ _ _ _ c.requires.follows (ap (λ (r : _). r.reads) c.in_err-write_copy-2.ensures.err ∙ ap (λ (r : _). r.reads) c.in_ok-write_copy.ensures.ok)
+pub returns-in_err-charge_card-clause-so_far : goal.returns-in_err-charge_card-clause-so_far
+returns-in_err-charge_card-clause-so_far g c =
+    follows_needs _ _ _ _ _ c.requires.follows (ap (λ (r : _). r.reads) c.in_err-charge_card.ensures.err ∙ ap (λ (r : _). r.reads) c.in_ok-write_copy.ensures.ok)
 
-pub returns-in_err-write_copy-3-clause-so_far : goal.returns-in_err-write_copy-3-clause-so_far
-returns-in_err-write_copy-3-clause-so_far g c =
+pub returns-in_err-charge_day-clause-so_far : goal.returns-in_err-charge_day-clause-so_far
+returns-in_err-charge_day-clause-so_far g c =
     follows_needs _ _ _ _ _ c.requires.follows
-    (ap (λ (r : _). r.reads) c.in_err-write_copy-3.ensures.err ∙ ap (λ (r : _). r.reads) c.in_ok-write_copy-2.ensures.ok ∙ ap (λ (r : _). r.reads) c.in_ok-write_copy.ensures.ok)
+    (ap (λ (r : _). r.reads) c.in_err-charge_day.ensures.err ∙ ap (λ (r : _). r.reads) c.in_ok-charge_card.ensures.ok ∙ ap (λ (r : _). r.reads) c.in_ok-write_copy.ensures.ok)
 
-pub write_copy-requires-4 : goal.write_copy-requires-4
-write_copy-requires-4 g c = rw (c.key.ensures, c.row.ensures, c.with_balance-paid.ensures) (funds_of_kind c.args.paying.now c.in-Some-Some-2.balance)
-
-pub returns-in_err-write_copy-4-clause-so_far : goal.returns-in_err-write_copy-4-clause-so_far
-returns-in_err-write_copy-4-clause-so_far g c =
+pub returns-in_err-put_funds-clause-so_far : goal.returns-in_err-put_funds-clause-so_far
+returns-in_err-put_funds-clause-so_far g c =
     follows_needs _ _ _ _ _ c.requires.follows
-    (ap (λ (r : _). r.reads) c.in_err-write_copy-4.ensures.err ∙ ap (λ (r : _). r.reads) c.in_ok-write_copy-3.ensures.ok ∙ ap (λ (r : _). r.reads) c.in_ok-write_copy-2.ensures.ok
+    (ap (λ (r : _). r.reads) c.in_err-put_funds.ensures.err ∙ ap (λ (r : _). r.reads) c.in_ok-charge_day.ensures.ok ∙ ap (λ (r : _). r.reads) c.in_ok-charge_card.ensures.ok
     ∙ ap (λ (r : _). r.reads) c.in_ok-write_copy.ensures.ok)
 
 pub returns-clause-done : goal.returns-clause-done
@@ -41,15 +40,14 @@ returns-clause-done g c =
     λ i. outcome.Approved (code i) (record { payer = c.payer.ensures i; settlement = None }) in
     let kept = c.kept_of-kept.ensures ∙ ap (kept_of_request r) outcome in
     let balance : c.in-Some-Some-2.balance ≡ balance_of paying - r.transaction.amount = c.in-Some-Some-2.ensures'.1 ∙ ap (λ n. n - r.transaction.amount) c.balance.ensures in
-    let paid : c.with_balance-paid.result ≡ with_balance paying (balance_of paying - r.transaction.amount) = c.with_balance-paid.ensures ∙ ap (with_balance paying) balance in
-    let row = c.row.ensures ∙ ap row_of_funds paid in
+    let paid = ap (λ n. row_of_funds (with_balance paying n)) balance in
+    let named = c.in_ok-write_copy.ensures.ok ∙ ap (λ k. record c.args.rows.now { writes = put c.args.rows.now.writes k c.kept_of-kept.result }) c.requires.named in
     let puts = four_puts c.args.rows.now _ _ _ _ _ _ _ _ _ _ _ paying _ _ c.requires.follows.unput
-    c.in_ok-write_copy.ensures.ok c.in_ok-write_copy-2.ensures.ok c.in_ok-write_copy-3.ensures.ok c.in_ok-write_copy-4.ensures.ok c.key.ensures in
-    let table : c.write_copy-4.new.self.writes ≡ approved_writes r c.args.card.now c.args.day.now paying =
-    puts.1 ∙ (λ i. (key.Original (c.identity.ensures i), kept i)
-    ∷ (key.Card r.transaction.pan, val.Card (record c.args.card.now { approvals = approvals i }))
-    ∷ (key.Velocity r.transaction.pan (c.day.ensures i), val.Velocity (record { count = c.in-Some-Some.ensures'.1 i; sum = c.in-Some-Some-2.ensures.1 i }))
-    ∷ (key_of_funds paying, row i) ∷ []) in
+    named c.in_ok-charge_card.ensures.ok c.in_ok-charge_day.ensures.ok c.in_ok-put_funds.ensures.ok refl in
+    let table : c.put_funds.new.rows.writes ≡ approved_writes r c.args.card.now c.args.day.now paying =
+    puts.1 ∙ (λ i. (key.Original (identity_of r.transaction), kept i) ∷ (key.Card r.transaction.pan, val.Card (record c.args.card.now { approvals = approvals i }))
+    ∷ (key.Velocity r.transaction.pan (day_of r.transaction.stamp), val.Velocity (record { count = c.in-Some-Some.ensures'.1 i; sum = c.in-Some-Some-2.ensures.1 i }))
+    ∷ (key_of_funds paying, paid i) ∷ []) in
     concluded _ _ _ _ _ _ _ _ c.requires.follows puts.0 table (ap (λ code. reply_to_request r (verdict.Approved code)) code)
 
 pub returns-clause-so_far : goal.returns-clause-so_far

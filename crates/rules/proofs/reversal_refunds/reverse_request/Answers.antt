@@ -1,10 +1,10 @@
-use Rattle.std.proofs.Common.{◌≡◌, ◌+◌, [], ◌∷◌, sym, ap, ◌∙◌}
+use Rattle.std.proofs.Common.{◌≡◌, ◌+◌, [], ◌∷◌, refl, sym, ap, ◌∙◌}
 use Rattle.rows.specs.Funds.{balance_of, with_balance, key_of_funds, row_of_funds}
 use Rattle.rows.specs.ReversalTable.{request_back, given_back}
 use Rattle.rows.specs.declared.row_key.RowKey.TheVariants as key
 use Rattle.rows.specs.declared.row_val.RowVal.TheVariants as val
 use Rattle.rules.proofs.FollowingLaws.{follows_then, follows_else, follows_needs, concluded, concluded_with_none, concluded_needs}
-use Rattle.rules.proofs.PutLaws.{three_puts, funds_of_kind}
+use Rattle.rules.proofs.PutLaws.{three_puts}
 use Rattle.rules.proofs.RefundLaws.{overfull, not_overfull}
 use Rattle.rules.proofs.reversal_refunds.reverse_request.Goals as goal
 
@@ -36,13 +36,10 @@ pub returns-in_err-write-2-clause-so_far : goal.returns-in_err-write-2-clause-so
 returns-in_err-write-2-clause-so_far g c =
     follows_needs _ _ _ _ _ c.requires.follows (ap (λ (r : _). r.reads) c.in_err-write-2.ensures.err ∙ ap (λ (r : _). r.reads) c.in_ok-write.ensures.ok)
 
-pub write-requires-3 : goal.write-requires-3
-write-requires-3 g c = rw (c.key.ensures, c.row.ensures, c.with_balance-refunded.ensures) (funds_of_kind c.args.paid.now c.in-Some.balance)
-
-pub returns-in_err-write-3-clause-so_far : goal.returns-in_err-write-3-clause-so_far
-returns-in_err-write-3-clause-so_far g c =
+pub returns-in_err-put_funds-clause-so_far : goal.returns-in_err-put_funds-clause-so_far
+returns-in_err-put_funds-clause-so_far g c =
     follows_needs _ _ _ _ _ c.requires.follows
-    (ap (λ (r : _). r.reads) c.in_err-write-3.ensures.err ∙ ap (λ (r : _). r.reads) c.in_ok-write-2.ensures.ok ∙ ap (λ (r : _). r.reads) c.in_ok-write.ensures.ok)
+    (ap (λ (r : _). r.reads) c.in_err-put_funds.ensures.err ∙ ap (λ (r : _). r.reads) c.in_ok-write-2.ensures.ok ∙ ap (λ (r : _). r.reads) c.in_ok-write.ensures.ok)
 
 pub returns-clause-done : goal.returns-clause-done
 returns-clause-done g c =
@@ -50,9 +47,9 @@ returns-clause-done g c =
     let k = c.args.kept.now in
     let paid = c.args.paid.now in
     let balance : c.in-Some.balance ≡ balance_of paid + given_back v k = c.in-Some.ensures.1 ∙ (λ i. c.balance.ensures i + c.given_back.ensures i) in
-    let row = c.row.ensures ∙ ap row_of_funds (c.with_balance-refunded.ensures ∙ ap (with_balance paid) balance) in
-    let puts = three_puts c.args.rows.now _ _ _ _ _ _ _ _ paid _ _ c.requires.follows.unput c.in_ok-write.ensures.ok c.in_ok-write-2.ensures.ok c.in_ok-write-3.ensures.ok c.key.ensures in
-    let table : c.write-3.new.self.writes ≡ request_back v k paid c.args.day.now =
+    let row = ap (λ n. row_of_funds (with_balance paid n)) balance in
+    let puts = three_puts c.args.rows.now _ _ _ _ _ _ _ _ paid _ _ c.requires.follows.unput c.in_ok-write.ensures.ok c.in_ok-write-2.ensures.ok c.in_ok-put_funds.ensures.ok refl in
+    let table : c.put_funds.new.rows.writes ≡ request_back v k paid c.args.day.now =
     puts.1 ∙ (λ i. (key.Original v.original.identity, val.Kept (c.reversed.ensures i))
     ∷ (key.Velocity (c.card.ensures.card i) (c.day.ensures i), val.Velocity (c.spent_less.ensures i)) ∷ (key_of_funds paid, row i) ∷ []) in
     concluded _ _ _ _ _ _ _ _

@@ -1,0 +1,35 @@
+ghost use Rattle.std.specs.Prelude.{◌≡◌, IfErr, OnOk, OnErr};
+ghost use Rattle.rows.specs.Funds.{key_of_funds, row_of_funds, with_balance};
+ghost use Rattle.view.specs.RowSets.{put};
+
+use rows::{AccountRow, Balance, BudgetRow, Funds, RowKey, RowVal};
+use view::{Recorder, RowSource, Stop};
+
+// Puts the row of what pays or is paid back, with this balance.
+#[inline(always)]
+pub(crate) fn put_funds<S: RowSource>(
+    funds: &Funds,
+    balance: Balance,
+    rows: &mut Recorder<S>,
+) -> Result<(), Stop>
+    ensures ok { OnOk result (rows.new ≡ record rows.old { writes = put rows.old.writes (key_of_funds funds.now) (row_of_funds (with_balance funds.now balance)) }) }
+    ensures err { OnErr result (rows.new ≡ rows.old) }
+    ensures stop { IfErr result (λ stop. stop ≡ Stop.OutOfMemory) }
+{
+    match funds {
+        Funds::Account(id, row) => {
+            let left = AccountRow {
+                available: balance,
+                ..*row
+            };
+            rows.write_copy(&RowKey::Account(*id), &RowVal::Account(left))
+        }
+        Funds::Budget(prefix, row) => {
+            let left = BudgetRow {
+                left: balance,
+                ..*row
+            };
+            rows.write_copy(&RowKey::Budget(*prefix), &RowVal::Budget(left))
+        }
+    }
+}
