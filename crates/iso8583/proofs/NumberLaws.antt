@@ -43,7 +43,7 @@ digit_value_char d h = grind (arith, nat_tests)
 is_digit_char : (d : ℕ) → d < 10 → is_ascii_digit (48 + d) ≡ true
 is_digit_char d h = grind (arith, nat_tests)
 
-char_of_value : (c : ℕ) → is_ascii_digit c ≡ true → (48 + digit_value c ≡ c) × (digit_value c < 10)
+pub char_of_value : (c : ℕ) → is_ascii_digit c ≡ true → (48 + digit_value c ≡ c) × (digit_value c < 10)
 char_of_value c h =
     let b = digit_bounds c h in
     let e = digit_value_digit c (search (rules, b)) in

@@ -22,12 +22,13 @@ pub fn luhn(pan: &Pan) -> bool
     sum % 10 == 0
 }
 
-// A digit doubled, less 9 where that passes 9.
+// Each digit doubled, less 9 where that passes 9.
+const DOUBLED: [u8; 10] = [0, 2, 4, 6, 8, 1, 3, 5, 7, 9];
+
 fn doubled(digit: u8) -> u8
     requires { digit ≤ 9 }
     ensures value { result ≡ doubled digit }
     ensures bound { result ≤ 9 }
 {
-    let twice = 2 * digit;
-    if twice > 9 { twice - 9 } else { twice }
+    DOUBLED[usize::from(digit)]
 }

@@ -1,26 +1,19 @@
 -- The order of texts of digits.
-use Rattle.std.proofs.Common.{◌≡◌, ℕ, ◌+◌, ◌*◌, ◌<◌, ◌≤◌, Bool, true, false, ◌&&◌, nat_lt, is_lt, List, [], ◌∷◌, length, Ordering, Less, Equal, Greater, inl, inr, refl, sym, ap, subst, ◌∙◌, arith, rules}
+use Rattle.std.proofs.Common.{◌≡◌, ℕ, ◌+◌, ◌*◌, ◌<◌, ◌≤◌, Bool, true, false, ◌&&◌, nat_lt, is_lt, List, [], ◌∷◌, length, Ordering, Less, Equal, Greater, inl, inr, refl, sym, ap, subst, ◌∙◌, arith}
 use Rattle.std.proofs.lemmas.Bool.{cases_order, false≢true}
 use Rattle.std.proofs.lemmas.Bool.Decides.{nat_tests}
-use Rattle.std.proofs.lemmas.Str.{digit_value_digit}
 use Rattle.std.specs.Char.{is_ascii_digit, digit_value}
 use Rattle.std.specs.Cmp.{nat_cmp_is}
 use Rattle.std.specs.Cmp.Lexicographic.{slice_cmp}
 use Rattle.std.specs.Ordering.{nat_cmp, ordering_then}
 use Rattle.std.specs.Str.Parse.{digits_value_after}
+use Rattle.iso8583.proofs.NumberLaws.{char_of_value}
 use Rattle.iso8583.specs.Class.{is_digits}
 use Rattle.iso8583.specs.Number.{number_of}
 
 split : (p q : Bool) → (p && q) ≡ true → (p ≡ true) × (q ≡ true)
 split true q h = (refl, h)
 split false q h = absurd (false≢true h)
-
--- the number that a digit's character stands for
-value_of : (c : ℕ) → is_ascii_digit c ≡ true → (48 + digit_value c ≡ c) × (digit_value c < 10)
-value_of c h =
-    let b : (48 ≤ c) × (c < 58) = (grind (arith, nat_tests), grind (arith, nat_tests)) in
-    let e = digit_value_digit c (search (rules, b)) in
-    (omega arith, omega (arith, b.0, b.1))
 
 -- behind a lower number, digits make a lower one
 below : (m n : ℕ) (xs ys : List ℕ) → length xs ≡ length ys → is_digits xs ≡ true → m < n → digits_value_after 10 m xs < digits_value_after 10 n ys
@@ -29,7 +22,7 @@ below m n [] (y ∷ ys) e d h = absurd (omega arith)
 below m n (x ∷ xs) [] e d h = absurd (omega arith)
 below m n (x ∷ xs) (y ∷ ys) e d h =
     let digit = split (is_ascii_digit x) (is_digits xs) d in
-    let small = (value_of x digit.0).1 in
+    let small = (char_of_value x digit.0).1 in
     below (m * 10 + digit_value x) (n * 10 + digit_value y) xs ys (omega arith) digit.1 (omega (arith, small, h))
 
 order_behind : (n : ℕ) (xs ys : List ℕ) → length xs ≡ length ys → is_digits xs ≡ true → is_digits ys ≡ true → nat_cmp (digits_value_after 10 n xs) (digits_value_after 10 n ys) ≡ slice_cmp nat_cmp xs ys
@@ -40,8 +33,8 @@ order_behind n (x ∷ xs) (y ∷ ys) e c d =
     let same : length xs ≡ length ys = omega arith in
     let mine = split (is_ascii_digit x) (is_digits xs) c in
     let theirs = split (is_ascii_digit y) (is_digits ys) d in
-    let value_x = value_of x mine.0 in
-    let value_y = value_of y theirs.0 in
+    let value_x = char_of_value x mine.0 in
+    let value_y = char_of_value y theirs.0 in
     let first : (o : Ordering) → o ≡ nat_cmp x y → ordering_then o (slice_cmp nat_cmp xs ys) ≡ slice_cmp nat_cmp (x ∷ xs) (y ∷ ys) =
     λ o is. ap (λ r. ordering_then r (slice_cmp nat_cmp xs ys)) is in
     elim (cases_order x y) [

@@ -1,4 +1,4 @@
-ghost use Rattle.std.specs.Prelude.{◌≡◌, ◌↔◌, IsTrue};
+ghost use Rattle.std.specs.Prelude.{◌≡◌, ◌↔◌, option_copied, IsTrue};
 ghost use Rattle.rows.specs.CardAccounts.{account_of, is_second};
 
 use iso8583::AccountId;
@@ -44,14 +44,14 @@ impl CardAccounts {
     }
 
     /// The account that a message names, if it is one of these; where it names none, the first.
-    pub fn account_of(&self, named: &Option<AccountId>) -> Option<AccountId>
-        ensures { result ≡ account_of self.now named.now }
+    pub fn account_of<'a>(&'a self, named: &'a Option<AccountId>) -> Option<&'a AccountId>
+        ensures { option_copied result ≡ account_of self.now named.now }
     {
         let Some(id) = named else {
-            return Some(self.first);
+            return Some(&self.first);
         };
         if *id == self.first || self.is_second(id) {
-            Some(*id)
+            Some(id)
         } else {
             None
         }

@@ -1,5 +1,5 @@
 -- Rows that are put one after another.
-use Rattle.std.proofs.Common.{◌≡◌, ℕ, List, [], ◌∷◌, refl, ap, ◌∙◌}
+use Rattle.std.proofs.Common.{◌≡◌, ℕ, List, [], ◌∷◌, None, refl, ap, ◌∙◌}
 use Rattle.iso8583.specs.declared.identity.Identity.{Identity}
 use Rattle.iso8583.specs.declared.pan.Pan.{Pan}
 use Rattle.rows.specs.Funds.{key_of_funds}
@@ -10,7 +10,7 @@ use Rattle.rows.specs.declared.row_key.RowKey.{RowKey}
 use Rattle.rows.specs.declared.row_key.RowKey.TheVariants as key
 use Rattle.rows.specs.declared.row_val.RowVal.{RowVal}
 use Rattle.view.specs.Recording.{Recording}
-use Rattle.view.specs.RowSets.{put}
+use Rattle.view.specs.RowSets.{value_in, put}
 
 -- one more row is put
 pub next_put : (writes now : Writes) (k : RowKey) (value : RowVal) (before after : Writes) → now ≡ put writes k value → writes ≡ before → put before k value ≡ after → now ≡ after
@@ -35,6 +35,51 @@ pub funds_put_second : (f : Funds) (identity : Identity) (a d : RowVal)
     → put ((key.Original identity, a) ∷ []) (key_of_funds f) d ≡ (key.Original identity, a) ∷ (key_of_funds f, d) ∷ []
 funds_put_second (funds.Account id row) identity a d = refl
 funds_put_second (funds.Budget prefix row) identity a d = refl
+
+-- where a request's own row alone is put, no card is, and where its card is too, no day
+module _ {S : Type 0} (old one two : Recording S) (own : RowKey) (identity : Identity) (a b : RowVal) where
+  pub card_unput : (pan : Pan) → old.writes ≡ [] → own ≡ key.Original identity → one ≡ record old { writes = put old.writes own a } → value_in one.writes (key.Card pan) ≡ None
+  card_unput pan none named p = ap (λ (ws : Writes). value_in ws (key.Card pan)) (ap (λ (x : Recording S). x.writes) p ∙ (λ i. put (none i) (named i) a))
+
+  pub day_unput : (pan other : Pan) (day : List ℕ) → old.writes ≡ [] → own ≡ key.Original identity → one ≡ record old { writes = put old.writes own a }
+      → two ≡ record one { writes = put one.writes (key.Card pan) b } → value_in two.writes (key.Velocity other day) ≡ None
+  day_unput pan other day none named p q =
+      ap (λ (ws : Writes). value_in ws (key.Velocity other day))
+      (ap (λ (x : Recording S). x.writes) q ∙ ap (λ (ws : Writes). put ws (key.Card pan) b) (ap (λ (x : Recording S). x.writes) p ∙ (λ i. put (none i) (named i) a)))
+
+  pub paying_unput : (three : Recording S) (pan other : Pan) (day : List ℕ) (c : RowVal) (f : Funds) → old.writes ≡ [] → own ≡ key.Original identity → one ≡ record old { writes = put old.writes own a }
+      → two ≡ record one { writes = put one.writes (key.Card pan) b } → three ≡ record two { writes = put two.writes (key.Velocity other day) c } → value_in three.writes (key_of_funds f) ≡ None
+  paying_unput three pan other day c f none named p q r =
+      ap (λ (ws : Writes). value_in ws (key_of_funds f))
+      (ap (λ (x : Recording S). x.writes) r ∙ ap (λ (ws : Writes). put ws (key.Velocity other day) c)
+      (ap (λ (x : Recording S). x.writes) q ∙ ap (λ (ws : Writes). put ws (key.Card pan) b) (ap (λ (x : Recording S). x.writes) p ∙ (λ i. put (none i) (named i) a))))
+      ∙ apart f
+    where
+      apart : (f : Funds) → value_in ((key.Original identity, a) ∷ (key.Card pan, b) ∷ (key.Velocity other day, c) ∷ []) (key_of_funds f) ≡ None
+      apart (funds.Account id row) = refl
+      apart (funds.Budget prefix row) = refl
+
+-- where an original alone is put, or it and a day, nothing is that pays
+module _ {S : Type 0} (old one two : Recording S) (identity : Identity) (a b : RowVal) (f : Funds) where
+  pub payer_unput : old.writes ≡ [] → one ≡ record old { writes = put old.writes (key.Original identity) a } → value_in one.writes (key_of_funds f) ≡ None
+  payer_unput none p =
+      ap (λ (ws : Writes). value_in ws (key_of_funds f)) (ap (λ (x : Recording S). x.writes) p ∙ ap (λ (ws : Writes). put ws (key.Original identity) a) none) ∙ apart f
+    where
+      apart : (f : Funds) → value_in ((key.Original identity, a) ∷ []) (key_of_funds f) ≡ None
+      apart (funds.Account id row) = refl
+      apart (funds.Budget prefix row) = refl
+
+  pub repaid_unput : (pan : Pan) (day : List ℕ) → old.writes ≡ [] → one ≡ record old { writes = put old.writes (key.Original identity) a }
+      → two ≡ record one { writes = put one.writes (key.Velocity pan day) b } → value_in two.writes (key_of_funds f) ≡ None
+  repaid_unput pan day none p q =
+      ap (λ (ws : Writes). value_in ws (key_of_funds f))
+      (ap (λ (x : Recording S). x.writes) q ∙ ap (λ (ws : Writes). put ws (key.Velocity pan day) b)
+      (ap (λ (x : Recording S). x.writes) p ∙ ap (λ (ws : Writes). put ws (key.Original identity) a) none))
+      ∙ apart f
+    where
+      apart : (f : Funds) → value_in ((key.Original identity, a) ∷ (key.Velocity pan day, b) ∷ []) (key_of_funds f) ≡ None
+      apart (funds.Account id row) = refl
+      apart (funds.Budget prefix row) = refl
 
 -- four rows of an approval, put one after another over none
 module _ {S : Type 0} (old one two three four : Recording S) (identity : Identity) (pan other : Pan) (day : List ℕ) (a b c : RowVal) (f : Funds) (last : RowKey) (d : RowVal) where

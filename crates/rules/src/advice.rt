@@ -52,7 +52,7 @@ fn decide_fresh<S: RowSource>(advice: &Advice, rows: &mut Recorder<S>) -> Result
     let Some(card) = card_in(rows.latest()) else {
         return acknowledge(advice, rows);
     };
-    match card.accounts.account_of(&advice.account) {
+    match card.accounts.account_of(&advice.account).copied() {
         Some(id) => decide_on_account(advice, id, rows),
         None => acknowledge(advice, rows),
     }

@@ -1,17 +1,18 @@
-ghost use Rattle.std.specs.Prelude.{◌≡◌, IfErr, OnOk, OnErr};
+ghost use Rattle.std.specs.Prelude.{◌≡◌, None, IfErr, OnOk, OnErr};
 ghost use Rattle.rows.specs.Funds.{key_of_funds, row_of_funds, with_balance};
-ghost use Rattle.view.specs.RowSets.{put};
+ghost use Rattle.view.specs.RowSets.{value_in, put};
 
 use rows::{AccountRow, Balance, BudgetRow, Funds, RowKey, RowVal};
 use view::{Recorder, RowSource, Stop};
 
-// Puts the row of what pays or is paid back, with this balance.
+// Puts the row of what pays or is paid back, with this balance; it is not put yet.
 #[inline(always)]
 pub(crate) fn put_funds<S: RowSource>(
     funds: &Funds,
     balance: Balance,
     rows: &mut Recorder<S>,
 ) -> Result<(), Stop>
+    requires absent { value_in rows.old.writes (key_of_funds funds.now) ≡ None }
     ensures ok { OnOk result (rows.new ≡ record rows.old { writes = put rows.old.writes (key_of_funds funds.now) (row_of_funds (with_balance funds.now balance)) }) }
     ensures err { OnErr result (rows.new ≡ rows.old) }
     ensures stop { IfErr result (λ stop. stop ≡ Stop.OutOfMemory) }
@@ -22,14 +23,14 @@ pub(crate) fn put_funds<S: RowSource>(
                 available: balance,
                 ..*row
             };
-            rows.write_copy(&RowKey::Account(*id), &RowVal::Account(left))
+            rows.write_new(&RowKey::Account(*id), &RowVal::Account(left))
         }
         Funds::Budget(prefix, row) => {
             let left = BudgetRow {
                 left: balance,
                 ..*row
             };
-            rows.write_copy(&RowKey::Budget(*prefix), &RowVal::Budget(left))
+            rows.write_new(&RowKey::Budget(*prefix), &RowVal::Budget(left))
         }
     }
 }

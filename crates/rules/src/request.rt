@@ -68,11 +68,11 @@ fn decide_on_account<S: RowSource>(
     request: &Request,
     key: &RowKey,
     card: &CardRow,
-    id: AccountId,
+    id: &AccountId,
     rows: &mut Recorder<S>,
 ) -> Result<Verdict, Stop>
     requires named { key.now ≡ RowKey.Original (identity_of request.now.transaction) }
-    requires follows { Follows (Good (message.Request request.now)) rows.old.reads rows.old.writes (table.on_usable request.now card.now (Ok id)) }
+    requires follows { Follows (Good (message.Request request.now)) rows.old.reads rows.old.writes (table.on_usable request.now card.now (Ok id.now)) }
     requires kinds { kinds_read rows.old.reads ≡ 3 ∷ 0 ∷ [] }
     ensures done { IfOk result (λ verdict. Concludes (Good (message.Request request.now)) rows.new.reads rows.new.writes (table.reply_to_request request.now verdict)) }
     ensures so_far { ReadsNeeds (Good (message.Request request.now)) rows.new.reads }
@@ -80,8 +80,7 @@ fn decide_on_account<S: RowSource>(
     ensures stops { IfSome (S.book rows.old.source) (λ _. IfErr result (λ stop. stop ≡ Stop.OutOfMemory)) }
     ensures book { S.book rows.new.source ≡ S.book rows.old.source }
 {
-    let paying = id;
-    rows.ask(&RowKey::Account(paying))?;
+    rows.ask(&RowKey::Account(*id))?;
     let Some(account) = account_in(rows.latest()) else {
         return decline(request, key, DeclineCode::SYSTEM_MALFUNCTION, rows);
     };
@@ -96,12 +95,12 @@ fn decide_on_day<S: RowSource>(
     request: &Request,
     key: &RowKey,
     card: &CardRow,
-    id: AccountId,
+    id: &AccountId,
     account: &AccountRow,
     rows: &mut Recorder<S>,
 ) -> Result<Verdict, Stop>
     requires named { key.now ≡ RowKey.Original (identity_of request.now.transaction) }
-    requires follows { Follows (Good (message.Request request.now)) rows.old.reads rows.old.writes (table.looked_for_day request.now card.now id account.now) }
+    requires follows { Follows (Good (message.Request request.now)) rows.old.reads rows.old.writes (table.looked_for_day request.now card.now id.now account.now) }
     requires kinds { kinds_read rows.old.reads ≡ 3 ∷ 0 ∷ 4 ∷ [] }
     ensures done { IfOk result (λ verdict. Concludes (Good (message.Request request.now)) rows.new.reads rows.new.writes (table.reply_to_request request.now verdict)) }
     ensures so_far { ReadsNeeds (Good (message.Request request.now)) rows.new.reads }
@@ -120,13 +119,13 @@ fn decide_on_limits<S: RowSource>(
     request: &Request,
     key: &RowKey,
     card: &CardRow,
-    id: AccountId,
+    id: &AccountId,
     account: &AccountRow,
     day: &VelocityRow,
     rows: &mut Recorder<S>,
 ) -> Result<Verdict, Stop>
     requires named { key.now ≡ RowKey.Original (identity_of request.now.transaction) }
-    requires follows { Follows (Good (message.Request request.now)) rows.old.reads rows.old.writes (table.on_day request.now card.now id account.now day.now) }
+    requires follows { Follows (Good (message.Request request.now)) rows.old.reads rows.old.writes (table.on_day request.now card.now id.now account.now day.now) }
     requires kinds { kinds_read rows.old.reads ≡ 3 ∷ 0 ∷ 4 ∷ 1 ∷ [] }
     ensures done { IfOk result (λ verdict. Concludes (Good (message.Request request.now)) rows.new.reads rows.new.writes (table.reply_to_request request.now verdict)) }
     ensures so_far { ReadsNeeds (Good (message.Request request.now)) rows.new.reads }

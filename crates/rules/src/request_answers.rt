@@ -1,4 +1,4 @@
-ghost use Rattle.std.specs.Prelude.{◌≡◌, ◌⊎◌, ◌+◌, ◌^◌, ◌<◌, ◌≤◌, ◌&&◌, IfOk, IfErr, IfSome, OnOk, OnErr};
+ghost use Rattle.std.specs.Prelude.{◌≡◌, ◌⊎◌, ◌+◌, ◌^◌, ◌<◌, ◌≤◌, ◌&&◌, None, IfOk, IfErr, IfSome, OnOk, OnErr};
 ghost use Rattle.iso8583.specs.declared.message.Message.TheVariants as message;
 ghost use Rattle.iso8583.specs.declared.original_kind.OriginalKind.TheVariants as kind;
 ghost use Rattle.rows.specs.Facts.{day_of, identity_of, is_of_same};
@@ -8,7 +8,7 @@ ghost use Rattle.rows.specs.declared.frame.Frame.TheVariants.{Good};
 ghost use Rattle.rules.specs.Following.{Follows, Concludes};
 ghost use Rattle.rules.specs.Needs.{ReadsNeeds};
 ghost use Rattle.view.specs.Recording.{IsStopOf};
-ghost use Rattle.view.specs.RowSets.{put};
+ghost use Rattle.view.specs.RowSets.{value_in, put};
 
 use crate::facts::{is_marked, is_of_same, kept_of};
 use crate::put_funds::put_funds;
@@ -143,7 +143,7 @@ pub(crate) fn approve<S: RowSource>(
         settlement: None,
     };
     let kept = kept_of(&request.transaction, Outcome::Approved(code, payment));
-    rows.write_copy(key, &kept)?;
+    rows.write_new(key, &kept)?;
     charge_card(&request.transaction, card, approvals, rows)?;
     charge_day(&request.transaction, count, sum, rows)?;
     put_funds(paying, balance, rows)?;
@@ -158,12 +158,13 @@ fn charge_card<S: RowSource>(
     approvals: Count,
     rows: &mut Recorder<S>,
 ) -> Result<(), Stop>
+    requires absent { value_in rows.old.writes (RowKey.Card transaction.now.pan) ≡ None }
     ensures ok { OnOk result (rows.new ≡ record rows.old { writes = put rows.old.writes (RowKey.Card transaction.now.pan) (RowVal.Card (record card.now { approvals = approvals })) }) }
     ensures err { OnErr result (rows.new ≡ rows.old) }
     ensures stop { IfErr result (λ stop. stop ≡ Stop.OutOfMemory) }
 {
     let charged = CardRow { approvals, ..*card };
-    rows.write_copy(&RowKey::Card(transaction.pan), &RowVal::Card(charged))
+    rows.write_new(&RowKey::Card(transaction.pan), &RowVal::Card(charged))
 }
 
 // Puts what was spent with the card on its day. A function of its own, so that nothing of another row is copied with it.
@@ -174,10 +175,11 @@ fn charge_day<S: RowSource>(
     sum: Balance,
     rows: &mut Recorder<S>,
 ) -> Result<(), Stop>
+    requires absent { value_in rows.old.writes (RowKey.Velocity transaction.now.pan (day_of transaction.now.stamp)) ≡ None }
     ensures ok { OnOk result (rows.new ≡ record rows.old { writes = put rows.old.writes (RowKey.Velocity transaction.now.pan (day_of transaction.now.stamp)) (RowVal.Velocity (record { count = count; sum = sum })) }) }
     ensures err { OnErr result (rows.new ≡ rows.old) }
     ensures stop { IfErr result (λ stop. stop ≡ Stop.OutOfMemory) }
 {
     let key = RowKey::Velocity(transaction.pan, transaction.stamp.day());
-    rows.write_copy(&key, &RowVal::Velocity(VelocityRow { count, sum }))
+    rows.write_new(&key, &RowVal::Velocity(VelocityRow { count, sum }))
 }

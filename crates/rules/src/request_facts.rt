@@ -1,4 +1,4 @@
-ghost use Rattle.std.specs.Prelude.{◌≡◌, ◌+◌, ◌^◌, ◌<◌, ◌≤◌, IfOk, IfNone};
+ghost use Rattle.std.specs.Prelude.{◌≡◌, ◌+◌, ◌^◌, ◌<◌, ◌≤◌, Ok, Err, IfOk, IfErr, IfNone};
 ghost use Rattle.rows.specs.RequestTable as table;
 ghost use Rattle.rows.specs.Funds.{balance_of};
 ghost use Rattle.rows.specs.Kept.{kind_of_outcome};
@@ -57,8 +57,12 @@ fn refused_by_status(status: CardStatus) -> Option<DeclineCode>
 }
 
 // The account that pays, or what the card refuses the request for.
-pub(crate) fn usable_account(request: &Request, card: &CardRow) -> Result<AccountId, DeclineCode>
-    ensures { result ≡ table.usable_account request.now card.now }
+pub(crate) fn usable_account<'a>(
+    request: &'a Request,
+    card: &'a CardRow,
+) -> Result<&'a AccountId, DeclineCode>
+    ensures ok { IfOk result (λ id. table.usable_account request.now card.now ≡ Ok id.now) }
+    ensures err { IfErr result (λ code. table.usable_account request.now card.now ≡ Err code) }
 {
     if let Some(code) = refused_by_status(card.status) {
         return Err(code);
@@ -99,16 +103,16 @@ pub(crate) fn refused_by_limits(
 // The account, if there is as much available.
 fn account_funds(
     transaction: &Transaction,
-    id: AccountId,
+    id: &AccountId,
     account: &AccountRow,
 ) -> Result<Funds, DeclineCode>
-    ensures funds { result ≡ table.account_funds transaction.now id account.now }
+    ensures funds { result ≡ table.account_funds transaction.now id.now account.now }
     ensures covered { IfOk result (λ f. transaction.now.amount ≤ balance_of f) }
 {
     if account.available.minor() < transaction.amount.minor() {
         return Err(DeclineCode::NOT_SUFFICIENT_FUNDS);
     }
-    Ok(Funds::Account(id, *account))
+    Ok(Funds::Account(*id, *account))
 }
 
 // The budget, if the amount is within its cap and what is left of it.
@@ -126,11 +130,11 @@ fn budget_funds(transaction: &Transaction, budget: &BudgetRow) -> Result<Funds, 
 // What pays for a request, or what it is refused for.
 pub(crate) fn request_funds(
     transaction: &Transaction,
-    id: AccountId,
+    id: &AccountId,
     account: &AccountRow,
     budget: &Option<BudgetRow>,
 ) -> Result<Funds, DeclineCode>
-    ensures funds { result ≡ table.request_funds transaction.now id account.now budget.now }
+    ensures funds { result ≡ table.request_funds transaction.now id.now account.now budget.now }
     ensures covered { IfOk result (λ f. transaction.now.amount ≤ balance_of f) }
 {
     match budget {

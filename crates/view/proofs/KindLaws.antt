@@ -5,8 +5,12 @@ use Rattle.std.specs.List.{AllByRecursion}
 use Rattle.indexmap.specs.IndexMap.{insert_entry}
 use Rattle.rows.proofs.KeyLaws.{key_eq_decides}
 use Rattle.rows.specs.RowKey.{key_eq}
+use Rattle.rows.specs.Plan.{Writes}
+use Rattle.rows.specs.RowVal.{IsOfKind}
 use Rattle.rows.specs.declared.row_key.RowKey.{RowKey}
-use Rattle.view.specs.RowSets.{value_in}
+use Rattle.rows.specs.declared.row_val.RowVal.{RowVal}
+use Rattle.view.proofs.ListLaws.{inserted_once}
+use Rattle.view.specs.RowSets.{value_in, AreWritesOfKind, IsOnceEach}
 
 module _ {V : Type 0} (Suits : RowKey → V → Type 0) where
   abbrev AllSuit : List (RowKey × V) → Type 0
@@ -40,3 +44,7 @@ module _ {V : Type 0} (Suits : RowKey → V → Type 0) where
   standing_suits [] i e all at = absurd (none-some e at)
   standing_suits (row ∷ rows) zero e all at = subst (λ (y : RowKey × V). Suits y.0 y.1) (same_Some row e at) all.0
   standing_suits (row ∷ rows) (suc i) e all at = standing_suits rows i e all.1 at
+
+-- rows with one more that is put are of their kinds, each once
+pub all_put : (rows now : Writes) (k : RowKey) (v : RowVal) → insert_entry key_eq rows k v ≡ now → AreWritesOfKind rows → IsOnceEach rows → IsOfKind k v → AreWritesOfKind now × IsOnceEach now
+all_put rows now k v is kinds once kind = subst (λ (rows : Writes). AreWritesOfKind rows × IsOnceEach rows) is (inserted_suits IsOfKind rows k v kinds kind, inserted_once rows k v once)

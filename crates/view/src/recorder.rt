@@ -134,6 +134,18 @@ impl<S: RowSource> Recorder<S> {
         Ok(())
     }
 
+    /// Puts a copy of a row that is not put yet, so it isn't looked for.
+    pub fn write_new(&mut self, key: &RowKey, row: &RowVal) -> Result<(), Stop>
+        requires kind { IsOfKind key.now row.now }
+        requires absent { value_in self.old.writes key.now ≡ None }
+        ensures ok { OnOk result (self.new ≡ record self.old { writes = put self.old.writes key.now row.now }) }
+        ensures err { OnErr result (self.new ≡ self.old) }
+        ensures stop { IfErr result (λ stop. stop ≡ Stop.OutOfMemory) }
+    {
+        self.writes.put_new(key, row)?;
+        Ok(())
+    }
+
     /// The source, the rows that were read and the rows that are put.
     pub fn into_parts(self) -> (S, ReadSet, WriteSet)
         ensures source { result.0 ≡ self.source }

@@ -133,4 +133,18 @@ impl WriteSet {
             }
         }
     }
+    /// Puts a copy of a row that is not put yet, so it isn't looked for.
+    pub fn put_new(&mut self, key: &RowKey, row: &RowVal) -> Result<(), AllocError>
+        requires kind { IsOfKind key.now row.now }
+        requires absent { value_in self.old key.now ≡ None }
+        ensures ok { OnOk result (self.new ≡ put self.old key.now row.now) }
+        ensures err { OnErr result (self.new ≡ self.old) }
+    {
+        if self.few.len() < FEW {
+            self.few.push_copy(key, row)?;
+            return Ok(());
+        }
+        self.more.insert_copy(self.few.allocator(), key, row)?;
+        Ok(())
+    }
 }

@@ -31,7 +31,7 @@ decide_on_account-requires-clause-follows g c =
     let a = c.args.advice.now in
     looked_as _ _ _ _ _ _ _ _ _ _ (follows_then _ _ _ _ (table.looked_for_card a) _ c.requires.follows (same_number _ _ (sym c.code.ensures.value ∙ c.if-code-ne0.false)))
     c.in_ok-ask.ensures.logged c.in_ok-ask.ensures.writes refl
-    (ap (table.advice_on_card a) (sym (c.card_in.ensures ∙ ap typed.card_in c.latest.ensures) ∙ c.in-Some.is) ∙ ap (table.advice_on_named a) (sym c.account_of.ensures ∙ c.in-Some-account_of.is))
+    (ap (table.advice_on_card a) (sym (c.card_in.ensures ∙ ap typed.card_in c.latest.ensures) ∙ c.in-Some.is) ∙ ap (table.advice_on_named a) (sym (c.copied.ensures ∙ c.account_of.ensures) ∙ c.in-Some-copied.is))
 
 pub acknowledge-requires-in-None : goal.acknowledge-requires-in-None
 acknowledge-requires-in-None g c =
@@ -40,5 +40,5 @@ acknowledge-requires-in-None g c =
       follows =
           looked_as _ _ _ _ _ _ _ _ _ _ (follows_then _ _ _ _ (table.looked_for_card a) _ c.requires.follows (same_number _ _ (sym c.code.ensures.value ∙ c.if-code-ne0.false)))
           c.in_ok-ask.ensures.logged c.in_ok-ask.ensures.writes refl
-          (ap (table.advice_on_card a) (sym (c.card_in.ensures ∙ ap typed.card_in c.latest.ensures) ∙ c.in-Some.is) ∙ ap (table.advice_on_named a) (sym c.account_of.ensures ∙ c.in-None.is));
+          (ap (table.advice_on_card a) (sym (c.card_in.ensures ∙ ap typed.card_in c.latest.ensures) ∙ c.in-Some.is) ∙ ap (table.advice_on_named a) (sym (c.copied.ensures ∙ c.account_of.ensures) ∙ c.in-None.is));
     }

@@ -4,11 +4,16 @@ use Rattle.rows.specs.Funds.{balance_of, with_balance, key_of_funds, row_of_fund
 use Rattle.rows.specs.declared.outcome.Outcome.TheVariants as outcome
 use Rattle.rows.specs.declared.row_key.RowKey.TheVariants as key
 use Rattle.rules.proofs.FollowingLaws.{follows_needs, concluded, concluded_needs}
-use Rattle.rules.proofs.PutLaws.{two_puts}
+use Rattle.rules.proofs.PutLaws.{two_puts, payer_unput}
 use Rattle.rules.proofs.advice_answers.accept.Goals as goal
 
 pub returns-in_err-write-clause-so_far : goal.returns-in_err-write-clause-so_far
 returns-in_err-write-clause-so_far g c = follows_needs _ _ _ _ _ c.requires.follows (ap (λ (r : _). r.reads) c.in_err-write.ensures.err)
+
+pub put_funds-requires : goal.put_funds-requires
+put_funds-requires g c = record {
+  absent = payer_unput c.args.rows.now _ c.args.rows.now _ _ c.kept_of-kept.result c.args.paying.now c.requires.follows.unput c.in_ok-write.ensures.ok;
+}
 
 pub returns-in_err-put_funds-clause-so_far : goal.returns-in_err-put_funds-clause-so_far
 returns-in_err-put_funds-clause-so_far g c =

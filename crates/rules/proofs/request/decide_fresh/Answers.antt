@@ -26,7 +26,7 @@ decide_on_account-requires-clause-follows g c =
     let r = c.args.request.now in
     looked_as _ _ _ _ _ _ _ _ _ _ (follows_as _ _ _ _ (table.looked_for_card r) (ap (λ o. table.unless_refused r o (table.looked_for_card r)) (sym c.refused_unseen.ensures ∙ c.in_default.is)) c.requires.follows)
     c.in_ok-ask.ensures.logged c.in_ok-ask.ensures.writes refl
-    (ap (table.on_card r) (sym (c.card_in.ensures ∙ ap typed.card_in c.latest.ensures) ∙ c.in-Some-card_in.is) ∙ ap (table.on_usable r c.in-Some-card_in.card) (sym c.usable_account.ensures ∙ c.in-Ok.is))
+    (ap (table.on_card r) (sym (c.card_in.ensures ∙ ap typed.card_in c.latest.ensures) ∙ c.in-Some-card_in.is) ∙ ap (table.on_usable r c.in-Some-card_in.card) c.in-Ok.ensures.ok)
 
 pub decline-requires-in-Err : goal.decline-requires-in-Err
 decline-requires-in-Err g c =
@@ -36,5 +36,5 @@ decline-requires-in-Err g c =
       follows =
           looked_as _ _ _ _ _ _ _ _ _ _ (follows_as _ _ _ _ (table.looked_for_card r) (ap (λ o. table.unless_refused r o (table.looked_for_card r)) (sym c.refused_unseen.ensures ∙ c.in_default.is)) c.requires.follows)
           c.in_ok-ask.ensures.logged c.in_ok-ask.ensures.writes refl
-          (ap (table.on_card r) (sym (c.card_in.ensures ∙ ap typed.card_in c.latest.ensures) ∙ c.in-Some-card_in.is) ∙ ap (table.on_usable r c.in-Some-card_in.card) (sym c.usable_account.ensures ∙ c.in-Err.is));
+          (ap (table.on_card r) (sym (c.card_in.ensures ∙ ap typed.card_in c.latest.ensures) ∙ c.in-Some-card_in.is) ∙ ap (table.on_usable r c.in-Some-card_in.card) c.in-Err.ensures.err);
     }

@@ -15,4 +15,4 @@ pub decide_on_limits-requires-clause-follows : goal.decide_on_limits-requires-cl
 decide_on_limits-requires-clause-follows g c =
     let r = c.args.request.now in
     looked_as _ _ _ _ _ _ _ _ _ _ c.requires.follows c.in_ok-ask.ensures.logged c.in_ok-ask.ensures.writes (λ i. key.Velocity r.transaction.pan (c.day.ensures i))
-    (ap (λ day. table.on_day r c.args.card.now c.args.id c.args.account.now day) (sym (c.spent_in-day.ensures ∙ ap typed.spent_in (c.velocity_in.ensures ∙ ap typed.velocity_in c.latest.ensures))))
+    (ap (λ day. table.on_day r c.args.card.now c.args.id.now c.args.account.now day) (sym (c.spent_in-day.ensures ∙ ap typed.spent_in (c.velocity_in.ensures ∙ ap typed.velocity_in c.latest.ensures))))

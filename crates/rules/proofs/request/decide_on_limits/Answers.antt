@@ -15,12 +15,12 @@ pub approve-requires-clause-follows : goal.approve-requires-clause-follows
 approve-requires-clause-follows g c =
     let r = c.args.request.now in
     looked_as _ _ _ _ _ _ _ _ _ _
-    (follows_as _ _ _ _ (table.looked_for_funds r c.args.card.now c.args.id c.args.account.now c.args.day.now)
-    (ap (λ o. table.unless_refused r o (table.looked_for_funds r c.args.card.now c.args.id c.args.account.now c.args.day.now)) (sym c.refused_by_limits.ensures.refused ∙ c.in_default.is))
+    (follows_as _ _ _ _ (table.looked_for_funds r c.args.card.now c.args.id.now c.args.account.now c.args.day.now)
+    (ap (λ o. table.unless_refused r o (table.looked_for_funds r c.args.card.now c.args.id.now c.args.account.now c.args.day.now)) (sym c.refused_by_limits.ensures.refused ∙ c.in_default.is))
     c.requires.follows)
     c.in_ok-ask.ensures.logged c.in_ok-ask.ensures.writes (λ i. key.Budget (c.prefix.ensures i))
     (ap (table.on_funds r c.args.card.now c.args.day.now)
-    (ap (table.request_funds r.transaction c.args.id c.args.account.now) (sym (c.budget_in-budget.ensures ∙ ap typed.budget_in c.latest.ensures)) ∙ sym c.request_funds.ensures.funds ∙ c.in-Ok.is))
+    (ap (table.request_funds r.transaction c.args.id.now c.args.account.now) (sym (c.budget_in-budget.ensures ∙ ap typed.budget_in c.latest.ensures)) ∙ sym c.request_funds.ensures.funds ∙ c.in-Ok.is))
 
 pub decline-requires-in-Err : goal.decline-requires-in-Err
 decline-requires-in-Err g c =
@@ -29,10 +29,10 @@ decline-requires-in-Err g c =
       named = c.requires.named;
       follows =
           looked_as _ _ _ _ _ _ _ _ _ _
-          (follows_as _ _ _ _ (table.looked_for_funds r c.args.card.now c.args.id c.args.account.now c.args.day.now)
-          (ap (λ o. table.unless_refused r o (table.looked_for_funds r c.args.card.now c.args.id c.args.account.now c.args.day.now)) (sym c.refused_by_limits.ensures.refused ∙ c.in_default.is))
+          (follows_as _ _ _ _ (table.looked_for_funds r c.args.card.now c.args.id.now c.args.account.now c.args.day.now)
+          (ap (λ o. table.unless_refused r o (table.looked_for_funds r c.args.card.now c.args.id.now c.args.account.now c.args.day.now)) (sym c.refused_by_limits.ensures.refused ∙ c.in_default.is))
           c.requires.follows)
           c.in_ok-ask.ensures.logged c.in_ok-ask.ensures.writes (λ i. key.Budget (c.prefix.ensures i))
           (ap (table.on_funds r c.args.card.now c.args.day.now)
-          (ap (table.request_funds r.transaction c.args.id c.args.account.now) (sym (c.budget_in-budget.ensures ∙ ap typed.budget_in c.latest.ensures)) ∙ sym c.request_funds.ensures.funds ∙ c.in-Err.is));
+          (ap (table.request_funds r.transaction c.args.id.now c.args.account.now) (sym (c.budget_in-budget.ensures ∙ ap typed.budget_in c.latest.ensures)) ∙ sym c.request_funds.ensures.funds ∙ c.in-Err.is));
     }

@@ -1,5 +1,6 @@
 use Rattle.std.proofs.Common.{◌≡◌, ◌-◌, [], ◌∷◌, None, refl, ap, ◌∙◌}
 use Rattle.rows.specs.Facts.{identity_of, day_of}
+use Rattle.rows.specs.Plan.{Writes}
 use Rattle.rows.specs.Funds.{balance_of, with_balance, key_of_funds, row_of_funds, paid_by}
 use Rattle.iso8583.specs.Number.{fixed_digits}
 use Rattle.rows.specs.RequestTable.{approval_code, kept_of_request, reply_to_request, approved_writes}
@@ -7,28 +8,48 @@ use Rattle.rows.specs.declared.outcome.Outcome.TheVariants as outcome
 use Rattle.iso8583.specs.declared.verdict.Verdict.TheVariants as verdict
 use Rattle.rows.specs.declared.row_key.RowKey.TheVariants as key
 use Rattle.rows.specs.declared.row_val.RowVal.TheVariants as val
-use Rattle.view.specs.RowSets.{put}
+use Rattle.view.specs.RowSets.{value_in, put}
 use Rattle.rules.proofs.FollowingLaws.{follows_needs, concluded, concluded_needs}
-use Rattle.rules.proofs.PutLaws.{four_puts}
+use Rattle.rules.proofs.PutLaws.{four_puts, card_unput, day_unput, paying_unput}
 use Rattle.rules.proofs.request_answers.approve.Goals as goal
 
-pub returns-in_err-write_copy-clause-so_far : goal.returns-in_err-write_copy-clause-so_far
-returns-in_err-write_copy-clause-so_far g c = follows_needs _ _ _ _ _ c.requires.follows (ap (λ (r : _). r.reads) c.in_err-write_copy.ensures.err)
+pub write_new-requires-clause-absent : goal.write_new-requires-clause-absent
+write_new-requires-clause-absent g c = ap (λ (ws : Writes). value_in ws c.args.key.now) c.requires.follows.unput
+
+pub charge_card-requires : goal.charge_card-requires
+charge_card-requires g c = record {
+  absent = card_unput c.args.rows.now _ c.args.rows.now _ _ _ c.kept_of-kept.result _ c.requires.follows.unput c.requires.named c.in_ok-write_new.ensures.ok;
+}
+
+pub charge_day-requires : goal.charge_day-requires
+charge_day-requires g c = record {
+  absent = day_unput c.args.rows.now _ _ _ _ _ _ _ _ _ c.requires.follows.unput c.requires.named c.in_ok-write_new.ensures.ok c.in_ok-charge_card.ensures.ok;
+}
+
+pub put_funds-requires : goal.put_funds-requires
+put_funds-requires g c = record {
+  absent =
+      paying_unput c.args.rows.now _ _ _ _ _ _ _ _ _ _ _ c.args.paying.now c.requires.follows.unput c.requires.named c.in_ok-write_new.ensures.ok c.in_ok-charge_card.ensures.ok
+      c.in_ok-charge_day.ensures.ok;
+}
+
+pub returns-in_err-write_new-clause-so_far : goal.returns-in_err-write_new-clause-so_far
+returns-in_err-write_new-clause-so_far g c = follows_needs _ _ _ _ _ c.requires.follows (ap (λ (r : _). r.reads) c.in_err-write_new.ensures.err)
 
 pub returns-in_err-charge_card-clause-so_far : goal.returns-in_err-charge_card-clause-so_far
 returns-in_err-charge_card-clause-so_far g c =
-    follows_needs _ _ _ _ _ c.requires.follows (ap (λ (r : _). r.reads) c.in_err-charge_card.ensures.err ∙ ap (λ (r : _). r.reads) c.in_ok-write_copy.ensures.ok)
+    follows_needs _ _ _ _ _ c.requires.follows (ap (λ (r : _). r.reads) c.in_err-charge_card.ensures.err ∙ ap (λ (r : _). r.reads) c.in_ok-write_new.ensures.ok)
 
 pub returns-in_err-charge_day-clause-so_far : goal.returns-in_err-charge_day-clause-so_far
 returns-in_err-charge_day-clause-so_far g c =
     follows_needs _ _ _ _ _ c.requires.follows
-    (ap (λ (r : _). r.reads) c.in_err-charge_day.ensures.err ∙ ap (λ (r : _). r.reads) c.in_ok-charge_card.ensures.ok ∙ ap (λ (r : _). r.reads) c.in_ok-write_copy.ensures.ok)
+    (ap (λ (r : _). r.reads) c.in_err-charge_day.ensures.err ∙ ap (λ (r : _). r.reads) c.in_ok-charge_card.ensures.ok ∙ ap (λ (r : _). r.reads) c.in_ok-write_new.ensures.ok)
 
 pub returns-in_err-put_funds-clause-so_far : goal.returns-in_err-put_funds-clause-so_far
 returns-in_err-put_funds-clause-so_far g c =
     follows_needs _ _ _ _ _ c.requires.follows
     (ap (λ (r : _). r.reads) c.in_err-put_funds.ensures.err ∙ ap (λ (r : _). r.reads) c.in_ok-charge_day.ensures.ok ∙ ap (λ (r : _). r.reads) c.in_ok-charge_card.ensures.ok
-    ∙ ap (λ (r : _). r.reads) c.in_ok-write_copy.ensures.ok)
+    ∙ ap (λ (r : _). r.reads) c.in_ok-write_new.ensures.ok)
 
 pub returns-clause-done : goal.returns-clause-done
 returns-clause-done g c =
@@ -41,7 +62,7 @@ returns-clause-done g c =
     let kept = c.kept_of-kept.ensures ∙ ap (kept_of_request r) outcome in
     let balance : c.in-Some-Some-2.balance ≡ balance_of paying - r.transaction.amount = c.in-Some-Some-2.ensures'.1 ∙ ap (λ n. n - r.transaction.amount) c.balance.ensures in
     let paid = ap (λ n. row_of_funds (with_balance paying n)) balance in
-    let named = c.in_ok-write_copy.ensures.ok ∙ ap (λ k. record c.args.rows.now { writes = put c.args.rows.now.writes k c.kept_of-kept.result }) c.requires.named in
+    let named = c.in_ok-write_new.ensures.ok ∙ ap (λ k. record c.args.rows.now { writes = put c.args.rows.now.writes k c.kept_of-kept.result }) c.requires.named in
     let puts = four_puts c.args.rows.now _ _ _ _ _ _ _ _ _ _ _ paying _ _ c.requires.follows.unput
     named c.in_ok-charge_card.ensures.ok c.in_ok-charge_day.ensures.ok c.in_ok-put_funds.ensures.ok refl in
     let table : c.put_funds.new.rows.writes ≡ approved_writes r c.args.card.now c.args.day.now paying =

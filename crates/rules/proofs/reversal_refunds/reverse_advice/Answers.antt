@@ -4,7 +4,7 @@ use Rattle.rows.specs.ReversalTable.{advice_back, given_back}
 use Rattle.rows.specs.declared.row_key.RowKey.TheVariants as key
 use Rattle.rows.specs.declared.row_val.RowVal.TheVariants as val
 use Rattle.rules.proofs.FollowingLaws.{follows_then, follows_else, follows_needs, concluded, concluded_with_none, concluded_needs}
-use Rattle.rules.proofs.PutLaws.{two_puts}
+use Rattle.rules.proofs.PutLaws.{two_puts, payer_unput}
 use Rattle.rules.proofs.RefundLaws.{overfull, not_overfull}
 use Rattle.rules.proofs.reversal_refunds.reverse_advice.Goals as goal
 
@@ -20,6 +20,11 @@ returns-in_default-clause-so_far g c = concluded_needs _ _ _ _ (returns-in_defau
 
 pub returns-in_err-write-clause-so_far : goal.returns-in_err-write-clause-so_far
 returns-in_err-write-clause-so_far g c = follows_needs _ _ _ _ _ c.requires.follows (ap (λ (r : _). r.reads) c.in_err-write.ensures.err)
+
+pub put_funds-requires : goal.put_funds-requires
+put_funds-requires g c = record {
+  absent = payer_unput c.args.rows.now _ c.args.rows.now _ _ (val.Kept c.reversed.result) c.args.paid.now c.requires.follows.unput c.in_ok-write.ensures.ok;
+}
 
 pub returns-in_err-put_funds-clause-so_far : goal.returns-in_err-put_funds-clause-so_far
 returns-in_err-put_funds-clause-so_far g c =

@@ -4,7 +4,7 @@ use Rattle.rows.specs.ReversalTable.{request_back, given_back}
 use Rattle.rows.specs.declared.row_key.RowKey.TheVariants as key
 use Rattle.rows.specs.declared.row_val.RowVal.TheVariants as val
 use Rattle.rules.proofs.FollowingLaws.{follows_then, follows_else, follows_needs, concluded, concluded_with_none, concluded_needs}
-use Rattle.rules.proofs.PutLaws.{three_puts}
+use Rattle.rules.proofs.PutLaws.{three_puts, repaid_unput}
 use Rattle.rules.proofs.RefundLaws.{overfull, not_overfull}
 use Rattle.rules.proofs.reversal_refunds.reverse_request.Goals as goal
 
@@ -35,6 +35,11 @@ returns-then-day_is_short-clause-so_far g c = concluded_needs _ _ _ _ (returns-t
 pub returns-in_err-write-2-clause-so_far : goal.returns-in_err-write-2-clause-so_far
 returns-in_err-write-2-clause-so_far g c =
     follows_needs _ _ _ _ _ c.requires.follows (ap (λ (r : _). r.reads) c.in_err-write-2.ensures.err ∙ ap (λ (r : _). r.reads) c.in_ok-write.ensures.ok)
+
+pub put_funds-requires : goal.put_funds-requires
+put_funds-requires g c = record {
+  absent = repaid_unput c.args.rows.now _ _ _ _ _ c.args.paid.now _ _ c.requires.follows.unput c.in_ok-write.ensures.ok c.in_ok-write-2.ensures.ok;
+}
 
 pub returns-in_err-put_funds-clause-so_far : goal.returns-in_err-put_funds-clause-so_far
 returns-in_err-put_funds-clause-so_far g c =

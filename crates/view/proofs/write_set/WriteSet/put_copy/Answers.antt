@@ -2,11 +2,10 @@ use Rattle.std.proofs.Common.{◌≡◌, ◌<◌, ℕ, ◌++◌, length, slice_g
 use Rattle.std.proofs.lemmas.List.{length-set}
 use Rattle.rows.specs.Plan.{Writes}
 use Rattle.rows.specs.RowKey.{key_eq}
-use Rattle.rows.specs.RowVal.{IsOfKind}
 use Rattle.indexmap.specs.IndexMap.{insert_entry}
-use Rattle.view.proofs.KindLaws.{inserted_suits}
-use Rattle.view.proofs.ListLaws.{inserted_once, put_front, put_behind, put_among, found_behind, on_err}
-use Rattle.view.specs.RowSets.{value_in, put, AreWritesOfKind, IsOnceEach}
+use Rattle.view.proofs.KindLaws.{all_put}
+use Rattle.view.proofs.ListLaws.{put_front, put_behind, put_among, found_behind, on_err}
+use Rattle.view.specs.RowSets.{value_in, put}
 use Rattle.view.proofs.write_set.WriteSet.put_copy.Goals as goal
 
 -- the row that is put again keeps its place among the first ones
@@ -16,10 +15,6 @@ again c =
     put_front c.self.inside.few c.self.inside.more c.in-Some.place c.args.key.now there.0 c.args.row.now c.self.invariant.1
     (ap (λ (rows : Writes). slice_get rows c.in-Some.place) (sym c.as_slice.ensures) ∙ there.1)
     ∙ ap (λ (rows : Writes). rows ++ c.self.inside.more) (sym c.set_copy.ensures)
-
--- rows with one more that is put are of their kinds, each once
-all_put : (rows now : Writes) (k : _) (v : _) → insert_entry key_eq rows k v ≡ now → AreWritesOfKind rows → IsOnceEach rows → IsOfKind k v → AreWritesOfKind now × IsOnceEach now
-all_put rows now k v is kinds once kind = subst (λ (rows : Writes). AreWritesOfKind rows × IsOnceEach rows) is (inserted_suits IsOfKind rows k v kinds kind, inserted_once rows k v once)
 
 pub invariant_of-self : goal.invariant_of-self
 invariant_of-self c =
