@@ -88,7 +88,7 @@ impl Few<RowVal> {
         if self.used < self.rows.len() {
             write_over(&mut self.rows, self.used, key, row);
         } else {
-            push_row(&mut self.rows, key, row)?;
+            push_row(&mut self.rows, *key, row)?;
         }
         self.used += 1;
         Ok(())
@@ -118,7 +118,7 @@ impl Few<Option<RowVal>> {
         ensures same { S.book source.new ≡ S.book source.old }
     {
         if self.used == self.rows.len() {
-            push_row(&mut self.rows, key, &None)?;
+            push_row(&mut self.rows, *key, &None)?;
         }
         read_at(&mut self.rows, self.used, key, source)?;
         self.used += 1;
@@ -130,13 +130,13 @@ impl Few<Option<RowVal>> {
 #[inline(never)]
 fn push_row<V: Copy + Drop>(
     rows: &mut Vec<(RowKey, V)>,
-    key: &RowKey,
+    key: RowKey,
     row: &V,
 ) -> Result<(), AllocError>
-    ensures ok { OnOk result (rows.new.items ≡ rows.old.items ++ (key.now, row.now) ∷ []) }
+    ensures ok { OnOk result (rows.new.items ≡ rows.old.items ++ (key, row.now) ∷ []) }
     ensures err { OnErr result (rows.new.items ≡ rows.old.items) }
 {
-    rows.push((*key, *row))?;
+    rows.push((key, *row))?;
     Ok(())
 }
 
@@ -171,7 +171,7 @@ fn read_at<S: RowSource>(
 {
     let there = &mut rows[place];
     there.0 = *key;
-    source.read_into(key, &mut there.1)?;
+    source.read_into(&there.0, &mut there.1)?;
     Ok(())
 }
 
