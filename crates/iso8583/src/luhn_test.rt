@@ -7,7 +7,7 @@ use crate::pan::Pan;
 pub fn luhn(pan: &Pan) -> bool
     ensures { result ≡ passes_luhn pan.now.0 }
 {
-    // In pairs up to the last digit: of each pair the first is doubled.
+    // In pairs from the right: the left digit of each is doubled. One that is left over at the front isn't.
     let digits = pan.as_slice();
     let mut place = digits.len() % 2;
     let mut sum = if place == 1 {

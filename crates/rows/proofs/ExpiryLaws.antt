@@ -1,6 +1,6 @@
 -- The order of texts of digits.
-use Rattle.std.proofs.Common.{◌≡◌, ℕ, ◌+◌, ◌*◌, ◌<◌, ◌≤◌, Bool, true, false, ◌&&◌, nat_lt, is_lt, List, [], ◌∷◌, length, Ordering, Less, Equal, Greater, inl, inr, refl, sym, ap, subst, ◌∙◌, arith}
-use Rattle.std.proofs.lemmas.Bool.{cases_order, false≢true}
+use Rattle.std.proofs.Common.{◌≡◌, ℕ, ◌+◌, ◌*◌, ◌<◌, ◌≤◌, true, false, nat_lt, is_lt, List, [], ◌∷◌, length, Ordering, Less, Equal, Greater, inl, inr, refl, sym, ap, subst, ◌∙◌, arith}
+use Rattle.std.proofs.lemmas.Bool.{cases_order, and_parts}
 use Rattle.std.proofs.lemmas.Bool.Decides.{nat_tests}
 use Rattle.std.specs.Char.{is_ascii_digit, digit_value}
 use Rattle.std.specs.Cmp.{nat_cmp_is}
@@ -11,17 +11,13 @@ use Rattle.iso8583.proofs.NumberLaws.{char_of_value}
 use Rattle.iso8583.specs.Class.{is_digits}
 use Rattle.iso8583.specs.Number.{number_of}
 
-split : (p q : Bool) → (p && q) ≡ true → (p ≡ true) × (q ≡ true)
-split true q h = (refl, h)
-split false q h = absurd (false≢true h)
-
 -- behind a lower number, digits make a lower one
 below : (m n : ℕ) (xs ys : List ℕ) → length xs ≡ length ys → is_digits xs ≡ true → m < n → digits_value_after 10 m xs < digits_value_after 10 n ys
 below m n [] [] e d h = h
 below m n [] (y ∷ ys) e d h = absurd (omega arith)
 below m n (x ∷ xs) [] e d h = absurd (omega arith)
 below m n (x ∷ xs) (y ∷ ys) e d h =
-    let digit = split (is_ascii_digit x) (is_digits xs) d in
+    let digit = and_parts (is_ascii_digit x) (is_digits xs) d in
     let small = (char_of_value x digit.0).1 in
     below (m * 10 + digit_value x) (n * 10 + digit_value y) xs ys (omega arith) digit.1 (omega (arith, small, h))
 
@@ -31,8 +27,8 @@ order_behind n [] (y ∷ ys) e c d = absurd (omega arith)
 order_behind n (x ∷ xs) [] e c d = absurd (omega arith)
 order_behind n (x ∷ xs) (y ∷ ys) e c d =
     let same : length xs ≡ length ys = omega arith in
-    let mine = split (is_ascii_digit x) (is_digits xs) c in
-    let theirs = split (is_ascii_digit y) (is_digits ys) d in
+    let mine = and_parts (is_ascii_digit x) (is_digits xs) c in
+    let theirs = and_parts (is_ascii_digit y) (is_digits ys) d in
     let value_x = char_of_value x mine.0 in
     let value_y = char_of_value y theirs.0 in
     let first : (o : Ordering) → o ≡ nat_cmp x y → ordering_then o (slice_cmp nat_cmp xs ys) ≡ slice_cmp nat_cmp (x ∷ xs) (y ∷ ys) =

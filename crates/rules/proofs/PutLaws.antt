@@ -36,7 +36,7 @@ pub funds_put_second : (f : Funds) (identity : Identity) (a d : RowVal)
 funds_put_second (funds.Account id row) identity a d = refl
 funds_put_second (funds.Budget prefix row) identity a d = refl
 
--- where a request's own row alone is put, no card is, and where its card is too, no day
+-- where a request's own row alone is put, no card is; where its card is too, no day; and behind these nothing that pays
 module _ {S : Type 0} (old one two : Recording S) (own : RowKey) (identity : Identity) (a b : RowVal) where
   pub card_unput : (pan : Pan) → old.writes ≡ [] → own ≡ key.Original identity → one ≡ record old { writes = put old.writes own a } → value_in one.writes (key.Card pan) ≡ None
   card_unput pan none named p = ap (λ (ws : Writes). value_in ws (key.Card pan)) (ap (λ (x : Recording S). x.writes) p ∙ (λ i. put (none i) (named i) a))
