@@ -9,7 +9,7 @@ ghost use Rattle.view.specs.Recording.{IsStopOf};
 
 use crate::request_answers::{answer_again, approve, decline};
 use crate::request_facts::{refused_by_limits, refused_unseen, request_funds, usable_account};
-use crate::typed::{account_in, budget_in, card_in, original_in, spent_in, velocity_in};
+use crate::typed::{account_in, budget_in, card_in, spent_in, velocity_in};
 use iso8583::{AccountId, DeclineCode, Request, Verdict};
 use rows::{AccountRow, CardRow, RowKey, VelocityRow};
 use view::{Recorder, RowSource, Stop};
@@ -29,8 +29,8 @@ pub(crate) fn decide_request<S: RowSource>(
 {
     let key = RowKey::Original(request.transaction.identity());
     rows.ask(&key)?;
-    match original_in(rows.latest()) {
-        Some(row) => answer_again(request, &key, &row, rows),
+    match rows.latest() {
+        Some(_) => answer_again(request, &key, rows),
         None => decide_fresh(request, &key, rows),
     }
 }

@@ -1,14 +1,16 @@
-ghost use Rattle.std.specs.Prelude.{◌≡◌, ◌⊎◌, ◌+◌, ◌^◌, ◌<◌, ◌≤◌, ◌&&◌, None, IfOk, IfErr, IfSome, OnOk, OnErr};
+ghost use Rattle.std.specs.Prelude.{◌≡◌, ◌⊎◌, ◌+◌, ◌^◌, ◌<◌, ◌≤◌, ◌&&◌, length, None, IsSome, IfOk, IfErr, IfSome, OnOk, OnErr};
 ghost use Rattle.iso8583.specs.declared.message.Message.TheVariants as message;
 ghost use Rattle.iso8583.specs.declared.original_kind.OriginalKind.TheVariants as kind;
 ghost use Rattle.rows.specs.Facts.{day_of, identity_of, is_of_same};
 ghost use Rattle.rows.specs.Funds.{balance_of};
 ghost use Rattle.rows.specs.RequestTable as table;
+ghost use Rattle.rows.specs.RowVal.{IsOfKind};
+ghost use Rattle.rows.specs.Typed.{original_in};
 ghost use Rattle.rows.specs.declared.frame.Frame.TheVariants.{Good};
 ghost use Rattle.rules.specs.Following.{Follows, Concludes};
 ghost use Rattle.rules.specs.Needs.{ReadsNeeds};
 ghost use Rattle.view.specs.Recording.{IsStopOf};
-ghost use Rattle.view.specs.RowSets.{value_in, put};
+ghost use Rattle.view.specs.RowSets.{value_in, latest, put};
 
 use crate::facts::{is_marked, is_of_same, kept_of};
 use crate::put_funds::put_funds;
@@ -40,24 +42,28 @@ pub(crate) fn decline<S: RowSource>(
     Ok(Verdict::Declined(code))
 }
 
-// Answers a request of an identity that was seen before.
+// Answers a request of an identity that was seen before. A function of its own, so that one that wasn't pays nothing for it.
+#[inline(never)]
 pub(crate) fn answer_again<S: RowSource>(
     request: &Request,
     key: &RowKey,
-    row: &OriginalRow,
     rows: &mut Recorder<S>,
 ) -> Result<Verdict, Stop>
     requires named { key.now ≡ RowKey.Original (identity_of request.now.transaction) }
-    requires follows { Follows (Good (message.Request request.now)) rows.old.reads rows.old.writes (table.request_again request.now row.now) }
+    requires some { 0 < length rows.old.reads }
+    requires seen { IsSome (latest rows.old.reads) }
+    requires kind { IfSome (latest rows.old.reads) (IsOfKind key.now) }
+    requires follows { Follows (Good (message.Request request.now)) rows.old.reads rows.old.writes (table.on_original request.now (original_in (latest rows.old.reads))) }
     ensures done { IfOk result (λ verdict. Concludes (Good (message.Request request.now)) rows.new.reads rows.new.writes (table.reply_to_request request.now verdict)) }
     ensures so_far { ReadsNeeds (Good (message.Request request.now)) rows.new.reads }
     ensures stop { IfErr result (λ stop. (stop ≡ Stop.OutOfMemory) ⊎ IsStopOf S.answers rows.new.source stop) }
     ensures stops { IfSome (S.book rows.old.source) (λ _. IfErr result (λ stop. stop ≡ Stop.OutOfMemory)) }
     ensures book { S.book rows.new.source ≡ S.book rows.old.source }
 {
-    match row {
-        OriginalRow::Ahead(mark) => answer_marked(request, key, mark, rows),
-        OriginalRow::Kept(kept) => Ok(answer_kept(request, kept, rows)),
+    match *rows.latest() {
+        Some(RowVal::Ahead(mark)) => answer_marked(request, key, &mark, rows),
+        Some(RowVal::Kept(kept)) => Ok(answer_kept(request, &kept, rows)),
+        _ => unreachable!(),
     }
 }
 

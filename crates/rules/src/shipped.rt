@@ -1,7 +1,6 @@
 ghost use Rattle.std.specs.Prelude.{◌≡◌, ◌⊎◌, IfOk, IfErr, IfSome};
 ghost use Rattle.iso8583.specs.declared.codec_fault.CodecFault.{CodecFault};
 ghost use Rattle.rows.specs.Agreement.{IsLocal};
-ghost use Rattle.rules.specs.Following.{Concludes};
 ghost use Rattle.rules.specs.Needs.{ReadsNeeds, ReadsAllNeeds};
 ghost use Rattle.view.specs.Recording.{IsNew, IsStopOf};
 
@@ -31,32 +30,6 @@ pub fn decide<S: RowSource>(frame: &Frame, rows: &mut Recorder<S>) -> Result<Rep
     Shipped.decide(frame, rows)
 }
 
-// Follows the plan of one body to its end.
-fn follow<S: RowSource>(frame: &Frame, rows: &mut Recorder<S>) -> Result<ReplyBody, Stop>
-    requires { IsNew rows.old }
-    ensures done { IfOk result (λ reply. Concludes frame.now rows.new.reads rows.new.writes reply) }
-    ensures bad { (fault : CodecFault) → frame.now ≡ Frame.Bad fault → result ≡ Ok (ReplyBody.Fault fault) }
-    ensures so_far { ReadsNeeds frame.now rows.new.reads }
-    ensures stop { IfErr result (λ stop. (stop ≡ Stop.OutOfMemory) ⊎ IsStopOf S.answers rows.new.source stop) }
-    ensures stops { IfSome (S.book rows.old.source) (λ _. IfErr result (λ stop. stop ≡ Stop.OutOfMemory)) }
-    ensures book { S.book rows.new.source ≡ S.book rows.old.source }
-{
-    match frame {
-        Frame::Good(message) => match message {
-            Message::Request(request) => {
-                let verdict = decide_request(request, rows)?;
-                Ok(ReplyBody::Reply(Reply {
-                    transaction: request.transaction,
-                    answer: Answer::Request(verdict, request.account),
-                }))
-            }
-            Message::Advice(advice) => decide_advice(advice, rows),
-            Message::Reversal(reversal) => decide_reversal(reversal, rows),
-        },
-        Frame::Bad(fault) => Ok(ReplyBody::Fault(*fault)),
-    }
-}
-
 /// The decision table of this issuer.
 #[derive(Clone, Copy, Debug)]
 pub struct Shipped;
@@ -73,6 +46,19 @@ impl Decide for Shipped {
         ensures stops { IfSome (S.book rows.old.source) (λ _. IfErr result (λ stop. stop ≡ Stop.OutOfMemory)) }
         ensures book { S.book rows.new.source ≡ S.book rows.old.source }
     {
-        follow(frame, rows)
+        match frame {
+            Frame::Good(message) => match message {
+                Message::Request(request) => {
+                    let verdict = decide_request(request, rows)?;
+                    Ok(ReplyBody::Reply(Reply {
+                        transaction: request.transaction,
+                        answer: Answer::Request(verdict, request.account),
+                    }))
+                }
+                Message::Advice(advice) => decide_advice(advice, rows),
+                Message::Reversal(reversal) => decide_reversal(reversal, rows),
+            },
+            Frame::Bad(fault) => Ok(ReplyBody::Fault(*fault)),
+        }
     }
 }

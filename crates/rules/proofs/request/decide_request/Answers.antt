@@ -8,15 +8,11 @@ use Rattle.rules.proofs.request.decide_request.Goals as goal
 pub ask-requires : goal.ask-requires
 ask-requires g c = unread c.args.rows.now _ _ _ (key.Original c.identity.result) c.requires.follows c.requires.kinds refl
 
-pub answer_again-requires : goal.answer_again-requires
-answer_again-requires g c = record {
-  named = λ i. key.Original (c.identity.ensures i);
-  follows =
-      looked_as _ _ _ _ _ _ _ _ _ _ c.requires.follows c.in_ok-ask.ensures.logged c.in_ok-ask.ensures.writes (λ i. key.Original (c.identity.ensures i))
-      (ap (table.on_original c.args.request.now) (sym (c.original_in.ensures ∙ ap typed.original_in c.latest.ensures) ∙ c.in-Some.is));
-}
+pub answer_again-requires-clause-follows : goal.answer_again-requires-clause-follows
+answer_again-requires-clause-follows g c =
+    looked_as _ _ _ _ _ _ _ _ _ _ c.requires.follows c.in_ok-ask.ensures.logged c.in_ok-ask.ensures.writes (λ i. key.Original (c.identity.ensures i)) refl
 
 pub decide_fresh-requires-clause-follows : goal.decide_fresh-requires-clause-follows
 decide_fresh-requires-clause-follows g c =
     looked_as _ _ _ _ _ _ _ _ _ _ c.requires.follows c.in_ok-ask.ensures.logged c.in_ok-ask.ensures.writes (λ i. key.Original (c.identity.ensures i))
-    (ap (table.on_original c.args.request.now) (sym (c.original_in.ensures ∙ ap typed.original_in c.latest.ensures) ∙ c.in-None.is))
+    (ap (λ row. table.on_original c.args.request.now (typed.original_in row)) (sym c.latest.ensures ∙ c.in-None.is))

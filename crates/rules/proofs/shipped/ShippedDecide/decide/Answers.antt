@@ -1,16 +1,52 @@
-use Rattle.std.proofs.Common.{Result, Ok, Err, IfOk}
+use Rattle.std.proofs.Common.{◌≡◌, Result, Ok, Err, IfOk, refl, sym, ap, subst, ◌∙◌}
+use Rattle.iso8583.specs.declared.message.Message.TheVariants as message
 use Rattle.rows.specs.Agreement.{Reads, IsLocal}
 use Rattle.rows.specs.Plan.{Writes}
 use Rattle.rows.specs.declared.frame.Frame.{Frame}
+use Rattle.rows.specs.declared.frame.Frame.TheVariants.{Good, Bad}
 use Rattle.rows.specs.declared.reply_body.ReplyBody.{ReplyBody}
-use Rattle.rules.proofs.FollowingLaws.{concluded_local}
+use Rattle.rows.specs.declared.reply_body.ReplyBody.TheVariants.{Fault}
+use Rattle.rules.proofs.FollowingLaws.{begins, concluded_with_none, concluded_local, concluded_all}
 use Rattle.rules.proofs.shipped.ShippedDecide.decide.Goals as goal
+use Rattle.rows.specs.RequestTable.{reply_to_request}
 use Rattle.rules.specs.Following.{Concludes}
+use Rattle.rules.specs.Needs.{ReadsAllNeeds}
 use Rattle.view.specs.declared.stop.Stop.{Stop}
 
-local : (frame : Frame) (reads : Reads) (writes : Writes) (result : Result ReplyBody Stop) → IfOk result (Concludes frame reads writes) → IfOk result (IsLocal frame reads writes)
-local frame reads writes (Ok reply) done = concluded_local frame reads writes reply done
-local frame reads writes (Err stop) done = tt
+-- what comes to the end of one plan is local, where that is the plan of the body
+local : (good frame : Frame) (reads : Reads) (writes : Writes) (result : Result ReplyBody Stop)
+    → frame ≡ good → IfOk result (Concludes good reads writes) → IfOk result (IsLocal frame reads writes)
+local good frame reads writes (Ok reply) is done = subst (λ (f : Frame). IsLocal f reads writes reply) (sym is) (concluded_local good reads writes reply done)
+local good frame reads writes (Err stop) is done = tt
 
-pub returns-clause-local : goal.returns-clause-local
-returns-clause-local g c = local c.args.frame.now c.follow.new.rows.reads c.follow.new.rows.writes c.follow.result c.follow.ensures.done
+pub decide_request-requires-clause-follows : goal.decide_request-requires-clause-follows
+decide_request-requires-clause-follows g c = begins (Good (message.Request c.in-Request.request)) _ _ c.requires.0 c.requires.1
+
+pub decide_advice-requires-clause-follows : goal.decide_advice-requires-clause-follows
+decide_advice-requires-clause-follows g c = begins (Good (message.Advice c.in-Advice.advice)) _ _ c.requires.0 c.requires.1
+
+pub decide_reversal-requires-clause-follows : goal.decide_reversal-requires-clause-follows
+decide_reversal-requires-clause-follows g c = begins (Good (message.Reversal c.in-Reversal.reversal)) _ _ c.requires.0 c.requires.1
+
+pub returns-in_ok-verdict-in-Request-clause-local : goal.returns-in_ok-verdict-in-Request-clause-local
+returns-in_ok-verdict-in-Request-clause-local g c =
+    local (Good (message.Request c.in-Request.request)) c.args.frame.now c.decide_request.new.rows.reads c.decide_request.new.rows.writes
+    (Ok (reply_to_request c.in-Request.request c.in_ok-verdict-in-Request.verdict)) (c.in-Good.is ∙ ap Good c.in-Request.is) c.in_ok-verdict-in-Request.ensures.done
+
+pub returns-in-Advice-clause-local : goal.returns-in-Advice-clause-local
+returns-in-Advice-clause-local g c =
+    local (Good (message.Advice c.in-Advice.advice)) c.args.frame.now _ _ c.decide_advice.result (c.in-Good.is ∙ ap Good c.in-Advice.is) c.decide_advice.ensures.done
+
+pub returns-in-Reversal-clause-local : goal.returns-in-Reversal-clause-local
+returns-in-Reversal-clause-local g c =
+    local (Good (message.Reversal c.in-Reversal.reversal)) c.args.frame.now _ _ c.decide_reversal.result (c.in-Good.is ∙ ap Good c.in-Reversal.is) c.decide_reversal.ensures.done
+
+pub returns-in-Bad-clause-local : goal.returns-in-Bad-clause-local
+returns-in-Bad-clause-local g c =
+    local (Bad c.in-Bad.fault) c.args.frame.now c.args.rows.now.reads c.args.rows.now.writes (Ok (Fault c.in-Bad.fault)) c.in-Bad.is
+    (concluded_with_none (Bad c.in-Bad.fault) c.args.rows.now _ _ (begins (Bad c.in-Bad.fault) _ _ c.requires.0 c.requires.1) refl)
+
+pub returns-in-Bad-clause-all : goal.returns-in-Bad-clause-all
+returns-in-Bad-clause-all g c =
+    let bad = concluded_with_none (Bad c.in-Bad.fault) c.args.rows.now _ _ (begins (Bad c.in-Bad.fault) _ _ c.requires.0 c.requires.1) refl in
+    subst (λ (frame : Frame). ReadsAllNeeds frame c.args.rows.now.reads) (sym c.in-Bad.is) (concluded_all (Bad c.in-Bad.fault) c.args.rows.now.reads c.args.rows.now.writes (Fault c.in-Bad.fault) bad)
