@@ -19,6 +19,7 @@ impl Approval {
     }
 
     /// The approval code that numbers a card's approvals: the last six digits of the count, with leading zeros.
+    // Not inlined, so that its digits have no place among the rows that its caller builds.
     #[inline(never)]
     pub fn of_count(count: u32) -> Approval
         ensures { result ≡ record { 0 = fixed_digits 6 count } }
