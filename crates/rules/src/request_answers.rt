@@ -42,7 +42,7 @@ pub(crate) fn decline<S: RowSource>(
     Ok(Verdict::Declined(code))
 }
 
-// Answers a request of an identity that was seen before. A function of its own, so that one that wasn't pays nothing for it.
+// Answers a request of an identity that was seen before. Not inlined, so that one that wasn't pays nothing for its row.
 #[inline(never)]
 pub(crate) fn answer_again<S: RowSource>(
     request: &Request,

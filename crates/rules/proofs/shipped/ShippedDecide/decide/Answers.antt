@@ -1,16 +1,18 @@
 use Rattle.std.proofs.Common.{◌≡◌, Result, Ok, Err, IfOk, refl, sym, ap, subst, ◌∙◌}
+use Rattle.iso8583.specs.declared.codec_fault.CodecFault.{CodecFault}
 use Rattle.iso8583.specs.declared.message.Message.TheVariants as message
 use Rattle.rows.specs.Agreement.{Reads, IsLocal}
 use Rattle.rows.specs.Plan.{Writes}
+use Rattle.rows.specs.RequestTable.{reply_to_request}
 use Rattle.rows.specs.declared.frame.Frame.{Frame}
 use Rattle.rows.specs.declared.frame.Frame.TheVariants.{Good, Bad}
 use Rattle.rows.specs.declared.reply_body.ReplyBody.{ReplyBody}
 use Rattle.rows.specs.declared.reply_body.ReplyBody.TheVariants.{Fault}
 use Rattle.rules.proofs.FollowingLaws.{begins, concluded_with_none, concluded_local, concluded_all}
 use Rattle.rules.proofs.shipped.ShippedDecide.decide.Goals as goal
-use Rattle.rows.specs.RequestTable.{reply_to_request}
 use Rattle.rules.specs.Following.{Concludes}
 use Rattle.rules.specs.Needs.{ReadsAllNeeds}
+use Rattle.view.specs.Recording.{Recording, IsNew}
 use Rattle.view.specs.declared.stop.Stop.{Stop}
 
 -- what comes to the end of one plan is local, where that is the plan of the body
@@ -18,6 +20,10 @@ local : (good frame : Frame) (reads : Reads) (writes : Writes) (result : Result 
     → frame ≡ good → IfOk result (Concludes good reads writes) → IfOk result (IsLocal frame reads writes)
 local good frame reads writes (Ok reply) is done = subst (λ (f : Frame). IsLocal f reads writes reply) (sym is) (concluded_local good reads writes reply done)
 local good frame reads writes (Err stop) is done = tt
+
+-- a body that is no message comes to its fault at once
+bad : {S : Type 0} (rows : Recording S) (fault : CodecFault) → IsNew rows → Concludes (Bad fault) rows.reads rows.writes (Fault fault)
+bad rows fault new = concluded_with_none (Bad fault) rows _ _ (begins (Bad fault) _ _ new.0 new.1) refl
 
 pub decide_request-requires-clause-follows : goal.decide_request-requires-clause-follows
 decide_request-requires-clause-follows g c = begins (Good (message.Request c.in-Request.request)) _ _ c.requires.0 c.requires.1
@@ -44,9 +50,9 @@ returns-in-Reversal-clause-local g c =
 pub returns-in-Bad-clause-local : goal.returns-in-Bad-clause-local
 returns-in-Bad-clause-local g c =
     local (Bad c.in-Bad.fault) c.args.frame.now c.args.rows.now.reads c.args.rows.now.writes (Ok (Fault c.in-Bad.fault)) c.in-Bad.is
-    (concluded_with_none (Bad c.in-Bad.fault) c.args.rows.now _ _ (begins (Bad c.in-Bad.fault) _ _ c.requires.0 c.requires.1) refl)
+    (bad c.args.rows.now c.in-Bad.fault c.requires)
 
 pub returns-in-Bad-clause-all : goal.returns-in-Bad-clause-all
 returns-in-Bad-clause-all g c =
-    let bad = concluded_with_none (Bad c.in-Bad.fault) c.args.rows.now _ _ (begins (Bad c.in-Bad.fault) _ _ c.requires.0 c.requires.1) refl in
-    subst (λ (frame : Frame). ReadsAllNeeds frame c.args.rows.now.reads) (sym c.in-Bad.is) (concluded_all (Bad c.in-Bad.fault) c.args.rows.now.reads c.args.rows.now.writes (Fault c.in-Bad.fault) bad)
+    subst (λ (frame : Frame). ReadsAllNeeds frame c.args.rows.now.reads) (sym c.in-Bad.is)
+    (concluded_all (Bad c.in-Bad.fault) c.args.rows.now.reads c.args.rows.now.writes (Fault c.in-Bad.fault) (bad c.args.rows.now c.in-Bad.fault c.requires))
