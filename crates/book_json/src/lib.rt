@@ -13,6 +13,9 @@ mod row_writers;
 mod tokens;
 mod word_fields;
 mod writing;
+mod written;
+mod written_rows;
+mod written_text;
 
 pub use book_json_laws::{JsonFault, Part};
 pub use reading::read_book;

@@ -7,6 +7,7 @@ ghost use Rattle.book_json_laws.specs.Steps.{GivesOrMemory};
 
 use crate::fields::{has_keys, number_at};
 use crate::lists::add_list;
+use crate::written::read_written;
 use book_json_laws::{BookVersion, JsonFault, Part, RowList, TextFault};
 use rows::{Book, check_book};
 use serde_json::Value;
@@ -105,6 +106,16 @@ fn book_of_text(alloc: Global, bytes: &[u8]) -> Result<Book, TextFault>
     }
 }
 
+/// The same, quickly where the text is as books are written.
+fn book_of_bytes(alloc: Global, bytes: &[u8]) -> Result<Book, TextFault>
+    ensures { GivesOrMemory (λ book. book) result (reading bytes.now) }
+{
+    match read_written(alloc, bytes)? {
+        Some(book) => Ok(book),
+        None => book_of_text(alloc, bytes),
+    }
+}
+
 /// The book that a text is: JSON of version 1, 2 or 3, with a sound book in it. A book of version 1 or 2 is migrated first:
 /// each card gets an account that is named by its own digits and has its money, and what the card paid, that account paid.
 ///
@@ -118,7 +129,7 @@ fn book_of_text(alloc: Global, bytes: &[u8]) -> Result<Book, TextFault>
 pub fn read_book(alloc: Global, bytes: &[u8]) -> Result<Book, JsonFault>
     ensures { IsAnswer (reading bytes.now) result }
 {
-    let book = book_of_text(alloc, bytes)?;
+    let book = book_of_bytes(alloc, bytes)?;
     match check_book(&book) {
         Ok(()) => Ok(book),
         Err(fault) => Err(JsonFault::Invalid(fault)),

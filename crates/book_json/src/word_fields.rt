@@ -11,7 +11,8 @@ use iso8583::OriginalKind;
 use rows::{BudgetMode, CardStatus};
 use serde_json::Value;
 
-fn status_of(word: &str) -> Option<CardStatus>
+/// The status that a word says.
+pub(crate) fn status_of(word: &str) -> Option<CardStatus>
     ensures { result ≡ status_of word.now }
 {
     match word {
@@ -30,7 +31,8 @@ pub(crate) fn status_at(part: Part, entry: &Value, key: &str) -> Result<CardStat
     status_of(text_at(part, entry, key)?).ok_or(TextFault::Range)
 }
 
-fn mode_of(word: &str) -> Option<BudgetMode>
+/// The mode that a word says.
+pub(crate) fn mode_of(word: &str) -> Option<BudgetMode>
     ensures { result ≡ mode_of word.now }
 {
     match word {
@@ -47,7 +49,8 @@ pub(crate) fn mode_at(part: Part, entry: &Value, key: &str) -> Result<BudgetMode
     mode_of(text_at(part, entry, key)?).ok_or(TextFault::Range)
 }
 
-fn kind_of(word: &str) -> Option<OriginalKind>
+/// The kind that a word says.
+pub(crate) fn kind_of(word: &str) -> Option<OriginalKind>
     ensures { result ≡ kind_of word.now }
 {
     match word {
@@ -75,7 +78,8 @@ fn card_paid_of(word: &str) -> Option<Paid>
     }
 }
 
-fn account_paid_of(word: &str) -> Option<Paid>
+/// What paid, in the words of version 3.
+pub(crate) fn account_paid_of(word: &str) -> Option<Paid>
     ensures { result ≡ account_paid_of word.now }
 {
     match word {
