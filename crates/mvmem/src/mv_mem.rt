@@ -140,12 +140,13 @@ impl MvMem {
         ensures { IfOk result (λ laid. IsLaidOver (held self.now.entries) index book.now laid) }
     {
         let mut laid = book.copy()?;
+        laid.reserve(self.chains.len())?;
         for number in 0..self.chains.len() {
             let row = self.chains.row(number);
             let (link, _comparisons) = self.chains.nearest_at(number, index);
             let seen = seen_of(link);
             if let Seen::Value(_, value) = seen {
-                laid.put(*row, value)?;
+                laid.put_copy(row, &value)?;
             }
         }
         Ok(laid)
