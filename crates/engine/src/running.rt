@@ -135,6 +135,23 @@ fn finished<R: Wait>(
     if is_of_run(&shared, book, frames, limits) && has_committed_all(&shared, frames) {
         return Ok(shared);
     }
+    played_anew(rt, alloc, book, frames, limits)
+}
+
+// A new core, which the caller plays alone.
+fn played_anew<R: Wait>(
+    rt: &R,
+    alloc: Global,
+    book: &Book,
+    frames: &[Frame],
+    limits: Limits,
+) -> Result<Traced, AllocError>
+    requires { length frames.now ≤ 65536 }
+    ensures opening { IfOk result (λ traced. traced.core.state.opening ≡ book.now) }
+    ensures frames { IfOk result (λ traced. traced.core.state.frames ≡ frames.now) }
+    ensures limits { IfOk result (λ traced. traced.core.state.limits ≡ bounded limits) }
+    ensures finished { IfOk result (λ traced. IsFinished traced.core traced.entries) }
+{
     for _ in rt.forever() {
         let traced = played_alone(rt, alloc, book, frames, limits)?;
         if is_of_run(&traced, book, frames, limits) {

@@ -89,14 +89,19 @@ impl Core {
             incarnation: limits.incarnation,
             epoch: limits.epoch.max(1),
         };
+        let checks = no_checks(alloc)?;
+        let copies = frames.to_vec(alloc)?;
+        let sched = Sched::new(alloc, frames.len())?;
+        let slots = fresh_slots(alloc, frames)?;
+        let opening = book.copy()?;
         Ok(Core {
-            opening: book.copy()?,
-            frames: frames.to_vec(alloc)?,
+            opening,
+            frames: copies,
             memory: MvMem::new(alloc),
-            sched: Sched::new(alloc, frames.len())?,
-            slots: fresh_slots(alloc, frames)?,
+            sched,
+            slots,
             limits,
-            checks: no_checks(alloc)?,
+            checks,
         })
     }
 
@@ -399,21 +404,23 @@ impl Core {
         ensures book { IfOk result (λ prefix. prefix.book ≡ rows_after self.state.opening (take self.state.board.committed self.state.frames)) }
         ensures replies { IfOk result (λ prefix. prefix.replies.items ≡ replies_to self.state.opening (take self.state.board.committed self.state.frames)) }
     {
-        let Core {
-            opening,
-            frames: _,
-            memory,
-            sched,
-            mut slots,
-            limits: _,
-            checks: _,
-        } = self;
-        let count = sched.committed();
-        slots.truncate(count as usize);
+        self.prefix(alloc)
+    }
+
+    // The committed messages of a core that stays.
+    fn prefix(&self, alloc: Global) -> Result<Prefix, AllocError>
+        ensures count { IfOk result (λ prefix. prefix.count ≡ self.now.state.board.committed) }
+        ensures within { IfOk result (λ prefix. prefix.count ≤ length self.now.state.frames) }
+        ensures book { IfOk result (λ prefix. prefix.book ≡ rows_after self.now.state.opening (take self.now.state.board.committed self.now.state.frames)) }
+        ensures replies { IfOk result (λ prefix. prefix.replies.items ≡ replies_to self.now.state.opening (take self.now.state.board.committed self.now.state.frames)) }
+    {
+        let count = self.sched.committed();
+        let replies = replies_in(alloc, &self.slots[..count as usize])?;
+        let book = self.memory.overlay(count, &self.opening)?;
         Ok(Prefix {
             count,
-            book: memory.overlay(count, &opening)?,
-            replies: replies_in(alloc, &slots)?,
+            book,
+            replies,
         })
     }
 }
