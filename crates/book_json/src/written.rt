@@ -66,8 +66,8 @@ fn book_of_lists(alloc: Global, bytes: &[u8]) -> Result<Option<Book>, AllocError
 }
 
 /// The book whose text this is, where it is as books are written: version 3, without spaces, the keys of each object and the
-/// rows of each list in their order. Any other text is answered `None`. It is read in one pass, without a value of JSON; that
-/// it was read right is seen by writing the book again.
+/// rows of each list in their order. It is read in one pass, without a value of JSON; that it was read right is seen by
+/// writing the book again. `None` says nothing of the text. Or memory ran out.
 pub(crate) fn read_written(alloc: Global, bytes: &[u8]) -> Result<Option<Book>, AllocError>
     ensures { IfOk result (λ found. IfSome found (λ book. reading bytes.now ≡ Ok book)) }
 {
