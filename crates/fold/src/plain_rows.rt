@@ -40,20 +40,10 @@ impl RowSource for PlainRows<'_> {
     #[inline(always)]
     fn read_into(&mut self, key: &RowKey, row: &mut Option<RowVal>) -> Result<(), Stop> {
         match self.book.find(key, &mut self.places) {
-            Some(val) => put_over(row, val),
+            Some(val) => val.copy_to(row),
             None if row.is_some() => *row = None,
             None => {}
         }
         Ok(())
-    }
-}
-
-// Writes a copy of a value to a place.
-fn put_over(row: &mut Option<RowVal>, val: &RowVal)
-    ensures { row.new ≡ Some val.now }
-{
-    match row {
-        Some(there) => there.copy_from(val),
-        None => *row = Some(*val),
     }
 }

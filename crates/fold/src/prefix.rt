@@ -33,8 +33,9 @@ impl Prefix {
         }
     }
 
-    /// One more body, as it was executed: its reply, and the rows that it puts. After an error nothing is changed.
-    pub fn extend(&mut self, execution: &Execution) -> Result<(), AllocError>
+    /// One more body, as it was executed: its reply, and the rows that it puts, each where it was found. After an error nothing is
+    /// changed.
+    pub fn extend(&mut self, execution: &Execution, places: &Places) -> Result<(), AllocError>
         requires { self.old.count + 1 < 2 ^ 32 }
         ensures count { OnOk result (self.new.count ≡ self.old.count + 1) }
         ensures book { OnOk result (self.new.book ≡ overlay self.old.book execution.now.writes) }
@@ -42,7 +43,7 @@ impl Prefix {
         ensures kept { OnErr result ((self.new.count ≡ self.old.count) × (self.new.book ≡ self.old.book) × (self.new.replies.items ≡ self.old.replies.items)) }
     {
         self.replies.reserve(1)?;
-        put_all_or_none(&mut self.book, execution.writes())?;
+        put_all_or_none(&mut self.book, execution.writes(), places)?;
         let reply = execution.reply();
         push_copy(&mut self.replies, &reply);
         self.count += 1;

@@ -4,20 +4,29 @@ ghost use Rattle.fold.specs.Former.{with_former};
 ghost use Rattle.rows.specs.Fold.{overlay};
 ghost use Rattle.rows.specs.RowVal.{IsOfKind};
 
-use rows::{Book, RowKey, RowVal};
+use rows::{Book, Places, RowKey, RowVal};
 use std::alloc::AllocError;
 use view::WriteSet;
 
-// Puts these rows, one after another, or none of them.
-pub(crate) fn put_all_or_none(book: &mut Book, writes: &WriteSet) -> Result<(), AllocError>
+// Puts these rows, one after another, each where it was found, or none of them.
+pub(crate) fn put_all_or_none(
+    book: &mut Book,
+    writes: &WriteSet,
+    places: &Places,
+) -> Result<(), AllocError>
     ensures ok { OnOk result (book.new ≡ overlay book.old writes.now) }
     ensures err { OnErr result (book.new ≡ book.old) }
 {
-    put_from(book, writes, 0)
+    put_from(book, writes, 0, places)
 }
 
 // Puts the rows from this place on, or none of them: where a later one finds no room, each is given back what it was.
-fn put_from(book: &mut Book, writes: &WriteSet, index: usize) -> Result<(), AllocError>
+fn put_from(
+    book: &mut Book,
+    writes: &WriteSet,
+    index: usize,
+    places: &Places,
+) -> Result<(), AllocError>
     requires { index ≤ length writes.now }
     ensures ok { OnOk result (book.new ≡ overlay book.old (drop index writes.now)) }
     ensures err { OnErr result (book.new ≡ book.old) }
@@ -27,8 +36,8 @@ fn put_from(book: &mut Book, writes: &WriteSet, index: usize) -> Result<(), Allo
     }
     let (key, row) = writes.row(index);
     let former = book.get(key);
-    book.put_copy(key, row)?;
-    match put_from(book, writes, index + 1) {
+    book.put_copy_near(key, row, places)?;
+    match put_from(book, writes, index + 1, places) {
         Ok(()) => Ok(()),
         Err(fault) => {
             give_back(book, key, former);

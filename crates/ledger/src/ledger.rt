@@ -6,7 +6,7 @@ use crate::agreement::agrees;
 use crate::frames::{are_same, is_at};
 use crate::verdict::Verdict;
 use fold::Prefix;
-use rows::{Book, Frame};
+use rows::{Book, Frame, Places};
 use std::alloc::{AllocError, Global};
 use std::marker::Model;
 use view::Execution;
@@ -37,15 +37,18 @@ impl Model for Ledger {
 }
 
 impl Ledger {
-    /// A ledger of this batch, at most 65,536 bodies, in which no message is committed.
+    /// A ledger of this batch, at most 65,536 bodies, in which no message is committed. Room for a row and a reply of each is made at once.
     pub fn new(alloc: Global, opening: &Book, frames: &[Frame]) -> Result<Ledger, AllocError>
         requires { length frames.now ≤ 65536 }
         ensures { IfOk result (λ ledger. ledger ≡ opened opening.now frames.now) }
     {
+        let mut prefix = Prefix::new(alloc, opening.copy()?);
+        prefix.book.reserve(frames.len())?;
+        prefix.replies.reserve(frames.len())?;
         Ok(Ledger {
             opening: opening.copy()?,
             frames: frames.to_vec(alloc)?,
-            prefix: Prefix::new(alloc, opening.copy()?),
+            prefix,
         })
     }
 
@@ -72,20 +75,21 @@ impl Ledger {
         ensures committed { result ≡ Ok Committed → self.new ≡ further self.old }
         ensures otherwise { result ≢ Ok Committed → self.new ≡ self.old }
     {
-        if !self.is_next(execution) {
+        let mut places = Places::new();
+        if !self.is_next(execution, &mut places) {
             return Ok(Verdict::Stale);
         }
         let _ = execution.frame();
-        self.prefix.extend(execution)?;
+        self.prefix.extend(execution, &places)?;
         Ok(Verdict::Committed)
     }
 
-    // Whether the execution is that of the next message, and each row is as it was read.
-    fn is_next(&self, execution: &Execution) -> bool
+    // Whether the execution is that of the next message, and each row is as it was read. Where they stand is noted.
+    fn is_next(&self, execution: &Execution, places: &mut Places) -> bool
         ensures { IsTrue result ↔ IsNext self.now execution.now }
     {
         is_at(&self.frames, self.prefix.count, &execution.frame())
-            && agrees(&self.prefix.book, execution.reads())
+            && agrees(&self.prefix.book, execution.reads(), places)
     }
 
     /// The committed messages: the book and the replies after them are those of deciding them one after another on the opening book.

@@ -51,17 +51,22 @@ impl Chain {
         self.links.reserve(1)
     }
 
-    /// The nearest entry below the index, if there is one, and how many indices were compared to find it.
-    pub(crate) fn nearest_below(&self, index: u32) -> (Option<&Link>, u32)
+    /// The nearest entry below the index, if there is one.
+    pub(crate) fn nearest_below(&self, index: u32) -> Option<&Link>
+        ensures { IsNearestBelow (found self.now.links) index (seen_of (option_copied result)) }
+    {
+        let place = place_below(&self.links, index);
+        link_before(&self.links, place, index)
+    }
+
+    /// The same, by halves, and how many indices were compared to find it.
+    pub(crate) fn counted_below(&self, index: u32) -> (Option<&Link>, u32)
         ensures seen { IsNearestBelow (found self.now.links) index (seen_of (option_copied result.0)) }
         ensures comparisons { IsWithinDigitsOf result.1 (length self.now.links) }
         ensures order { AreInOrder self.now.links }
     {
         let (place, comparisons) = count_below(&self.links, index);
-        if place == 0 {
-            return (None, comparisons);
-        }
-        (Some(&self.links[place - 1]), comparisons)
+        (link_before(&self.links, place, index), comparisons)
     }
 
     /// Puts this value as the version's entry, over the one that its index has. Answers whether its index had none.
@@ -110,18 +115,48 @@ impl Chain {
     }
 }
 
+// The link before this place, which is the last one below the index.
+fn link_before(links: &[Link], place: usize, index: u32) -> Option<&Link>
+    requires order { AreInOrder links.now }
+    requires within { place ≤ length links.now }
+    requires below { (k : ℕ) (d : Link) → k < place → (slice_index_or links.now k d).index < index }
+    requires above { (k : ℕ) (d : Link) → place ≤ k → k < length links.now → index ≤ (slice_index_or links.now k d).index }
+    ensures { IsNearestBelow (found links.now) index (seen_of (option_copied result)) }
+{
+    if place == 0 {
+        return None;
+    }
+    Some(&links[place - 1])
+}
+
 // Where the index's link stands, or else where it would stand.
 fn place_of(links: &[Link], index: u32) -> Result<usize, usize>
     requires { AreInOrder links.now }
     ensures there { IfOk result (λ place. StandsAt links.now index place) }
     ensures absent { IfErr result (λ place. FitsAt links.now index place) }
 {
-    let (place, _comparisons) = count_below(links, index);
+    let place = place_below(links, index);
     if place < links.len() && links[place].index == index {
         Ok(place)
     } else {
         Err(place)
     }
+}
+
+// How many links have an index below this one. Most messages see what was put last and put behind it, so the last link is looked at
+// first.
+fn place_below(links: &[Link], index: u32) -> usize
+    requires { AreInOrder links.now }
+    ensures within { result ≤ length links.now }
+    ensures below { (k : ℕ) (d : Link) → k < result → (slice_index_or links.now k d).index < index }
+    ensures above { (k : ℕ) (d : Link) → result ≤ k → k < length links.now → index ≤ (slice_index_or links.now k d).index }
+{
+    let count = links.len();
+    if count > 0 && links[count - 1].index < index {
+        return count;
+    }
+    let (place, _comparisons) = count_below(links, index);
+    place
 }
 
 // How many links have an index below this one, by halves; and how many indices were compared to find out.

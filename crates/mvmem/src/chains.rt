@@ -17,7 +17,7 @@ use std::marker::Model;
 
 /// A chain for each row, found by one look-up. A row keeps its number: no chain is taken out.
 #[derive(Drop)]
-pub(crate) struct Chains {
+pub struct Chains {
     rows: IndexMap<RowKey, Chain>,
 }
 
@@ -33,7 +33,7 @@ impl Model for Chains {
 
 impl Chains {
     /// No chains.
-    pub(crate) fn new(alloc: Global) -> Chains
+    pub fn new(alloc: Global) -> Chains
         ensures { result ≡ [] }
     {
         Chains {
@@ -70,7 +70,7 @@ impl Chains {
     }
 
     /// The row's number, if it has a chain. It is looked for among these numbers first, which takes no hashing.
-    pub(crate) fn number_of(&self, row: &RowKey, numbers: &[usize]) -> Option<usize>
+    pub fn number_of(&self, row: &RowKey, numbers: &[usize]) -> Option<usize>
         ensures found { IfSome result (λ number. row_at self.now number ≡ Some row.now) }
         ensures absent { IfNone result (value_in self.now row.now ≡ None) }
     {
@@ -82,14 +82,11 @@ impl Chains {
         self.rows.get_index_of(row)
     }
 
-    /// The nearest entry below the index of the row with this number, if there is one, and how many indices were compared
-    /// to find it.
-    pub(crate) fn nearest_at(&self, number: usize, index: u32) -> (Option<&Link>, u32)
+    /// The nearest entry below the index of the row with this number, if there is one.
+    pub(crate) fn nearest_at(&self, number: usize, index: u32) -> Option<&Link>
         requires { number < length self.now }
-        ensures seen { (row : RowKey) → row_at self.now number ≡ Some row → Resolves (stands self.now) row index (seen_of (option_copied result.0)) }
-        ensures kind { (row : RowKey) → row_at self.now number ≡ Some row → IsSeenOfKind row (seen_of (option_copied result.0)) }
-        ensures comparisons { (row : RowKey) → row_at self.now number ≡ Some row → IsWithinDigitsOf result.1 (length (links_in (value_in self.now row))) }
-        ensures order { (row : RowKey) → row_at self.now number ≡ Some row → AreInOrder (links_in (value_in self.now row)) }
+        ensures seen { (row : RowKey) → row_at self.now number ≡ Some row → Resolves (stands self.now) row index (seen_of (option_copied result)) }
+        ensures kind { (row : RowKey) → row_at self.now number ≡ Some row → IsSeenOfKind row (seen_of (option_copied result)) }
     {
         match self.rows.get_index(number) {
             Some((_, chain)) => chain.nearest_below(index),
@@ -97,21 +94,41 @@ impl Chains {
         }
     }
 
-    /// The row's nearest entry below the index, if there is one, and how many indices were compared to find it. The row's
-    /// chain is looked for among these numbers first.
-    pub(crate) fn nearest_below(
-        &self,
-        row: &RowKey,
-        numbers: &[usize],
-        index: u32,
-    ) -> (Option<&Link>, u32)
+    /// The row's nearest entry below the index, if there is one. The row's chain is looked for among these numbers first.
+    pub fn nearest_below(&self, row: &RowKey, numbers: &[usize], index: u32) -> Option<&Link>
+        ensures seen { Resolves (stands self.now) row.now index (seen_of (option_copied result)) }
+        ensures kind { IsSeenOfKind row.now (seen_of (option_copied result)) }
+    {
+        match self.number_of(row, numbers) {
+            Some(number) => self.nearest_at(number, index),
+            None => None,
+        }
+    }
+
+    // The nearest entry below the index of the row with this number, if there is one, by halves, and how many indices were compared to
+    // find it.
+    fn counted_at(&self, number: usize, index: u32) -> (Option<&Link>, u32)
+        requires { number < length self.now }
+        ensures seen { (row : RowKey) → row_at self.now number ≡ Some row → Resolves (stands self.now) row index (seen_of (option_copied result.0)) }
+        ensures kind { (row : RowKey) → row_at self.now number ≡ Some row → IsSeenOfKind row (seen_of (option_copied result.0)) }
+        ensures comparisons { (row : RowKey) → row_at self.now number ≡ Some row → IsWithinDigitsOf result.1 (length (links_in (value_in self.now row))) }
+        ensures order { (row : RowKey) → row_at self.now number ≡ Some row → AreInOrder (links_in (value_in self.now row)) }
+    {
+        match self.rows.get_index(number) {
+            Some((_, chain)) => chain.counted_below(index),
+            None => unreachable!(),
+        }
+    }
+
+    /// The row's nearest entry below the index, if there is one, by halves, and how many indices were compared to find it.
+    pub(crate) fn counted_below(&self, row: &RowKey, index: u32) -> (Option<&Link>, u32)
         ensures seen { Resolves (stands self.now) row.now index (seen_of (option_copied result.0)) }
         ensures kind { IsSeenOfKind row.now (seen_of (option_copied result.0)) }
         ensures comparisons { IsWithinDigitsOf result.1 (length (links_in (value_in self.now row.now))) }
         ensures order { AreInOrder (links_in (value_in self.now row.now)) }
     {
-        match self.number_of(row, numbers) {
-            Some(number) => self.nearest_at(number, index),
+        match self.number_of(row, &[]) {
+            Some(number) => self.counted_at(number, index),
             None => (None, 0),
         }
     }
@@ -148,7 +165,7 @@ impl Chains {
 
     /// Makes the row's chain, if it has none, and room in it for one more entry. The chain is looked for among these
     /// numbers first. Answers the row's number.
-    pub(crate) fn reserve(
+    pub fn reserve(
         &mut self,
         alloc: Global,
         row: &RowKey,
@@ -175,7 +192,7 @@ impl Chains {
 
     /// Puts this value as the version's entry of the row, over the one that its index has. The row's chain is looked for
     /// among these numbers first. Answers the row's number, and whether its index had none.
-    pub(crate) fn put(
+    pub fn put(
         &mut self,
         row: &RowKey,
         numbers: &[usize],
@@ -201,7 +218,7 @@ impl Chains {
     }
 
     /// Takes out the entry that the row with this number has at the index, if there is one.
-    pub(crate) fn take_out(&mut self, number: usize, index: u32)
+    pub fn take_out(&mut self, number: usize, index: u32)
         requires { number < length self.old }
         ensures changed { (row : RowKey) → row_at self.old number ≡ Some row → IsChangedAt self.old self.new row index None }
         ensures rows { rows_of self.new ≡ rows_of self.old }
@@ -214,7 +231,7 @@ impl Chains {
     }
 
     /// The entry that the row with this number has at the index, if there is one, is an estimate from now on.
-    pub(crate) fn to_estimate(&mut self, number: usize, index: u32)
+    pub fn to_estimate(&mut self, number: usize, index: u32)
         requires { number < length self.old }
         ensures changed { (row : RowKey) → row_at self.old number ≡ Some row → IsChangedAt self.old self.new row index (option_map estimate_of (stands self.old row index)) }
         ensures rows { rows_of self.new ≡ rows_of self.old }

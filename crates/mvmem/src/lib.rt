@@ -10,6 +10,7 @@ mod row_list;
 mod seen;
 mod version;
 
+pub use chains::Chains;
 pub use link::Link;
 pub use mv_mem::MvMem;
 pub use seen::Seen;

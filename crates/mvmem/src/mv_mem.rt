@@ -75,7 +75,7 @@ impl MvMem {
         ensures kind { IsSeenOfKind row.now result.0 }
         ensures comparisons { IsWithinDigitsOf result.1 (row_count self.now.entries row.now) }
     {
-        let (link, comparisons) = self.chains.nearest_below(row, &[], index);
+        let (link, comparisons) = self.chains.counted_below(row, index);
         (seen_of(link), comparisons)
     }
 
@@ -85,7 +85,7 @@ impl MvMem {
         ensures kind { IsSeenOfKind row.now (seen_of (option_copied result.0)) }
     {
         match self.chains.number_of(row, &[]) {
-            Some(number) => (self.chains.nearest_at(number, index).0, number),
+            Some(number) => (self.chains.nearest_at(number, index), number),
             None => (None, usize::MAX),
         }
     }
@@ -95,7 +95,7 @@ impl MvMem {
         ensures seen { Resolves (held self.now.entries) row.now index (seen_of (option_copied result)) }
         ensures kind { IsSeenOfKind row.now (seen_of (option_copied result)) }
     {
-        self.chains.nearest_below(row, &[number], index).0
+        self.chains.nearest_below(row, &[number], index)
     }
 
     /// Makes room for what these writes put as the message at this index. No entry changes. A row to which `look`
@@ -143,8 +143,7 @@ impl MvMem {
         laid.reserve(self.chains.len())?;
         for number in 0..self.chains.len() {
             let row = self.chains.row(number);
-            let (link, _comparisons) = self.chains.nearest_at(number, index);
-            let seen = seen_of(link);
+            let seen = seen_of(self.chains.nearest_at(number, index));
             if let Seen::Value(_, value) = seen {
                 laid.put_copy(row, &value)?;
             }

@@ -1,4 +1,4 @@
-ghost use Rattle.std.specs.Prelude.{◌≡◌, ◌↔◌, IsTrue};
+ghost use Rattle.std.specs.Prelude.{◌≡◌, ◌↔◌, IsTrue, Some};
 ghost use Rattle.rows.specs.RowVal.{IsOfKind};
 
 use crate::account_row::AccountRow;
@@ -54,6 +54,16 @@ impl RowVal {
             (RowVal::Ahead(mine), RowVal::Ahead(theirs)) => *mine = *theirs,
             (RowVal::Account(mine), RowVal::Account(theirs)) => *mine = *theirs,
             (mine, theirs) => *mine = *theirs,
+        }
+    }
+
+    /// Writes a copy of this to a place of the caller's, over what stands there.
+    pub fn copy_to(&self, place: &mut Option<RowVal>)
+        ensures { place.new ≡ Some self.now }
+    {
+        match place {
+            Some(there) => there.copy_from(self),
+            None => *place = Some(*self),
         }
     }
 

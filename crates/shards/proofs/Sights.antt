@@ -1,10 +1,14 @@
 -- What is seen of a row by the entry that was found for it.
-use Rattle.std.proofs.Common.{ℕ, Option, Some, None, refl}
+use Rattle.std.proofs.Common.{◌≡◌, ℕ, Option, Some, None, IfSome, refl, subst}
 use Rattle.mvmem.specs.Chains.{seen_by, seen_of}
 use Rattle.mvmem.specs.Resolves.{IsSeenOfKind}
 use Rattle.mvmem.specs.declared.link.Link.{Link}
+use Rattle.mvmem.specs.declared.version.Version.{Version}
+use Rattle.rows.specs.RowVal.{IsOfKind}
 use Rattle.rows.specs.declared.row_key.RowKey.{RowKey}
 use Rattle.rows.specs.declared.row_val.RowVal.{RowVal}
+use Rattle.shards.specs.declared.sight.Sight.{Sight}
+use Rattle.shards.specs.declared.sight.Sight.TheVariants.{Put}
 use Rattle.shards.specs.Sighted.{IsSeenSo, entry_sight, over, row_over, sight_of}
 
 value_seen_so : (key : RowKey) (index incarnation : ℕ) (value was : Option RowVal) → IsSeenOfKind key (seen_by index incarnation value)
@@ -16,3 +20,9 @@ pub seen_so : (key : RowKey) (entry : Option Link) (was : Option RowVal) → IsS
     → IsSeenSo key (sight_of entry) was (row_over entry was)
 seen_so key (Some link) was kind = value_seen_so key link.index link.incarnation link.value was kind
 seen_so key None was kind = refl
+
+-- where what was put is seen, it is a row of its key's kind
+pub put_of_kind : (key : RowKey) (sight : Sight) (was now : Option RowVal) (version : Version) → IsSeenSo key sight was now → sight ≡ Put version → IfSome now (IsOfKind key)
+put_of_kind key sight was now version seen is =
+    let s : IsSeenSo key (Put version) was now = subst (λ (x : Sight). IsSeenSo key x was now) is seen in
+    rw s.1 s.2

@@ -1,25 +1,24 @@
 ghost use Rattle.std.specs.Prelude.{◌≡◌, length, IfOk};
+ghost use Rattle.rows.specs.RowVal.{IsOfKind};
 ghost use Rattle.shards.specs.Sighted.{IsSeenSo};
 
-use crate::log::LoggedSight;
 use crate::shard_of::shard_of;
-use crate::shard_set::ShardSet;
-use crate::sight::{Sight, sight_of};
+use crate::sight::{Sight, copy_value, sight_of};
 use crossbeam_utils::CachePadded;
-use mvmem::{MvMem, Version};
+use mvmem::{Chains, Version};
 use rows::{RowKey, RowVal};
 use std::alloc::{AllocError, Global};
 use std::sync::{Mutex, Wait};
-use view::WriteSet;
+use view::{ReadSet, WriteSet};
 
 // How many shards there are.
 const SHARDS: usize = 64;
 
-/// The rows that executions put, in 64 shards: memories of versions, each under a lock of its own. A lock is held while one row is
-/// looked for, or while one message's rows of that shard are recorded.
+/// The rows that executions put, in 64 shards: a chain of entries for each row, each shard under a lock of its own. A lock is held
+/// while one row is looked for, or while one entry is put.
 #[derive(Drop)]
 pub struct Shards {
-    shards: Vec<CachePadded<Mutex<MvMem>>>,
+    shards: Vec<CachePadded<Mutex<Chains>>>,
     ghost all: { length shards.items ≡ 64 },
 }
 
@@ -37,86 +36,111 @@ impl Shards {
     pub fn look<R: Wait>(&self, rt: &R, key: &RowKey, index: u32, row: &mut Option<RowVal>) -> Sight
         ensures { IsSeenSo key.now result row.old row.new }
     {
-        let memory = self.shards[shard_of(key)].lock(rt);
-        let (link, _) = memory.look(key, index);
-        sight_of(link, row)
+        let chains = self.shards[shard_of(key)].lock(rt);
+        let link = chains.nearest_below(key, &[], index);
+        copy_value(link, row);
+        sight_of(link)
     }
 
-    /// Whether the message at this index sees each row as it was logged.
-    pub fn is_as_logged<R: Wait>(&self, rt: &R, index: u32, log: &[LoggedSight]) -> bool {
-        let mut row = None;
-        for logged in log {
-            if self.look(rt, &logged.key, index, &mut row) != logged.sight {
+    /// Whether the message at this index sees each row that it read as it was logged, in the order of reading.
+    pub fn is_as_logged<R: Wait>(
+        &self,
+        rt: &R,
+        index: u32,
+        reads: &ReadSet,
+        log: &[Sight],
+    ) -> bool {
+        for place in 0..reads.len() {
+            let (key, _) = reads.row(place);
+            if log.get(place).copied() != Some(self.sight(rt, key, index)) {
                 return false;
             }
         }
         true
     }
 
-    /// Puts what this version wrote in place of all that its message put before, which stands in the shards of `former`. Answers the
-    /// shards in which it has entries now, and whether a row was put that had none of it.
+    // Whose row the message at this index sees.
+    fn sight<R: Wait>(&self, rt: &R, key: &RowKey, index: u32) -> Sight {
+        let chains = self.shards[shard_of(key)].lock(rt);
+        let link = chains.nearest_below(key, &[], index);
+        sight_of(link)
+    }
+
+    /// Puts what this version wrote, in place of what its message put before. Answers whether a row was put that had no entry of the
+    /// message.
     pub fn record<R: Wait>(
         &self,
         rt: &R,
         alloc: Global,
         version: Version,
         writes: &WriteSet,
-        former: ShardSet,
-    ) -> Result<(ShardSet, bool), AllocError> {
-        let now = shards_of(writes);
-        let touched = now.united(former);
-        let mut part = WriteSet::new(alloc);
+        former: Option<&WriteSet>,
+    ) -> Result<bool, AllocError> {
         let mut is_new = false;
-        for shard in 0..SHARDS {
-            if touched.has(shard) {
-                take_part(&mut part, writes, shard)?;
-                let mut memory = self.shards[shard].lock(rt);
-                memory.reserve(alloc, version.index, &part, &[])?;
-                is_new = memory.record(version, &part) || is_new;
-            }
+        for place in 0..writes.len() {
+            let (key, value) = writes.row(place);
+            is_new = self.put(rt, alloc, version, key, value)? || is_new;
         }
-        Ok((now, is_new))
+        if let Some(former) = former {
+            self.take_out_others(rt, version.index, former, writes);
+        }
+        Ok(is_new)
     }
 
-    /// All entries of the message, which stand in these shards, are estimates from now on.
-    pub fn to_estimates<R: Wait>(&self, rt: &R, index: u32, set: ShardSet) {
-        for shard in 0..SHARDS {
-            if set.has(shard) {
-                self.shards[shard].lock(rt).to_estimates(index);
+    // Puts this value as the version's entry of the row. Answers whether its message had none.
+    fn put<R: Wait>(
+        &self,
+        rt: &R,
+        alloc: Global,
+        version: Version,
+        key: &RowKey,
+        value: &RowVal,
+    ) -> Result<bool, AllocError>
+        requires { IsOfKind key.now value.now }
+    {
+        let mut chains = self.shards[shard_of(key)].lock(rt);
+        let number = chains.reserve(alloc, key, &[])?;
+        let (_, is_new) = chains.put(key, &[number], version, value);
+        Ok(is_new)
+    }
+
+    // Takes out the message's entries of the rows that it put before and that are not among these.
+    fn take_out_others<R: Wait>(&self, rt: &R, index: u32, former: &WriteSet, writes: &WriteSet) {
+        for place in 0..former.len() {
+            let (key, _) = former.row(place);
+            if writes.get(key).is_none() {
+                self.take_out(rt, key, index);
+            }
+        }
+    }
+
+    // Takes out the message's entry of the row.
+    fn take_out<R: Wait>(&self, rt: &R, key: &RowKey, index: u32) {
+        let mut chains = self.shards[shard_of(key)].lock(rt);
+        if let Some(number) = chains.number_of(key, &[]) {
+            chains.take_out(number, index);
+        }
+    }
+
+    /// The message's entries of these rows are estimates from now on.
+    pub fn to_estimates<R: Wait>(&self, rt: &R, index: u32, writes: &WriteSet) {
+        for place in 0..writes.len() {
+            let (key, _) = writes.row(place);
+            let mut chains = self.shards[shard_of(key)].lock(rt);
+            if let Some(number) = chains.number_of(key, &[]) {
+                chains.to_estimate(number, index);
             }
         }
     }
 }
 
 // Shards in which no row is put.
-fn empty_shards(alloc: Global) -> Result<Vec<CachePadded<Mutex<MvMem>>>, AllocError>
+fn empty_shards(alloc: Global) -> Result<Vec<CachePadded<Mutex<Chains>>>, AllocError>
     ensures { IfOk result (λ shards. length shards.items ≡ 64) }
 {
     let mut shards = Vec::new(alloc);
     for _ in 0..SHARDS {
-        shards.push(CachePadded::new(Mutex::new(MvMem::new(alloc))))?;
+        shards.push(CachePadded::new(Mutex::new(Chains::new(alloc))))?;
     }
     Ok(shards)
-}
-
-// The shards of these rows.
-fn shards_of(writes: &WriteSet) -> ShardSet {
-    let mut set = ShardSet::new();
-    for place in 0..writes.len() {
-        let (key, _) = writes.row(place);
-        set = set.with(shard_of(key));
-    }
-    set
-}
-
-// The rows of one shard among these, in place of what the part held.
-fn take_part(part: &mut WriteSet, writes: &WriteSet, shard: usize) -> Result<(), AllocError> {
-    part.clear();
-    for place in 0..writes.len() {
-        let (key, row) = writes.row(place);
-        if shard_of(key) == shard {
-            part.put_copy(key, row)?;
-        }
-    }
-    Ok(())
 }

@@ -16,20 +16,29 @@ pub enum Sight {
     Estimate(u32),
 }
 
-// Whose row is seen where this entry is the nearest one. What it put is written to a place of the caller's.
-pub(crate) fn sight_of(link: Option<&Link>, row: &mut Option<RowVal>) -> Sight
-    ensures sight { result ≡ sight_of (option_copied link.entry) }
-    ensures row { row.new ≡ row_over (option_copied link.entry) row.old }
+// Whose row is seen where this entry is the nearest one.
+pub(crate) fn sight_of(link: Option<&Link>) -> Sight
+    ensures { result ≡ sight_of (option_copied link.entry) }
 {
     let Some(link) = link else {
         return Sight::Base;
     };
-    let Some(value) = link.value else {
+    if link.value.is_none() {
         return Sight::Estimate(link.index);
-    };
-    *row = Some(value);
+    }
     Sight::Put(Version {
         index: link.index,
         incarnation: link.incarnation,
     })
+}
+
+// What the nearest entry put is written to a place of the caller's.
+pub(crate) fn copy_value(link: Option<&Link>, row: &mut Option<RowVal>)
+    ensures { row.new ≡ row_over (option_copied link.entry) row.old }
+{
+    if let Some(link) = link {
+        if let Some(value) = &link.value {
+            value.copy_to(row);
+        }
+    }
 }

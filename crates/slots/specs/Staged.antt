@@ -1,29 +1,40 @@
 -- Where a message stands, and what moves it.
-use Rattle.std.specs.Prelude.{◌≡◌, ◌⊎◌, ◌+◌, Some, None}
-use Rattle.shards.specs.declared.shard_set.ShardSet.{ShardSet}
+use Rattle.std.specs.Prelude.{◌≡◌, ◌⊎◌, ℕ, ◌+◌, Option, Some, None}
 use Rattle.slots.specs.declared.attempt.Attempt.{Attempt}
-use Rattle.slots.specs.declared.slot.Slot.{Slot}
+use Rattle.slots.specs.declared.stage.Stage.{Stage}
 use Rattle.slots.specs.declared.stage.Stage.TheVariants.{Ready, Running, Executed, Committed}
+
+-- where a message stands, in which incarnation; its last execution, and the one that was given up
+pub record Slot : Type 0 where
+  pub stage : Stage
+  pub incarnation : ℕ
+  pub attempt : Option Attempt
+  pub former : Option Attempt
 
 -- a message that was never executed
 abbrev pub IsFresh : Slot → Type 0
-IsFresh s = (s.stage ≡ Ready) × (s.incarnation ≡ 0) × (s.attempt ≡ None)
+IsFresh s = (s.stage ≡ Ready) × (s.incarnation ≡ 0) × (s.attempt ≡ None) × (s.former ≡ None)
 
 -- a worker executes it
 abbrev pub taken : Slot → Slot
-taken s = record { stage = Running; incarnation = s.incarnation; shards = s.shards; attempt = s.attempt }
+taken s = record { stage = Running; incarnation = s.incarnation; attempt = s.attempt; former = s.former }
 
--- it was executed so, and has entries in these shards
-abbrev pub executed : Slot → ShardSet → Attempt → Slot
-executed s shards attempt = record { stage = Executed; incarnation = s.incarnation; shards = shards; attempt = Some attempt }
+-- it was executed so
+abbrev pub executed : Slot → Attempt → Slot
+executed s attempt = record { stage = Executed; incarnation = s.incarnation; attempt = Some attempt; former = None }
+
+-- the former execution, once this one is given up
+abbrev pub former_after : Option Attempt → Option Attempt → Option Attempt
+former_after (Some attempt) former = Some attempt
+former_after None former = former
 
 -- it is to be executed again, in its next incarnation
 abbrev pub given_up : Slot → Slot
-given_up s = record { stage = Ready; incarnation = s.incarnation + 1; shards = s.shards; attempt = None }
+given_up s = record { stage = Ready; incarnation = s.incarnation + 1; attempt = None; former = former_after s.attempt s.former }
 
 -- it is committed
 abbrev pub committed : Slot → Slot
-committed s = record { stage = Committed; incarnation = s.incarnation; shards = s.shards; attempt = None }
+committed s = record { stage = Committed; incarnation = s.incarnation; attempt = None; former = s.former }
 
 -- it runs, or was executed, so it may be given up
 abbrev pub IsInHand : Slot → Type 0

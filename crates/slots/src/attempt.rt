@@ -1,4 +1,4 @@
-use shards::LoggedSight;
+use shards::Sight;
 use view::Execution;
 
 /// An execution of a message, with whose rows it saw.
@@ -6,6 +6,6 @@ use view::Execution;
 pub struct Attempt {
     /// What was decided. It is true by its type.
     pub execution: Execution,
-    /// Whose rows it saw, in the order of asking.
-    pub log: Vec<LoggedSight>,
+    /// Whose rows it saw, in the order of reading.
+    pub log: Vec<Sight>,
 }

@@ -1,4 +1,4 @@
-ghost use Rattle.std.specs.Prelude.{◌≡◌, ◌≢◌, ◌+◌, ◌^◌, IfSome, IfNone, IsTrue, IsFalse, option_map};
+ghost use Rattle.std.specs.Prelude.{◌≡◌, ◌≢◌, ◌+◌, ◌^◌, None, IfSome, IfNone, IsTrue, IsFalse, option_map};
 ghost use Rattle.slots.specs.Staged.{IsFresh, IsInHand, taken, executed, given_up, committed};
 ghost use Rattle.slots.specs.declared.given_up.GivenUp.TheVariants as given;
 ghost use Rattle.slots.specs.declared.stage.Stage.TheVariants as stage;
@@ -6,16 +6,25 @@ ghost use Rattle.slots.specs.declared.stage.Stage.TheVariants as stage;
 use crate::attempt::Attempt;
 use crate::given_up::GivenUp;
 use crate::stage::Stage;
-use shards::ShardSet;
+use std::marker::Model;
 
 /// Where one message stands, and its last execution, which is true by its type.
 #[derive(Drop)]
 pub struct Slot {
     stage: Stage,
     incarnation: u32,
-    // The shards in which the message has entries.
-    shards: ShardSet,
-    attempt: Option<Attempt>,
+    attempt: Option<Box<Attempt>>,
+    // The execution whose entries the message has, where it was given up and no other was put since.
+    former: Option<Box<Attempt>>,
+}
+
+impl Model for Slot {
+    ghost use Rattle.std.specs.Prelude.{option_map};
+    ghost use Rattle.slots.specs.Staged.{Slot};
+
+    ghost Value = { Slot };
+
+    ghost view = { λ s. record { stage = s.stage; incarnation = s.incarnation; attempt = option_map (λ b. b.value) s.attempt; former = option_map (λ b. b.value) s.former } };
 }
 
 impl Slot {
@@ -26,8 +35,8 @@ impl Slot {
         Slot {
             stage: Stage::Ready,
             incarnation: 0,
-            shards: ShardSet::new(),
             attempt: None,
+            former: None,
         }
     }
 
@@ -38,18 +47,24 @@ impl Slot {
         self.stage
     }
 
-    /// The shards in which the message has entries.
-    pub fn shards(&self) -> ShardSet
-        ensures { result ≡ self.now.shards }
-    {
-        self.shards
-    }
-
     /// The last execution, where there is one that was neither given up nor committed.
     pub fn attempt(&self) -> Option<&Attempt>
         ensures { option_map (λ attempt. attempt.now) result ≡ self.now.attempt }
     {
-        self.attempt.as_ref()
+        match &self.attempt {
+            Some(attempt) => Some(attempt),
+            None => None,
+        }
+    }
+
+    /// The last execution, where it was given up and no other was put since. The message has its entries still.
+    pub fn former(&self) -> Option<&Attempt>
+        ensures { option_map (λ attempt. attempt.now) result ≡ self.now.former }
+    {
+        match &self.former {
+            Some(former) => Some(former),
+            None => None,
+        }
     }
 
     /// Takes the message to be executed, where it is ready, and answers its incarnation.
@@ -66,23 +81,24 @@ impl Slot {
         }
     }
 
-    /// Puts the execution of a message that runs, which has entries in these shards now. Answers whether it ran; nothing is changed else.
-    pub fn put(&mut self, shards: ShardSet, attempt: Attempt) -> bool
-        ensures put { IsTrue result → (self.old.stage ≡ stage.Running) × (self.new ≡ executed self.old shards attempt) }
+    /// Puts the execution of a message that runs; the former one is gone. Answers whether it ran; nothing is changed else.
+    pub fn put(&mut self, attempt: Box<Attempt>) -> bool
+        ensures put { IsTrue result → (self.old.stage ≡ stage.Running) × (self.new ≡ executed self.old attempt.value) }
         ensures kept { IsFalse result → (self.old.stage ≢ stage.Running) × (self.new ≡ self.old) }
     {
         match self.stage {
             Stage::Running => {
                 self.stage = Stage::Executed;
-                self.shards = shards;
                 self.attempt = Some(attempt);
+                self.former = None;
                 true
             }
             _ => false,
         }
     }
 
-    /// Gives the message up, where it runs or was executed: it is ready for its next incarnation. A committed message stays so.
+    /// Gives the message up, where it runs or was executed: it is ready for its next incarnation, and its execution is the former one. A
+    /// committed message stays so.
     pub fn give_up(&mut self) -> GivenUp
         ensures ready { result ≡ given.Ready → IsInHand self.old × (self.new ≡ given_up self.old) }
         ensures kept { result ≢ given.Ready → self.new ≡ self.old }
@@ -98,24 +114,25 @@ impl Slot {
                 };
                 self.incarnation = next;
                 self.stage = Stage::Ready;
-                self.attempt = None;
+                if self.attempt.is_some() {
+                    self.former = self.attempt.take();
+                }
                 GivenUp::Ready
             }
         }
     }
 
-    /// The message is committed, where it was executed. Answers whether it was; nothing is changed else.
-    pub fn commit(&mut self) -> bool
-        ensures committed { IsTrue result → (self.old.stage ≡ stage.Executed) × (self.new ≡ committed self.old) }
-        ensures kept { IsFalse result → (self.old.stage ≢ stage.Executed) × (self.new ≡ self.old) }
+    /// The message is committed, where it was executed, and its execution is handed back; nothing is changed else.
+    pub fn commit(&mut self) -> Option<Box<Attempt>>
+        ensures committed { self.old.stage ≡ stage.Executed → (option_map (λ attempt. attempt.value) result ≡ self.old.attempt) × (self.new ≡ committed self.old) }
+        ensures kept { self.old.stage ≢ stage.Executed → (result ≡ None) × (self.new ≡ self.old) }
     {
         match self.stage {
             Stage::Executed => {
                 self.stage = Stage::Committed;
-                self.attempt = None;
-                true
+                self.attempt.take()
             }
-            _ => false,
+            _ => None,
         }
     }
 }

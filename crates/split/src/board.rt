@@ -38,7 +38,7 @@ impl<B: Room> Board<B> {
         requires messages { messages ≡ length ledger.frames }
         ensures slots { IfOk result (λ made. length made.0.slots.items ≡ length ledger.frames) }
     {
-        let place = Place::new(cursors.another(&mut seat));
+        let place = Place::new(alloc, cursors.another(&mut seat));
         let desk = Desk::new(Published::new(ledger, seat));
         let board = Board {
             cursors,

@@ -3,23 +3,32 @@ ghost use Rattle.std.specs.Prelude.{◌≡◌};
 use crate::board::Board;
 use crate::room::Room;
 use cursors::CursorSeat;
+use shards::Sight;
+use slots::Attempt;
+use std::alloc::{AllocError, Global};
 use std::marker::PhantomData;
+use view::{ReadSet, WriteSet};
 
-/// A worker's place at a board: its seat at the board's cursors.
+// How many executions are kept for their memory.
+const SPARES: usize = 16;
+
+/// A worker's place at a board: its seat at the board's cursors, and executions that it committed, whose memory is used again.
 #[derive(Drop)]
 pub(crate) struct Place<B: Room> {
     seat: CursorSeat,
+    spares: Vec<Box<Attempt>>,
     of: PhantomData<B>,
     ghost at: { seat.table_id ≡ B.table },
 }
 
 impl<B: Room> Place<B> {
     // The place of a worker with this seat.
-    pub(crate) fn new(seat: CursorSeat) -> Place<B>
+    pub(crate) fn new(alloc: Global, seat: CursorSeat) -> Place<B>
         requires { seat.table_id ≡ B.table }
     {
         Place {
             seat,
+            spares: Vec::new(alloc),
             of: PhantomData,
         }
     }
@@ -28,6 +37,7 @@ impl<B: Room> Place<B> {
     pub(crate) fn another(&mut self, board: &Board<B>) -> Place<B> {
         Place {
             seat: board.cursors().another(&mut self.seat),
+            spares: Vec::new(*self.spares.allocator()),
             of: PhantomData,
         }
     }
@@ -59,5 +69,28 @@ impl<B: Room> Place<B> {
         board
             .cursors()
             .lower_validate(&mut self.seat, u64::from(index));
+    }
+
+    // Keeps an execution that is done with for its memory, where few are kept.
+    pub(crate) fn keep(&mut self, attempt: Box<Attempt>) -> Result<(), AllocError> {
+        if self.spares.len() < SPARES {
+            self.spares.push(attempt)?;
+        }
+        Ok(())
+    }
+
+    // Sets and a log for a decision, over the memory of an execution that is done with, where one is kept.
+    pub(crate) fn sets(&mut self) -> (ReadSet, WriteSet, Vec<Sight>) {
+        match self.spares.pop() {
+            Some(spare) => {
+                let Attempt { execution, log } = Box::into_inner(spare);
+                let (_, reads, writes, _) = execution.into_parts();
+                (reads, writes, log)
+            }
+            None => {
+                let alloc = *self.spares.allocator();
+                (ReadSet::new(alloc), WriteSet::new(alloc), Vec::new(alloc))
+            }
+        }
     }
 }

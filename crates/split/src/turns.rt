@@ -6,9 +6,9 @@ use crate::room::Room;
 use ledger::Verdict;
 use mvmem::Version;
 use rows::{Book, Frame};
-use shards::{ShardRows, ShardSet};
+use shards::ShardRows;
 use slots::{Attempt, GivenUp, Slot};
-use std::alloc::Global;
+use std::alloc::{AllocError, Global};
 use std::sync::Wait;
 use std::thread;
 use view::{Decide, Execution, Recorder, Stop};
@@ -87,7 +87,12 @@ impl<B: Room, R: Wait, F: Decide, G: Gate> Worker<'_, B, R, F, G> {
             return Ok(false);
         };
         match desk.commit(self.board.cursors(), &attempt.execution)? {
-            Verdict::Committed => Ok(slot.commit()),
+            Verdict::Committed => {
+                if let Some(done) = slot.commit() {
+                    place.keep(done)?;
+                }
+                Ok(true)
+            }
             Verdict::Stale => {
                 self.give_up(place, index, &mut slot)?;
                 Ok(false)
@@ -104,11 +109,9 @@ impl<B: Room, R: Wait, F: Decide, G: Gate> Worker<'_, B, R, F, G> {
         let Some(attempt) = slot.attempt() else {
             return Ok(false);
         };
-        if !self
-            .board
-            .shards()
-            .is_as_logged(self.rt, index, &attempt.log)
-        {
+        let reads = attempt.execution.reads();
+        let shards = self.board.shards();
+        if !shards.is_as_logged(self.rt, index, reads, &attempt.log) {
             self.give_up(place, index, &mut slot)?;
         }
         Ok(true)
@@ -116,9 +119,10 @@ impl<B: Room, R: Wait, F: Decide, G: Gate> Worker<'_, B, R, F, G> {
 
     // Gives an executed message up: its entries are estimates, it is executed again, and those behind it are validated again.
     fn give_up(&self, place: &mut Place<B>, index: u32, slot: &mut Slot) -> Result<(), Leave> {
-        self.board
-            .shards()
-            .to_estimates(self.rt, index, slot.shards());
+        if let Some(attempt) = slot.attempt() {
+            let writes = attempt.execution.writes();
+            self.board.shards().to_estimates(self.rt, index, writes);
+        }
         if slot.give_up() == GivenUp::Worn {
             return Err(Leave::Worn);
         }
@@ -133,29 +137,28 @@ impl<B: Room, R: Wait, F: Decide, G: Gate> Worker<'_, B, R, F, G> {
             thread::yield_now();
             return Ok(());
         };
-        let Some((version, former)) = self.take(index) else {
+        let Some(incarnation) = self.take(index) else {
             return Ok(());
         };
-        self.gate.before_decide(index, version.incarnation);
-        match self.attempt(frame, index) {
-            Ok(attempt) => self.record(place, version, former, attempt),
+        self.gate.before_decide(index, incarnation);
+        match self.attempt(place, frame, index) {
+            Ok(attempt) => self.record(place, Version { index, incarnation }, attempt),
             Err(Stop::Blocked(_)) => self.block(place, index),
             Err(Stop::OutOfMemory) => Err(Leave::OutOfMemory),
             Err(Stop::Lost) => Err(Leave::Lost),
         }
     }
 
-    // Takes a message to be executed, where it is ready, with the shards in which it has entries.
-    fn take(&self, index: u32) -> Option<(Version, ShardSet)> {
-        let mut slot = self.board.slot(self.rt, index)?;
-        let incarnation = slot.take()?;
-        Some((Version { index, incarnation }, slot.shards()))
+    // Takes a message to be executed, where it is ready, and answers its incarnation.
+    fn take(&self, index: u32) -> Option<u32> {
+        self.board.slot(self.rt, index)?.take()
     }
 
     // Decides a message on the rows that it sees, and logs whose they are.
-    fn attempt(&self, frame: &Frame, index: u32) -> Result<Attempt, Stop> {
-        let rows = ShardRows::new(self.rt, self.alloc, self.board.shards(), self.book, index);
-        let mut recorder = Recorder::new(self.alloc, rows);
+    fn attempt(&self, place: &mut Place<B>, frame: &Frame, index: u32) -> Result<Attempt, Stop> {
+        let (reads, writes, log) = place.sets();
+        let rows = ShardRows::new(self.rt, self.board.shards(), self.book, index, log);
+        let mut recorder = Recorder::over(rows, reads, writes);
         let reply = self.decision.decide(frame, &mut recorder)?;
         let (rows, reads, writes) = recorder.into_parts();
         Ok(Attempt {
@@ -170,16 +173,10 @@ impl<B: Room, R: Wait, F: Decide, G: Gate> Worker<'_, B, R, F, G> {
         &self,
         place: &mut Place<B>,
         version: Version,
-        former: ShardSet,
         attempt: Attempt,
     ) -> Result<(), Leave> {
+        let is_new = self.hand_in(version, attempt)?;
         let Version { index, incarnation } = version;
-        let writes = attempt.execution.writes();
-        let (shards, is_new) = self
-            .board
-            .shards()
-            .record(self.rt, self.alloc, version, writes, former)?;
-        self.hand_in(index, shards, attempt);
         self.gate.after_record(index, incarnation);
         if is_new {
             place.lower_validate(self.board, index);
@@ -189,11 +186,19 @@ impl<B: Room, R: Wait, F: Decide, G: Gate> Worker<'_, B, R, F, G> {
         Ok(())
     }
 
-    // Puts an execution into its message's slot.
-    fn hand_in(&self, index: u32, shards: ShardSet, attempt: Attempt) {
-        if let Some(mut slot) = self.board.slot(self.rt, index) {
-            slot.put(shards, attempt);
-        }
+    // Puts what an execution wrote into the shards, in place of what the former one did, and itself into its message's slot. Answers
+    // whether it put a row that its message had no entry of.
+    fn hand_in(&self, version: Version, attempt: Attempt) -> Result<bool, AllocError> {
+        let attempt = Box::new(self.alloc, attempt)?;
+        let Some(mut slot) = self.board.slot(self.rt, version.index) else {
+            return Ok(false);
+        };
+        let former = slot.former().map(|former| former.execution.writes());
+        let writes = attempt.execution.writes();
+        let shards = self.board.shards();
+        let is_new = shards.record(self.rt, self.alloc, version, writes, former)?;
+        slot.put(attempt);
+        Ok(is_new)
     }
 
     // Gives a message up that met an estimate, to be executed again, and lets the one run that it waits for.

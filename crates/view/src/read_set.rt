@@ -74,11 +74,23 @@ impl ReadSet {
         ensures entry { slice_get self.now index ≡ Some result }
         ensures kind { IfSome result.1 (IsOfKind result.0) }
     {
+        let (key, row) = self.row(index);
+        (*key, *row)
+    }
+
+    /// The row that was read at this place, and what it was, where they stand.
+    #[inline(always)]
+    pub fn row(&self, index: usize) -> (&RowKey, &Option<RowVal>)
+        requires { index < length self.now }
+        ensures entry { slice_get self.now index ≡ Some (result.0.now, result.1.now) }
+        ensures kind { IfSome result.1.now (IsOfKind result.0.now) }
+    {
         if index < self.few.len() {
-            return self.few.as_slice()[index];
+            let (key, row) = &self.few.as_slice()[index];
+            return (key, row);
         }
         match self.more.row(index - self.few.len()) {
-            Some((key, row)) => (*key, *row),
+            Some(entry) => entry,
             None => unreachable!(),
         }
     }

@@ -4,8 +4,8 @@ use Rattle.mvmem.proofs.chain.place_of.Goals.{else-place-links-via-then-place-li
 
 pub returns-else-place-links-clause-absent : goal.returns-else-place-links-clause-absent
 returns-else-place-links-clause-absent c =
-    let e = c.count_below-place.ensures in
+    let e = c.place_below-place.ensures in
     elim c.else-place-links.branch [
-      | else-place-links-via-then-place-links+else-links-place w ↦ fits_apart c.args.links.now c.args.index c.count_below-place.result.0 w.index-links-place.result c.requires w.if-place-links.true e.below e.above w.if-links-place.false
-      | else-place-links-via-else-place-links w ↦ fits_last c.args.links.now c.args.index c.count_below-place.result.0 e.within w.if-place-links.false e.below
+      | else-place-links-via-then-place-links+else-links-place w ↦ fits_apart c.args.links.now c.args.index c.place_below-place.result w.index-links-place.result c.requires w.if-place-links.true e.below e.above w.if-links-place.false
+      | else-place-links-via-else-place-links w ↦ fits_last c.args.links.now c.args.index c.place_below-place.result e.within w.if-place-links.false e.below
     ]

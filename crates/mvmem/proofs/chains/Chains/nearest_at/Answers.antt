@@ -12,21 +12,11 @@ chain_is : (c : goal.After-nearest_below) (row : RowKey) → row_at c.args.self.
 chain_is c row at =
     sym (chain_here c.self.inside.rows.entries c.args.number (c.in-Some.field-0-0.now, c.in-Some.chain.now) row (sym c.in-Some.ensures.entry) c.in-Some.ensures.value (ap (λ (es : Chains). row_at es c.args.number) c.self.view_is ∙ at))
 
-seen_inside : (c : goal.After-nearest_below) (row : RowKey) → row_at c.args.self.now c.args.number ≡ Some row → Resolves (stands c.self.inside.rows.entries) row c.args.index (seen_of (option_copied c.nearest_below.result.0))
-seen_inside c row at = subst (λ (o : Option Chain). IsNearestBelow (found (links_in o)) c.args.index (seen_of (option_copied c.nearest_below.result.0))) (chain_is c row at) c.nearest_below.ensures.seen
+seen_inside : (c : goal.After-nearest_below) (row : RowKey) → row_at c.args.self.now c.args.number ≡ Some row → Resolves (stands c.self.inside.rows.entries) row c.args.index (seen_of (option_copied c.nearest_below.result))
+seen_inside c row at = subst (λ (o : Option Chain). IsNearestBelow (found (links_in o)) c.args.index (seen_of (option_copied c.nearest_below.result))) (chain_is c row at) c.nearest_below.ensures
 
 pub returns-clause-seen : goal.returns-clause-seen
-returns-clause-seen c row at = subst (λ (es : Chains). Resolves (stands es) row c.args.index (seen_of (option_copied c.nearest_below.result.0))) c.self.view_is (seen_inside c row at)
+returns-clause-seen c row at = subst (λ (es : Chains). Resolves (stands es) row c.args.index (seen_of (option_copied c.nearest_below.result))) c.self.view_is (seen_inside c row at)
 
 pub returns-clause-kind : goal.returns-clause-kind
-returns-clause-kind c row at = seen_of_kind c.self.inside.rows.entries row c.args.index (seen_of (option_copied c.nearest_below.result.0)) c.self.invariant (seen_inside c row at)
-
-pub returns-clause-comparisons : goal.returns-clause-comparisons
-returns-clause-comparisons c row at =
-    subst (λ (es : Chains). IsWithinDigitsOf c.nearest_below.result.1 (length (links_in (value_in es row)))) c.self.view_is
-    (subst (λ (o : Option Chain). IsWithinDigitsOf c.nearest_below.result.1 (length (links_in o))) (chain_is c row at) c.nearest_below.ensures.comparisons)
-
-pub returns-clause-order : goal.returns-clause-order
-returns-clause-order c row at =
-    subst (λ (es : Chains). AreInOrder (links_in (value_in es row))) c.self.view_is
-    (subst (λ (o : Option Chain). AreInOrder (links_in o)) (chain_is c row at) c.nearest_below.ensures.order)
+returns-clause-kind c row at = seen_of_kind c.self.inside.rows.entries row c.args.index (seen_of (option_copied c.nearest_below.result)) c.self.invariant (seen_inside c row at)

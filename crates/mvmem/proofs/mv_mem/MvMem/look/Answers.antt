@@ -9,7 +9,7 @@ use Rattle.mvmem.proofs.mv_mem.MvMem.look.Goals as goal
 
 pub returns-in-Some-clause-seen : goal.returns-in-Some-clause-seen
 returns-in-Some-clause-seen c =
-    seen_alike (stands c.self.inside.chains c.args.row.now) (held c.args.self.now.entries c.args.row.now) c.args.index (seen_of (option_copied c.nearest_at.result.0))
+    seen_alike (stands c.self.inside.chains c.args.row.now) (held c.args.self.now.entries c.args.row.now) c.args.index (seen_of (option_copied c.nearest_at.result))
     (λ i. sym (held_placed c.self.inside.chains c.args.row.now i c.self.invariant.once) ∙ ap (λ (m : Memory). held m.entries c.args.row.now i) c.self.view_is) (c.nearest_at.ensures.seen c.args.row.now c.in-Some.ensures.found)
 
 pub returns-in-None-clause-seen : goal.returns-in-None-clause-seen

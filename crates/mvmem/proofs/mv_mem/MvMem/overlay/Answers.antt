@@ -15,10 +15,10 @@ pub loop-number-preserved : goal.loop-number-preserved
 loop-number-preserved c =
     elim c.match-seen.branch [
       | in-Value+in_ok-put_copy w ↦
-          laid_value c.self.inside.chains c.args.index c.args.book.now c.loop-number.laid c.match-seen.laid c.loop-number.number c.row-row.result.now c.seen_of-seen.result w.in-Value.value c.loop-number.invariant c.row-row.ensures (subst (Resolves (stands c.self.inside.chains) c.row-row.result.now c.args.index) (sym c.seen_of-seen.ensures) (c.nearest_at-comparisons.ensures.seen c.row-row.result.now c.row-row.ensures)) (ap (row_under (map.get c.args.book.now c.row-row.result.now)) w.in-Value.is) (w.laid-is ∙ w.in_ok-put_copy.ensures.ok)
+          laid_value c.self.inside.chains c.args.index c.args.book.now c.loop-number.laid c.match-seen.laid c.loop-number.number c.row-row.result.now c.seen_of-seen.result w.in-Value.value c.loop-number.invariant c.row-row.ensures (subst (Resolves (stands c.self.inside.chains) c.row-row.result.now c.args.index) (sym c.seen_of-seen.ensures) (c.nearest_at.ensures.seen c.row-row.result.now c.row-row.ensures)) (ap (row_under (map.get c.args.book.now c.row-row.result.now)) w.in-Value.is) (w.laid-is ∙ w.in_ok-put_copy.ensures.ok)
       | in_default w ↦
           subst (λ (laid : Rows). Laying c.self.inside.chains c.args.index c.args.book.now laid (c.loop-number.number + 1)) (sym w.laid-is)
-          (laid_nothing c.self.inside.chains c.args.index c.args.book.now c.loop-number.laid c.loop-number.number c.row-row.result.now c.seen_of-seen.result c.loop-number.invariant c.row-row.ensures (subst (Resolves (stands c.self.inside.chains) c.row-row.result.now c.args.index) (sym c.seen_of-seen.ensures) (c.nearest_at-comparisons.ensures.seen c.row-row.result.now c.row-row.ensures)) (no_value c.seen_of-seen.result (map.get c.args.book.now c.row-row.result.now) w.in_default.not-Value))
+          (laid_nothing c.self.inside.chains c.args.index c.args.book.now c.loop-number.laid c.loop-number.number c.row-row.result.now c.seen_of-seen.result c.loop-number.invariant c.row-row.ensures (subst (Resolves (stands c.self.inside.chains) c.row-row.result.now c.args.index) (sym c.seen_of-seen.ensures) (c.nearest_at.ensures.seen c.row-row.result.now c.row-row.ensures)) (no_value c.seen_of-seen.result (map.get c.args.book.now c.row-row.result.now) w.in_default.not-Value))
     ]
 
 pub returns : goal.returns

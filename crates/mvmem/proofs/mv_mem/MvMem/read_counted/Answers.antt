@@ -11,11 +11,11 @@ use Rattle.mvmem.proofs.mv_mem.MvMem.read_counted.Goals as goal
 pub returns-clause-seen : goal.returns-clause-seen
 returns-clause-seen c =
     subst (Resolves (held c.args.self.now.entries) c.args.row.now c.args.index) (sym c.seen_of.ensures)
-    (seen_alike (stands c.self.inside.chains c.args.row.now) (held c.args.self.now.entries c.args.row.now) c.args.index (seen_of (option_copied c.nearest_below-comparisons.result.0))
-    (λ i. sym (held_placed c.self.inside.chains c.args.row.now i c.self.invariant.once) ∙ ap (λ (m : Memory). held m.entries c.args.row.now i) c.self.view_is) c.nearest_below-comparisons.ensures.seen)
+    (seen_alike (stands c.self.inside.chains c.args.row.now) (held c.args.self.now.entries c.args.row.now) c.args.index (seen_of (option_copied c.counted_below-comparisons.result.0))
+    (λ i. sym (held_placed c.self.inside.chains c.args.row.now i c.self.invariant.once) ∙ ap (λ (m : Memory). held m.entries c.args.row.now i) c.self.view_is) c.counted_below-comparisons.ensures.seen)
 
 pub returns-clause-comparisons : goal.returns-clause-comparisons
 returns-clause-comparisons c digits within =
-    let more = chain_count c.self.inside.chains c.args.row.now c.self.invariant.once c.nearest_below-comparisons.ensures.order in
+    let more = chain_count c.self.inside.chains c.args.row.now c.self.invariant.once c.counted_below-comparisons.ensures.order in
     let same = ap (λ (m : Memory). row_count m.entries c.args.row.now) c.self.view_is in
-    c.nearest_below-comparisons.ensures.comparisons digits (omega arith)
+    c.counted_below-comparisons.ensures.comparisons digits (omega arith)

@@ -1,7 +1,7 @@
 use Rattle.std.proofs.Common.{IfSome, sym}
 use Rattle.rows.specs.RowVal.{IsOfKind}
 use Rattle.view.proofs.KindLaws.{suits_behind, standing_suits}
-use Rattle.view.proofs.read_set.ReadSet.at.Goals as goal
+use Rattle.view.proofs.read_set.ReadSet.row.Goals as goal
 
 pub returns-clause-kind : goal.returns-clause-kind
 returns-clause-kind c =
