@@ -3,7 +3,6 @@ ghost use Rattle.speccore_laws.specs.declared.core_fault.CoreFault.TheVariants a
 ghost use Rattle.speccore.specs.declared.unread.Unread.TheVariants as unread;
 ghost use Rattle.view.specs.declared.stop.Stop.TheVariants as stop;
 
-use crate::locking::lock;
 use journal::Traced;
 use mvmem::Version;
 use rows::{RowKey, RowVal};
@@ -11,6 +10,7 @@ use speccore::Unread;
 use speccore_laws::{CoreFault, Seat};
 use std::sync::{Mutex, Wait};
 use view::{RowSource, Stop};
+use workers::lock;
 
 /// The rows that one version of a message sees in the shared core: what the nearest messages before it put (Block-STM). The lock
 /// is taken for each of them, and held no longer.

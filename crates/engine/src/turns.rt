@@ -1,7 +1,6 @@
 use crate::checking::check;
 use crate::core_rows::CoreRows;
 use crate::leave::Leave;
-use crate::locking::lock;
 use crate::pace::Pace;
 use journal::{Answer, Event, Traced};
 use mvmem::Version;
@@ -12,7 +11,7 @@ use std::alloc::Global;
 use std::mem;
 use std::sync::{Condvar, Mutex, Wait};
 use view::{Decide, Execution, ReadSet, Recorder, RowSource, Stop, WriteSet};
-use workers::Gate;
+use workers::{Gate, lock};
 
 /// What a worker works with: the lock round the core and its journal, the bodies, the decision and the gate. Whatever it does or leaves undone,
 /// the core's type keeps what is committed right.

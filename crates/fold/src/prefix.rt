@@ -44,8 +44,7 @@ impl Prefix {
     {
         self.replies.reserve(1)?;
         put_all_or_none(&mut self.book, execution.writes(), places)?;
-        let reply = execution.reply();
-        push_copy(&mut self.replies, &reply);
+        push_copy(&mut self.replies, execution.reply());
         self.count += 1;
         Ok(())
     }

@@ -88,7 +88,7 @@ impl Ledger {
     fn is_next(&self, execution: &Execution, places: &mut Places) -> bool
         ensures { IsTrue result ↔ IsNext self.now execution.now }
     {
-        is_at(&self.frames, self.prefix.count, &execution.frame())
+        is_at(&self.frames, self.prefix.count, execution.frame())
             && agrees(&self.prefix.book, execution.reads(), places)
     }
 

@@ -1,5 +1,5 @@
 -- What a chain has at an index, after a link is put, taken out or changed.
-use Rattle.std.proofs.Common.{◌≡◌, ◌≢◌, ℕ, zero, suc, ◌+◌, ◌-◌, ◌<◌, ◌≤◌, ◌==◌, Bool, true, false, if◌then◌else◌, List, [], ◌∷◌, length, get_or, set, Option, Some, None, option_map, refl, sym, ap, ◌∙◌, subst, inl, inr, arith, rules, length-set, get_or-set_other, get_or-set_same}
+use Rattle.std.proofs.Common.{◌≡◌, ◌≢◌, ℕ, zero, suc, ◌+◌, ◌-◌, ◌<◌, ◌≤◌, ◌==◌, Bool, true, false, if◌then◌else◌, List, [], ◌∷◌, length, get_or, set, Option, Some, None, IsSome, option_map, refl, sym, ap, ◌∙◌, subst, inl, inr, arith, rules, length-set, get_or-set_other, get_or-set_same}
 use Rattle.std.proofs.lemmas.Bool.{cases_lt, cases_eq}
 use Rattle.std.proofs.lemmas.List.{get_or_default}
 use Rattle.std.proofs.lemmas.List.Edits.{length-insert, get_or-insert_below, get_or-insert_at, length-remove, get_or-remove_below, get_or-remove_above}
@@ -169,3 +169,11 @@ last_seen links was place index link order some within read below above same =
           ∙ ap (λ (x : Link). Some (held_of x)) (sym read),
       none_between links (place - 1) index link order (omega arith) own (λ k d l. above k d (omega arith)),
     )
+
+-- where two links stand, the first is before the second, which is found
+pub first_two : (links : List Link) (first second : Link) → AreInOrder links → 1 < length links → first ≡ get_or links 0 first → second ≡ get_or links 1 second → (first.index < second.index) × IsSome (found links second.index)
+first_two links first second order many a b =
+    let before = order 0 1 first (omega arith) many in
+    let own = ap (λ (x : Link). x.index) a in
+    let next = ap (λ (x : Link). x.index) (b ∙ get_or_default links 1 second first many) in
+    (omega arith, subst IsSome (sym (found_at links second.index 1 second order (many, λ d. ap (λ (x : Link). x.index) (get_or_default links 1 d second many ∙ sym b)))) refl)

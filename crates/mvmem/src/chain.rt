@@ -1,4 +1,4 @@
-ghost use Rattle.std.specs.Prelude.{◌≡◌, ◌≢◌, ◌↔◌, ℕ, ◌<◌, ◌≤◌, [], length, slice_index_or, Some, None, IsTrue, OnOk, IfOk, IfErr, option_map};
+ghost use Rattle.std.specs.Prelude.{◌≡◌, ◌≢◌, ◌↔◌, ℕ, ◌<◌, ◌≤◌, [], length, slice_index_or, Some, None, IsTrue, OnOk, IfOk, IfErr, IfSome, IsSome, option_map};
 ghost use Rattle.std.specs.Option.{option_copied};
 ghost use Rattle.mvmem.specs.Chains.{found, seen_of, AreInOrder, StandsAt, FitsAt};
 ghost use Rattle.mvmem.specs.Entries.{estimate_of, value_at};
@@ -91,6 +91,16 @@ impl Chain {
                 Err(_) => unreachable!(),
             },
         }
+    }
+
+    /// The index of the first entry, where another one stands below this index: no message from there on sees the first.
+    pub(crate) fn superseded(&self, index: u32) -> Option<u32>
+        ensures { IfSome result (λ first. (next : ℕ) × (first < next) × (next < index) × IsSome (found self.now.links next)) }
+    {
+        if self.links.len() > 1 && self.links[1].index < index {
+            return Some(self.links[0].index);
+        }
+        None
     }
 
     /// Takes the index's entry out, if it has one.

@@ -1,4 +1,4 @@
-ghost use Rattle.std.specs.Prelude.{◌≡◌, ◌≢◌, ◌↔◌, ℕ, ◌<◌, ◌≤◌, [], length, Some, None, IsTrue, IfSome, IfNone, OnOk, option_map};
+ghost use Rattle.std.specs.Prelude.{◌≡◌, ◌≢◌, ◌↔◌, ℕ, ◌<◌, ◌≤◌, [], length, Some, None, IsTrue, IfSome, IfNone, IsSome, OnOk, option_map};
 ghost use Rattle.rows.specs.RowVal.{IsOfKind};
 ghost use Rattle.rows.specs.declared.row_key.RowKey.{RowKey};
 ghost use Rattle.view.specs.RowSets.{value_in, IsOnceEach};
@@ -215,6 +215,19 @@ impl Chains {
         };
         let is_new = chain.put(version, value);
         (number, is_new)
+    }
+
+    /// The index of the first entry of the row with this number, where the row has another one below this index: no message from there on
+    /// sees the first.
+    pub fn superseded(&self, number: usize, index: u32) -> Option<u32>
+        requires { number < length self.now }
+        ensures { IfSome result (λ first. (row : RowKey) → row_at self.now number ≡ Some row
+            → (next : ℕ) × (first < next) × (next < index) × IsSome (stands self.now row next)) }
+    {
+        match self.rows.get_index(number) {
+            Some((_, chain)) => chain.superseded(index),
+            None => unreachable!(),
+        }
     }
 
     /// Takes out the entry that the row with this number has at the index, if there is one.

@@ -101,7 +101,7 @@ fn assert_fault_alone(rt: &impl Abort, execution: Execution) {
 fn a_bad_body_reads_nothing(rt: HostRuntime) -> Result<(), Fail> {
     let bad = body("bad").ok_or("a body")?;
     let execution = execute(rt.alloc(), &bad, source_of(rt.alloc(), &[])?, &Shipped)?;
-    assert_eq!(rt; execution.frame(), bad);
+    assert_eq!(rt; *execution.frame(), bad);
     assert_fault_alone(&rt, execution);
     Ok(())
 }

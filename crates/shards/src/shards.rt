@@ -10,6 +10,7 @@ use rows::{RowKey, RowVal};
 use std::alloc::{AllocError, Global};
 use std::sync::{Mutex, Wait};
 use view::{ReadSet, WriteSet};
+use workers::lock;
 
 // How many shards there are.
 const SHARDS: usize = 64;
@@ -36,7 +37,7 @@ impl Shards {
     pub fn look<R: Wait>(&self, rt: &R, key: &RowKey, index: u32, row: &mut Option<RowVal>) -> Sight
         ensures { IsSeenSo key.now result row.old row.new }
     {
-        let chains = self.shards[shard_of(key)].lock(rt);
+        let chains = lock(rt, &self.shards[shard_of(key)]);
         let link = chains.nearest_below(key, &[], index);
         copy_value(link, row);
         sight_of(link)
@@ -61,13 +62,13 @@ impl Shards {
 
     // Whose row the message at this index sees.
     fn sight<R: Wait>(&self, rt: &R, key: &RowKey, index: u32) -> Sight {
-        let chains = self.shards[shard_of(key)].lock(rt);
+        let chains = lock(rt, &self.shards[shard_of(key)]);
         let link = chains.nearest_below(key, &[], index);
         sight_of(link)
     }
 
     /// Puts what this version wrote, in place of what its message put before. Answers whether a row was put that had no entry of the
-    /// message.
+    /// message. The first `done` messages are committed: entries that no message behind these sees are taken out.
     pub fn record<R: Wait>(
         &self,
         rt: &R,
@@ -75,11 +76,12 @@ impl Shards {
         version: Version,
         writes: &WriteSet,
         former: Option<&WriteSet>,
+        done: u32,
     ) -> Result<bool, AllocError> {
         let mut is_new = false;
         for place in 0..writes.len() {
             let (key, value) = writes.row(place);
-            is_new = self.put(rt, alloc, version, key, value)? || is_new;
+            is_new = self.put(rt, alloc, version, key, value, done)? || is_new;
         }
         if let Some(former) = former {
             self.take_out_others(rt, version.index, former, writes);
@@ -87,7 +89,8 @@ impl Shards {
         Ok(is_new)
     }
 
-    // Puts this value as the version's entry of the row. Answers whether its message had none.
+    // Puts this value as the version's entry of the row. Answers whether its message had none. Where no message from `done` on sees the
+    // row's first entry, that one is taken out, so that a chain has few entries and its memory is used again.
     fn put<R: Wait>(
         &self,
         rt: &R,
@@ -95,12 +98,16 @@ impl Shards {
         version: Version,
         key: &RowKey,
         value: &RowVal,
+        done: u32,
     ) -> Result<bool, AllocError>
         requires { IsOfKind key.now value.now }
     {
-        let mut chains = self.shards[shard_of(key)].lock(rt);
+        let mut chains = lock(rt, &self.shards[shard_of(key)]);
         let number = chains.reserve(alloc, key, &[])?;
-        let (_, is_new) = chains.put(key, &[number], version, value);
+        let (number, is_new) = chains.put(key, &[number], version, value);
+        if let Some(first) = chains.superseded(number, done) {
+            chains.take_out(number, first);
+        }
         Ok(is_new)
     }
 
@@ -116,7 +123,7 @@ impl Shards {
 
     // Takes out the message's entry of the row.
     fn take_out<R: Wait>(&self, rt: &R, key: &RowKey, index: u32) {
-        let mut chains = self.shards[shard_of(key)].lock(rt);
+        let mut chains = lock(rt, &self.shards[shard_of(key)]);
         if let Some(number) = chains.number_of(key, &[]) {
             chains.take_out(number, index);
         }
@@ -126,7 +133,7 @@ impl Shards {
     pub fn to_estimates<R: Wait>(&self, rt: &R, index: u32, writes: &WriteSet) {
         for place in 0..writes.len() {
             let (key, _) = writes.row(place);
-            let mut chains = self.shards[shard_of(key)].lock(rt);
+            let mut chains = lock(rt, &self.shards[shard_of(key)]);
             if let Some(number) = chains.number_of(key, &[]) {
                 chains.to_estimate(number, index);
             }

@@ -156,8 +156,8 @@ impl Log {
         ensures { IsTrue result ↔ AreLogged self.now reads.now }
     {
         for index in 0..reads.len() {
-            let (row, value) = reads.at(index);
-            if !is_answer(self.find(&row), &value) {
+            let (row, value) = reads.row(index);
+            if !is_answer(self.find(row), value) {
                 return false;
             }
         }

@@ -26,13 +26,16 @@ pub(crate) fn seen_into(
     ensures estimate { IfErr result (λ at. seen_of (option_copied link.entry) ≡ Estimate at) }
 {
     let Some(link) = link else {
-        *value = opening.row(row).copied();
+        match opening.row(row) {
+            Some(there) => there.copy_to(value),
+            None => *value = None,
+        }
         return Ok(None);
     };
-    if link.value.is_none() {
+    let Some(put) = &link.value else {
         return Err(link.index);
-    }
-    *value = link.value;
+    };
+    put.copy_to(value);
     Ok(Some(Version {
         index: link.index,
         incarnation: link.incarnation,

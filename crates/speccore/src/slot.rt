@@ -99,10 +99,10 @@ impl Slot {
     }
 
     /// Keeps the reply of the execution that finished.
-    pub(crate) fn finish(&mut self, reply: ReplyBody)
-        ensures { self.new ≡ record (self.old) { reply = Some reply } }
+    pub(crate) fn finish(&mut self, reply: &ReplyBody)
+        ensures { self.new ≡ record (self.old) { reply = Some reply.now } }
     {
-        self.reply = Some(reply);
+        self.reply = Some(*reply);
     }
 
     /// The incarnation is given up: nothing is kept of it.

@@ -198,7 +198,7 @@ impl Core {
         if !is_running(&self.sched, version) {
             return Err(CoreFault::NotRunning);
         }
-        if !is_at(&self.frames, version.index, &frame) {
+        if !is_at(&self.frames, version.index, frame) {
             return Err(CoreFault::OtherReads);
         }
         let slot = &self.slots[version.index as usize];

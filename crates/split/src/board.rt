@@ -9,18 +9,21 @@ use cursors::{CursorSeat, Cursors};
 use ledger::Ledger;
 use published::Published;
 use shards::Shards;
-use slots::Slot;
+use slots::{Attempt, Slot};
 use std::alloc::{AllocError, Global};
 use std::sync::{Mutex, MutexGuard, Wait};
+use workers::lock;
 
 /// What the workers of a batch share: the cursors without a lock; the ledger, each message's slot and each shard of the rows under a
-/// lock of its own. A thread that holds a shard takes no other lock, and one that holds a slot takes shards alone.
+/// lock of its own; and executions that are done with, for their memory. A thread that holds a shard or these takes no other lock, and one
+/// that holds a slot takes no other slot.
 #[derive(Drop)]
 pub(crate) struct Board<B: Room> {
     cursors: Cursors,
     desk: CachePadded<Mutex<Desk<B>>>,
     slots: Vec<Mutex<Slot>>,
     shards: Shards,
+    spares: CachePadded<Mutex<Vec<Box<Attempt>>>>,
     ghost at: { cursors ≡ B.table },
 }
 
@@ -45,6 +48,7 @@ impl<B: Room> Board<B> {
             desk: CachePadded::new(Mutex::new(desk)),
             slots: ready_slots(alloc, messages)?,
             shards: Shards::new(alloc)?,
+            spares: CachePadded::new(Mutex::new(Vec::new(alloc))),
         };
         Ok((board, place))
     }
@@ -61,10 +65,14 @@ impl<B: Room> Board<B> {
         &self.shards
     }
 
+    // Executions that are done with, whose memory is used again.
+    pub(crate) fn spares<R: Wait>(&self, rt: &R) -> MutexGuard<'_, Vec<Box<Attempt>>> {
+        lock(rt, &self.spares)
+    }
+
     // The slot of the message at this index, where there is one.
     pub(crate) fn slot<R: Wait>(&self, rt: &R, index: u32) -> Option<MutexGuard<'_, Slot>> {
-        let lock = self.slots.get(index as usize)?;
-        Some(lock.lock(rt))
+        Some(lock(rt, self.slots.get(index as usize)?))
     }
 
     // The ledger, where no other worker holds it.
@@ -74,7 +82,7 @@ impl<B: Room> Board<B> {
 
     // Sets the stop mark.
     pub(crate) fn stop<R: Wait>(&self, rt: &R) {
-        self.desk.lock(rt).stop();
+        lock(rt, &self.desk).stop();
     }
 
     // The ledger, once no worker has the board any more.

@@ -7,9 +7,10 @@ use shards::Sight;
 use slots::Attempt;
 use std::alloc::{AllocError, Global};
 use std::marker::PhantomData;
+use std::sync::Wait;
 use view::{ReadSet, WriteSet};
 
-// How many executions are kept for their memory.
+// So many executions are not kept by one worker: half of them go to the board, where one that has none finds them.
 const SPARES: usize = 16;
 
 /// A worker's place at a board: its seat at the board's cursors, and executions that it committed, whose memory is used again.
@@ -71,26 +72,53 @@ impl<B: Room> Place<B> {
             .lower_validate(&mut self.seat, u64::from(index));
     }
 
-    // Keeps an execution that is done with for its memory, where few are kept.
-    pub(crate) fn keep(&mut self, attempt: Box<Attempt>) -> Result<(), AllocError> {
+    // Keeps an execution that is done with for its memory. Where many are kept, half of them go to the board.
+    pub(crate) fn keep<R: Wait>(
+        &mut self,
+        rt: &R,
+        board: &Board<B>,
+        attempt: Box<Attempt>,
+    ) -> Result<(), AllocError> {
+        self.spares.push(attempt)?;
         if self.spares.len() < SPARES {
-            self.spares.push(attempt)?;
+            return Ok(());
         }
-        Ok(())
+        move_some(&mut self.spares, &mut board.spares(rt), SPARES / 2)
     }
 
-    // Sets and a log for a decision, over the memory of an execution that is done with, where one is kept.
-    pub(crate) fn sets(&mut self) -> (ReadSet, WriteSet, Vec<Sight>) {
+    // Sets and a log for a decision, over the memory of an execution that is done with, where one is kept here or at the board.
+    pub(crate) fn sets<R: Wait>(
+        &mut self,
+        rt: &R,
+        board: &Board<B>,
+    ) -> Result<(ReadSet, WriteSet, Vec<Sight>), AllocError> {
+        if self.spares.is_empty() {
+            move_some(&mut board.spares(rt), &mut self.spares, SPARES / 2)?;
+        }
         match self.spares.pop() {
             Some(spare) => {
                 let Attempt { execution, log } = Box::into_inner(spare);
                 let (_, reads, writes, _) = execution.into_parts();
-                (reads, writes, log)
+                Ok((reads, writes, log))
             }
             None => {
                 let alloc = *self.spares.allocator();
-                (ReadSet::new(alloc), WriteSet::new(alloc), Vec::new(alloc))
+                Ok((ReadSet::new(alloc), WriteSet::new(alloc), Vec::new(alloc)))
             }
         }
     }
+}
+
+// Moves so many executions from one list to another, or all that there are.
+fn move_some(
+    from: &mut Vec<Box<Attempt>>,
+    to: &mut Vec<Box<Attempt>>,
+    count: usize,
+) -> Result<(), AllocError> {
+    for _ in 0..count {
+        if let Some(attempt) = from.pop() {
+            to.push(attempt)?;
+        }
+    }
+    Ok(())
 }

@@ -42,22 +42,31 @@ impl<B: Room, R: Wait, F: Decide, G: Gate> Worker<'_, B, R, F, G> {
         }
     }
 
-    // Commits what can be, then validates a message, or else executes one.
+    // Commits what can be, then executes a message, or else validates one: whoever commits looks at what was read anyway, so validation
+    // is for workers that find nothing to execute.
     fn turn(&self, place: &mut Place<B>) -> Result<(), Leave> {
         if place.done(self.board) == self.frames.len() as u64 {
             return Err(Leave::Done);
         }
         self.commit(place)?;
-        if let Ok(index) = u32::try_from(place.draw_validate(self.board)) {
+        if let Some(index) = self.message(place.draw_execute(self.board)) {
+            return self.execute(place, index);
+        }
+        if let Some(index) = self.message(place.draw_validate(self.board)) {
             if self.validate(place, index)? {
                 return Ok(());
             }
         }
-        if let Ok(index) = u32::try_from(place.draw_execute(self.board)) {
-            return self.execute(place, index);
-        }
         thread::yield_now();
         Ok(())
+    }
+
+    // The message that was drawn, where the number names one.
+    fn message(&self, drawn: u64) -> Option<u32> {
+        if drawn < self.frames.len() as u64 {
+            return u32::try_from(drawn).ok();
+        }
+        None
     }
 
     // Commits messages in their order, as many as can be, where no other worker does so.
@@ -89,7 +98,7 @@ impl<B: Room, R: Wait, F: Decide, G: Gate> Worker<'_, B, R, F, G> {
         match desk.commit(self.board.cursors(), &attempt.execution)? {
             Verdict::Committed => {
                 if let Some(done) = slot.commit() {
-                    place.keep(done)?;
+                    place.keep(self.rt, self.board, done)?;
                 }
                 Ok(true)
             }
@@ -134,7 +143,6 @@ impl<B: Room, R: Wait, F: Decide, G: Gate> Worker<'_, B, R, F, G> {
     // Executes a message where it is ready. No lock is held while it is decided.
     fn execute(&self, place: &mut Place<B>, index: u32) -> Result<(), Leave> {
         let Some(frame) = self.frames.get(index as usize) else {
-            thread::yield_now();
             return Ok(());
         };
         let Some(incarnation) = self.take(index) else {
@@ -156,7 +164,7 @@ impl<B: Room, R: Wait, F: Decide, G: Gate> Worker<'_, B, R, F, G> {
 
     // Decides a message on the rows that it sees, and logs whose they are.
     fn attempt(&self, place: &mut Place<B>, frame: &Frame, index: u32) -> Result<Attempt, Stop> {
-        let (reads, writes, log) = place.sets();
+        let (reads, writes, log) = place.sets(self.rt, self.board)?;
         let rows = ShardRows::new(self.rt, self.board.shards(), self.book, index, log);
         let mut recorder = Recorder::over(rows, reads, writes);
         let reply = self.decision.decide(frame, &mut recorder)?;
@@ -175,7 +183,8 @@ impl<B: Room, R: Wait, F: Decide, G: Gate> Worker<'_, B, R, F, G> {
         version: Version,
         attempt: Attempt,
     ) -> Result<(), Leave> {
-        let is_new = self.hand_in(version, attempt)?;
+        let done = u32::try_from(place.done(self.board)).unwrap_or(0);
+        let is_new = self.hand_in(version, attempt, done)?;
         let Version { index, incarnation } = version;
         self.gate.after_record(index, incarnation);
         if is_new {
@@ -188,7 +197,7 @@ impl<B: Room, R: Wait, F: Decide, G: Gate> Worker<'_, B, R, F, G> {
 
     // Puts what an execution wrote into the shards, in place of what the former one did, and itself into its message's slot. Answers
     // whether it put a row that its message had no entry of.
-    fn hand_in(&self, version: Version, attempt: Attempt) -> Result<bool, AllocError> {
+    fn hand_in(&self, version: Version, attempt: Attempt, done: u32) -> Result<bool, AllocError> {
         let attempt = Box::new(self.alloc, attempt)?;
         let Some(mut slot) = self.board.slot(self.rt, version.index) else {
             return Ok(false);
@@ -196,7 +205,7 @@ impl<B: Room, R: Wait, F: Decide, G: Gate> Worker<'_, B, R, F, G> {
         let former = slot.former().map(|former| former.execution.writes());
         let writes = attempt.execution.writes();
         let shards = self.board.shards();
-        let is_new = shards.record(self.rt, self.alloc, version, writes, former)?;
+        let is_new = shards.record(self.rt, self.alloc, version, writes, former, done)?;
         slot.put(attempt);
         Ok(is_new)
     }

@@ -48,11 +48,11 @@ impl Execution {
     }
 
     /// The body that was decided.
-    pub fn frame(&self) -> Frame
-        ensures frame { result ≡ self.now.frame }
+    pub fn frame(&self) -> &Frame
+        ensures frame { result.now ≡ self.now.frame }
         ensures local { IsTrueExecution self.now }
     {
-        self.frame
+        &self.frame
     }
 
     /// The rows that were read.
@@ -70,10 +70,10 @@ impl Execution {
     }
 
     /// The reply.
-    pub fn reply(&self) -> ReplyBody
-        ensures { result ≡ self.now.reply }
+    pub fn reply(&self) -> &ReplyBody
+        ensures { result.now ≡ self.now.reply }
     {
-        self.reply
+        &self.reply
     }
 
     /// The body, the rows that were read, the rows that are put, and the reply.

@@ -1,10 +1,12 @@
-//! How a batch is to be decided: by how many workers, and by which engine.
+//! How a batch is to be decided: by how many workers, and by which engine; and what the workers of both engines share.
 #![tactic(auto)]
 
 mod engine;
 mod gate;
+mod locking;
 mod workers;
 
 pub use engine::Engine;
 pub use gate::{Gate, OpenGate};
+pub use locking::lock;
 pub use workers::Workers;

@@ -6,7 +6,7 @@ use Rattle.speccore.proofs.log.Log.has_logged.Goals as goal
 
 pub loop-index-preserved : goal.loop-index-preserved
 loop-index-preserved c =
-    AreLogged-more c.args.self.now c.args.reads.now c.loop-index.index c.at-row.result c.at-row.ensures.entry c.loop-index.invariant
+    AreLogged-more c.args.self.now c.args.reads.now c.loop-index.index (c.row.result.0.now, c.row.result.1.now) c.row.ensures.entry c.loop-index.invariant
     (ap (option_map (λ (l : Logged). l.value)) (sym c.find.ensures.value) ∙ c.is_answer.ensures.0 c.if-not-is_answer.false)
 
 pub returns : goal.returns

@@ -38,7 +38,7 @@ returns-then-puts_new_location c =
     let running : IsRunning s.board c.args.version = c.is_running.ensures.running.0 c.if-not-is_running.false in
     let l = slot_there s c.self.invariant.1 c.args.version.index (c.is_running.ensures.within c.if-not-is_running.false) in
     let of : IsOfVersion s c.args.version c.args.execution.now =
-    of_version s c.args.version c.args.execution.now c.deref.result.now c.frame-frame.result c.index-slot.result.now c.reads.result.now c.deref.ensures.value c.frame-frame.ensures.frame
+    of_version s c.args.version c.args.execution.now c.deref.result.now c.frame-frame.result.now c.index-slot.result.now c.reads.result.now c.deref.ensures.value c.frame-frame.ensures.frame
     (c.is_at.ensures.0 c.if-not-is_at.false) (at_slot s c.args.version.index c.index-slot.result.now l c.index-slot.ensures) c.reads.ensures (c.has_logged.ensures.0 c.if-not-has_logged.false) in
     let new = subst (IsNewLocation s.entries c.args.version.index) c.writes-writes.ensures (c.puts_new_location.ensures.0 c.if-puts_new_location.true) in
     record {
@@ -52,7 +52,7 @@ returns-in_err-reserve c =
     let running : IsRunning s.board c.args.version = c.is_running.ensures.running.0 c.if-not-is_running.false in
     let l = slot_there s c.self.invariant.1 c.args.version.index (c.is_running.ensures.within c.if-not-is_running.false) in
     let of : IsOfVersion s c.args.version c.args.execution.now =
-    of_version s c.args.version c.args.execution.now c.deref.result.now c.frame-frame.result c.index-slot.result.now c.reads.result.now c.deref.ensures.value c.frame-frame.ensures.frame
+    of_version s c.args.version c.args.execution.now c.deref.result.now c.frame-frame.result.now c.index-slot.result.now c.reads.result.now c.deref.ensures.value c.frame-frame.ensures.frame
     (c.is_at.ensures.0 c.if-not-is_at.false) (at_slot s c.args.version.index c.index-slot.result.now l c.index-slot.ensures) c.reads.ensures (c.has_logged.ensures.0 c.if-not-has_logged.false) in
     let left : IsNewLocation s.entries c.args.version.index c.args.execution.now.writes → s.board.epoch ≢ s.limits.epoch =
     elim c.else-epoch-self.branch [
@@ -80,7 +80,7 @@ finished-requires-clause-epoch c t =
     let running : IsRunning s.board c.args.version = c.is_running.ensures.running.0 c.if-not-is_running.false in
     let l = slot_there s c.self.invariant.1 c.args.version.index (c.is_running.ensures.within c.if-not-is_running.false) in
     let of : IsOfVersion s c.args.version c.args.execution.now =
-    of_version s c.args.version c.args.execution.now c.deref.result.now c.frame-frame.result c.index-slot.result.now c.reads.result.now c.deref.ensures.value c.frame-frame.ensures.frame
+    of_version s c.args.version c.args.execution.now c.deref.result.now c.frame-frame.result.now c.index-slot.result.now c.reads.result.now c.deref.ensures.value c.frame-frame.ensures.frame
     (c.is_at.ensures.0 c.if-not-is_at.false) (at_slot s c.args.version.index c.index-slot.result.now l c.index-slot.ensures) c.reads.ensures (c.has_logged.ensures.0 c.if-not-has_logged.false) in
     let left : IsNewLocation s.entries c.args.version.index c.args.execution.now.writes → s.board.epoch ≢ s.limits.epoch =
     elim c.else-epoch-self.branch [
@@ -100,7 +100,7 @@ invariant_of-self-2 c =
     let running : IsRunning s.board c.args.version = c.is_running.ensures.running.0 c.if-not-is_running.false in
     let l = slot_there s c.self.invariant.1 c.args.version.index (c.is_running.ensures.within c.if-not-is_running.false) in
     let of : IsOfVersion s c.args.version c.args.execution.now =
-    of_version s c.args.version c.args.execution.now c.deref.result.now c.frame-frame.result c.index-slot.result.now c.reads.result.now c.deref.ensures.value c.frame-frame.ensures.frame
+    of_version s c.args.version c.args.execution.now c.deref.result.now c.frame-frame.result.now c.index-slot.result.now c.reads.result.now c.deref.ensures.value c.frame-frame.ensures.frame
     (c.is_at.ensures.0 c.if-not-is_at.false) (at_slot s c.args.version.index c.index-slot.result.now l c.index-slot.ensures) c.reads.ensures (c.has_logged.ensures.0 c.if-not-has_logged.false) in
     let left : IsNewLocation s.entries c.args.version.index c.args.execution.now.writes → s.board.epoch ≢ s.limits.epoch =
     elim c.else-epoch-self.branch [
@@ -127,7 +127,7 @@ returns c =
     let running : IsRunning s.board c.args.version = c.is_running.ensures.running.0 c.if-not-is_running.false in
     let l = slot_there s c.self.invariant.1 c.args.version.index (c.is_running.ensures.within c.if-not-is_running.false) in
     let of : IsOfVersion s c.args.version c.args.execution.now =
-    of_version s c.args.version c.args.execution.now c.deref.result.now c.frame-frame.result c.index-slot.result.now c.reads.result.now c.deref.ensures.value c.frame-frame.ensures.frame
+    of_version s c.args.version c.args.execution.now c.deref.result.now c.frame-frame.result.now c.index-slot.result.now c.reads.result.now c.deref.ensures.value c.frame-frame.ensures.frame
     (c.is_at.ensures.0 c.if-not-is_at.false) (at_slot s c.args.version.index c.index-slot.result.now l c.index-slot.ensures) c.reads.ensures (c.has_logged.ensures.0 c.if-not-has_logged.false) in
     let left : IsNewLocation s.entries c.args.version.index c.args.execution.now.writes → s.board.epoch ≢ s.limits.epoch =
     elim c.else-epoch-self.branch [

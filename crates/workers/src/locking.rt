@@ -10,7 +10,7 @@ const AT_ONCE: u32 = 32;
 
 /// Takes the lock. It is held for short times, so it is tried for a while first: a waiter that sleeps is woken late, and the
 /// others wait for it.
-pub(crate) fn lock<'a, R: Wait, T>(rt: &R, mutex: &'a Mutex<T>) -> MutexGuard<'a, T> {
+pub fn lock<'a, R: Wait, T>(rt: &R, mutex: &'a Mutex<T>) -> MutexGuard<'a, T> {
     for round in 0..TRIES {
         if let Some(guard) = mutex.try_lock() {
             return guard;
