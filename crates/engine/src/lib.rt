@@ -5,7 +5,6 @@ mod alone;
 mod checking;
 mod core_rows;
 mod leave;
-mod pace;
 mod running;
 mod traced_rows;
 mod turns;

@@ -1,7 +1,6 @@
 use crate::checking::check;
 use crate::core_rows::CoreRows;
 use crate::leave::Leave;
-use crate::pace::Pace;
 use journal::{Answer, Event, Traced};
 use mvmem::Version;
 use rows::Frame;
@@ -11,7 +10,7 @@ use std::alloc::Global;
 use std::mem;
 use std::sync::{Condvar, Mutex, Wait};
 use view::{Decide, Execution, ReadSet, Recorder, RowSource, Stop, WriteSet};
-use workers::{Gate, lock};
+use workers::{Gate, Pace, lock};
 
 /// What a worker works with: the lock round the core and its journal, the bodies, the decision and the gate. Whatever it does or leaves undone,
 /// the core's type keeps what is committed right.
@@ -29,7 +28,7 @@ impl<'a, R: Wait, F: Decide, G: Gate> Worker<'a, R, F, G> {
     /// Turns at this seat, until all is committed or the stop mark is set. A turn that has to leave sets it.
     pub(crate) fn work(&self, seat: Seat) {
         let mut sets = (ReadSet::new(self.alloc), WriteSet::new(self.alloc));
-        let mut pace = Pace::of(seat);
+        let mut pace = Pace::of(seat == Seat::first());
         let bed = Condvar::new();
         let mut turn = self.claim(seat);
         for _ in self.rt.forever() {

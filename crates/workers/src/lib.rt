@@ -4,9 +4,11 @@
 mod engine;
 mod gate;
 mod locking;
+mod pace;
 mod workers;
 
 pub use engine::Engine;
 pub use gate::{Gate, OpenGate};
 pub use locking::lock;
+pub use pace::Pace;
 pub use workers::Workers;

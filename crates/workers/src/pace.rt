@@ -1,4 +1,3 @@
-use speccore_laws::Seat;
 use std::sync::{Condvar, Wait};
 use std::thread;
 use std::time::Duration;
@@ -9,27 +8,27 @@ const LONGEST: u32 = 4096;
 // The longest rest in which turns are given to other threads; in a longer one the worker sleeps, as many microseconds.
 const AWAKE: u32 = 16;
 
-/// How long a worker rests before it claims. Where others hold the lock most of the time, one more worker makes nothing faster: it
-/// waits for the lock with a message in hand, and what is executed behind that message has to be checked again. The worker at the
-/// first seat never rests, so that there is one that goes on.
+/// How long a worker rests before it looks for work. Where others hold the lock most of the time, or each message needs what the one
+/// before it puts, one more worker makes nothing faster: it waits with a message in hand, and what is executed behind that message has to
+/// be checked or executed again. The first worker never rests, so that there is one that goes on.
 #[derive(Clone, Copy, Debug)]
-pub(crate) struct Pace {
+pub struct Pace {
     // In turns that are given to other threads, or in microseconds.
     rest: u32,
-    // The longest rest at this seat.
+    // The longest rest of this worker.
     longest: u32,
 }
 
 impl Pace {
     /// No rest yet.
-    pub(crate) fn of(seat: Seat) -> Pace {
-        let longest = if seat == Seat::first() { 0 } else { LONGEST };
+    pub fn of(is_first: bool) -> Pace {
+        let longest = if is_first { 0 } else { LONGEST };
         Pace { rest: 0, longest }
     }
 
-    /// The pace after the lock was found held, or free: a rest twice as long, or half as long.
-    pub(crate) fn after(self, was_held: bool) -> Pace {
-        let rest = if was_held {
+    /// The pace after the worker was held up, or got on: a rest twice as long, or half as long.
+    pub fn after(self, was_held_up: bool) -> Pace {
+        let rest = if was_held_up {
             self.rest.saturating_mul(2).max(1).min(self.longest)
         } else {
             self.rest / 2
@@ -37,13 +36,13 @@ impl Pace {
         Pace { rest, ..self }
     }
 
-    /// Whether the worker rests before it claims.
-    pub(crate) fn rests(self) -> bool {
+    /// Whether the worker rests before it looks for work.
+    pub fn rests(self) -> bool {
         self.rest > 0
     }
 
     /// Rests: lets other threads run, once at least, or sleeps, which nobody ends.
-    pub(crate) fn rest<R: Wait>(self, rt: &R, bed: &Condvar) {
+    pub fn rest<R: Wait>(self, rt: &R, bed: &Condvar) {
         if self.rest > AWAKE {
             let time = Duration::from_micros(u64::from(self.rest));
             bed.sleep(rt, bed.notifications(), time);
