@@ -1,11 +1,13 @@
 //! The rows that the executions of a batch put, in shards with a lock each, as the messages see them.
 #![tactic(auto)]
 
+mod brief_lock;
 mod shard_of;
 mod shard_rows;
 mod shards;
 mod sight;
 
+pub use brief_lock::lock_briefly;
 pub use shard_rows::ShardRows;
 pub use shards::Shards;
 pub use sight::Sight;

@@ -2,6 +2,7 @@ ghost use Rattle.std.specs.Prelude.{◌≡◌, length, IfOk};
 ghost use Rattle.rows.specs.RowVal.{IsOfKind};
 ghost use Rattle.shards.specs.Sighted.{IsSeenSo};
 
+use crate::brief_lock::lock_briefly;
 use crate::shard_of::shard_of;
 use crate::sight::{Sight, copy_value, sight_of};
 use crossbeam_utils::CachePadded;
@@ -10,7 +11,6 @@ use rows::{RowKey, RowVal};
 use std::alloc::{AllocError, Global};
 use std::sync::{Mutex, Wait};
 use view::{ReadSet, WriteSet};
-use workers::lock;
 
 // How many shards there are.
 const SHARDS: usize = 64;
@@ -37,7 +37,7 @@ impl Shards {
     pub fn look<R: Wait>(&self, rt: &R, key: &RowKey, index: u32, row: &mut Option<RowVal>) -> Sight
         ensures { IsSeenSo key.now result row.old row.new }
     {
-        let chains = lock(rt, &self.shards[shard_of(key)]);
+        let chains = lock_briefly(rt, &self.shards[shard_of(key)]);
         let link = chains.nearest_below(key, &[], index);
         copy_value(link, row);
         sight_of(link)
@@ -62,7 +62,7 @@ impl Shards {
 
     // Whose row the message at this index sees.
     fn sight<R: Wait>(&self, rt: &R, key: &RowKey, index: u32) -> Sight {
-        let chains = lock(rt, &self.shards[shard_of(key)]);
+        let chains = lock_briefly(rt, &self.shards[shard_of(key)]);
         let link = chains.nearest_below(key, &[], index);
         sight_of(link)
     }
@@ -102,7 +102,7 @@ impl Shards {
     ) -> Result<bool, AllocError>
         requires { IsOfKind key.now value.now }
     {
-        let mut chains = lock(rt, &self.shards[shard_of(key)]);
+        let mut chains = lock_briefly(rt, &self.shards[shard_of(key)]);
         let number = chains.reserve(alloc, key, &[])?;
         let (number, is_new) = chains.put(key, &[number], version, value);
         if let Some(first) = chains.superseded(number, done) {
@@ -123,7 +123,7 @@ impl Shards {
 
     // Takes out the message's entry of the row.
     fn take_out<R: Wait>(&self, rt: &R, key: &RowKey, index: u32) {
-        let mut chains = lock(rt, &self.shards[shard_of(key)]);
+        let mut chains = lock_briefly(rt, &self.shards[shard_of(key)]);
         if let Some(number) = chains.number_of(key, &[]) {
             chains.take_out(number, index);
         }
@@ -133,7 +133,7 @@ impl Shards {
     pub fn to_estimates<R: Wait>(&self, rt: &R, index: u32, writes: &WriteSet) {
         for place in 0..writes.len() {
             let (key, _) = writes.row(place);
-            let mut chains = lock(rt, &self.shards[shard_of(key)]);
+            let mut chains = lock_briefly(rt, &self.shards[shard_of(key)]);
             if let Some(number) = chains.number_of(key, &[]) {
                 chains.to_estimate(number, index);
             }

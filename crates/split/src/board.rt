@@ -8,11 +8,10 @@ use crossbeam_utils::CachePadded;
 use cursors::{CursorSeat, Cursors};
 use ledger::Ledger;
 use published::Published;
-use shards::Shards;
+use shards::{Shards, lock_briefly};
 use slots::{Attempt, Slot};
 use std::alloc::{AllocError, Global};
 use std::sync::{Mutex, MutexGuard, Wait};
-use workers::lock;
 
 /// What the workers of a batch share: the cursors without a lock; the ledger, each message's slot and each shard of the rows under a
 /// lock of its own; and executions that are done with, for their memory. A thread that holds a shard or these takes no other lock, and one
@@ -67,12 +66,12 @@ impl<B: Room> Board<B> {
 
     // Executions that are done with, whose memory is used again.
     pub(crate) fn spares<R: Wait>(&self, rt: &R) -> MutexGuard<'_, Vec<Box<Attempt>>> {
-        lock(rt, &self.spares)
+        lock_briefly(rt, &self.spares)
     }
 
     // The slot of the message at this index, where there is one.
     pub(crate) fn slot<R: Wait>(&self, rt: &R, index: u32) -> Option<MutexGuard<'_, Slot>> {
-        Some(lock(rt, self.slots.get(index as usize)?))
+        Some(lock_briefly(rt, self.slots.get(index as usize)?))
     }
 
     // The ledger, where no other worker holds it.
@@ -82,7 +81,7 @@ impl<B: Room> Board<B> {
 
     // Sets the stop mark.
     pub(crate) fn stop<R: Wait>(&self, rt: &R) {
-        lock(rt, &self.desk).stop();
+        self.desk.lock(rt).stop();
     }
 
     // The ledger, once no worker has the board any more.

@@ -7,20 +7,17 @@ use shards::Sight;
 use slots::Attempt;
 use std::alloc::{AllocError, Global};
 use std::marker::PhantomData;
-use std::sync::{Condvar, Wait};
+use std::sync::Wait;
 use view::{ReadSet, WriteSet};
-use workers::Pace;
 
 // So many executions are not kept by one worker: half of them go to the board, where one that has none finds them.
 const SPARES: usize = 16;
 
-/// A worker's place at a board: its seat at the board's cursors, executions that it committed, whose memory is used
-/// again, and how long it rests.
+/// A worker's place at a board: its seat at the board's cursors, and executions that it committed, whose memory is used again.
 #[derive(Drop)]
 pub(crate) struct Place<B: Room> {
     seat: CursorSeat,
     spares: Vec<Box<Attempt>>,
-    pace: Pace,
     of: PhantomData<B>,
     ghost at: { seat.table_id ≡ B.table },
 }
@@ -33,7 +30,6 @@ impl<B: Room> Place<B> {
         Place {
             seat,
             spares: Vec::new(alloc),
-            pace: Pace::of(true),
             of: PhantomData,
         }
     }
@@ -43,7 +39,6 @@ impl<B: Room> Place<B> {
         Place {
             seat: board.cursors().another(&mut self.seat),
             spares: Vec::new(*self.spares.allocator()),
-            pace: Pace::of(false),
             of: PhantomData,
         }
     }
@@ -75,18 +70,6 @@ impl<B: Room> Place<B> {
         board
             .cursors()
             .lower_validate(&mut self.seat, u64::from(index));
-    }
-
-    // Notes that the worker was held up by an estimate, or got on.
-    pub(crate) fn note(&mut self, was_held_up: bool) {
-        self.pace = self.pace.after(was_held_up);
-    }
-
-    // Rests, where the worker was held up of late.
-    pub(crate) fn rest<R: Wait>(&self, rt: &R, bed: &Condvar) {
-        if self.pace.rests() {
-            self.pace.rest(rt, bed);
-        }
     }
 
     // Keeps an execution that is done with for its memory. Where many are kept, half of them go to the board.

@@ -9,7 +9,7 @@ use rows::{Book, Frame};
 use shards::ShardRows;
 use slots::{Attempt, GivenUp, Slot};
 use std::alloc::{AllocError, Global};
-use std::sync::{Condvar, Wait};
+use std::sync::Wait;
 use std::thread;
 use view::{Decide, Execution, Recorder, Stop};
 use workers::Gate;
@@ -30,9 +30,7 @@ pub(crate) struct Worker<'a, B: Room, R: Wait, F: Decide, G: Gate> {
 impl<B: Room, R: Wait, F: Decide, G: Gate> Worker<'_, B, R, F, G> {
     /// Turns from this place, until all is committed or the stop mark is set. A turn that has to leave sets it.
     pub(crate) fn work(&self, mut place: Place<B>) {
-        let bed = Condvar::new();
         for _ in self.rt.forever() {
-            place.rest(self.rt, &bed);
             match self.turn(&mut place) {
                 Ok(()) => {}
                 Err(Leave::Done | Leave::Stopped) => return,
@@ -44,20 +42,19 @@ impl<B: Room, R: Wait, F: Decide, G: Gate> Worker<'_, B, R, F, G> {
         }
     }
 
-    // Commits what can be, then executes a message, or else validates one: whoever commits looks at what was read anyway, so validation
-    // is for workers that find nothing to execute.
+    // Commits what can be, then validates a message, or else executes one.
     fn turn(&self, place: &mut Place<B>) -> Result<(), Leave> {
         if place.done(self.board) == self.frames.len() as u64 {
             return Err(Leave::Done);
         }
         self.commit(place)?;
-        if let Some(index) = self.message(place.draw_execute(self.board)) {
-            return self.execute(place, index);
-        }
         if let Some(index) = self.message(place.draw_validate(self.board)) {
             if self.validate(place, index)? {
                 return Ok(());
             }
+        }
+        if let Some(index) = self.message(place.draw_execute(self.board)) {
+            return self.execute(place, index);
         }
         thread::yield_now();
         Ok(())
@@ -189,7 +186,6 @@ impl<B: Room, R: Wait, F: Decide, G: Gate> Worker<'_, B, R, F, G> {
         let is_new = self.hand_in(version, attempt, done)?;
         let Version { index, incarnation } = version;
         self.gate.after_record(index, incarnation);
-        place.note(false);
         if is_new {
             place.lower_validate(self.board, index);
             return Ok(());
@@ -213,14 +209,12 @@ impl<B: Room, R: Wait, F: Decide, G: Gate> Worker<'_, B, R, F, G> {
         Ok(is_new)
     }
 
-    // Gives a message up that met an estimate, to be executed again, and lets the one run that it waits for. The worker rests longer
-    // before its next turn.
+    // Gives a message up that met an estimate, to be executed again, and lets the one run that it waits for.
     fn block(&self, place: &mut Place<B>, index: u32) -> Result<(), Leave> {
         if self.give_back(index) == GivenUp::Worn {
             return Err(Leave::Worn);
         }
         place.lower_execute(self.board, index);
-        place.note(true);
         thread::yield_now();
         Ok(())
     }
