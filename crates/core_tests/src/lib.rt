@@ -1,5 +1,4 @@
-//! Tests of the core: foolish calls, journals, and a run whose core comes to its limits; and of the memory of versions and the
-//! scheduler.
+//! Tests of the core: worked schedules, foolish calls, journals as text, and a run whose core comes to its limits.
 #![tactic(auto)]
 
 #[cfg(test)]
@@ -15,8 +14,4 @@ mod refusals;
 #[cfg(test)]
 mod requests;
 #[cfg(test)]
-mod schedules;
-#[cfg(test)]
 mod steps;
-#[cfg(test)]
-mod versions;
