@@ -1,1 +1,2 @@
 pub mod Former
+pub mod There

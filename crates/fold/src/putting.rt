@@ -1,6 +1,7 @@
-ghost use Rattle.std.specs.Prelude.{◌≡◌, ◌≢◌, ◌≤◌, drop, length, None, OnOk, OnErr, IfSome};
+ghost use Rattle.std.specs.Prelude.{◌≡◌, ◌≢◌, ◌≤◌, drop, length, None, OnOk, OnErr, IfSome, IsTrue};
 ghost use Rattle.std.specs.FinMap as map;
 ghost use Rattle.fold.specs.Former.{with_former};
+ghost use Rattle.fold.specs.There.{AreThere};
 ghost use Rattle.rows.specs.Fold.{overlay};
 ghost use Rattle.rows.specs.RowVal.{IsOfKind};
 
@@ -20,7 +21,8 @@ pub(crate) fn put_all_or_none(
     put_from(book, writes, 0, places)
 }
 
-// Puts the rows from this place on, or none of them: where a later one finds no room, each is given back what it was.
+// Puts the rows from this place on, or none of them: where a later one finds no room, each is given back what it was. Rows that all
+// stand where they were found need no room, so what they were is not asked for.
 fn put_from(
     book: &mut Book,
     writes: &WriteSet,
@@ -34,6 +36,10 @@ fn put_from(
     if index == writes.len() {
         return Ok(());
     }
+    if stand_near(book, writes, index, places) {
+        put_over(book, writes, index, places);
+        return Ok(());
+    }
     let (key, row) = writes.row(index);
     let former = book.get(key);
     book.put_copy_near(key, row, places)?;
@@ -43,6 +49,32 @@ fn put_from(
             give_back(book, key, former);
             Err(fault)
         }
+    }
+}
+
+// Whether each row from this place on stands where it was found.
+fn stand_near(book: &Book, writes: &WriteSet, from: usize, places: &Places) -> bool
+    ensures { IsTrue result → AreThere book.now (drop from writes.now) }
+{
+    for index in from..writes.len() {
+        let (key, _) = writes.row(index);
+        if !book.stands_near(key, places) {
+            return false;
+        }
+    }
+    true
+}
+
+// Puts the rows from this place on over those that are there.
+fn put_over(book: &mut Book, writes: &WriteSet, from: usize, places: &Places)
+    requires { AreThere book.old (drop from writes.now) }
+    ensures { book.new ≡ overlay book.old (drop from writes.now) }
+{
+    for index in from..writes.len() {
+        let (key, row) = writes.row(index);
+        let Ok(()) = book.put_copy_near(key, row, places) else {
+            unreachable!();
+        };
     }
 }
 

@@ -1,4 +1,4 @@
-ghost use Rattle.std.specs.Prelude.{◌≡◌, ◌<◌, ◌↔◌, length, slice_get, option_copied, OnOk, OnErr, IfOk, IfSome, IsTrue, IsFalse, IsPermutation, None, Some};
+ghost use Rattle.std.specs.Prelude.{◌≡◌, ◌≢◌, ◌<◌, ◌↔◌, length, slice_get, option_copied, OnOk, OnErr, IfOk, IfSome, IsTrue, IsFalse, IsPermutation, None, Some};
 ghost use Rattle.std.specs.FinMap as map;
 ghost use Rattle.indexmap.specs.IndexMap.{IsUnchanged, Updates};
 ghost use Rattle.rows.specs.Book.{AllOfKind, IsWithin, value_at};
@@ -124,6 +124,15 @@ impl Book {
             return Ok(());
         }
         put_entry(&mut self.rows, key, val)
+    }
+
+    /// Whether the row stands at its noted place. One that stands elsewhere, or isn't there, doesn't.
+    #[inline(always)]
+    pub fn stands_near(&self, key: &RowKey, places: &Places) -> bool
+        ensures { IsTrue result → map.get self.now key.now ≢ None }
+    {
+        let _count = self.rows.len();
+        stands_at(&self.rows, places.last(key), key)
     }
 
     /// Takes the row out.
