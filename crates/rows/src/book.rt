@@ -126,7 +126,7 @@ impl Book {
         put_entry(&mut self.rows, key, val)
     }
 
-    /// Whether the row stands at its noted place. One that stands elsewhere, or isn't there, doesn't.
+    /// Whether the row stands at its noted place. Where it doesn't it may still be there, since a place is a hint alone.
     #[inline(always)]
     pub fn stands_near(&self, key: &RowKey, places: &Places) -> bool
         ensures { IsTrue result → map.get self.now key.now ≢ None }

@@ -1,4 +1,5 @@
-//! How a batch is to be decided: by how many workers, and by which engine; and what the workers of both engines share.
+//! How a batch is to be decided: by how many workers, and by which engine; the gate that both engines tell of decisions; and how a worker
+//! of the locked engine waits and rests.
 #![tactic(auto)]
 
 mod engine;
