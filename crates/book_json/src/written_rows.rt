@@ -146,15 +146,32 @@ fn next_action(text: &mut WrittenText<'_>) -> Option<Action> {
     Some(Action::from_digits(&digits))
 }
 
+// What stands first in the entry of an original.
+#[derive(Clone, Copy)]
+struct OriginalFront {
+    account: Option<AccountId>,
+    acquirer: Acquirer,
+    action: Action,
+    amount: Amount,
+    approval: Option<Approval>,
+    kind: OriginalKind,
+}
+
+fn next_original_front(text: &mut WrittenText<'_>) -> Option<OriginalFront> {
+    Some(OriginalFront {
+        account: next_optional_account_id(text, "account")?,
+        acquirer: next_acquirer(text)?,
+        action: next_action(text)?,
+        amount: next_amount(text, "amount")?,
+        approval: next_approval(text)?,
+        kind: next_kind(text)?,
+    })
+}
+
 fn next_original(text: &mut WrittenText<'_>) -> Option<(RowKey, RowVal)>
     ensures { IfSome result (λ row. IsOfKind row.0 row.1) }
 {
-    let account = next_optional_account_id(text, "account")?;
-    let acquirer = next_acquirer(text)?;
-    let action = next_action(text)?;
-    let amount = next_amount(text, "amount")?;
-    let approval = next_approval(text)?;
-    let kind = next_kind(text)?;
+    let front = next_original_front(text)?;
     let paid = account_paid_of(text.text("paid")?)?;
     let pan = next_pan(text)?;
     let processing = Processing::new(text.text("processing")?.as_bytes())?;
@@ -163,11 +180,11 @@ fn next_original(text: &mut WrittenText<'_>) -> Option<(RowKey, RowVal)>
     let stay = next_amount(text, "stay")?;
     let stan = next_stan(text)?;
     let entry = OriginalEntry {
-        account,
-        action,
-        amount,
-        approval,
-        kind,
+        account: front.account,
+        action: front.action,
+        amount: front.amount,
+        approval: front.approval,
+        kind: front.kind,
         paid,
         pan,
         processing,
@@ -175,7 +192,7 @@ fn next_original(text: &mut WrittenText<'_>) -> Option<(RowKey, RowVal)>
         stay,
     };
     let identity = Identity {
-        acquirer,
+        acquirer: front.acquirer,
         stan,
         stamp,
     };
