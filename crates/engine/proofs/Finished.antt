@@ -55,6 +55,7 @@ pub finished_all : (core : Play) (entries : List Entry) → core.state.board.com
 unfolding IsFinished
 finished_all core entries all = inl all
 
+-- where some entries play to a core that has committed all, they play to its end
 pub some_end : (core : Play) → IsSomePlay core → core.state.board.committed ≡ length core.state.frames → IsSomeEnd core
 some_end core some all = record { entries = some.entries; played = some.played; finished = finished_all core some.entries all }
 
@@ -85,7 +86,7 @@ journal_of core entries opening frames limits committed replies played reached b
       finished = finished;
     }
 
--- what a core committed whose entries play to its end, a run of a core committed
+-- what a core has committed to whose end some entries play, a run of a core committed
 pub committed_so : {E : Type 0} (start core : Play) (r : Result Outcome E) → IsSomeEnd core → IfOk r (λ outcome. AreJournals start core outcome.committed outcome.replies.items) → IfOk r (λ outcome. AreCommitted start outcome.committed outcome.replies.items)
 committed_so start core (Ok outcome) some are = (some.entries, are some.entries some.played some.finished)
 committed_so start core (Err e) some are = tt
