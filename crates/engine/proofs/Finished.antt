@@ -1,5 +1,8 @@
 -- When a worker is at the end, and what the journal then plays to.
-use Rattle.std.proofs.Common.{◌≡◌, ℕ, List, ◌++◌, inl, inr, length, take, drop, sym, ap, ◌∙◌, subst}
+use Rattle.std.proofs.Common.{◌≡◌, ℕ, List, ◌++◌, inl, inr, length, take, drop, sym, ap, ◌∙◌, subst, Result, Ok, Err, IfOk}
+use Rattle.fold.specs.declared.outcome.Outcome.{Outcome}
+use Rattle.journal.specs.Finished.{IsFinished}
+use Rattle.journal.specs.SomePlay.{IsSomePlay}
 use Rattle.rows.specs.Agreement.{Executed}
 use Rattle.rows.specs.Fold.{Rows, rows_after, replies_to}
 use Rattle.rows.specs.declared.frame.Frame.{Frame}
@@ -19,7 +22,7 @@ use Rattle.speccore_laws.specs.State.{State, bounded}
 use Rattle.speccore_laws.specs.declared.core_fault.CoreFault.TheVariants.{Worn}
 use Rattle.speccore_laws.specs.declared.limits.Limits.{Limits}
 use Rattle.engine.proofs.Rest.{replies_of_both}
-use Rattle.engine.specs.Journals.{IsFinished, IsJournalOf, AreCommitted}
+use Rattle.engine.specs.Journals.{IsJournalOf, AreCommitted, AreJournals, IsSomeEnd}
 
 -- where nothing is to be done any more, all is committed
 pub done_finished : (old new : Play) (seat : ℕ) (entries : List Entry) → AnswersTo old seat Claim (Claimed Done) new → IsFinished new entries
@@ -52,6 +55,10 @@ pub finished_all : (core : Play) (entries : List Entry) → core.state.board.com
 unfolding IsFinished
 finished_all core entries all = inl all
 
+-- where some entries play to a core that has committed all, they play to its end
+pub some_end : (core : Play) → IsSomePlay core → core.state.board.committed ≡ length core.state.frames → IsSomeEnd core
+some_end core some all = record { entries = some.entries; played = some.played; finished = finished_all core some.entries all }
+
 -- limits that are bounded open as they do
 opened_bounded : (opening : Rows) (frames : List Frame) (limits : Limits) → opening_play opening frames (bounded limits) ≡ opening_play opening frames limits
 opened_bounded opening frames limits =
@@ -79,6 +86,7 @@ journal_of core entries opening frames limits committed replies played reached b
       finished = finished;
     }
 
--- what a journal says is committed, a run of a core committed
-pub committed_so : (start : Play) (entries : List Entry) (committed : ℕ) (replies : List ReplyBody) → IsJournalOf start entries committed replies → AreCommitted start committed replies
-committed_so start entries committed replies is = (entries, is)
+-- what a core has committed to whose end some entries play, a run of a core committed
+pub committed_so : {E : Type 0} (start core : Play) (r : Result Outcome E) → IsSomeEnd core → IfOk r (λ outcome. AreJournals start core outcome.committed outcome.replies.items) → IfOk r (λ outcome. AreCommitted start outcome.committed outcome.replies.items)
+committed_so start core (Ok outcome) some are = (some.entries, are some.entries some.played some.finished)
+committed_so start core (Err e) some are = tt

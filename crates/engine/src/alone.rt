@@ -1,5 +1,5 @@
 ghost use Rattle.std.specs.Prelude.{◌≡◌, ◌≤◌, IfOk, IsTrue, length};
-ghost use Rattle.engine.specs.Journals.{IsFinished};
+ghost use Rattle.journal.specs.Finished.{IsFinished};
 
 use crate::checking::{check, is_worn};
 use crate::traced_rows::TracedRows;

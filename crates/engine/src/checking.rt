@@ -1,8 +1,8 @@
 ghost use Rattle.std.specs.Prelude.{◌≡◌, IfOk, IsTrue};
-ghost use Rattle.engine.specs.Journals.{IsFinished};
+ghost use Rattle.journal.specs.Finished.{IsFinished};
 ghost use Rattle.journal_laws.specs.Answers.{IsNoFinish};
 
-use journal::{Answer, Event, Traced};
+use journal::{Answer, Event, SharedCore, Traced};
 use mvmem::Version;
 use speccore_laws::{CoreFault, Seat};
 use std::alloc::AllocError;
@@ -10,19 +10,19 @@ use std::sync::Wait;
 
 /// Checks a version, one read after another, and commits what can be. Answers whether no incarnation or epoch is left. A check that is
 /// refused is left: the version was given up, or is committed.
-pub(crate) fn check<R: Wait>(
+pub(crate) fn check<R: Wait, C: SharedCore>(
     rt: &R,
-    traced: &mut Traced,
+    core: &mut C,
     seat: Seat,
     version: Version,
 ) -> Result<bool, AllocError>
-    ensures { IfOk result (λ worn. IsTrue worn → IsFinished traced.new.core traced.new.entries) }
+    ensures { IfOk result (λ worn. IsTrue worn → C.known_worn core.new) }
 {
-    let mut checking = traced.begin_check(seat, version);
+    let mut checking = core.begin_check(seat, version);
     for _ in rt.forever() {
         match checking {
-            Ok(false) => checking = traced.check_one(seat),
-            Ok(true) => return end_check(rt, traced, seat),
+            Ok(false) => checking = core.check_one(seat),
+            Ok(true) => return end_check(rt, core, seat),
             Err(CoreFault::OutOfMemory) => return Err(AllocError),
             Err(_) => return Ok(false),
         }
@@ -31,17 +31,17 @@ pub(crate) fn check<R: Wait>(
 }
 
 // Closes the seat's check, and commits what can be.
-fn end_check<R: Wait>(rt: &R, traced: &mut Traced, seat: Seat) -> Result<bool, AllocError>
-    ensures { IfOk result (λ worn. IsTrue worn → IsFinished traced.new.core traced.new.entries) }
+fn end_check<R: Wait, C: SharedCore>(rt: &R, core: &mut C, seat: Seat) -> Result<bool, AllocError>
+    ensures { IfOk result (λ worn. IsTrue worn → C.known_worn core.new) }
 {
-    match traced.end_check(seat) {
+    match core.end_check(seat) {
         Ok(_) => {}
         Err(CoreFault::OutOfMemory) => return Err(AllocError),
         Err(CoreFault::Worn) => return Ok(true),
         Err(_) => return Ok(false),
     }
     for _ in rt.forever() {
-        match traced.commit(seat) {
+        match core.commit(seat) {
             Ok(true) => {}
             Ok(false) => return Ok(false),
             Err(_) => return Err(AllocError),

@@ -3,7 +3,7 @@ ghost use Rattle.speccore_laws.specs.declared.core_fault.CoreFault.TheVariants a
 ghost use Rattle.speccore.specs.declared.unread.Unread.TheVariants as unread;
 ghost use Rattle.view.specs.declared.stop.Stop.TheVariants as stop;
 
-use journal::Traced;
+use journal::SharedCore;
 use mvmem::Version;
 use rows::{RowKey, RowVal};
 use speccore::Unread;
@@ -15,34 +15,29 @@ use workers::lock;
 /// The rows that one version of a message sees in the shared core: what the nearest messages before it put (Block-STM). The lock
 /// is taken for each of them, and held no longer.
 #[derive(Drop)]
-pub struct CoreRows<'a, R: Wait> {
+pub struct CoreRows<'a, R: Wait, C: SharedCore> {
     rt: &'a R,
-    traced: &'a Mutex<Traced>,
+    core: &'a Mutex<C>,
     seat: Seat,
     version: Version,
 }
 
-impl<'a, R: Wait> CoreRows<'a, R> {
+impl<'a, R: Wait, C: SharedCore> CoreRows<'a, R, C> {
     /// The rows that this version sees, asked for at this seat.
-    pub fn new(
-        rt: &'a R,
-        traced: &'a Mutex<Traced>,
-        seat: Seat,
-        version: Version,
-    ) -> CoreRows<'a, R>
+    pub fn new(rt: &'a R, core: &'a Mutex<C>, seat: Seat, version: Version) -> CoreRows<'a, R, C>
         ensures seat { result.seat ≡ seat }
         ensures version { result.version ≡ version }
     {
         CoreRows {
             rt,
-            traced,
+            core,
             seat,
             version,
         }
     }
 }
 
-impl<R: Wait> RowSource for CoreRows<'_, R> {
+impl<R: Wait, C: SharedCore> RowSource for CoreRows<'_, R, C> {
     // Which book a version sees isn't known: other messages may not have finished.
     ghost book = { λ _. None };
 
@@ -56,8 +51,8 @@ impl<R: Wait> RowSource for CoreRows<'_, R> {
     }
 
     fn read_into(&mut self, key: &RowKey, row: &mut Option<RowVal>) -> Result<(), Stop> {
-        let mut traced = lock(self.rt, self.traced);
-        answered(traced.read_into(self.seat, self.version, key, row))
+        let mut core = lock(self.rt, self.core);
+        answered(core.read_into(self.seat, self.version, key, row))
     }
 }
 

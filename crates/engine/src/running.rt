@@ -1,7 +1,8 @@
 ghost use Rattle.std.specs.Prelude.{◌≡◌, ◌≤◌, length, IfOk, IsTrue};
 ghost use Rattle.rows.specs.Fold.{replies_to, rows_after};
-ghost use Rattle.engine.specs.Journals.{IsFinished, IsJournalOf, AreCommitted};
+ghost use Rattle.engine.specs.Journals.{IsJournalOf, AreCommitted, AreJournals, IsSomeEnd};
 ghost use Rattle.workers.specs.Started.{IsStarted};
+ghost use Rattle.journal.specs.Finished.{IsFinished};
 ghost use Rattle.journal_laws.specs.Logged.{greatest};
 ghost use Rattle.speccore_laws.specs.Play.{opening_play};
 ghost use Rattle.speccore_laws.specs.State.{bounded};
@@ -9,9 +10,10 @@ ghost use Rattle.speccore_laws.specs.State.{bounded};
 use crate::alone::played_alone;
 use crate::turns::Worker;
 use fold::{Outcome, Prefix};
-use journal::{Entry, Traced};
+use journal::{Entry, SharedCore, Traced, Untraced};
 use rows::{Book, Frame};
 use rules::decide_all;
+use speccore::Core;
 use speccore_laws::{Limits, Seat};
 use std::alloc::{AllocError, Global};
 use std::sync::{Mutex, Wait};
@@ -24,7 +26,6 @@ use workers::{Gate, Workers};
 /// workers, replies and book are those of deciding the messages one after another in the order of their arrival. The only fault
 /// is want of memory. `started` is how many threads took part; one that can't be started is no fault. `committed` is how many
 /// messages the core had committed when the rest was decided one after another: all, unless no incarnation or epoch was left.
-#[tactic(auto, using(crate::proofs::Finished::committed_so))]
 pub fn run<R: Threads + Wait + Sync, F: Decide + Sync, G: Gate>(
     rt: &R,
     alloc: Global,
@@ -41,12 +42,14 @@ pub fn run<R: Threads + Wait + Sync, F: Decide + Sync, G: Gate>(
     ensures committed { IfOk result (λ outcome. outcome.committed ≤ length frames.now) }
     ensures journal { IfOk result (λ outcome. AreCommitted (opening_play book.now frames.now greatest) outcome.committed outcome.replies.items) }
 {
-    let (outcome, _) = run_traced(rt, alloc, book, frames, workers, decision, gate)?;
-    Ok(outcome)
+    let limits = Limits {
+        incarnation: u32::MAX,
+        epoch: u64::MAX,
+    };
+    run_with_limits(rt, alloc, book, frames, workers, limits, decision, gate)
 }
 
 /// The same, with a core that comes to no greater incarnation and epoch; where it would, the rest is decided one after another.
-#[tactic(auto, using(crate::proofs::Finished::committed_so))]
 pub fn run_with_limits<R: Threads + Wait + Sync, F: Decide + Sync, G: Gate>(
     rt: &R,
     alloc: Global,
@@ -64,8 +67,10 @@ pub fn run_with_limits<R: Threads + Wait + Sync, F: Decide + Sync, G: Gate>(
     ensures committed { IfOk result (λ outcome. outcome.committed ≤ length frames.now) }
     ensures journal { IfOk result (λ outcome. AreCommitted (opening_play book.now frames.now limits) outcome.committed outcome.replies.items) }
 {
-    let (outcome, _) = run_from(rt, alloc, book, frames, workers, limits, decision, gate)?;
-    Ok(outcome)
+    let shared = Mutex::new(Untraced::with_limits(alloc, book, frames, limits)?);
+    let started = work_together(rt, alloc, frames, workers, &shared, decision, gate);
+    let core = finished_core(rt, alloc, book, frames, limits, shared.into_inner())?;
+    outcome_of(alloc, core, book, frames, limits, started)
 }
 
 /// The same as `run`, with the journal: what was asked of the core, in order. It plays to a core that has committed `committed`
@@ -90,34 +95,39 @@ pub fn run_traced<R: Threads + Wait + Sync, F: Decide + Sync, G: Gate>(
         incarnation: u32::MAX,
         epoch: u64::MAX,
     };
-    run_from(rt, alloc, book, frames, workers, limits, decision, gate)
+    let shared = Mutex::new(Traced::with_limits(alloc, book, frames, limits)?);
+    let started = work_together(rt, alloc, frames, workers, &shared, decision, gate);
+    let traced = finished(rt, alloc, book, frames, limits, shared.into_inner())?;
+    let (core, entries) = traced.into_parts();
+    let outcome = outcome_of(alloc, core, book, frames, limits, started)?;
+    Ok((outcome, entries))
 }
 
-// Workers share a journaled core of these limits; where it is not left with all committed, the caller plays a new one alone.
-fn run_from<R: Threads + Wait + Sync, F: Decide + Sync, G: Gate>(
+// The workers' core, if it is that of this run and has committed all; else that of a new one, which the caller plays alone.
+#[tactic(auto, using(crate::proofs::Finished::some_end))]
+fn finished_core<R: Wait>(
     rt: &R,
     alloc: Global,
     book: &Book,
     frames: &[Frame],
-    workers: Workers,
     limits: Limits,
-    decision: &F,
-    gate: &G,
-) -> Result<(Outcome, Vec<Entry>), AllocError>
+    shared: Untraced,
+) -> Result<Core, AllocError>
     requires { length frames.now ≤ 65536 }
-    ensures replies { IfOk result (λ run. run.0.replies.items ≡ replies_to book.now frames.now) }
-    ensures book { IfOk result (λ run. run.0.book ≡ rows_after book.now frames.now) }
-    ensures started { IfOk result (λ run. IsStarted run.0.started workers) }
-    ensures committed { IfOk result (λ run. run.0.committed ≤ length frames.now) }
-    ensures journal { IfOk result (λ run. IsJournalOf (opening_play book.now frames.now limits) run.1.items run.0.committed run.0.replies.items) }
+    ensures opening { IfOk result (λ core. core.state.opening ≡ book.now) }
+    ensures frames { IfOk result (λ core. core.state.frames ≡ frames.now) }
+    ensures limits { IfOk result (λ core. core.state.limits ≡ bounded limits) }
+    ensures finished { IfOk result IsSomeEnd }
 {
-    let shared = Mutex::new(Traced::with_limits(alloc, book, frames, limits)?);
-    let started = work_together(rt, alloc, frames, workers, &shared, decision, gate);
-    let traced = finished(rt, alloc, book, frames, limits, shared.into_inner())?;
-    outcome_of(alloc, traced, book, frames, limits, started)
+    if has_committed_all(shared.core(), book, frames, limits) {
+        return Ok(shared.into_core());
+    }
+    let (core, _) = played_anew(rt, alloc, book, frames, limits)?.into_parts();
+    Ok(core)
 }
 
-// The workers' core, if it is that of this run and has committed all; else a new one, which the caller plays alone.
+// The same with its journal.
+#[tactic(auto, using(crate::proofs::Finished::finished_all))]
 fn finished<R: Wait>(
     rt: &R,
     alloc: Global,
@@ -132,7 +142,7 @@ fn finished<R: Wait>(
     ensures limits { IfOk result (λ traced. traced.core.state.limits ≡ bounded limits) }
     ensures finished { IfOk result (λ traced. IsFinished traced.core traced.entries) }
 {
-    if is_of_run(&shared, book, frames, limits) && has_committed_all(&shared, frames) {
+    if has_committed_all(shared.core(), book, frames, limits) {
         return Ok(shared);
     }
     played_anew(rt, alloc, book, frames, limits)
@@ -154,20 +164,29 @@ fn played_anew<R: Wait>(
 {
     for _ in rt.forever() {
         let traced = played_alone(rt, alloc, book, frames, limits)?;
-        if is_of_run(&traced, book, frames, limits) {
+        if is_of_run(traced.core(), book, frames, limits) {
             return Ok(traced);
         }
     }
     unreachable!()
 }
 
-// Whether the core is of this book, these bodies and these limits.
-fn is_of_run(traced: &Traced, book: &Book, frames: &[Frame], limits: Limits) -> bool
-    ensures opening { IsTrue result → traced.now.core.state.opening ≡ book.now }
-    ensures frames { IsTrue result → traced.now.core.state.frames ≡ frames.now }
-    ensures limits { IsTrue result → traced.now.core.state.limits ≡ bounded limits }
+// Whether the core is of this book, these bodies and these limits, and has committed all.
+fn has_committed_all(core: &Core, book: &Book, frames: &[Frame], limits: Limits) -> bool
+    ensures opening { IsTrue result → core.now.state.opening ≡ book.now }
+    ensures frames { IsTrue result → core.now.state.frames ≡ frames.now }
+    ensures limits { IsTrue result → core.now.state.limits ≡ bounded limits }
+    ensures all { IsTrue result → core.now.state.board.committed ≡ length core.now.state.frames }
 {
-    let core = traced.core();
+    is_of_run(core, book, frames, limits) && core.committed() as usize == frames.len()
+}
+
+// Whether the core is of this book, these bodies and these limits.
+fn is_of_run(core: &Core, book: &Book, frames: &[Frame], limits: Limits) -> bool
+    ensures opening { IsTrue result → core.now.state.opening ≡ book.now }
+    ensures frames { IsTrue result → core.now.state.frames ≡ frames.now }
+    ensures limits { IsTrue result → core.now.state.limits ≡ bounded limits }
+{
     let bounded = Limits {
         incarnation: limits.incarnation,
         epoch: limits.epoch.max(1),
@@ -175,56 +194,44 @@ fn is_of_run(traced: &Traced, book: &Book, frames: &[Frame], limits: Limits) -> 
     core.opened_with(book, frames) && core.limits() == bounded
 }
 
-// Whether all messages are committed.
-#[tactic(auto, using(crate::proofs::Finished::finished_all))]
-fn has_committed_all(traced: &Traced, frames: &[Frame]) -> bool
-    requires { traced.now.core.state.frames ≡ frames.now }
-    ensures { IsTrue result → IsFinished traced.now.core traced.now.entries }
-{
-    traced.core().committed() as usize == frames.len()
-}
-
-// What the core committed, then what it left, decided one after another; with the journal.
+// What the core committed, then what it left, decided one after another.
 #[tactic(auto, using(crate::proofs::Rest::rows_of_both, crate::proofs::Rest::replies_of_both))]
 fn outcome_of(
     alloc: Global,
-    traced: Traced,
+    core: Core,
     book: &Book,
     frames: &[Frame],
     limits: Limits,
     started: u32,
-) -> Result<(Outcome, Vec<Entry>), AllocError>
+) -> Result<Outcome, AllocError>
     requires few { length frames.now ≤ 65536 }
-    requires opening { traced.core.state.opening ≡ book.now }
-    requires frames { traced.core.state.frames ≡ frames.now }
-    requires limits { traced.core.state.limits ≡ bounded limits }
-    requires finished { IsFinished traced.core traced.entries }
-    ensures replies { IfOk result (λ run. run.0.replies.items ≡ replies_to book.now frames.now) }
-    ensures book { IfOk result (λ run. run.0.book ≡ rows_after book.now frames.now) }
-    ensures started { IfOk result (λ run. run.0.started ≡ started) }
-    ensures committed { IfOk result (λ run. run.0.committed ≤ length frames.now) }
-    ensures journal { IfOk result (λ run. IsJournalOf (opening_play book.now frames.now limits) run.1.items run.0.committed run.0.replies.items) }
+    requires opening { core.state.opening ≡ book.now }
+    requires frames { core.state.frames ≡ frames.now }
+    requires limits { core.state.limits ≡ bounded limits }
+    ensures replies { IfOk result (λ outcome. outcome.replies.items ≡ replies_to book.now frames.now) }
+    ensures book { IfOk result (λ outcome. outcome.book ≡ rows_after book.now frames.now) }
+    ensures started { IfOk result (λ outcome. outcome.started ≡ started) }
+    ensures committed { IfOk result (λ outcome. outcome.committed ≤ length frames.now) }
+    ensures journal { IfOk result (λ outcome. AreJournals (opening_play book.now frames.now limits) core outcome.committed outcome.replies.items) }
 {
-    let (core, entries) = traced.into_parts();
     let committed = core.committed();
     let prefix = core.into_prefix(alloc)?;
     let Prefix { book, replies, .. } = decide_all(alloc, prefix, frames)?;
-    let outcome = Outcome {
+    Ok(Outcome {
         replies,
         book,
         started,
         committed,
-    };
-    Ok((outcome, entries))
+    })
 }
 
 // Starts the other workers and works as the first; the answer is how many took part.
-fn work_together<R: Threads + Wait + Sync, F: Decide + Sync, G: Gate>(
+fn work_together<C: SharedCore + Send, R: Threads + Wait + Sync, F: Decide + Sync, G: Gate>(
     rt: &R,
     alloc: Global,
     frames: &[Frame],
     workers: Workers,
-    traced: &Mutex<Traced>,
+    core: &Mutex<C>,
     decision: &F,
     gate: &G,
 ) -> u32
@@ -241,24 +248,24 @@ fn work_together<R: Threads + Wait + Sync, F: Decide + Sync, G: Gate>(
             let mut started = 1u32;
             for number in 1..count {
                 if scope
-                    .spawn(move || work_at(rt, alloc, frames, traced, number, decision, gate))
+                    .spawn(move || work_at(rt, alloc, frames, core, number, decision, gate))
                     .is_ok()
                 {
                     started += 1;
                 }
             }
-            work_at(rt, alloc, frames, traced, 0, decision, gate);
+            work_at(rt, alloc, frames, core, 0, decision, gate);
             started
         },
     )
 }
 
 // A worker's turns, at the seat of this number.
-fn work_at<R: Wait, F: Decide, G: Gate>(
+fn work_at<C: SharedCore, R: Wait, F: Decide, G: Gate>(
     rt: &R,
     alloc: Global,
     frames: &[Frame],
-    traced: &Mutex<Traced>,
+    core: &Mutex<C>,
     number: u32,
     decision: &F,
     gate: &G,
@@ -267,7 +274,7 @@ fn work_at<R: Wait, F: Decide, G: Gate>(
         let worker = Worker {
             rt,
             alloc,
-            traced,
+            core,
             frames,
             decision,
             gate,

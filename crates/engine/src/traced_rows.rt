@@ -1,7 +1,7 @@
 ghost use Rattle.std.specs.Prelude.{◌≡◌, None};
 
 use crate::core_rows::answered;
-use journal::Traced;
+use journal::{SharedCore, Traced};
 use mvmem::Version;
 use rows::{RowKey, RowVal};
 use speccore_laws::Seat;

@@ -1,7 +1,7 @@
 use crate::checking::check;
 use crate::core_rows::CoreRows;
 use crate::leave::Leave;
-use journal::{Answer, Event, Traced};
+use journal::{Answer, SharedCore};
 use mvmem::Version;
 use rows::Frame;
 use sched::Task;
@@ -12,19 +12,19 @@ use std::sync::{Condvar, Mutex, Wait};
 use view::{Decide, Execution, ReadSet, Recorder, RowSource, Stop, WriteSet};
 use workers::{Gate, Pace, lock};
 
-/// What a worker works with: the lock round the core and its journal, the bodies, the decision and the gate. Whatever it does or leaves undone,
+/// What a worker works with: the lock round the core, the bodies, the decision and the gate. Whatever it does or leaves undone,
 /// the core's type keeps what is committed right.
 #[derive(Drop)]
-pub(crate) struct Worker<'a, R: Wait, F: Decide, G: Gate> {
+pub(crate) struct Worker<'a, R: Wait, C: SharedCore, F: Decide, G: Gate> {
     pub(crate) rt: &'a R,
     pub(crate) alloc: Global,
-    pub(crate) traced: &'a Mutex<Traced>,
+    pub(crate) core: &'a Mutex<C>,
     pub(crate) frames: &'a [Frame],
     pub(crate) decision: &'a F,
     pub(crate) gate: &'a G,
 }
 
-impl<'a, R: Wait, F: Decide, G: Gate> Worker<'a, R, F, G> {
+impl<'a, R: Wait, C: SharedCore, F: Decide, G: Gate> Worker<'a, R, C, F, G> {
     /// Turns at this seat, until all is committed or the stop mark is set. A turn that has to leave sets it.
     pub(crate) fn work(&self, seat: Seat) {
         let mut sets = (ReadSet::new(self.alloc), WriteSet::new(self.alloc));
@@ -41,7 +41,7 @@ impl<'a, R: Wait, F: Decide, G: Gate> Worker<'a, R, F, G> {
                 Ok(Task::Execute(version)) => self.execute(seat, version, &mut sets, &mut pace),
                 Ok(Task::Validate(version)) => self.check(seat, version),
                 Err(_) => {
-                    lock(self.rt, self.traced).stop();
+                    lock(self.rt, self.core).stop();
                     return;
                 }
             };
@@ -50,7 +50,7 @@ impl<'a, R: Wait, F: Decide, G: Gate> Worker<'a, R, F, G> {
 
     // What is to be done next; nothing any more where the stop mark is set.
     fn claim(&self, seat: Seat) -> Result<Task, Leave> {
-        next_task(&mut lock(self.rt, self.traced), seat)
+        next_task(&mut *lock(self.rt, self.core), seat)
     }
 
     // Decides a version outside the lock, over the memory of these sets, and hands its execution in. A version that met an
@@ -66,7 +66,7 @@ impl<'a, R: Wait, F: Decide, G: Gate> Worker<'a, R, F, G> {
             return Err(Leave::Lost);
         };
         self.gate.before_decide(version.index, version.incarnation);
-        let rows = CoreRows::new(self.rt, self.traced, seat, version);
+        let rows = CoreRows::new(self.rt, self.core, seat, version);
         let unused = (ReadSet::new(self.alloc), WriteSet::new(self.alloc));
         match execute_over(frame, rows, mem::replace(sets, unused), self.decision) {
             Ok(execution) => {
@@ -91,27 +91,27 @@ impl<'a, R: Wait, F: Decide, G: Gate> Worker<'a, R, F, G> {
         execution: &Execution,
         pace: &mut Pace,
     ) -> Result<Task, Leave> {
-        let at_once = self.traced.try_lock();
+        let at_once = self.core.try_lock();
         *pace = pace.after(at_once.is_none());
-        let mut traced = match at_once {
-            Some(traced) => traced,
-            None => lock(self.rt, self.traced),
+        let mut core = match at_once {
+            Some(core) => core,
+            None => lock(self.rt, self.core),
         };
-        match traced.finish_copy(self.alloc, seat, version, execution) {
-            Answer::Finished(true) => check_here(self.rt, &mut traced, seat, version)?,
+        match core.finish_copy(self.alloc, seat, version, execution) {
+            Answer::Finished(true) => check_here(self.rt, &mut *core, seat, version)?,
             Answer::Finished(false) => {}
             answer => return Err(leave_at(answer)),
         }
         if pace.rests() {
             return Ok(Task::Idle);
         }
-        next_task(&mut traced, seat)
+        next_task(&mut *core, seat)
     }
 
     // Gives a version up that met an estimate of the message at `on`. Then the next task; none yet where the worker is to rest.
     fn block(&self, seat: Seat, version: Version, on: u32, pace: &mut Pace) -> Result<Task, Leave> {
-        let mut traced = lock(self.rt, self.traced);
-        match traced.step(seat, Event::Block(version, on)) {
+        let mut core = lock(self.rt, self.core);
+        match core.block(seat, version, on) {
             Answer::Blocked => {}
             answer => return Err(leave_at(answer)),
         }
@@ -119,14 +119,14 @@ impl<'a, R: Wait, F: Decide, G: Gate> Worker<'a, R, F, G> {
         if pace.rests() {
             return Ok(Task::Idle);
         }
-        next_task(&mut traced, seat)
+        next_task(&mut *core, seat)
     }
 
     // Checks a version and commits what can be, while the lock is held. Then the next task.
     fn check(&self, seat: Seat, version: Version) -> Result<Task, Leave> {
-        let mut traced = lock(self.rt, self.traced);
-        check_here(self.rt, &mut traced, seat, version)?;
-        next_task(&mut traced, seat)
+        let mut core = lock(self.rt, self.core);
+        check_here(self.rt, &mut *core, seat, version)?;
+        next_task(&mut *core, seat)
     }
 }
 
@@ -145,13 +145,13 @@ fn execute_over<S: RowSource, F: Decide>(
 }
 
 // Checks a version and commits what can be.
-fn check_here<R: Wait>(
+fn check_here<R: Wait, C: SharedCore>(
     rt: &R,
-    traced: &mut Traced,
+    core: &mut C,
     seat: Seat,
     version: Version,
 ) -> Result<(), Leave> {
-    match check(rt, traced, seat, version) {
+    match check(rt, core, seat, version) {
         Ok(false) => Ok(()),
         Ok(true) => Err(Leave::Worn),
         Err(_) => Err(Leave::OutOfMemory),
@@ -159,11 +159,11 @@ fn check_here<R: Wait>(
 }
 
 // What is to be done next; nothing any more where the stop mark is set.
-fn next_task(traced: &mut Traced, seat: Seat) -> Result<Task, Leave> {
-    if traced.stopped() {
+fn next_task<C: SharedCore>(core: &mut C, seat: Seat) -> Result<Task, Leave> {
+    if core.stopped() {
         return Ok(Task::Done);
     }
-    match traced.claim(seat) {
+    match core.claim(seat) {
         Ok(task) => Ok(task),
         Err(_) => Err(Leave::OutOfMemory),
     }

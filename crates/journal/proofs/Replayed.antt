@@ -1,6 +1,5 @@
 -- What a replay does to the core, as steps of a play.
-use Rattle.std.proofs.Common.{◌≡◌, ◌≢◌, ℕ, List, refl, sym, ap, ◌∙◌, subst, Ok, Err, true, false, Bool, ◌<◌, length, get_or}
-use Rattle.std.proofs.lemmas.Bool.{false≢true}
+use Rattle.std.proofs.Common.{◌≡◌, ◌≢◌, ℕ, List, refl, sym, ◌∙◌, subst, Ok, Err, true, Bool, ◌<◌, length, get_or}
 use Rattle.std.proofs.lemmas.List.{get_or_read}
 use Rattle.rows.specs.Agreement.{Executed}
 use Rattle.rows.specs.declared.frame.Frame.{Frame}

@@ -1,2 +1,4 @@
 pub mod Answered
+pub mod Finished
 pub mod Journaled
+pub mod SomePlay

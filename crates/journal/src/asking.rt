@@ -65,8 +65,8 @@ pub(crate) fn read_into(
     core.read_into(version, row, value)
 }
 
-// What the core answers to a version that is given up.
-fn block(core: &mut Core, seat: Seat, version: Version, on: u32) -> Answer
+/// What the core answers to a version that is given up.
+pub(crate) fn block(core: &mut Core, seat: Seat, version: Version, on: u32) -> Answer
     ensures { Answers core.old seat (Event.Block version on) result core.new }
 {
     match core.block(version, on) {

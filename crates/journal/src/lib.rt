@@ -1,11 +1,13 @@
-//! A core that keeps a journal of what was asked of it, and the journal played again (Block-STM).
+//! A core that keeps a journal of what was asked of it, and the journal played again (Block-STM); and a core that keeps none.
 #![tactic(auto)]
 
 mod asking;
 mod entering;
 mod logged_rows;
 mod replaying;
+mod shared_core;
 mod traced;
+mod untraced;
 
 pub use journal_laws::{Answer, played_entries_are_decided, plays_are_determined};
 pub use journal_text::{
@@ -13,4 +15,6 @@ pub use journal_text::{
     write_key,
 };
 pub use replaying::replay;
+pub use shared_core::SharedCore;
 pub use traced::Traced;
+pub use untraced::Untraced;

@@ -1,5 +1,6 @@
-ghost use Rattle.std.specs.Prelude.{◌≡◌, ◌++◌, ◌≤◌, [], true, false, length, IfOk, IfSome, OnOk};
+ghost use Rattle.std.specs.Prelude.{◌≡◌, ◌++◌, ◌≤◌, [], true, false, length, Err, IfOk, IfSome, OnOk};
 ghost use Rattle.journal.specs.Answered.{claimed, was_read, checked, ended, committed};
+ghost use Rattle.journal.specs.Finished.{IsFinished};
 ghost use Rattle.rows.specs.RowVal.{IsOfKind};
 ghost use Rattle.journal_laws.specs.Answers.{AnswersTo, FinishAnswersTo, IsNoFinish, IsAnswerOfKind, entered};
 ghost use Rattle.journal_laws.specs.Logged.{greatest};
@@ -11,6 +12,7 @@ use crate::asking::{
     hand_in, read_into,
 };
 use crate::entering::enter;
+use crate::shared_core::SharedCore;
 use journal_laws::Answer;
 use journal_text::{Entry, Event};
 use mvmem::Version;
@@ -133,9 +135,56 @@ impl Traced {
         answer
     }
 
-    /// Claims the next task, as [`Traced::step`] does. The only fault is want of memory.
+    /// Hands in the execution of a version, at this seat. Room for the entry is made first. Want of memory, and an execution that did
+    /// not read what the version was answered, enter nothing; every other answer enters the event.
+    pub fn finish(
+        &mut self,
+        alloc: Global,
+        seat: Seat,
+        version: Version,
+        execution: Execution,
+    ) -> Answer
+        ensures played { IsPlayed self.old.core self.old.entries }
+        ensures answer { FinishAnswersTo self.old.core version execution result self.new.core }
+        ensures entries { self.new.entries ≡ self.old.entries ++ entered seat (Event.Finish version) result }
+        ensures stopped { self.new.stopped ≡ self.old.stopped }
+    {
+        self.finish_copy(alloc, seat, version, &execution)
+    }
+
+    /// The core and its journal.
+    pub fn into_parts(self) -> (Core, Vec<Entry>)
+        ensures core { result.0 ≡ self.core }
+        ensures entries { result.1.items ≡ self.entries }
+        ensures played { IsPlayed self.core self.entries }
+    {
+        let Traced {
+            core,
+            entries,
+            stopped: _,
+        } = self;
+        (core, entries)
+    }
+}
+
+// Each call asks the core as [`Traced::step`] does, with the core's own answer.
+impl SharedCore for Traced {
+    ghost known_worn = { λ t. IsFinished t.core t.entries };
+
+    fn stop(&mut self) {
+        self.stopped = true;
+    }
+
+    fn stopped(&self) -> bool {
+        self.stopped
+    }
+
+    fn block(&mut self, seat: Seat, version: Version, on: u32) -> Answer {
+        self.step(seat, Event::Block(version, on))
+    }
+
     #[tactic(auto, using(crate::proofs::Asked::played_still))]
-    pub fn claim(&mut self, seat: Seat) -> Result<Task, CoreFault>
+    fn claim(&mut self, seat: Seat) -> Result<Task, CoreFault>
         ensures played { IsPlayed self.old.core self.old.entries }
         ensures answer { AnswersTo self.old.core seat Event.Claim (claimed result) self.new.core }
         ensures entries { self.new.entries ≡ self.old.entries ++ entered seat Event.Claim (claimed result) }
@@ -155,9 +204,8 @@ impl Traced {
         Ok(task)
     }
 
-    /// Asks for a row, as [`Traced::step`] does. It is written to a place of the caller's.
     #[tactic(auto, using(crate::proofs::Asked::played_still))]
-    pub fn read_into(
+    fn read_into(
         &mut self,
         seat: Seat,
         version: Version,
@@ -184,8 +232,7 @@ impl Traced {
         answer
     }
 
-    /// Begins a check of the version, as [`Traced::step`] does. Answers whether it is at its end.
-    pub fn begin_check(&mut self, seat: Seat, version: Version) -> Result<bool, CoreFault>
+    fn begin_check(&mut self, seat: Seat, version: Version) -> Result<bool, CoreFault>
         ensures played { IsPlayed self.old.core self.old.entries }
         ensures answer { AnswersTo self.old.core seat (Event.BeginCheck version) (checked result) self.new.core }
         ensures entries { self.new.entries ≡ self.old.entries ++ entered seat (Event.BeginCheck version) (checked result) }
@@ -203,8 +250,7 @@ impl Traced {
         answer
     }
 
-    /// Resolves the next read of the seat's check again, as [`Traced::step`] does. Answers whether the check is at its end then.
-    pub fn check_one(&mut self, seat: Seat) -> Result<bool, CoreFault>
+    fn check_one(&mut self, seat: Seat) -> Result<bool, CoreFault>
         ensures played { IsPlayed self.old.core self.old.entries }
         ensures answer { AnswersTo self.old.core seat Event.CheckOne (checked result) self.new.core }
         ensures entries { self.new.entries ≡ self.old.entries ++ entered seat Event.CheckOne (checked result) }
@@ -222,11 +268,11 @@ impl Traced {
         answer
     }
 
-    /// Closes the seat's check, as [`Traced::step`] does. Answers whether the version passed it.
-    pub fn end_check(&mut self, seat: Seat) -> Result<bool, CoreFault>
+    fn end_check(&mut self, seat: Seat) -> Result<bool, CoreFault>
         ensures played { IsPlayed self.old.core self.old.entries }
         ensures answer { AnswersTo self.old.core seat Event.EndCheck (ended result) self.new.core }
         ensures entries { self.new.entries ≡ self.old.entries ++ entered seat Event.EndCheck (ended result) }
+        ensures worn { result ≡ Err CoreFault.Worn → IsFinished self.new.core self.new.entries }
         ensures stopped { self.new.stopped ≡ self.old.stopped }
     {
         self.entries.reserve(1)?;
@@ -241,8 +287,7 @@ impl Traced {
         answer
     }
 
-    /// Commits the next message, if it can be, as [`Traced::step`] does. The only fault is want of memory.
-    pub fn commit(&mut self, seat: Seat) -> Result<bool, CoreFault>
+    fn commit(&mut self, seat: Seat) -> Result<bool, CoreFault>
         ensures played { IsPlayed self.old.core self.old.entries }
         ensures answer { AnswersTo self.old.core seat Event.Commit (committed result) self.new.core }
         ensures entries { self.new.entries ≡ self.old.entries ++ entered seat Event.Commit (committed result) }
@@ -260,25 +305,7 @@ impl Traced {
         Ok(is_committed)
     }
 
-    /// Hands in the execution of a version, at this seat. Room for the entry is made first. Want of memory, and an execution that did
-    /// not read what the version was answered, enter nothing; every other answer enters the event.
-    pub fn finish(
-        &mut self,
-        alloc: Global,
-        seat: Seat,
-        version: Version,
-        execution: Execution,
-    ) -> Answer
-        ensures played { IsPlayed self.old.core self.old.entries }
-        ensures answer { FinishAnswersTo self.old.core version execution result self.new.core }
-        ensures entries { self.new.entries ≡ self.old.entries ++ entered seat (Event.Finish version) result }
-        ensures stopped { self.new.stopped ≡ self.old.stopped }
-    {
-        self.finish_copy(alloc, seat, version, &execution)
-    }
-
-    /// The same of an execution that stays with the caller.
-    pub fn finish_copy(
+    fn finish_copy(
         &mut self,
         alloc: Global,
         seat: Seat,
@@ -305,19 +332,5 @@ impl Traced {
             );
         }
         answer
-    }
-
-    /// The core and its journal.
-    pub fn into_parts(self) -> (Core, Vec<Entry>)
-        ensures core { result.0 ≡ self.core }
-        ensures entries { result.1.items ≡ self.entries }
-        ensures played { IsPlayed self.core self.entries }
-    {
-        let Traced {
-            core,
-            entries,
-            stopped: _,
-        } = self;
-        (core, entries)
     }
 }

@@ -3,7 +3,6 @@ use Rattle.std.proofs.Math.Seq.{take-length}
 use Rattle.journal_text.specs.declared.entry.Entry.{Entry}
 use Rattle.journal_text.specs.declared.replay_fault.ReplayFault.{ReplayFault}
 use Rattle.journal_text.specs.declared.replay_fault.ReplayFault.TheVariants.{Unlogged}
-use Rattle.speccore_laws.specs.Play.{Play}
 use Rattle.journal_laws.proofs.First.{all_decided, one_first}
 use Rattle.journal_laws.proofs.Playing.{Plays-more, EntryStep-frames, first_unlogged}
 use Rattle.journal_laws.specs.Logged.{IsFirstUnlogged}

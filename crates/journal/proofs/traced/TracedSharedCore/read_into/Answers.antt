@@ -2,7 +2,7 @@ use Rattle.std.proofs.Common.{sym, ◌∙◌}
 use Rattle.journal_text.specs.declared.event.Event.TheVariants.{Read}
 use Rattle.journal.specs.Answered.{was_read}
 use Rattle.journal.proofs.Asked.{entered_last}
-use Rattle.journal.proofs.traced.Traced.read_into.Goals as goal
+use Rattle.journal.proofs.traced.TracedSharedCore.read_into.Goals as goal
 
 pub invariant_of-self-then-enters_read : goal.invariant_of-self-then-enters_read
 invariant_of-self-then-enters_read c =

@@ -2,7 +2,7 @@ use Rattle.std.proofs.Common.{sym, ◌∙◌}
 use Rattle.journal_text.specs.declared.event.Event.TheVariants.{Claim}
 use Rattle.journal_laws.specs.declared.answer.Answer.TheVariants.{Claimed}
 use Rattle.journal.proofs.Asked.{entered_last}
-use Rattle.journal.proofs.traced.Traced.claim.Goals as goal
+use Rattle.journal.proofs.traced.TracedSharedCore.claim.Goals as goal
 
 pub invariant_of-self-then-enters_claim : goal.invariant_of-self-then-enters_claim
 invariant_of-self-then-enters_claim c =

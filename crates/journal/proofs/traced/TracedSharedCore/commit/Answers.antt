@@ -2,7 +2,7 @@ use Rattle.std.proofs.Common.{refl}
 use Rattle.journal_text.specs.declared.event.Event.TheVariants.{Commit}
 use Rattle.journal_laws.specs.declared.answer.Answer.TheVariants.{Committed}
 use Rattle.journal.proofs.Asked.{entered_last}
-use Rattle.journal.proofs.traced.Traced.commit.Goals as goal
+use Rattle.journal.proofs.traced.TracedSharedCore.commit.Goals as goal
 
 pub invariant_of-self-2 : goal.invariant_of-self-2
 invariant_of-self-2 c =

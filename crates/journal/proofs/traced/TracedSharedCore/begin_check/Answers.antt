@@ -1,7 +1,7 @@
 use Rattle.journal_text.specs.declared.event.Event.TheVariants.{BeginCheck}
 use Rattle.journal.specs.Answered.{checked}
 use Rattle.journal.proofs.Asked.{entered_last}
-use Rattle.journal.proofs.traced.Traced.begin_check.Goals as goal
+use Rattle.journal.proofs.traced.TracedSharedCore.begin_check.Goals as goal
 
 pub invariant_of-self-2 : goal.invariant_of-self-2
 invariant_of-self-2 c =

@@ -4,7 +4,7 @@ use Rattle.journal_text.specs.declared.event.Event.TheVariants.{Finish}
 use Rattle.speccore_laws.specs.Play.{Play}
 use Rattle.journal_laws.proofs.Playing.{IsPlayed-push, stands_where_entered, same_where_not_entered}
 use Rattle.journal_laws.specs.Plays.{IsPlayed}
-use Rattle.journal.proofs.traced.Traced.finish_copy.Goals as goal
+use Rattle.journal.proofs.traced.TracedSharedCore.finish_copy.Goals as goal
 
 pub invariant_of-self-then-enters : goal.invariant_of-self-then-enters
 invariant_of-self-then-enters c =
