@@ -1,66 +1,76 @@
 //! Sources and sinks that give or take a byte a call, and that fail at each call in turn.
 
 use crate::serial::process_serially;
-use crate::texts::{BATCH, REPLIES, bytes_of};
+use crate::texts::{BATCH, REPLIES};
 use batch::{BatchFault, FailingSink, FailingSource, read_batch};
 use fixtures::first_book_with;
+use rows::{Book, Frame};
+use std::alloc::Global;
 use std::test::Fail;
 
 // 110 bytes, one a call, and a last call that finds the end.
 const CALLS: u64 = 111;
 
-#[test]
-fn a_byte_a_call_gives_the_same_frames(rt: HostRuntime) -> Result<(), Fail> {
-    let alloc = rt.alloc();
-    let batch = bytes_of(alloc, BATCH)?;
-    let mut whole = batch.as_slice();
-    let mut slow = FailingSource::new(&batch, 1, CALLS);
-    let (Ok(frames), Ok(same)) = (read_batch(alloc, &mut whole), read_batch(alloc, &mut slow))
-    else {
-        return Err(Fail::new("a fault of the batch"));
+// Whether a source that gives a byte a call is read as one frame, the same as that of the bytes.
+fn is_read_alike(alloc: Global) -> bool {
+    let mut whole = BATCH;
+    let mut slow = FailingSource::new(BATCH, 1, CALLS);
+    let Ok(frames) = read_batch(alloc, &mut whole) else {
+        return false;
     };
-    assert_eq!(rt; frames.len(), 1);
-    assert_eq!(rt; same.len(), 1);
-    for (mine, theirs) in frames.iter().zip(&same) {
-        assert!(rt; mine.is_same(theirs));
+    match read_batch(alloc, &mut slow) {
+        Ok(same) => is_one(&frames, &same),
+        Err(_) => false,
     }
-    Ok(())
+}
+
+fn is_one(frames: &[Frame], same: &[Frame]) -> bool {
+    match (frames, same) {
+        ([mine], [theirs]) => mine.is_same(theirs),
+        _ => false,
+    }
 }
 
 #[test]
-fn a_source_that_fails_leaves_the_sink(rt: HostRuntime) -> Result<(), Fail> {
-    let alloc = rt.alloc();
-    let book = first_book_with(alloc, &[])?;
-    let batch = bytes_of(alloc, BATCH)?;
+fn a_byte_a_call_gives_the_same_frames(rt: HostRuntime) {
+    assert!(rt; is_read_alike(rt.alloc()));
+}
+
+// Whether a source that fails behind so many calls is a fault of a device, and leaves the sink.
+fn source_fails(alloc: Global, book: &Book, answers: u64) -> bool {
+    let mut source = FailingSource::new(BATCH, 1, answers);
+    let mut sink = FailingSink::new(alloc, 1, 117);
+    let fault = process_serially(alloc, book, &mut source, &mut sink).err();
+    fault == Some(BatchFault::Device) && sink.taken().is_empty()
+}
+
+// Whether a sink that fails behind so many calls, of so many bytes each, is one, and holds this beginning of the replies.
+fn sink_fails(alloc: Global, book: &Book, piece: usize, answers: u64, length: usize) -> bool {
+    let Some(front) = REPLIES.get(..length) else {
+        return false;
+    };
+    let mut source = BATCH;
+    let mut sink = FailingSink::new(alloc, piece, answers);
+    let fault = process_serially(alloc, book, &mut source, &mut sink).err();
+    fault == Some(BatchFault::Device) && sink.taken() == front
+}
+
+#[test]
+fn a_device_that_fails_is_a_fault(rt: HostRuntime) -> Result<(), Fail> {
+    let book = first_book_with(rt.alloc(), &[])?;
     for answers in 0..CALLS {
-        let mut source = FailingSource::new(&batch, 1, answers);
-        let mut sink = FailingSink::new(alloc, 1, 117);
-        let fault = process_serially(alloc, &book, &mut source, &mut sink).err();
-        assert_eq!(rt; fault, Some(BatchFault::Device));
-        assert!(rt; sink.taken().is_empty());
+        assert!(rt;
+            source_fails(rt.alloc(), &book, answers),
+            "source {answers}"
+        );
     }
-    Ok(())
-}
-
-#[test]
-fn a_sink_that_fails_holds_a_beginning(rt: HostRuntime) -> Result<(), Fail> {
-    let alloc = rt.alloc();
-    let book = first_book_with(alloc, &[])?;
-    let batch = bytes_of(alloc, BATCH)?;
-    let replies = bytes_of(alloc, REPLIES)?;
-    assert_eq!(rt; replies.len(), 117);
+    assert!(rt; REPLIES.len() == 117);
     for answers in 0..117usize {
-        let mut source = batch.as_slice();
-        let mut sink = FailingSink::new(alloc, 1, answers as u64);
-        let fault = process_serially(alloc, &book, &mut source, &mut sink).err();
-        assert_eq!(rt; fault, Some(BatchFault::Device));
-        assert_eq!(rt; sink.taken(), &replies[..answers]);
+        assert!(rt;
+            sink_fails(rt.alloc(), &book, 1, answers as u64, answers),
+            "sink {answers}"
+        );
     }
-    let mut source = batch.as_slice();
-    let mut sink = FailingSink::new(alloc, 50, 1);
-    let fault = process_serially(alloc, &book, &mut source, &mut sink).err();
-    assert_eq!(rt; fault, Some(BatchFault::Device));
-    let front = replies.get(..50).ok_or("50 bytes")?;
-    assert_eq!(rt; sink.taken(), front);
+    assert!(rt; sink_fails(rt.alloc(), &book, 50, 1, 50));
     Ok(())
 }

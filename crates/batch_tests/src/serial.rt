@@ -22,13 +22,13 @@ fn decide_serially(alloc: Global, book: &Book, frames: &[Frame]) -> Result<Outco
     })
 }
 
-// Reads a batch file, decides its bodies one after another and writes the reply file.
+// Reads a batch file, decides its bodies one after another and writes the reply file: the book after them.
 pub(crate) fn process_serially<R: Source, W: Sink>(
     alloc: Global,
     book: &Book,
     source: &mut R,
     sink: &mut W,
-) -> Result<Outcome, BatchFault>
+) -> Result<Book, BatchFault>
     requires source { R.failures source.old + 1 < 2 ^ 64 }
     requires sink { W.failures sink.old + 1 < 2 ^ 64 }
 {
@@ -36,5 +36,8 @@ pub(crate) fn process_serially<R: Source, W: Sink>(
         requires { length frames.now ≤ 65536 }
         ensures { AnswersFold book.entry.now frames.entry.now result }
     { decide_serially(alloc, book, frames) };
-    process(alloc, book, source, sink, &decide)
+    match process(alloc, book, source, sink, &decide) {
+        Ok(outcome) => Ok(outcome.book),
+        Err(fault) => Err(fault),
+    }
 }

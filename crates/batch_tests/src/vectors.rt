@@ -1,130 +1,121 @@
 //! Files byte for byte.
 
 use crate::serial::process_serially;
-use crate::texts::{BATCH, EMPTY, EMPTY_REPLIES, REPLIES, SHORT_REPLIES, bytes_of};
+use crate::texts::{BATCH, EMPTY, EMPTY_REPLIES, REPLIES, SHORT, SHORT_REPLIES};
 use batch::{FromRead, IntoWrite, read_batch, read_replies, write_batch, write_replies};
 use codec::decode_reply;
 use fixtures::{first_book_with, has_row};
 use rows::{Book, Frame, ReplyBody};
-use std::alloc::Global;
+use std::alloc::{AllocError, Global};
 use std::test::Fail;
 
-// The reply file of a batch file.
-fn replies_to(alloc: Global, book: &Book, batch: &[u8]) -> Result<Vec<u8>, Fail> {
+// Batches, their replies, and a row of the book after them.
+const ANSWERED: &[(&[u8], &[u8], &str)] = &[
+    (EMPTY, EMPTY_REPLIES, "account A 10000 978"),
+    (BATCH, REPLIES, "account A 9900 978"),
+    (SHORT, SHORT_REPLIES, "account A 10000 978"),
+];
+
+fn is_answered(alloc: Global, book: &Book, batch: &[u8], replies: &[u8], row: &str) -> bool {
     let mut source = FromRead::new(batch);
     let mut sink = IntoWrite::new(Vec::new(alloc));
     match process_serially(alloc, book, &mut source, &mut sink) {
-        Ok(_) => Ok(sink.writer().clone()?),
-        Err(_) => Err(Fail::new("a fault of the batch")),
+        Ok(after) => sink.writer().as_slice() == replies && has_row(&after, row),
+        Err(_) => false,
     }
 }
 
 #[test]
 fn batches_are_answered_byte_for_byte(rt: HostRuntime) -> Result<(), Fail> {
-    let alloc = rt.alloc();
-    let book = first_book_with(alloc, &[])?;
-    let empty = replies_to(alloc, &book, &bytes_of(alloc, EMPTY)?)?;
-    assert_eq!(rt;
-        empty.as_slice(),
-        bytes_of(alloc, EMPTY_REPLIES)?.as_slice()
-    );
-    let one = replies_to(alloc, &book, &bytes_of(alloc, BATCH)?)?;
-    assert_eq!(rt; one.as_slice(), bytes_of(alloc, REPLIES)?.as_slice());
-    let mut short = bytes_of(alloc, BATCH)?;
-    short.pop();
-    if let Some(length) = short.get_mut(11) {
-        *length = 0x61;
-    }
-    let short = replies_to(alloc, &book, &short)?;
-    assert_eq!(rt;
-        short.as_slice(),
-        bytes_of(alloc, SHORT_REPLIES)?.as_slice()
-    );
-    Ok(())
-}
-
-#[test]
-fn the_book_after_a_batch_is_handed_out(rt: HostRuntime) -> Result<(), Fail> {
-    let alloc = rt.alloc();
-    let book = first_book_with(alloc, &[])?;
-    let batch = bytes_of(alloc, BATCH)?;
-    let mut source = batch.as_slice();
-    let mut sink = IntoWrite::new(Vec::new(alloc));
-    match process_serially(alloc, &book, &mut source, &mut sink) {
-        Ok(outcome) => assert!(rt; has_row(&outcome.book, "account A 9900 978")),
-        Err(_) => return Err(Fail::new("a fault of the batch")),
+    let book = first_book_with(rt.alloc(), &[])?;
+    for (batch, replies, row) in ANSWERED {
+        assert!(rt;
+            is_answered(rt.alloc(), &book, batch, replies, row),
+            "{batch:?}"
+        );
     }
     Ok(())
 }
 
-#[test]
-fn a_batch_is_made_of_bodies(rt: HostRuntime) -> Result<(), Fail> {
-    let alloc = rt.alloc();
-    let batch = bytes_of(alloc, BATCH)?;
+// Whether the batch is made of its body.
+fn is_made(alloc: Global) -> Result<bool, AllocError> {
     let mut bodies = Vec::new(alloc);
-    let body = batch.get(12..).ok_or("a body")?;
-    bodies.push(Vec::from_slice(alloc, body)?)?;
+    bodies.push(Vec::from_slice(alloc, BATCH.get(12..).unwrap_or(BATCH))?)?;
     let mut sink = IntoWrite::new(Vec::new(alloc));
-    assert_eq!(rt; write_batch(alloc, &bodies, &mut sink), Ok(()));
-    assert_eq!(rt; sink.writer().as_slice(), batch.as_slice());
-    Ok(())
+    Ok(write_batch(alloc, &bodies, &mut sink).is_ok() && sink.writer().as_slice() == BATCH)
 }
 
-// What is read is written again: a reply, and the fault of a body that is one byte short.
-#[test]
-fn replies_are_read_and_written_again(rt: HostRuntime) -> Result<(), Fail> {
-    let alloc = rt.alloc();
-    for digits in [EMPTY_REPLIES, REPLIES, SHORT_REPLIES] {
-        let text = bytes_of(alloc, digits)?;
-        let mut source = text.as_slice();
-        let Ok(replies) = read_replies(alloc, &mut source) else {
-            return Err(Fail::new("a fault of the replies"));
-        };
-        let mut sink = IntoWrite::new(Vec::new(alloc));
-        assert_eq!(rt; write_replies(alloc, &replies, &mut sink), Ok(()));
-        assert_eq!(rt; sink.writer().as_slice(), text.as_slice());
+// Whether bodies of every length from 1 to 512, of bytes that are no message, are written and read as bad frames.
+fn is_every_length_a_body(alloc: Global, byte: u8) -> Result<bool, AllocError> {
+    let mut bodies = Vec::new(alloc);
+    for length in 1..=512usize {
+        bodies.push(vec![in alloc; byte; length]?)?;
     }
-    Ok(())
+    let mut sink = IntoWrite::new(Vec::new(alloc));
+    Ok(write_batch(alloc, &bodies, &mut sink).is_ok() && has_bad_frames(alloc, sink.writer()))
 }
 
-#[test]
-fn a_reply_is_read_as_it_is_spelled(rt: HostRuntime) -> Result<(), Fail> {
-    let alloc = rt.alloc();
-    let text = bytes_of(alloc, REPLIES)?;
-    let mut source = text.as_slice();
-    let Ok(replies) = read_replies(alloc, &mut source) else {
-        return Err(Fail::new("a fault of the replies"));
-    };
-    let spelling = text.get(13..).ok_or("a spelling")?;
-    let Ok(reply) = decode_reply(spelling) else {
-        return Err(Fail::new("a reply"));
-    };
-    match replies.first() {
-        Some(ReplyBody::Reply(first)) => assert!(rt; first.is_same(&reply)),
-        _ => return Err(Fail::new("a reply")),
+fn has_bad_frames(alloc: Global, batch: &[u8]) -> bool {
+    let mut source = batch;
+    match read_batch(alloc, &mut source) {
+        Ok(frames) => frames.len() == 512 && are_bad(&frames),
+        Err(_) => false,
     }
-    Ok(())
 }
 
-// Bodies of every length that a batch can have, of bytes that are no message.
+fn are_bad(frames: &[Frame]) -> bool {
+    for frame in frames {
+        if !matches!(frame, Frame::Bad(_)) {
+            return false;
+        }
+    }
+    true
+}
+
 #[test]
-fn every_length_from_1_to_512_is_a_body(rt: HostRuntime) -> Result<(), Fail> {
-    let alloc = rt.alloc();
+fn a_batch_is_made_of_bodies(rt: HostRuntime) {
+    assert!(rt; matches!(is_made(rt.alloc()), Ok(true)));
     for byte in [0x00u8, 0x31, 0xFF] {
-        let mut bodies = Vec::new(alloc);
-        for length in 1..=512usize {
-            bodies.push(vec![in alloc; byte; length]?)?;
-        }
-        let mut sink = IntoWrite::new(Vec::new(alloc));
-        assert_eq!(rt; write_batch(alloc, &bodies, &mut sink), Ok(()));
-        let mut source = sink.writer().as_slice();
-        let Ok(frames) = read_batch(alloc, &mut source) else {
-            return Err(Fail::new("a fault of the batch"));
-        };
-        assert_eq!(rt; frames.len(), 512);
-        for frame in &frames {
-            assert!(rt; matches!(frame, Frame::Bad(_)));
-        }
+        assert!(rt;
+            matches!(is_every_length_a_body(rt.alloc(), byte), Ok(true)),
+            "{byte}"
+        );
     }
-    Ok(())
+}
+
+// Whether what is read is written again.
+fn comes_back(alloc: Global, text: &[u8]) -> bool {
+    let mut source = text;
+    let mut sink = IntoWrite::new(Vec::new(alloc));
+    match read_replies(alloc, &mut source) {
+        Ok(replies) => {
+            write_replies(alloc, &replies, &mut sink).is_ok() && sink.writer().as_slice() == text
+        }
+        Err(_) => false,
+    }
+}
+
+// Whether the reply is read as it is spelled.
+fn is_spelled(alloc: Global) -> bool {
+    let mut source = REPLIES;
+    match read_replies(alloc, &mut source) {
+        Ok(replies) => is_reply(replies.first(), REPLIES.get(13..).unwrap_or(REPLIES)),
+        Err(_) => false,
+    }
+}
+
+fn is_reply(first: Option<&ReplyBody>, spelling: &[u8]) -> bool {
+    match (first, decode_reply(spelling)) {
+        (Some(ReplyBody::Reply(first)), Ok(reply)) => first.is_same(&reply),
+        _ => false,
+    }
+}
+
+// A reply, and the fault of a body that is one byte short.
+#[test]
+fn replies_are_read_and_written_again(rt: HostRuntime) {
+    for replies in [EMPTY_REPLIES, REPLIES, SHORT_REPLIES] {
+        assert!(rt; comes_back(rt.alloc(), replies), "{replies:?}");
+    }
+    assert!(rt; is_spelled(rt.alloc()));
 }

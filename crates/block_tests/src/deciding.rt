@@ -1,110 +1,146 @@
 //! Block files that are decided whole, and read back.
 
-use crate::serial::decided;
+use crate::serial::{Came, decided};
 use crate::texts::{
-    EMPTY, EMPTY_REPLIES, request_and_reversal, thousand_requests, two_replies, two_requests,
+    EMPTY, EMPTY_REPLIES, REQUEST_AND_REVERSAL, TWO_REPLIES, TWO_REQUESTS, thousand_requests,
 };
 use batch::{IntoWrite, read_block_replies, read_blocks};
 use fixtures::{answer_text, first_book_with, has_row};
+use rows::{Book, Frame, ReplyBody};
 use std::alloc::Global;
-use std::process::Abort;
 use std::test::Fail;
 
-// The replies are read as one a block, which say so.
-fn assert_answers<R: Abort>(
-    rt: &R,
-    alloc: Global,
-    replies: &[u8],
-    answers: &[&str],
-) -> Result<(), Fail> {
+// A block file, what its blocks of one body are answered, and a row of the book after them. Behind these answers each one is 123,
+// since three requests a day are approved.
+#[derive(Clone, Copy)]
+struct Decided<'a> {
+    file: &'a [u8],
+    blocks: u32,
+    answers: &'a [&'a str],
+    row: &'a str,
+}
+
+// Whether it is decided so.
+fn holds(alloc: Global, book: &Book, case: &Decided<'_>, replies: Option<&[u8]>) -> bool {
+    let mut source = case.file;
+    let mut sink = IntoWrite::new(Vec::new(alloc));
+    match decided(alloc, book, &mut source, &mut sink) {
+        Ok(came) => {
+            is_whole(book, case, &came)
+                && replies.unwrap_or(sink.writer()) == sink.writer().as_slice()
+                && has_answers(alloc, case, sink.writer())
+                && has_blocks(alloc, case)
+        }
+        Err(_) => false,
+    }
+}
+
+// Whether all blocks are kept, and the row is in the book. Without blocks it is the old one.
+fn is_whole(book: &Book, case: &Decided<'_>, came: &Came) -> bool {
+    came.fault.is_none()
+        && came.kept == case.blocks
+        && has_row(&came.book, case.row)
+        && (case.blocks > 0 || came.book.is_same(book))
+}
+
+// Whether the replies are read as one a block, which say so.
+fn has_answers(alloc: Global, case: &Decided<'_>, replies: &[u8]) -> bool {
     let mut source = replies;
-    let blocks = read_block_replies(alloc, &mut source)
-        .ok()
-        .ok_or("replies")?;
-    assert_eq!(rt; blocks.len(), answers.len());
-    for (block, answer) in blocks.iter().zip(answers) {
-        assert_eq!(rt; block.len(), 1);
-        let reply = block.first().ok_or("a reply")?;
-        let text = answer_text(alloc, reply)?;
-        assert_eq!(rt; text.as_str(), *answer);
+    match read_block_replies(alloc, &mut source) {
+        Ok(blocks) => are_answers(alloc, case, &blocks),
+        Err(_) => false,
+    }
+}
+
+fn are_answers(alloc: Global, case: &Decided<'_>, blocks: &[Vec<ReplyBody>]) -> bool {
+    for (index, block) in blocks.iter().enumerate() {
+        let answer = case.answers.get(index).copied().unwrap_or("123");
+        if !is_answer(alloc, block, answer) {
+            return false;
+        }
+    }
+    blocks.len() == case.blocks as usize
+}
+
+fn is_answer(alloc: Global, block: &[ReplyBody], answer: &str) -> bool {
+    let [reply] = block else {
+        return false;
+    };
+    match answer_text(alloc, reply) {
+        Ok(text) => text.as_str() == answer,
+        Err(_) => false,
+    }
+}
+
+// Whether the file is read as so many blocks of one body.
+fn has_blocks(alloc: Global, case: &Decided<'_>) -> bool {
+    let mut source = case.file;
+    match read_blocks(alloc, &mut source) {
+        Ok(blocks) => are_single(&blocks) && blocks.len() == case.blocks as usize,
+        Err(_) => false,
+    }
+}
+
+fn are_single(blocks: &[Vec<Frame>]) -> bool {
+    for block in blocks {
+        if block.len() != 1 {
+            return false;
+        }
+    }
+    true
+}
+
+// No block is a file; a block is decided on the book after those before it, and takes back what another spent. Each with its
+// replies, where they are compared.
+const DECIDED: &[(Decided<'static>, Option<&[u8]>)] = &[
+    (
+        Decided {
+            file: EMPTY,
+            blocks: 0,
+            answers: &[],
+            row: "account A 10000 978",
+        },
+        Some(EMPTY_REPLIES),
+    ),
+    (
+        Decided {
+            file: TWO_REQUESTS,
+            blocks: 2,
+            answers: &["000/000001", "116"],
+            row: "account A 4000 978",
+        },
+        Some(TWO_REPLIES),
+    ),
+    (
+        Decided {
+            file: REQUEST_AND_REVERSAL,
+            blocks: 2,
+            answers: &["000/000001", "400"],
+            row: "account A 10000 978",
+        },
+        None,
+    ),
+];
+
+#[test]
+fn blocks_are_decided_and_read_back(rt: HostRuntime) -> Result<(), Fail> {
+    let book = first_book_with(rt.alloc(), &[])?;
+    for (case, replies) in DECIDED {
+        assert!(rt; holds(rt.alloc(), &book, case, *replies), "{}", case.row);
     }
     Ok(())
 }
 
-// The file is read as so many blocks of one body.
-fn assert_blocks<R: Abort>(rt: &R, alloc: Global, file: &[u8], count: usize) -> Result<(), Fail> {
-    let mut source = file;
-    let blocks = read_blocks(alloc, &mut source).ok().ok_or("blocks")?;
-    assert_eq!(rt; blocks.len(), count);
-    for block in &blocks {
-        assert_eq!(rt; block.len(), 1);
-    }
-    Ok(())
-}
-
-// It is read as no block; its replies are a head alone, and the book is the old one.
-#[test]
-fn no_block_is_a_file(rt: HostRuntime) -> Result<(), Fail> {
-    let alloc = rt.alloc();
-    let mut source = EMPTY;
-    let mut sink = IntoWrite::new(Vec::new(alloc));
-    let came = decided(alloc, &mut source, &mut sink)?;
-    assert_eq!(rt; came.fault, None);
-    assert_eq!(rt; came.kept, 0);
-    assert!(rt; came.book.is_same(&first_book_with(alloc, &[])?));
-    assert_eq!(rt; sink.writer().as_slice(), EMPTY_REPLIES);
-    assert_answers(&rt, alloc, EMPTY_REPLIES, &[])?;
-    assert_blocks(&rt, alloc, EMPTY, 0)
-}
-
-#[test]
-fn a_block_is_decided_on_the_book_after_those_before_it(rt: HostRuntime) -> Result<(), Fail> {
-    let alloc = rt.alloc();
-    let file = two_requests(alloc)?;
-    let mut source = file.as_slice();
-    let mut sink = IntoWrite::new(Vec::new(alloc));
-    let came = decided(alloc, &mut source, &mut sink)?;
-    assert_eq!(rt; came.fault, None);
-    assert_eq!(rt; came.kept, 2);
-    assert!(rt; has_row(&came.book, "account A 4000 978"));
-    let replies = two_replies(alloc)?;
-    assert_eq!(rt; sink.writer().as_slice(), replies.as_slice());
-    assert_answers(&rt, alloc, &replies, &["000/000001", "116"])?;
-    assert_blocks(&rt, alloc, &file, 2)
-}
-
-#[test]
-fn a_block_takes_back_what_another_spent(rt: HostRuntime) -> Result<(), Fail> {
-    let alloc = rt.alloc();
-    let file = request_and_reversal(alloc)?;
-    let mut source = file.as_slice();
-    let mut sink = IntoWrite::new(Vec::new(alloc));
-    let came = decided(alloc, &mut source, &mut sink)?;
-    assert_eq!(rt; came.fault, None);
-    assert_eq!(rt; came.kept, 2);
-    assert!(rt; has_row(&came.book, "account A 10000 978"));
-    assert_answers(&rt, alloc, sink.writer(), &["000/000001", "400"])?;
-    assert_blocks(&rt, alloc, &file, 2)
-}
-
-// Three requests a day are approved.
 #[test]
 fn a_thousand_blocks_are_decided(rt: HostRuntime) -> Result<(), Fail> {
-    let alloc = rt.alloc();
-    let file = thousand_requests(alloc)?;
-    let mut source = file.as_slice();
-    let mut sink = IntoWrite::new(Vec::new(alloc));
-    let came = decided(alloc, &mut source, &mut sink)?;
-    assert_eq!(rt; came.fault, None);
-    assert_eq!(rt; came.kept, 1000);
-    assert!(rt; has_row(&came.book, "account A 9997 978"));
-    let mut answers = Vec::new(alloc);
-    for answer in ["000/000001", "000/000002", "000/000003"] {
-        answers.push(answer)?;
-    }
-    for _ in 0..997u32 {
-        answers.push("123")?;
-    }
-    assert_answers(&rt, alloc, sink.writer(), &answers)?;
-    assert_blocks(&rt, alloc, &file, 1000)
+    let book = first_book_with(rt.alloc(), &[])?;
+    let file = thousand_requests(rt.alloc()).expect(&rt, "room");
+    let case = Decided {
+        file: &file,
+        blocks: 1000,
+        answers: &["000/000001", "000/000002", "000/000003"],
+        row: "account A 9997 978",
+    };
+    assert!(rt; holds(rt.alloc(), &book, &case, None));
+    Ok(())
 }

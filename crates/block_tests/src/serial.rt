@@ -1,15 +1,13 @@
-//! Block files that are decided on the first book, one body after another.
+//! Block files that are decided on a book, one body after another.
 
 ghost use Rattle.std.specs.Prelude.{◌+◌, ◌<◌, ◌≤◌, ◌^◌, length};
 ghost use Rattle.batch.specs.Processing.{AnswersFold};
 
 use batch::{BatchFault, Sink, Source, process_blocks};
-use fixtures::first_book_with;
 use fold::{Outcome, Prefix};
 use rows::{Book, Frame};
 use rules::decide_all;
 use std::alloc::{AllocError, Global};
-use std::test::Fail;
 
 // How many blocks are kept, the book after them, and why no further one is.
 #[derive(Drop)]
@@ -32,21 +30,21 @@ fn decide_serially(alloc: Global, book: &Book, frames: &[Frame]) -> Result<Outco
     })
 }
 
-// Decides the block file and writes the replies.
+// Decides the block file on the book and writes the replies.
 pub(crate) fn decided<R: Source, W: Sink>(
     alloc: Global,
+    book: &Book,
     source: &mut R,
     sink: &mut W,
-) -> Result<Came, Fail>
+) -> Result<Came, AllocError>
     requires source { R.failures source.old + 1 < 2 ^ 64 }
     requires sink { W.failures sink.old + 1 < 2 ^ 64 }
 {
-    let book = first_book_with(alloc, &[])?;
     let decide = |book: &Book, frames: &[Frame]| -> Result<Outcome, AllocError>
         requires { length frames.now ≤ 65536 }
         ensures { AnswersFold book.entry.now frames.entry.now result }
     { decide_serially(alloc, book, frames) };
-    match process_blocks(alloc, book, source, sink, &decide) {
+    match process_blocks(alloc, book.copy()?, source, sink, &decide) {
         Ok(outcome) => Ok(Came {
             kept: outcome.blocks,
             book: outcome.book,

@@ -2,12 +2,10 @@
 #![tactic(auto)]
 
 #[cfg(test)]
-mod faults;
+mod books;
 #[cfg(test)]
-mod migrated;
+mod faults;
 #[cfg(test)]
 mod order;
 #[cfg(test)]
 mod texts;
-#[cfg(test)]
-mod written;

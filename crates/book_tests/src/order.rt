@@ -1,180 +1,188 @@
 //! Which of several faults is answered, and texts that are no JSON.
 
-use crate::faults::changed;
-use crate::texts::{LISTS, fault_of, text_of, version_3};
-use crate::written::{ACCOUNT, AHEAD, CARD, DAY, ORIGINAL};
-use book_json::{JsonFault, Part};
+use book_json::{JsonFault, Part, read_book};
+use rows::BookFault;
 use std::alloc::{AllocError, Global};
-use std::string::String;
 
-// Ends of the top object of version 3.
-const ENDS: [(&str, Option<JsonFault>); 6] = [
-    ("\"version\":3}", None),
-    ("\"version\":2}", Some(JsonFault::Range)),
-    ("\"version\":\"3\"}", Some(JsonFault::Shape(Part::Version))),
-    ("\"other\":3}", Some(JsonFault::Shape(Part::Top))),
-    ("\"version\":3,\"x\":0}", Some(JsonFault::Shape(Part::Top))),
-    ("\"version\":1,\"version\":3}", None),
+// Texts, and why they are no book.
+const TEXTS: &[(&[u8], Option<JsonFault>)] = &[
+    // The version is that of the keys.
+    (
+        br#"{"accounts":[],"ahead":[],"budgets":[],"cards":[],"days":[],"originals":[],"version":3}"#,
+        None,
+    ),
+    (
+        br#"{"accounts":[],"ahead":[],"budgets":[],"cards":[],"days":[],"originals":[],"version":2}"#,
+        Some(JsonFault::Range),
+    ),
+    (
+        br#"{"accounts":[],"ahead":[],"budgets":[],"cards":[],"days":[],"originals":[],"version":"3"}"#,
+        Some(JsonFault::Shape(Part::Version)),
+    ),
+    (
+        br#"{"accounts":[],"ahead":[],"budgets":[],"cards":[],"days":[],"originals":[],"other":3}"#,
+        Some(JsonFault::Shape(Part::Top)),
+    ),
+    (
+        br#"{"accounts":[],"ahead":[],"budgets":[],"cards":[],"days":[],"originals":[],"version":3,"x":0}"#,
+        Some(JsonFault::Shape(Part::Top)),
+    ),
+    (
+        br#"{"accounts":[],"ahead":[],"budgets":[],"cards":[],"days":[],"originals":[],"version":1,"version":3}"#,
+        None,
+    ),
+    (
+        br#"{"budgets":[],"cards":[],"days":[],"originals":[],"version":3}"#,
+        Some(JsonFault::Range),
+    ),
+    (
+        br#"{"ahead":[],"budgets":[],"cards":[],"days":[],"originals":[],"version":3}"#,
+        Some(JsonFault::Range),
+    ),
+    // No JSON, and values that are no object.
+    (b"", Some(JsonFault::Syntax)),
+    (b"{", Some(JsonFault::Syntax)),
+    (b"{} {}", Some(JsonFault::Syntax)),
+    (b"\xff", Some(JsonFault::Syntax)),
+    (b"\"\xc3\"", Some(JsonFault::Syntax)),
+    (b"[]", Some(JsonFault::Shape(Part::Top))),
+    (b" {} ", Some(JsonFault::Shape(Part::Top))),
+    (b"null", Some(JsonFault::Shape(Part::Top))),
+    // Another shape of a list or an entry.
+    (
+        br#"{"accounts":[],"ahead":[],"budgets":[],"cards":{},"days":[],"originals":[],"version":3}"#,
+        Some(JsonFault::Shape(Part::Cards)),
+    ),
+    (
+        br#"{"accounts":[],"ahead":[],"budgets":[],"cards":[1],"days":[],"originals":[],"version":3}"#,
+        Some(JsonFault::Shape(Part::Cards)),
+    ),
+    (
+        br#"{"accounts":[],"ahead":[],"budgets":[],"cards":[{}],"days":[],"originals":[],"version":3}"#,
+        Some(JsonFault::Shape(Part::Cards)),
+    ),
+    (
+        br#"{"accounts":[],"ahead":[],"budgets":[],"cards":[],"days":null,"originals":[],"version":3}"#,
+        Some(JsonFault::Shape(Part::Days)),
+    ),
+    (
+        br#"{"accounts":[],"ahead":[],"budgets":7,"cards":[],"days":[],"originals":[],"version":3}"#,
+        Some(JsonFault::Shape(Part::Budgets)),
+    ),
+    (
+        br#"{"accounts":[],"ahead":[],"budgets":[],"cards":[],"days":[],"originals":"","version":3}"#,
+        Some(JsonFault::Shape(Part::Originals)),
+    ),
+    (
+        br#"{"accounts":[],"ahead":true,"budgets":[],"cards":[],"days":[],"originals":[],"version":3}"#,
+        Some(JsonFault::Shape(Part::Ahead)),
+    ),
+    (
+        br#"{"accounts":[[]],"ahead":[],"budgets":[],"cards":[],"days":[],"originals":[],"version":3}"#,
+        Some(JsonFault::Shape(Part::Accounts)),
+    ),
+    // Parts are read in their order: the accounts stand first in the text, and are read last.
+    (
+        br#"{"accounts":1,"ahead":1,"budgets":1,"cards":[],"days":[],"originals":1,"version":3}"#,
+        Some(JsonFault::Shape(Part::Budgets)),
+    ),
+    (
+        br#"{"accounts":1,"ahead":1,"budgets":[],"cards":[],"days":[],"originals":[],"version":3}"#,
+        Some(JsonFault::Shape(Part::Ahead)),
+    ),
+    // The version is read before all lists.
+    (
+        br#"{"accounts":[],"ahead":[],"budgets":[],"cards":1,"days":[],"originals":[],"version":4}"#,
+        Some(JsonFault::Range),
+    ),
+    // Fields are read in the order of their keys: approvals that are too many, and an expiry of another kind; an account of another kind, and too many approvals.
+    (
+        br#"{"accounts":[],"ahead":[],"budgets":[],"cards":[{"account":"4111110000000005","approvals":1000000,"day_amount":20000,"day_count":3,"expiry":2812,"pan":"4111110000000005","second":null,"status":"active"}],"days":[],"originals":[],"version":3}"#,
+        Some(JsonFault::Range),
+    ),
+    (
+        br#"{"accounts":[],"ahead":[],"budgets":[],"cards":[{"account":null,"approvals":1000000,"day_amount":20000,"day_count":3,"expiry":"2812","pan":"4111110000000005","second":null,"status":"active"}],"days":[],"originals":[],"version":3}"#,
+        Some(JsonFault::Shape(Part::Cards)),
+    ),
+    // A row stands once.
+    (
+        br#"{"accounts":[],"ahead":[],"budgets":[],"cards":[{"account":"4111110000000005","approvals":0,"day_amount":20000,"day_count":3,"expiry":"2812","pan":"4111110000000005","second":null,"status":"active"},{"account":"4111110000000005","approvals":0,"day_amount":20000,"day_count":3,"expiry":"2812","pan":"4111110000000005","second":null,"status":"active"}],"days":[],"originals":[],"version":3}"#,
+        Some(JsonFault::Shape(Part::Cards)),
+    ),
+    (
+        br#"{"accounts":[],"ahead":[],"budgets":[],"cards":[],"days":[{"count":1,"day":"260110","pan":"4111110000000005","sum":6000},{"count":1,"day":"260110","pan":"4111110000000005","sum":6000}],"originals":[],"version":3}"#,
+        Some(JsonFault::Shape(Part::Days)),
+    ),
+    (
+        br#"{"accounts":[],"ahead":[],"budgets":[],"cards":[],"days":[],"originals":[{"account":"4111110000000005","acquirer":"123456","action":"000","amount":6000,"approval":"000001","kind":"request","paid":"account","pan":"4111110000000005","processing":"000000","reversed":null,"stamp":"260110120000","stay":6000,"trace":"000001"},{"account":"4111110000000005","acquirer":"123456","action":"000","amount":6000,"approval":"000001","kind":"request","paid":"account","pan":"4111110000000005","processing":"000000","reversed":null,"stamp":"260110120000","stay":6000,"trace":"000001"}],"version":3}"#,
+        Some(JsonFault::Shape(Part::Originals)),
+    ),
+    (
+        br#"{"accounts":[],"ahead":[{"acquirer":"123456","kind":"request","pan":"4111110000000005","reversal":{"acquirer":"123456","stamp":"260110120000","trace":"000002"},"stamp":"260110120000","trace":"000001"},{"acquirer":"123456","kind":"request","pan":"4111110000000005","reversal":{"acquirer":"123456","stamp":"260110120000","trace":"000002"},"stamp":"260110120000","trace":"000001"}],"budgets":[],"cards":[],"days":[],"originals":[],"version":3}"#,
+        Some(JsonFault::Shape(Part::Ahead)),
+    ),
+    (
+        br#"{"accounts":[{"available":10000,"currency":"978","id":"4111110000000005"},{"available":10000,"currency":"978","id":"4111110000000005"}],"ahead":[],"budgets":[],"cards":[],"days":[],"originals":[],"version":3}"#,
+        Some(JsonFault::Shape(Part::Accounts)),
+    ),
+    // An original that is decided and marked.
+    (
+        br#"{"accounts":[],"ahead":[{"acquirer":"123456","kind":"request","pan":"4111110000000005","reversal":{"acquirer":"123456","stamp":"260110120000","trace":"000002"},"stamp":"260110120000","trace":"000001"}],"budgets":[],"cards":[],"days":[],"originals":[{"account":"4111110000000005","acquirer":"123456","action":"000","amount":6000,"approval":"000001","kind":"request","paid":"account","pan":"4111110000000005","processing":"000000","reversed":null,"stamp":"260110120000","stay":6000,"trace":"000001"}],"version":3}"#,
+        Some(JsonFault::Shape(Part::Ahead)),
+    ),
+    // Spaces, and any order.
+    (
+        b"{ \"version\" : 3, \"originals\" : [ ], \"days\" : [],\n\"cards\":[],\"budgets\":[],\"ahead\":[],\t\"accounts\":[] }",
+        None,
+    ),
+    // A book of version 1 whose original names the account, and one with what a card paid that isn't there.
+    (
+        br#"{"budgets":[],"cards":[],"days":[],"originals":[{"acquirer":"123456","action":"000","amount":6000,"approval":"000001","kind":"request","paid":"account","pan":"4111110000000005","processing":"000000","reversed":null,"stamp":"260110120000","stay":6000,"trace":"000003"}],"version":1}"#,
+        Some(JsonFault::Range),
+    ),
+    (
+        br#"{"budgets":[],"cards":[],"days":[],"originals":[{"acquirer":"123456","action":"000","amount":6000,"approval":"000001","kind":"request","paid":"card","pan":"4111110000000005","processing":"000000","reversed":null,"stamp":"260110120000","stay":6000,"trace":"000003"}],"version":1}"#,
+        Some(JsonFault::Invalid(BookFault::OriginalWithoutAccount)),
+    ),
 ];
 
-#[test]
-fn the_version_is_that_of_the_keys(rt: HostRuntime) -> Result<(), AllocError> {
-    for (end, fault) in ENDS {
-        let text = text_of(rt.alloc(), LISTS[2], &[], end)?;
-        assert_eq!(rt; fault_of(rt.alloc(), text.as_bytes()), fault, "{text}");
-    }
-    for (index, lists) in LISTS.iter().enumerate() {
-        let fault = if index == 2 {
-            None
-        } else {
-            Some(JsonFault::Range)
-        };
-        let text = text_of(rt.alloc(), lists, &[], "\"version\":3}")?;
-        assert_eq!(rt; fault_of(rt.alloc(), text.as_bytes()), fault, "{text}");
-    }
-    Ok(())
+fn fault_of(alloc: Global, text: &[u8]) -> Option<JsonFault> {
+    read_book(alloc, text).err()
 }
 
-// Texts that are no JSON, and values that are no object.
-const TEXTS: [(&[u8], JsonFault); 8] = [
-    (b"", JsonFault::Syntax),
-    (b"{", JsonFault::Syntax),
-    (b"{} {}", JsonFault::Syntax),
-    (b"\xff", JsonFault::Syntax),
-    (b"\"\xc3\"", JsonFault::Syntax),
-    (b"[]", JsonFault::Shape(Part::Top)),
-    (b" {} ", JsonFault::Shape(Part::Top)),
-    (b"null", JsonFault::Shape(Part::Top)),
-];
-
 #[test]
-fn no_json(rt: HostRuntime) {
+fn the_first_fault_is_answered(rt: HostRuntime) {
     for (text, fault) in TEXTS {
-        assert_eq!(rt; fault_of(rt.alloc(), text), Some(fault));
+        assert!(rt; fault_of(rt.alloc(), text) == *fault, "{text:?}");
     }
 }
 
 // So many brackets, and as many that close them.
 fn brackets(alloc: Global, count: usize) -> Result<String, AllocError> {
-    let mut text = String::new(alloc);
-    for _ in 0..count {
-        text.push_str("[")?;
+    let open = "[".repeat(alloc, count)?;
+    let close = "]".repeat(alloc, count)?;
+    format!(in alloc; "{open}{close}")
+}
+
+// Whether so many brackets are a fault.
+fn is_fault_of_depth(alloc: Global, count: usize, fault: JsonFault) -> bool {
+    match brackets(alloc, count) {
+        Ok(text) => fault_of(alloc, text.as_bytes()) == Some(fault),
+        Err(_) => false,
     }
-    for _ in 0..count {
-        text.push_str("]")?;
-    }
-    Ok(text)
 }
 
 #[test]
-fn too_deep(rt: HostRuntime) -> Result<(), AllocError> {
-    let deep = brackets(rt.alloc(), 200)?;
-    assert_eq!(rt;
-        fault_of(rt.alloc(), deep.as_bytes()),
-        Some(JsonFault::Syntax)
-    );
-    let flat = brackets(rt.alloc(), 100)?;
-    assert_eq!(rt;
-        fault_of(rt.alloc(), flat.as_bytes()),
-        Some(JsonFault::Shape(Part::Top))
-    );
-    Ok(())
-}
-
-#[test]
-fn parts_are_read_in_their_order(rt: HostRuntime) -> Result<(), AllocError> {
-    let alloc = rt.alloc();
-    // The accounts stand first in the text, and are read last.
-    let held = [
-        ("accounts", "1"),
-        ("ahead", "1"),
-        ("budgets", "1"),
-        ("originals", "1"),
-    ];
-    let text = version_3(alloc, &held)?;
-    assert_eq!(rt;
-        fault_of(alloc, text.as_bytes()),
-        Some(JsonFault::Shape(Part::Budgets))
-    );
-    let text = version_3(alloc, &[("accounts", "1"), ("ahead", "1")])?;
-    assert_eq!(rt;
-        fault_of(alloc, text.as_bytes()),
-        Some(JsonFault::Shape(Part::Ahead))
-    );
-    // The version before all lists.
-    let text = text_of(alloc, LISTS[2], &[("cards", "1")], "\"version\":4}")?;
-    assert_eq!(rt; fault_of(alloc, text.as_bytes()), Some(JsonFault::Range));
-    Ok(())
-}
-
-#[test]
-fn fields_are_read_in_the_order_of_their_keys(rt: HostRuntime) -> Result<(), AllocError> {
-    let alloc = rt.alloc();
-    let range = changed(alloc, CARD, "\"approvals\":0", "\"approvals\":1000000")?;
-    let both = changed(alloc, &range, "\"expiry\":\"2812\"", "\"expiry\":2812")?;
-    let text = version_3(alloc, &[("cards", &both)])?;
-    assert_eq!(rt; fault_of(alloc, text.as_bytes()), Some(JsonFault::Range));
-    let kind = changed(
-        alloc,
-        CARD,
-        "\"account\":\"4111110000000005\"",
-        "\"account\":null",
-    )?;
-    let both = changed(alloc, &kind, "\"approvals\":0", "\"approvals\":1000000")?;
-    let text = version_3(alloc, &[("cards", &both)])?;
-    assert_eq!(rt;
-        fault_of(alloc, text.as_bytes()),
-        Some(JsonFault::Shape(Part::Cards))
-    );
-    Ok(())
-}
-
-// The list with its entries twice.
-fn twice(alloc: Global, list: &str) -> Result<String, AllocError> {
-    let mut text = changed(alloc, list, "}]", "},")?;
-    text.push_str(list.strip_prefix("[").unwrap_or(list))?;
-    Ok(text)
-}
-
-#[test]
-fn a_row_stands_once(rt: HostRuntime) -> Result<(), AllocError> {
-    let alloc = rt.alloc();
-    for (list, held, part) in [
-        ("cards", CARD, Part::Cards),
-        ("days", DAY, Part::Days),
-        ("originals", ORIGINAL, Part::Originals),
-        ("ahead", AHEAD, Part::Ahead),
-        ("accounts", ACCOUNT, Part::Accounts),
-    ] {
-        let entries = twice(alloc, held)?;
-        let text = version_3(alloc, &[(list, &entries)])?;
-        assert_eq!(rt;
-            fault_of(alloc, text.as_bytes()),
-            Some(JsonFault::Shape(part)),
-            "{text}"
-        );
-    }
-    // An original that is decided and marked.
-    let text = version_3(alloc, &[("originals", ORIGINAL), ("ahead", AHEAD)])?;
-    assert_eq!(rt;
-        fault_of(alloc, text.as_bytes()),
-        Some(JsonFault::Shape(Part::Ahead))
-    );
-    Ok(())
-}
-
-#[test]
-fn spaces_and_any_order(rt: HostRuntime) {
-    let text =
-        "{ \"version\" : 3, \"originals\" : [ ], \"days\" : [],\n\"cards\":[],\"budgets\":[],\"ahead\":[],\t\"accounts\":[] }";
-    assert_eq!(rt; fault_of(rt.alloc(), text.as_bytes()), None);
+fn too_deep(rt: HostRuntime) {
+    assert!(rt; is_fault_of_depth(rt.alloc(), 200, JsonFault::Syntax));
+    assert!(rt; is_fault_of_depth(rt.alloc(), 100, JsonFault::Shape(Part::Top)));
 }
 
 #[test]
 fn faults_have_their_numbers(rt: HostRuntime) {
-    assert_eq!(rt; JsonFault::Syntax.number(), 1);
-    assert_eq!(rt; JsonFault::Shape(Part::Accounts).number(), 2);
-    assert_eq!(rt; JsonFault::Range.number(), 3);
-    assert_eq!(rt; JsonFault::OutOfMemory.number(), 5);
-    assert_eq!(rt; Part::Accounts.number(), 7);
+    assert!(rt; JsonFault::Syntax.number() == 1);
+    assert!(rt; JsonFault::Shape(Part::Accounts).number() == 2);
+    assert!(rt; JsonFault::Range.number() == 3);
+    assert!(rt; JsonFault::OutOfMemory.number() == 5);
+    assert!(rt; Part::Accounts.number() == 7);
 }

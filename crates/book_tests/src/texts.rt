@@ -1,67 +1,19 @@
-//! Texts of books, put together from lists.
+//! Books of version 3 with an entry each.
 
-use book_json::{JsonFault, read_book};
-use rows::Book;
-use std::alloc::{AllocError, Global};
-use std::string::String;
+pub(crate) const ACCOUNT: &str =
+    r#"{"accounts":[{"available":10000,"currency":"978","id":"4111110000000005"}],"ahead":[],"budgets":[],"cards":[],"days":[],"originals":[],"version":3}"#;
 
-/// The lists of each version, in byte order.
-pub(crate) const LISTS: [&[&str]; 3] = [
-    &["budgets", "cards", "days", "originals"],
-    &["ahead", "budgets", "cards", "days", "originals"],
-    &["accounts", "ahead", "budgets", "cards", "days", "originals"],
-];
+pub(crate) const AHEAD: &str =
+    r#"{"accounts":[],"ahead":[{"acquirer":"123456","kind":"request","pan":"4111110000000005","reversal":{"acquirer":"123456","stamp":"260110120000","trace":"000002"},"stamp":"260110120000","trace":"000001"}],"budgets":[],"cards":[],"days":[],"originals":[],"version":3}"#;
 
-/// What some lists hold; the others are empty.
-pub(crate) type Held<'a> = &'a [(&'a str, &'a str)];
+pub(crate) const BUDGET: &str =
+    r#"{"accounts":[],"ahead":[],"budgets":[{"cap":400,"left":500,"mode":"stand-in","prefix":"411111"}],"cards":[],"days":[],"originals":[],"version":3}"#;
 
-/// A text with these lists and this end of its top object.
-pub(crate) fn text_of(
-    alloc: Global,
-    lists: &[&str],
-    held: Held<'_>,
-    end: &str,
-) -> Result<String, AllocError> {
-    let mut text = String::new(alloc);
-    text.push_str("{")?;
-    for list in lists {
-        text.push_str("\"")?;
-        text.push_str(list)?;
-        text.push_str("\":")?;
-        text.push_str(list_of(held, list))?;
-        text.push_str(",")?;
-    }
-    text.push_str(end)?;
-    Ok(text)
-}
+pub(crate) const CARD: &str =
+    r#"{"accounts":[],"ahead":[],"budgets":[],"cards":[{"account":"4111110000000005","approvals":0,"day_amount":20000,"day_count":3,"expiry":"2812","pan":"4111110000000005","second":null,"status":"active"}],"days":[],"originals":[],"version":3}"#;
 
-fn list_of<'a>(held: Held<'a>, list: &str) -> &'a str {
-    let mut found = "[]";
-    for (name, text) in held {
-        if *name == list {
-            found = text;
-        }
-    }
-    found
-}
+pub(crate) const DAY: &str =
+    r#"{"accounts":[],"ahead":[],"budgets":[],"cards":[],"days":[{"count":1,"day":"260110","pan":"4111110000000005","sum":6000}],"originals":[],"version":3}"#;
 
-/// The text of version 3 with these lists.
-pub(crate) fn version_3(alloc: Global, held: Held<'_>) -> Result<String, AllocError> {
-    text_of(alloc, LISTS[2], held, "\"version\":3}")
-}
-
-/// Why a text is no book.
-pub(crate) fn fault_of(alloc: Global, text: &[u8]) -> Option<JsonFault> {
-    match read_book(alloc, text) {
-        Ok(_) => None,
-        Err(fault) => Some(fault),
-    }
-}
-
-/// Whether a text is read as the book.
-pub(crate) fn is_read_as(alloc: Global, text: &str, book: &Book) -> bool {
-    match read_book(alloc, text.as_bytes()) {
-        Ok(read) => read.is_same(book),
-        Err(_) => false,
-    }
-}
+pub(crate) const ORIGINAL: &str =
+    r#"{"accounts":[],"ahead":[],"budgets":[],"cards":[],"days":[],"originals":[{"account":"4111110000000005","acquirer":"123456","action":"000","amount":6000,"approval":"000001","kind":"request","paid":"account","pan":"4111110000000005","processing":"000000","reversed":null,"stamp":"260110120000","stay":6000,"trace":"000001"}],"version":3}"#;

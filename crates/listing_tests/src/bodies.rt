@@ -1,43 +1,59 @@
 //! Bodies from hexadecimal text.
 
 use listing::{TextFault, read_bodies};
-use std::process::Abort;
-use std::test::Fail;
+use std::alloc::Global;
 
-#[test]
-fn empty_lines_and_comments_are_passed_over(rt: HostRuntime) -> Result<(), Fail> {
-    let alloc = rt.alloc();
-    let text = b"# two bodies\n31\n\n#\n3a3B\n".as_slice();
-    let bodies = read_bodies(alloc, text).map_err(|_| Fail::new("bodies"))?;
-    assert_eq!(&rt; bodies.len(), 2);
-    assert_eq!(&rt; bodies[0].as_slice(), b"1".as_slice());
-    assert_eq!(&rt; bodies[1].as_slice(), b":;".as_slice());
-    Ok(())
-}
+// Texts and their bodies: empty lines and comments are passed over, a text without lines has none, and the last line may have
+// no end.
+const TEXTS: &[(&str, &[&str])] = &[
+    ("# two bodies\n31\n\n#\n3a3B\n", &["1", ":;"]),
+    ("", &[]),
+    ("31", &["1"]),
+];
 
-#[test]
-fn the_first_wrong_line_is_named(rt: HostRuntime) -> Result<(), Fail> {
-    let alloc = rt.alloc();
-    for (text, line) in [
-        ("3", 1),
-        ("31\n3\n4", 2),
-        ("31\n\n 31", 3),
-        ("31 \n", 1),
-        ("31\r\n", 1),
-        ("# \n3g", 2),
-    ] {
-        let fault = read_bodies(alloc, text.as_bytes()).err().ok_or("a fault")?;
-        assert_eq!(&rt; fault, TextFault::Line(line), "{text}");
+fn has_bodies(alloc: Global, text: &str, bodies: &[&str]) -> bool {
+    match read_bodies(alloc, text.as_bytes()) {
+        Ok(read) => are_same(&read, bodies),
+        Err(_) => false,
     }
-    Ok(())
+}
+
+fn are_same(read: &[Vec<u8>], bodies: &[&str]) -> bool {
+    for (one, body) in read.iter().zip(bodies) {
+        if one.as_slice() != body.as_bytes() {
+            return false;
+        }
+    }
+    read.len() == bodies.len()
 }
 
 #[test]
-fn a_text_without_lines_has_no_bodies(rt: HostRuntime) -> Result<(), Fail> {
-    let alloc = rt.alloc();
-    let bodies = read_bodies(alloc, b"").map_err(|_| Fail::new("bodies"))?;
-    assert!(&rt; bodies.is_empty());
-    let last = read_bodies(alloc, b"31").map_err(|_| Fail::new("bodies"))?;
-    assert_eq!(&rt; last.len(), 1);
-    Ok(())
+fn bodies_are_read(rt: HostRuntime) {
+    for (text, bodies) in TEXTS {
+        assert!(rt; has_bodies(rt.alloc(), text, bodies), "{text}");
+    }
+}
+
+// Texts, and the number of the first line that is wrong.
+const WRONG: &[(&str, usize)] = &[
+    ("3", 1),
+    ("31\n3\n4", 2),
+    ("31\n\n 31", 3),
+    ("31 \n", 1),
+    ("31\r\n", 1),
+    ("# \n3g", 2),
+];
+
+fn wrong_line(alloc: Global, text: &str) -> Option<usize> {
+    match read_bodies(alloc, text.as_bytes()) {
+        Err(TextFault::Line(line)) => Some(line),
+        _ => None,
+    }
+}
+
+#[test]
+fn the_first_wrong_line_is_named(rt: HostRuntime) {
+    for (text, line) in WRONG {
+        assert!(rt; wrong_line(rt.alloc(), text) == Some(*line), "{text}");
+    }
 }

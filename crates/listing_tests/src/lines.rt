@@ -1,11 +1,13 @@
 //! Bodies and replies as lines.
 
+ghost use Rattle.std.specs.Prelude.{◌≤◌, length};
+
 use fixtures::{body, first_book_with};
 use fold::Prefix;
 use listing::{frame_line, reply_line};
-use rows::Frame;
+use rows::{Frame, ReplyBody};
 use rules::decide_all;
-use std::process::Abort;
+use std::alloc::{AllocError, Global};
 use std::test::Fail;
 
 // Bodies, their lines, and the lines of their replies.
@@ -48,30 +50,62 @@ const SHOWN: &[(&str, &str, &str)] = &[
     ),
 ];
 
-#[test]
-fn bodies_and_replies_are_shown(rt: HostRuntime) -> Result<(), Fail> {
-    let alloc = rt.alloc();
-    let frames: Vec<Frame> = SHOWN
+// The bodies; a line that is none is left out.
+fn frames(alloc: Global) -> Result<Vec<Frame>, AllocError> {
+    SHOWN
         .iter()
         .filter_map(|(line, _, _)| body(line))
-        .collect(alloc)?;
-    assert_eq!(&rt; frames.len(), SHOWN.len());
-    assert!(&rt; frames.len() <= 64);
+        .collect(alloc)
+}
+
+// What the first book answers.
+fn replies_to(alloc: Global, frames: &[Frame]) -> Result<Vec<ReplyBody>, Fail>
+    requires { length frames.now ≤ 65536 }
+{
     let opening = Prefix::new(alloc, first_book_with(alloc, &[])?);
-    assert_eq!(&rt; opening.count, 0);
-    let after = decide_all(alloc, opening, &frames)?;
-    assert_eq!(&rt; after.replies.len(), SHOWN.len());
-    let mut place = 0;
-    for ((frame, reply), (_, sent, answered)) in frames.iter().zip(&after.replies).zip(SHOWN) {
-        assert_eq!(&rt;
-            frame_line(alloc, place, frame)?.as_slice(),
-            sent.as_bytes()
-        );
-        assert_eq!(&rt;
-            reply_line(alloc, place, reply)?.as_slice(),
-            answered.as_bytes()
-        );
-        place = place.saturating_add(1);
+    Ok(decide_all(alloc, opening, frames)?.replies)
+}
+
+fn is_shown(alloc: Global, place: u32, frame: Option<&Frame>, line: &str) -> bool {
+    let Some(frame) = frame else {
+        return false;
+    };
+    match frame_line(alloc, place, frame) {
+        Ok(shown) => shown.as_slice() == line.as_bytes(),
+        Err(_) => false,
     }
+}
+
+fn is_answered(alloc: Global, place: u32, reply: Option<&ReplyBody>, line: &str) -> bool {
+    let Some(reply) = reply else {
+        return false;
+    };
+    match reply_line(alloc, place, reply) {
+        Ok(shown) => shown.as_slice() == line.as_bytes(),
+        Err(_) => false,
+    }
+}
+
+// The first of the lines that is not the one of its body or its reply.
+fn first_wrong(alloc: Global, frames: &[Frame], replies: &[ReplyBody]) -> Option<&'static str> {
+    for (place, (_, sent, answered)) in (0u32..64).zip(SHOWN) {
+        if !is_shown(alloc, place, frames.get(place as usize), sent) {
+            return Some(sent);
+        }
+        if !is_answered(alloc, place, replies.get(place as usize), answered) {
+            return Some(answered);
+        }
+    }
+    None
+}
+
+#[test]
+fn bodies_and_replies_are_shown(rt: HostRuntime) -> Result<(), Fail> {
+    let frames = frames(rt.alloc()).expect(&rt, "room");
+    assert!(rt; frames.len() == SHOWN.len() && frames.len() <= 64);
+    let replies = replies_to(rt.alloc(), &frames)?;
+    assert!(rt; replies.len() == SHOWN.len());
+    let wrong = first_wrong(rt.alloc(), &frames, &replies);
+    assert!(rt; wrong.is_none(), "{wrong:?}");
     Ok(())
 }

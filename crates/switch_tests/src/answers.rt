@@ -1,54 +1,50 @@
 //! One body's way through the program, part by part.
 
-use crate::acting::named_words;
+use crate::script::words_of;
 use answering::{answer_on, decide_one, sample_book};
 use commands::{Printer, act};
 use files::MemoryFiles;
 use listing::body_of_digits;
-use std::alloc::Global;
+use std::alloc::{AllocError, Global};
 use std::io;
 use std::io::{ErrorKind, Write};
-use std::process::Abort;
 use std::sync::Wait;
-use std::test::Fail;
 use std::thread::Threads;
 use words::{Command, plain_words_are_read, read_words};
 use workers::Workers;
 
-// So many workers answer that a body of one byte is too short.
-fn assert_too_short<R: Abort + Threads + Wait + Sync>(
+// Whether so many workers answer that a body is too short.
+fn is_too_short<R: Threads + Wait + Sync>(
     rt: &R,
     alloc: Global,
     body: &[u8],
     count: u32,
-) -> Result<(), Fail> {
-    let book = sample_book(alloc)?;
-    let workers = Workers::new(count).ok_or("1 to 64 workers")?;
-    let answer = answer_on(rt, alloc, &book, body, workers)?;
-    assert_eq!(rt; answer.as_slice(), b"F01000".as_slice());
-    Ok(())
+) -> Result<bool, AllocError> {
+    let Some(workers) = Workers::new(count) else {
+        return Ok(false);
+    };
+    let answer = answer_on(rt, alloc, &sample_book(alloc)?, body, workers)?;
+    Ok(answer.as_slice() == b"F01000".as_slice())
 }
 
 #[test]
-fn a_body_is_answered_in_bytes_and_in_digits(rt: HostRuntime) -> Result<(), Fail> {
+fn a_body_is_answered_in_bytes_and_in_digits(rt: HostRuntime) {
     let alloc = rt.alloc();
-    let body = body_of_digits(alloc, b"31")?.ok_or("a body")?;
-    assert_eq!(rt; body.as_slice(), b"1".as_slice());
-    assert_too_short(&rt, alloc, &body, 1)?;
-    assert_too_short(&rt, alloc, &body, 64)?;
-    assert_eq!(rt; decide_one(&rt, alloc, &body)?.as_str(), "463031303030");
-    Ok(())
+    let read = body_of_digits(alloc, b"31").expect(&rt, "room");
+    let body = read.expect(&rt, "a body");
+    assert!(rt; body.as_slice() == b"1".as_slice());
+    assert!(rt; matches!(is_too_short(&rt, alloc, &body, 1), Ok(true)));
+    assert!(rt; matches!(is_too_short(&rt, alloc, &body, 64), Ok(true)));
+    let digits = decide_one(&rt, alloc, &body).expect(&rt, "room");
+    assert!(rt; digits.as_str() == "463031303030");
 }
 
 #[test]
-fn words_are_read(rt: HostRuntime) -> Result<(), Fail> {
-    let alloc = rt.alloc();
+fn words_are_read(rt: HostRuntime) {
     plain_words_are_read();
-    match read_words(alloc, &named_words(alloc, &["one", "3a"])?) {
-        Ok(Command::One(body)) => assert_eq!(rt; body.as_slice(), b":".as_slice()),
-        _ => return Err(Fail::new("one body")),
-    }
-    Ok(())
+    let words = words_of(rt.alloc(), "switch one 3a").expect(&rt, "room");
+    let read = read_words(rt.alloc(), &words);
+    assert!(rt; matches!(&read, Ok(Command::One(body)) if body.as_slice() == b":".as_slice()));
 }
 
 // A writer that takes nothing.
@@ -65,21 +61,32 @@ impl Write for Closed {
     }
 }
 
+// The status of these words, and whether all is taken that they print to such a writer, and to another such one as a fault.
+fn unheard<R: Threads + Wait + Sync>(rt: &R, alloc: Global, words: &[String]) -> (u8, bool, bool) {
+    let mut out = Printer::new(Closed);
+    let mut err = Printer::new(Closed);
+    let status = act(
+        rt,
+        alloc,
+        &mut MemoryFiles::new(alloc),
+        words,
+        &mut out,
+        &mut err,
+    );
+    (status, out.into_parts().1, err.into_parts().1)
+}
+
 // What a writer doesn't take is dropped, and the status stays.
 #[test]
-fn what_is_not_taken_is_dropped(rt: HostRuntime) -> Result<(), Fail> {
-    for (frame, status) in [("31", 0), ("3", 2)] {
-        let words = named_words(rt.alloc(), &["one", frame])?;
-        let mut out = Printer::new(Closed);
-        let mut err = Printer::new(Closed);
-        let mut files = MemoryFiles::new(rt.alloc());
-        let acted = act(&rt, rt.alloc(), &mut files, &words, &mut out, &mut err);
-        assert_eq!(rt; acted, status);
-        let (_, all_out) = out.into_parts();
-        let (_, all_err) = err.into_parts();
-        assert_eq!(rt; (all_out, all_err), (status != 0, status == 0));
+fn what_is_not_taken_is_dropped(rt: HostRuntime) {
+    for (line, status) in [("switch one 31", 0), ("switch one 3", 2)] {
+        let words = words_of(rt.alloc(), line).expect(&rt, "room");
+        let (ended, all_out, all_err) = unheard(&rt, rt.alloc(), &words);
+        assert!(rt;
+            ended == status && all_out == (status != 0) && all_err == (status == 0),
+            "{line}"
+        );
     }
-    Ok(())
 }
 
 // A writer that takes one write of ten bytes at most, and then nothing.
@@ -105,7 +112,7 @@ impl Write for Full {
 
 // A line that is taken in part stays so, and nothing stands behind it.
 #[test]
-fn nothing_is_printed_behind_a_line_that_was_cut(rt: HostRuntime) -> Result<(), Fail> {
+fn nothing_is_printed_behind_a_line_that_was_cut(rt: HostRuntime) {
     let mut printer = Printer::new(Full {
         taken: Vec::new(rt.alloc()),
     });
@@ -113,7 +120,5 @@ fn nothing_is_printed_behind_a_line_that_was_cut(rt: HostRuntime) -> Result<(), 
         printer.line(line.as_bytes());
     }
     let (full, all) = printer.into_parts();
-    assert!(rt; !all);
-    assert_eq!(rt; full.taken.as_slice(), b"first\nseco".as_slice());
-    Ok(())
+    assert!(rt; !all && full.taken.as_slice() == b"first\nseco".as_slice());
 }

@@ -1,222 +1,385 @@
-//! Batches that are decided from files to files.
+//! Batches that are decided from files to files, packed and shown, and files that are none.
 
-use crate::acting::{AFTER, BATCH, BOOK, REPLIES, acted, assert_said, files_of};
-use std::alloc::Global;
-use std::process::Abort;
-use std::sync::Wait;
-use std::test::Fail;
-use std::thread::Threads;
+use crate::script::play;
 
-// The words decide the batch on the book.
-fn assert_decided<R: Abort + Threads + Wait + Sync>(
-    rt: &R,
-    alloc: Global,
-    words: &[&str],
-) -> Result<(), Fail> {
-    let mut files = files_of(alloc, &[("book", BOOK.as_bytes()), ("batch", BATCH)])?;
-    let said = acted(rt, alloc, &mut files, words)?;
-    assert_eq!(rt; said.status, 0);
-    assert_eq!(rt; said.out.as_slice(), b"decided 1\n".as_slice());
-    assert!(rt; said.err.is_empty());
-    assert_eq!(rt; files.get("replies"), Some(REPLIES));
-    assert_eq!(rt; files.get("after"), Some(AFTER.as_bytes()));
-    assert_eq!(rt; files.get("book"), Some(BOOK.as_bytes()));
-    Ok(())
-}
+// A request is decided by each command that decides a batch.
+const DECIDED: &str = r#"# A batch is decided one message after another.
+put book BOOK
+put batch BATCH
+0 switch serial book batch replies after
+> decided 1
+is replies REPLIES
+is after AFTER
+is book BOOK
 
-#[test]
-fn a_batch_is_decided_from_files_to_files(rt: HostRuntime) -> Result<(), Fail> {
-    let alloc = rt.alloc();
-    assert_decided(&rt, alloc, &["serial", "book", "batch", "replies", "after"])?;
-    assert_decided(&rt, alloc, &["run", "book", "batch", "replies", "after"])?;
-    assert_decided(
-        &rt,
-        alloc,
-        &["run", "book", "batch", "replies", "after", "--workers", "1"],
-    )?;
-    assert_decided(
-        &rt,
-        alloc,
-        &["run", "--workers=64", "book", "batch", "replies", "after"],
-    )?;
-    let split = [
-        "run", "book", "batch", "replies", "after", "--engine", "split",
-    ];
-    assert_decided(&rt, alloc, &split)
-}
+# A batch is decided by four workers.
+put book BOOK
+put batch BATCH
+0 switch run book batch replies after
+> decided 1
+is replies REPLIES
+is after AFTER
+is book BOOK
 
-// A fault is one line of standard error; an older file of the new book stays.
-fn assert_fault<'a, R: Abort + Threads + Wait + Sync>(
-    rt: &R,
-    alloc: Global,
-    book: &'a [u8],
-    batch: &'a [u8],
-    line: &[u8],
-) -> Result<(), Fail> {
-    for command in ["serial", "run"] {
-        let mut files = files_of(alloc, &[("book", book), ("batch", batch)])?;
-        let mut older = Vec::new(alloc);
-        older.extend_from_slice(b"older")?;
-        files.put("after", older).ok().ok_or("room for a file")?;
-        let words = [command, "book", "batch", "replies", "after"];
-        let said = acted(rt, alloc, &mut files, &words)?;
-        assert_eq!(rt; said.status, 1);
-        assert!(rt; said.out.is_empty());
-        assert_eq!(rt; said.err.as_slice(), line);
-        assert_eq!(rt; files.get("after"), Some(b"older".as_slice()));
-    }
-    Ok(())
-}
+# A batch is decided by one worker.
+put book BOOK
+put batch BATCH
+0 switch run book batch replies after --workers 1
+> decided 1
+is replies REPLIES
+is after AFTER
+is book BOOK
 
-// Each bad file of a batch, and some bad books.
-#[test]
-fn a_bad_file_is_told_by_its_number(rt: HostRuntime) -> Result<(), Fail> {
-    let alloc = rt.alloc();
-    let book = BOOK.as_bytes();
-    let one_more = b"I83B\x00\x01\x00\x00\x00\x00!";
-    assert_fault(
-        &rt,
-        alloc,
-        book,
-        b"J83B\x00\x01\x00\x00\x00\x00",
-        b"batch 1\n",
-    )?;
-    assert_fault(
-        &rt,
-        alloc,
-        book,
-        b"I83B\x00\x02\x00\x00\x00\x00",
-        b"batch 2\n",
-    )?;
-    assert_fault(
-        &rt,
-        alloc,
-        book,
-        b"I83B\x00\x01\x00\x01\x00\x01",
-        b"batch 3\n",
-    )?;
-    assert_fault(
-        &rt,
-        alloc,
-        book,
-        b"I83B\x00\x01\x00\x00\x00\x01\x00\x00",
-        b"batch 4\n",
-    )?;
-    assert_fault(&rt, alloc, book, b"J", b"batch 5\n")?;
-    assert_fault(&rt, alloc, book, one_more, b"batch 6\n")?;
-    assert_fault(&rt, alloc, b"[", BATCH, b"book 1\n")?;
-    assert_fault(&rt, alloc, b"{}", BATCH, b"book 2\n")
-}
+# A batch is decided by sixty-four workers.
+put book BOOK
+put batch BATCH
+0 switch run --workers=64 book batch replies after
+> decided 1
+is replies REPLIES
+is after AFTER
+is book BOOK
+
+# A batch is decided by the split engine.
+put book BOOK
+put batch BATCH
+0 switch run book batch replies after --engine split
+> decided 1
+is replies REPLIES
+is after AFTER
+is book BOOK
+
+# A text is packed.
+put text TEXT
+put wrong '# 20 'none 0a '3g 0a
+0 switch pack text batch
+> packed 1
+is batch BATCH
+1 switch pack wrong none
+! text 2
+1 switch pack lost none
+! file 1
+none none
+
+# Files are shown.
+put batch BATCH
+put replies REPLIES
+put text TEXT
+0 switch show batch
+> 0 1100 100 000001
+0 switch show replies
+> 0 1110 000 000001 000001
+1 switch show text
+! batch 1
+1 switch show lost
+! file 1
+"#;
 
 #[test]
-fn a_file_that_is_not_there_is_told(rt: HostRuntime) -> Result<(), Fail> {
-    let alloc = rt.alloc();
-    for name in ["book", "batch"] {
-        let mut files = files_of(alloc, &[("book", BOOK.as_bytes()), ("batch", BATCH)])?;
-        let mut words = ["serial", "book", "batch", "replies", "after"];
-        if name == "book" {
-            words[1] = "none";
-        } else {
-            words[2] = "none";
-        }
-        let said = acted(&rt, alloc, &mut files, &words)?;
-        assert_eq!(rt; said.status, 1);
-        assert_eq!(rt; said.err.as_slice(), b"file 1\n".as_slice());
-        assert_eq!(rt; files.get("replies"), None);
-        assert_eq!(rt; files.get("after"), None);
-    }
-    Ok(())
+fn a_batch_is_packed_decided_and_shown(rt: HostRuntime) {
+    play(&rt, rt.alloc(), DECIDED);
 }
 
-// The request in hexadecimal, with a comment and an empty line before it.
-const TEXT: &[u8] =
-    b"# A request of 1.00.\n\n3131303072300101008080003136343131313131303030303030303030353030303030303030303030303030303130303031313031323030303030303030303132363031313031323030303031303030363132333435365445524D30303031393738\n";
+// A file that is not there.
+const MISSING: &str = r#"# No book of this name, and no batch.
+put book BOOK
+put batch BATCH
+1 switch serial none batch replies after
+! file 1
+none replies
+none after
+1 switch serial book none replies after
+! file 1
+none replies
+none after
+
+# No book.
+put batch BATCH
+1 switch serial book batch replies after
+! file 1
+1 switch run book batch replies after
+! file 1
+1 switch audit book batch replies after
+! file 1
+
+# No batch, then no replies, then no book after it.
+put book BOOK
+1 switch serial book batch replies after
+! file 1
+1 switch run book batch replies after
+! file 1
+1 switch audit book batch replies after
+! file 1
+put batch BATCH
+1 switch audit book batch replies after
+! file 1
+put replies REPLIES
+1 switch audit book batch replies after
+! file 1
+"#;
 
 #[test]
-fn a_text_is_packed(rt: HostRuntime) -> Result<(), Fail> {
-    let alloc = rt.alloc();
-    let mut files = files_of(alloc, &[("text", TEXT), ("wrong", b"# none\n3g\n")])?;
-    assert_said(
-        &rt,
-        alloc,
-        &mut files,
-        &["pack", "text", "batch"],
-        0,
-        b"packed 1\n",
-    )?;
-    assert_eq!(rt; files.get("batch"), Some(BATCH));
-    assert_said(
-        &rt,
-        alloc,
-        &mut files,
-        &["pack", "wrong", "none"],
-        1,
-        b"text 2\n",
-    )?;
-    assert_said(
-        &rt,
-        alloc,
-        &mut files,
-        &["pack", "lost", "none"],
-        1,
-        b"file 1\n",
-    )?;
-    assert_eq!(rt; files.get("none"), None);
-    Ok(())
+fn a_file_that_is_not_there_is_told(rt: HostRuntime) {
+    play(&rt, rt.alloc(), MISSING);
 }
 
+// Books that are none, as the one that is decided on and as the one after it. An older file of the new book stays.
+const BAD_BOOKS: &str = r#"# No JSON.
+put book '[
+put batch BATCH
+1 switch serial book batch replies after
+! book 1
+1 switch run book batch replies after
+! book 1
+1 switch audit book batch replies after
+! book 1
+put after 'older
+1 switch serial book batch replies after
+! book 1
+is after 'older
+1 switch run book batch replies after
+! book 1
+is after 'older
+put after book
+put book BOOK
+put replies REPLIES
+1 switch audit book batch replies after
+! book 1
+
+# No text.
+put book fffe
+put batch BATCH
+1 switch serial book batch replies after
+! book 1
+1 switch run book batch replies after
+! book 1
+1 switch audit book batch replies after
+! book 1
+put after book
+put book BOOK
+put replies REPLIES
+1 switch audit book batch replies after
+! book 1
+
+# Another shape.
+put book '{}
+put batch BATCH
+1 switch serial book batch replies after
+! book 2
+1 switch run book batch replies after
+! book 2
+1 switch audit book batch replies after
+! book 2
+put after 'older
+1 switch serial book batch replies after
+! book 2
+is after 'older
+1 switch run book batch replies after
+! book 2
+is after 'older
+put after book
+put book BOOK
+put replies REPLIES
+1 switch audit book batch replies after
+! book 2
+
+# Another shape: an account that comes twice.
+put book '{"accounts":[{"available":1,"currency":"978","id":"A"},{"available":1,"currency":"978","id":"A"}],"ahead":[],"budgets":[],"cards":[],"days":[],"originals":[],"version":3}
+put batch BATCH
+1 switch serial book batch replies after
+! book 2
+1 switch run book batch replies after
+! book 2
+1 switch audit book batch replies after
+! book 2
+put after book
+put book BOOK
+put replies REPLIES
+1 switch audit book batch replies after
+! book 2
+
+# An account of a million million too much.
+put book '{"accounts":[{"available":1000000000000001,"currency":"978","id":"A"}],"ahead":[],"budgets":[],"cards":[],"days":[],"originals":[],"version":3}
+put batch BATCH
+1 switch serial book batch replies after
+! book 3
+1 switch run book batch replies after
+! book 3
+1 switch audit book batch replies after
+! book 3
+put after book
+put book BOOK
+put replies REPLIES
+1 switch audit book batch replies after
+! book 3
+
+# A card with no account.
+put book '{"accounts":[],"ahead":[],"budgets":[],"cards":[{"account":"A","approvals":0,"day_amount":20000,"day_count":3,"expiry":"2812","pan":"4111110000000005","second":null,"status":"active"}],"days":[],"originals":[],"version":3}
+put batch BATCH
+1 switch serial book batch replies after
+! book 4
+1 switch run book batch replies after
+! book 4
+1 switch audit book batch replies after
+! book 4
+put after book
+put book BOOK
+put replies REPLIES
+1 switch audit book batch replies after
+! book 4
+"#;
+
 #[test]
-fn files_are_shown(rt: HostRuntime) -> Result<(), Fail> {
-    let alloc = rt.alloc();
-    let mut files = files_of(
-        alloc,
-        &[("batch", BATCH), ("replies", REPLIES), ("text", TEXT)],
-    )?;
-    assert_said(
-        &rt,
-        alloc,
-        &mut files,
-        &["show", "batch"],
-        0,
-        b"0 1100 100 000001\n",
-    )?;
-    let line = b"0 1110 000 000001 000001\n";
-    assert_said(&rt, alloc, &mut files, &["show", "replies"], 0, line)?;
-    assert_said(&rt, alloc, &mut files, &["show", "text"], 1, b"batch 1\n")?;
-    assert_said(&rt, alloc, &mut files, &["show", "lost"], 1, b"file 1\n")
+fn a_bad_book_is_told_by_its_number(rt: HostRuntime) {
+    play(&rt, rt.alloc(), BAD_BOOKS);
 }
 
-// The same files with one of them changed: what differs first is told.
+// Batches and replies that are none. An older file of the new book stays.
+const BAD_BATCHES: &str = r#"# One byte.
+put book BOOK
+put batch 'J
+put after 'older
+1 switch serial book batch replies after
+! batch 5
+is after 'older
+1 switch run book batch replies after
+! batch 5
+is after 'older
+put replies REPLIES
+put after AFTER
+1 switch audit book batch replies after
+! batch 5
+1 switch show batch
+! batch 5
+
+# Another mark.
+put book BOOK
+put batch 'J83B 000100000000
+put after 'older
+1 switch serial book batch replies after
+! batch 1
+is after 'older
+1 switch run book batch replies after
+! batch 1
+is after 'older
+put replies REPLIES
+put after AFTER
+1 switch audit book batch replies after
+! batch 1
+1 switch show batch
+! batch 1
+
+# Another version.
+put book BOOK
+put batch 'I83B 000200000000
+put after 'older
+1 switch serial book batch replies after
+! batch 2
+is after 'older
+1 switch run book batch replies after
+! batch 2
+is after 'older
+put replies REPLIES
+put after AFTER
+1 switch audit book batch replies after
+! batch 2
+1 switch show batch
+! batch 2
+
+# 65,537 bodies.
+put book BOOK
+put batch 'I83B 000100010001
+put after 'older
+1 switch serial book batch replies after
+! batch 3
+is after 'older
+1 switch run book batch replies after
+! batch 3
+is after 'older
+put replies REPLIES
+put after AFTER
+1 switch audit book batch replies after
+! batch 3
+1 switch show batch
+! batch 3
+
+# A body of no byte.
+put book BOOK
+put batch 'I83B 000100000001 0000
+put after 'older
+1 switch serial book batch replies after
+! batch 4
+is after 'older
+1 switch run book batch replies after
+! batch 4
+is after 'older
+put replies REPLIES
+put after AFTER
+1 switch audit book batch replies after
+! batch 4
+1 switch show batch
+! batch 4
+
+# A body of 513 bytes.
+put book BOOK
+put batch 'I83B 000100000001 0201
+put replies REPLIES
+put after AFTER
+1 switch audit book batch replies after
+! batch 4
+1 switch show batch
+! batch 4
+
+# A body that ends early.
+put book BOOK
+put batch 'I83B 000100000001 0002 '!
+put replies REPLIES
+put after AFTER
+1 switch audit book batch replies after
+! batch 5
+1 switch show batch
+! batch 5
+
+# A byte behind the last body.
+put book BOOK
+put batch 'I83B 000100000000 '!
+put after 'older
+1 switch serial book batch replies after
+! batch 6
+is after 'older
+1 switch run book batch replies after
+! batch 6
+is after 'older
+put replies REPLIES
+put after AFTER
+1 switch audit book batch replies after
+! batch 6
+1 switch show batch
+! batch 6
+
+# Replies that are none: no byte; a batch; too many; a byte behind the last one; a body that is no reply.
+put book BOOK
+put batch BATCH
+put after AFTER
+put replies
+1 switch audit book batch replies after
+! batch 5
+put replies 'I83B 000100000000
+1 switch audit book batch replies after
+! batch 1
+put replies 'I83R 000100010001
+1 switch audit book batch replies after
+! batch 3
+put replies 'I83R 000100000000 '!
+1 switch audit book batch replies after
+! batch 6
+put replies 'I83R 000100000001 0002 'R!
+1 switch audit book batch replies after
+! batch 9
+1 switch show replies
+! batch 9
+"#;
+
 #[test]
-fn a_batch_is_audited(rt: HostRuntime) -> Result<(), Fail> {
-    let alloc = rt.alloc();
-    let words = ["audit", "book", "batch", "replies", "after"];
-    let none = b"I83R\x00\x01\x00\x00\x00\x00";
-    let (front, back) = REPLIES.split_at(102);
-    let mut other = Vec::new(alloc);
-    other.extend_from_slice(front)?;
-    other.extend_from_slice(b"2")?;
-    other.extend_from_slice(&back[1..])?;
-    let richer = AFTER.replace(alloc, "9900", "9901")?;
-    let row = b"row acct:34313131313130303030303030303035 differs\n";
-    for (replies, after, status, line) in [
-        (REPLIES, AFTER, 0, b"same\n".as_slice()),
-        (none.as_slice(), AFTER, 3, b"count differs\n".as_slice()),
-        (other.as_slice(), AFTER, 3, b"reply 0 differs\n".as_slice()),
-        (REPLIES, richer.as_str(), 3, row.as_slice()),
-        (b"I83R".as_slice(), AFTER, 1, b"batch 5\n".as_slice()),
-        (REPLIES, "", 1, b"book 1\n".as_slice()),
-    ] {
-        let mut files = files_of(
-            alloc,
-            &[
-                ("book", BOOK.as_bytes()),
-                ("batch", BATCH),
-                ("replies", replies),
-                ("after", after.as_bytes()),
-            ],
-        )?;
-        assert_said(&rt, alloc, &mut files, &words, status, line)?;
-    }
-    Ok(())
+fn a_bad_batch_is_told_by_its_number(rt: HostRuntime) {
+    play(&rt, rt.alloc(), BAD_BATCHES);
 }

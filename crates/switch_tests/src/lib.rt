@@ -1,19 +1,19 @@
-//! Tests of the program: its words, and what it prints.
+//! Tests of the program: its words, what it prints, and the samples by both engines.
 #![tactic(auto)]
 
 #[cfg(test)]
-mod acting;
-#[cfg(test)]
 mod answers;
 #[cfg(test)]
-mod batches;
+mod audits;
 #[cfg(test)]
-mod block_audits;
+mod batches;
 #[cfg(test)]
 mod blocks;
 #[cfg(test)]
 mod command_lines;
 #[cfg(test)]
-mod faults;
+mod day;
 #[cfg(test)]
-mod journals;
+mod script;
+#[cfg(test)]
+mod texts;

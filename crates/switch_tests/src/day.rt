@@ -1,5 +1,7 @@
 //! The samples: the bodies of a day in hexadecimal, the book that they are decided on, and a line for each reply.
 
+use crate::script::play;
+
 // The first 41 bodies, one a line. The last two are a reversal ahead of its original, and its repeat.
 pub(crate) const FIRST_HALF: &str = "\
 3131303072300101008080003136343131313131303030303030303030353030303030303030303030303030363030303033313530383035303130303030303132363033313530383035303131303030363132333435365445524d30303031393738\n\
@@ -90,91 +92,171 @@ pub(crate) const SECOND_HALF: &str = "\
 3134323072300101008081003136343131313131303030303030303030353030303030303030303030303030303130303033313531333035303130303030363132363033313531333035303134303030363132333435365445524d303030313937383330313131303030303030313236303331353038303530313036313233343536\n\
 ";
 
-pub(crate) const BOOK: &str =
+pub(crate) const DAY_BOOK: &str =
     r#"{"accounts":[{"available":100000,"currency":"978","id":"A-MAIN"},{"available":50,"currency":"978","id":"A-SAVE"},{"available":500,"currency":"978","id":"B-MAIN"},{"available":10000,"currency":"978","id":"C-MAIN"},{"available":1000,"currency":"978","id":"D-MAIN"},{"available":7500,"currency":"978","id":"REST"}],"ahead":[{"acquirer":"123456","kind":"request","pan":"4111110000000013","reversal":{"acquirer":"123456","stamp":"260315070500","trace":"000906"},"stamp":"260315070000","trace":"000905"}],"budgets":[{"cap":5000,"left":90000,"mode":"direct","prefix":"411111"},{"cap":400,"left":500,"mode":"stand-in","prefix":"422222"}],"cards":[{"account":"A-MAIN","approvals":0,"day_amount":40000,"day_count":20,"expiry":"2812","pan":"4111110000000005","second":"A-SAVE","status":"active"},{"account":"B-MAIN","approvals":0,"day_amount":20000,"day_count":2,"expiry":"2812","pan":"4111110000000013","second":null,"status":"active"},{"account":"C-MAIN","approvals":0,"day_amount":90000,"day_count":9,"expiry":"2812","pan":"4222220000000016","second":null,"status":"active"},{"account":"D-MAIN","approvals":0,"day_amount":90000,"day_count":9,"expiry":"2812","pan":"4222220000000024","second":null,"status":"active"},{"account":"REST","approvals":0,"day_amount":90000,"day_count":9,"expiry":"2812","pan":"4333330000000019","second":null,"status":"blocked"},{"account":"REST","approvals":0,"day_amount":90000,"day_count":9,"expiry":"2812","pan":"4333330000000027","second":null,"status":"lost"},{"account":"REST","approvals":0,"day_amount":90000,"day_count":9,"expiry":"2812","pan":"4333330000000035","second":null,"status":"stolen"},{"account":"REST","approvals":0,"day_amount":90000,"day_count":9,"expiry":"2602","pan":"4333330000000043","second":null,"status":"active"},{"account":"REST","approvals":999999,"day_amount":90000,"day_count":9,"expiry":"2812","pan":"4333330000000050","second":null,"status":"active"}],"days":[{"count":0,"day":"260310","pan":"4111110000000005","sum":900},{"count":1,"day":"260311","pan":"4111110000000005","sum":100}],"originals":[{"account":"A-MAIN","acquirer":"123456","action":"000","amount":700,"approval":"009001","kind":"request","paid":"account","pan":"4111110000000005","processing":"000000","reversed":null,"stamp":"260309100000","stay":700,"trace":"000901"},{"account":"A-MAIN","acquirer":"123456","action":"000","amount":900,"approval":"009002","kind":"request","paid":"account","pan":"4111110000000005","processing":"000000","reversed":null,"stamp":"260310100000","stay":900,"trace":"000902"},{"account":"A-MAIN","acquirer":"123456","action":"000","amount":600,"approval":"009003","kind":"request","paid":"account","pan":"4111110000000005","processing":"000000","reversed":null,"stamp":"260311100000","stay":600,"trace":"000903"},{"account":null,"acquirer":"123456","action":"901","amount":250,"approval":null,"kind":"advice","paid":"budget","pan":"4444440000000012","processing":"000000","reversed":null,"stamp":"260312100000","stay":250,"trace":"000904"}],"version":3}"#;
 
-// What they are answered.
-pub(crate) const ANSWERS: &str = "\
-0 1110 000 000001 000001\n\
-1 1110 000 000001 000001\n\
-2 1110 913 - 000001\n\
-3 1110 913 - 000001\n\
-4 1110 119 - 000002\n\
-5 1110 119 - 000002\n\
-6 1110 110 - 000003\n\
-7 1110 111 - 000004\n\
-8 1110 118 - 000005\n\
-9 1110 100 - 000006\n\
-10 1110 208 - 000007\n\
-11 1110 209 - 000008\n\
-12 1110 101 - 000009\n\
-13 1110 119 - 000010\n\
-14 1110 116 - 000011\n\
-15 1110 000 000002 000012\n\
-16 1110 100 - 000013\n\
-17 1110 121 - 000014\n\
-18 1110 000 000001 000015\n\
-19 1110 116 - 000016\n\
-20 1110 000 000002 000017\n\
-21 1110 123 - 000018\n\
-22 1110 909 - 000019\n\
-23 1110 000 000001 000020\n\
-24 1110 907 - 000021\n\
-25 1110 907 - 000022\n\
-26 1110 000 000001 000023\n\
-27 1430 400 - 000024\n\
-28 1110 000 000002 000025\n\
-29 1430 400 - 000026\n\
-30 1430 400 - 000026\n\
-31 1430 913 - 000027\n\
-32 1430 400 - 000028\n\
-33 1430 914 - 000029\n\
-34 1430 914 - 000030\n\
-35 1430 110 - 000031\n\
-36 1430 110 - 000032\n\
-37 1430 400 - 000033\n\
-38 1110 000 000003 000034\n\
-39 1430 914 - 000035\n\
-40 1430 914 - 000035\n\
-41 1110 914 - 000036\n\
-42 1110 914 - 000036\n\
-43 1430 400 - 000035\n\
-44 1430 913 - 000037\n\
-45 1430 914 - 000038\n\
-46 1110 913 - 000039\n\
-47 1130 900 - 000039\n\
-48 1130 901 - 000040\n\
-49 1130 901 - 000040\n\
-50 1130 913 - 000040\n\
-51 1130 900 - 000041\n\
-52 1130 900 - 000042\n\
-53 1130 900 - 000043\n\
-54 1130 900 - 000044\n\
-55 1130 901 - 000045\n\
-56 1130 901 - 000046\n\
-57 1130 900 - 000047\n\
-58 1430 400 - 000048\n\
-59 1430 400 - 000049\n\
-60 1430 914 - 000050\n\
-61 1430 909 - 000051\n\
-62 1430 400 - 000052\n\
-63 1430 909 - 000053\n\
-64 1430 914 - 000054\n\
-65 1110 913 - 000905\n\
-66 1110 914 - 000905\n\
-67 F01000\n\
-68 F02000\n\
-69 F03000\n\
-70 F04005\n\
-71 F05049\n\
-72 F06002\n\
-73 F06102\n\
-74 F07004\n\
-75 F08000\n\
-76 F09012\n\
-77 F01049\n\
-78 F09024\n\
-79 F05030\n\
-80 F04030\n\
-81 F09056\n\
+// What they are answered; and each engine, with 1 and with 4 workers, comes to the same bytes, as one batch and as two blocks.
+const SAMPLES: &str = "\
+# The day decided one message after another: its first half, the other half on the book after it, and the whole.\n\
+put book DAY_BOOK\n\
+put text FIRST_HALF\n\
+0 switch pack text half\n\
+> packed 41\n\
+0 switch serial book half half-replies half-after\n\
+> decided 41\n\
+put text SECOND_HALF\n\
+0 switch pack text other\n\
+> packed 41\n\
+0 switch serial half-after other other-replies other-after\n\
+> decided 41\n\
+put text FIRST_HALF SECOND_HALF\n\
+0 switch pack text batch\n\
+> packed 82\n\
+is batch 'I83B 000100000052 half+10 other+10\n\
+0 switch serial book batch replies after\n\
+> decided 82\n\
+is replies 'I83R 000100000052 half-replies+10 other-replies+10\n\
+is after other-after\n\
+0 switch show replies\n\
+> 0 1110 000 000001 000001\n\
+> 1 1110 000 000001 000001\n\
+> 2 1110 913 - 000001\n\
+> 3 1110 913 - 000001\n\
+> 4 1110 119 - 000002\n\
+> 5 1110 119 - 000002\n\
+> 6 1110 110 - 000003\n\
+> 7 1110 111 - 000004\n\
+> 8 1110 118 - 000005\n\
+> 9 1110 100 - 000006\n\
+> 10 1110 208 - 000007\n\
+> 11 1110 209 - 000008\n\
+> 12 1110 101 - 000009\n\
+> 13 1110 119 - 000010\n\
+> 14 1110 116 - 000011\n\
+> 15 1110 000 000002 000012\n\
+> 16 1110 100 - 000013\n\
+> 17 1110 121 - 000014\n\
+> 18 1110 000 000001 000015\n\
+> 19 1110 116 - 000016\n\
+> 20 1110 000 000002 000017\n\
+> 21 1110 123 - 000018\n\
+> 22 1110 909 - 000019\n\
+> 23 1110 000 000001 000020\n\
+> 24 1110 907 - 000021\n\
+> 25 1110 907 - 000022\n\
+> 26 1110 000 000001 000023\n\
+> 27 1430 400 - 000024\n\
+> 28 1110 000 000002 000025\n\
+> 29 1430 400 - 000026\n\
+> 30 1430 400 - 000026\n\
+> 31 1430 913 - 000027\n\
+> 32 1430 400 - 000028\n\
+> 33 1430 914 - 000029\n\
+> 34 1430 914 - 000030\n\
+> 35 1430 110 - 000031\n\
+> 36 1430 110 - 000032\n\
+> 37 1430 400 - 000033\n\
+> 38 1110 000 000003 000034\n\
+> 39 1430 914 - 000035\n\
+> 40 1430 914 - 000035\n\
+> 41 1110 914 - 000036\n\
+> 42 1110 914 - 000036\n\
+> 43 1430 400 - 000035\n\
+> 44 1430 913 - 000037\n\
+> 45 1430 914 - 000038\n\
+> 46 1110 913 - 000039\n\
+> 47 1130 900 - 000039\n\
+> 48 1130 901 - 000040\n\
+> 49 1130 901 - 000040\n\
+> 50 1130 913 - 000040\n\
+> 51 1130 900 - 000041\n\
+> 52 1130 900 - 000042\n\
+> 53 1130 900 - 000043\n\
+> 54 1130 900 - 000044\n\
+> 55 1130 901 - 000045\n\
+> 56 1130 901 - 000046\n\
+> 57 1130 900 - 000047\n\
+> 58 1430 400 - 000048\n\
+> 59 1430 400 - 000049\n\
+> 60 1430 914 - 000050\n\
+> 61 1430 909 - 000051\n\
+> 62 1430 400 - 000052\n\
+> 63 1430 909 - 000053\n\
+> 64 1430 914 - 000054\n\
+> 65 1110 913 - 000905\n\
+> 66 1110 914 - 000905\n\
+> 67 F01000\n\
+> 68 F02000\n\
+> 69 F03000\n\
+> 70 F04005\n\
+> 71 F05049\n\
+> 72 F06002\n\
+> 73 F06102\n\
+> 74 F07004\n\
+> 75 F08000\n\
+> 76 F09012\n\
+> 77 F01049\n\
+> 78 F09024\n\
+> 79 F05030\n\
+> 80 F04030\n\
+> 81 F09056\n\
+put blocks 'I83M 000100000002 00000029 half+10 00000029 other+10\n\
+put block-replies 'I83T 000100000002 00000029 half-replies+10 00000029 other-replies+10\n\
+\n\
+put answers\n\
+put later\n\
+0 switch run book batch answers later --engine locked --workers 1\n\
+> decided 82\n\
+is answers replies\n\
+is later after\n\
+put answers\n\
+put later\n\
+0 switch blocks book blocks answers later --engine locked --workers 1\n\
+> decided 82 in 2 blocks\n\
+is answers block-replies\n\
+is later after\n\
+\n\
+put answers\n\
+put later\n\
+0 switch run book batch answers later --engine locked --workers 4\n\
+> decided 82\n\
+is answers replies\n\
+is later after\n\
+put answers\n\
+put later\n\
+0 switch blocks book blocks answers later --engine locked --workers 4\n\
+> decided 82 in 2 blocks\n\
+is answers block-replies\n\
+is later after\n\
+\n\
+put answers\n\
+put later\n\
+0 switch run book batch answers later --engine split --workers 1\n\
+> decided 82\n\
+is answers replies\n\
+is later after\n\
+put answers\n\
+put later\n\
+0 switch blocks book blocks answers later --engine split --workers 1\n\
+> decided 82 in 2 blocks\n\
+is answers block-replies\n\
+is later after\n\
+\n\
+put answers\n\
+put later\n\
+0 switch run book batch answers later --engine split --workers 4\n\
+> decided 82\n\
+is answers replies\n\
+is later after\n\
+put answers\n\
+put later\n\
+0 switch blocks book blocks answers later --engine split --workers 4\n\
+> decided 82 in 2 blocks\n\
+is answers block-replies\n\
+is later after\n\
 ";
+
+#[test]
+fn the_samples_are_answered_as_they_say_by_each_engine(rt: HostRuntime) {
+    play(&rt, rt.alloc(), SAMPLES);
+}
