@@ -1,96 +1,83 @@
 //! Audits of a batch.
 
-use crate::worked::{BODIES, book_after, frames_of, opening, replies_to};
+use crate::worked::{Worked, book_after, right};
 use audit::{Audit, audit, audit_text};
-use rows::ReplyBody;
+use rows::{Book, ReplyBody};
 use std::alloc::Global;
-use std::process::Abort;
 use std::test::Fail;
 
-// What the audit of the worked batch prints, with these replies and these rows changed in the book after it.
-fn found(
-    rt: &impl Abort,
-    alloc: Global,
-    replies: &[ReplyBody],
-    changes: &[&str],
-    text: &str,
-) -> Result<(), Fail> {
-    let frames = frames_of(alloc, BODIES)?;
-    assert!(rt; frames.len() <= 64);
+// Whether the audit of the worked batch with these replies and this book after it prints so.
+fn says(alloc: Global, worked: &Worked, replies: &[ReplyBody], after: &Book, text: &str) -> bool {
+    if worked.frames.len() > 64 {
+        return false;
+    }
+    match audit(alloc, &worked.book, &worked.frames, replies, after) {
+        Ok(found) => {
+            matches!(found, Audit::Same) == (text == "same") && is_printed(alloc, &found, text)
+        }
+        Err(_) => false,
+    }
+}
+
+fn is_printed(alloc: Global, found: &Audit, text: &str) -> bool {
+    match audit_text(alloc, found) {
+        Ok(printed) => printed.as_slice() == text.as_bytes(),
+        Err(_) => false,
+    }
+}
+
+// Whether it does with the right replies, and with these rows put over the right book.
+fn says_with(alloc: Global, worked: &Worked, changes: &[&str], text: &str) -> Result<bool, Fail> {
     let after = book_after(alloc, changes)?;
-    let found = audit(alloc, &opening(alloc)?, &frames, replies, &after)?;
-    let printed = audit_text(alloc, &found)?;
-    assert_eq!(rt; printed.as_slice(), text.as_bytes());
-    Ok(())
+    Ok(says(alloc, worked, &worked.replies, &after, text))
 }
 
-#[test]
-fn right_replies_and_book_are_the_same(rt: HostRuntime) -> Result<(), Fail> {
-    let alloc = rt.alloc();
-    let replies = replies_to(&rt, alloc, &frames_of(alloc, BODIES)?)?;
-    found(&rt, alloc, &replies, &[], "same")
-}
-
-#[test]
-fn a_reply_too_few_is_a_count_that_differs(rt: HostRuntime) -> Result<(), Fail> {
-    let alloc = rt.alloc();
-    let mut replies = replies_to(&rt, alloc, &frames_of(alloc, BODIES)?)?;
-    replies.pop();
-    found(&rt, alloc, &replies, &[], "count differs")
-}
-
-#[test]
-fn the_least_row_that_differs_is_named(rt: HostRuntime) -> Result<(), Fail> {
-    let alloc = rt.alloc();
-    let replies = replies_to(&rt, alloc, &frames_of(alloc, BODIES)?)?;
-    let other_value = "account A 4001 978";
-    found(
-        &rt,
-        alloc,
-        &replies,
-        &[other_value],
+// Rows that are put over the right book, and what the audit prints: the least row that differs is named. The last one is a mark in
+// place of what was kept.
+const CHANGES: &[(&[&str], &str)] = &[
+    (&[], "same"),
+    (
+        &["account A 4001 978"],
         "row acct:34313131313130303030303030303035 differs",
-    )?;
-    let two = ["account A 4001 978", "day A 260110 1 5999"];
-    found(
-        &rt,
-        alloc,
-        &replies,
-        &two,
+    ),
+    (
+        &["account A 4001 978", "day A 260110 1 5999"],
         "row day:4111110000000005:260110 differs",
-    )?;
-    let too_many = "budget 411111 direct 1 1";
-    found(
-        &rt,
-        alloc,
-        &replies,
-        &[too_many],
-        "row budget:411111 differs",
-    )?;
-    // A mark in place of what was kept.
-    let mark = "ahead 000002 A request 000003";
-    found(
-        &rt,
-        alloc,
-        &replies,
-        &[mark],
+    ),
+    (&["budget 411111 direct 1 1"], "row budget:411111 differs"),
+    (
+        &["ahead 000002 A request 000003"],
         "row orig:123456:000002:260110120000 differs",
-    )
+    ),
+];
+
+// The first of these texts that is not printed; then that of a reply too few, and of the book before the batch in place of the one
+// after it.
+fn first_wrong(alloc: Global, worked: &Worked) -> Result<Option<&'static str>, Fail> {
+    for (changes, text) in CHANGES {
+        if !says_with(alloc, worked, changes, text)? {
+            return Ok(Some(text));
+        }
+    }
+    let fewer = worked.replies.get(..3).unwrap_or(&worked.replies);
+    if !says(alloc, worked, fewer, &worked.after, "count differs") {
+        return Ok(Some("count differs"));
+    }
+    let row = "row card:4111110000000005 differs";
+    if !says(alloc, worked, &worked.replies, &worked.book, row) {
+        return Ok(Some(row));
+    }
+    Ok(None)
+}
+
+fn wrong(alloc: Global) -> Result<Option<&'static str>, Fail> {
+    let worked = right(alloc)?;
+    first_wrong(alloc, &worked)
 }
 
 #[test]
-fn a_row_that_is_missing_is_named(rt: HostRuntime) -> Result<(), Fail> {
-    let alloc = rt.alloc();
-    let frames = frames_of(alloc, BODIES)?;
-    assert!(rt; frames.len() <= 64);
-    let replies = replies_to(&rt, alloc, &frames)?;
-    let book = opening(alloc)?;
-    let found = audit(alloc, &book, &frames, &replies, &book)?;
-    let printed = audit_text(alloc, &found)?;
-    assert_eq!(rt;
-        printed.as_slice(),
-        b"row card:4111110000000005 differs".as_slice()
-    );
-    assert!(rt; !matches!(found, Audit::Same));
+fn what_differs_first_is_named(rt: HostRuntime) -> Result<(), Fail> {
+    let wrong = wrong(rt.alloc())?;
+    assert!(rt; wrong.is_none(), "{wrong:?}");
     Ok(())
 }

@@ -1,70 +1,100 @@
 //! Audits against a journal.
 
-use crate::worked::{BODIES, book_after, frames_of, opening, replies_to};
+use crate::worked::{Worked, right};
 use audit::{Audit, audit_journal};
 use engine::run_traced;
-use journal::{Entry, ReplayFault};
+use journal::{Entry, ReplayFault, read_journal};
 use rules::Shipped;
 use std::alloc::Global;
-use std::process::Abort;
 use std::sync::Wait;
 use std::test::Fail;
 use std::thread::Threads;
 use workers::{OpenGate, Workers};
 
+// What the audit of the worked batch against these entries finds.
+fn found(alloc: Global, worked: &Worked, entries: &[Entry]) -> &'static str {
+    if worked.frames.len() > 64 {
+        return "too many frames";
+    }
+    let Worked {
+        book,
+        frames,
+        replies,
+        after,
+    } = worked;
+    match audit_journal(alloc, book, frames, entries, replies, after) {
+        Ok(Audit::Same) => "same",
+        Ok(Audit::CountDiffers) => "count differs",
+        Err(ReplayFault::Unlogged(2)) => "entry 2 is not logged",
+        _ => "another",
+    }
+}
+
 // The journal of a run of the worked batch on two threads.
-fn journal<R: Threads + Wait + Abort + Sync>(rt: &R, alloc: Global) -> Result<Vec<Entry>, Fail> {
-    let frames = frames_of(alloc, BODIES)?;
-    assert!(rt; frames.len() <= 64);
-    let workers = Workers::new(2).ok_or("a number of workers")?;
-    let (_, entries) = run_traced(
+fn journal<R: Threads + Wait + Sync>(rt: &R, alloc: Global, worked: &Worked) -> Option<Vec<Entry>> {
+    if worked.frames.len() > 64 {
+        return None;
+    }
+    let workers = Workers::new(2)?;
+    let run = run_traced(
         rt,
         alloc,
-        &opening(alloc)?,
-        &frames,
+        &worked.book,
+        &worked.frames,
         workers,
         &Shipped,
         &OpenGate,
-    )?;
-    Ok(entries)
+    );
+    match run {
+        Ok((_, entries)) => Some(entries),
+        Err(_) => None,
+    }
 }
 
-#[test]
-fn the_journal_of_a_run_plays_to_its_replies_and_book(rt: HostRuntime) -> Result<(), Fail> {
-    let alloc = rt.alloc();
-    let entries = journal(&rt, alloc)?;
-    let frames = frames_of(alloc, BODIES)?;
-    assert!(rt; frames.len() <= 64);
-    let replies = replies_to(&rt, alloc, &frames)?;
-    let (book, after) = (opening(alloc)?, book_after(alloc, &[])?);
-    let found = audit_journal(alloc, &book, &frames, &entries, &replies, &after);
-    assert!(rt; matches!(found, Ok(Audit::Same)));
-    Ok(())
+// What it finds against the journal of a run.
+fn found_of_run<R: Threads + Wait + Sync>(rt: &R, alloc: Global, worked: &Worked) -> &'static str {
+    match journal(rt, alloc, worked) {
+        Some(entries) => found(alloc, worked, &entries),
+        None => "no journal",
+    }
 }
 
-#[test]
-fn a_journal_that_commits_too_little_is_a_count_that_differs(rt: HostRuntime) -> Result<(), Fail> {
-    let alloc = rt.alloc();
-    let frames = frames_of(alloc, BODIES)?;
-    assert!(rt; frames.len() <= 64);
-    let replies = replies_to(&rt, alloc, &frames)?;
-    let (book, after) = (opening(alloc)?, book_after(alloc, &[])?);
-    let found = audit_journal(alloc, &book, &frames, &[], &replies, &after);
-    assert!(rt; matches!(found, Ok(Audit::CountDiffers)));
-    Ok(())
+// What it finds against the journal of this text.
+fn found_of_text(alloc: Global, worked: &Worked, text: &[u8]) -> &'static str {
+    match read_journal(alloc, text) {
+        Ok(entries) => found(alloc, worked, &entries),
+        Err(_) => "no journal",
+    }
 }
 
+// The first of these journals that is not found so.
+fn first_wrong<R: Threads + Wait + Sync>(
+    rt: &R,
+    alloc: Global,
+    worked: &Worked,
+) -> Option<&'static str> {
+    if found_of_run(rt, alloc, worked) != "same" {
+        return Some("of a run");
+    }
+    if found(alloc, worked, &[]) != "count differs" {
+        return Some("without an entry");
+    }
+    if found_of_text(alloc, worked, b"0 n\n0 f 0.0\n") != "entry 2 is not logged" {
+        return Some("without reads");
+    }
+    None
+}
+
+fn wrong<R: Threads + Wait + Sync>(rt: &R, alloc: Global) -> Result<Option<&'static str>, Fail> {
+    let worked = right(alloc)?;
+    Ok(first_wrong(rt, alloc, &worked))
+}
+
+// The journal of a run plays to its replies and book; one that commits too little is a count that differs; and one without reads
+// is not logged.
 #[test]
-fn a_journal_without_reads_is_unlogged(rt: HostRuntime) -> Result<(), Fail> {
-    let alloc = rt.alloc();
-    let frames = frames_of(alloc, BODIES)?;
-    assert!(rt; frames.len() <= 64);
-    let replies = replies_to(&rt, alloc, &frames)?;
-    let (book, after) = (opening(alloc)?, book_after(alloc, &[])?);
-    let entries = journal::read_journal(alloc, b"0 n\n0 f 0.0\n").map_err(|_| Fail::new(
-        "a journal",
-    ))?;
-    let found = audit_journal(alloc, &book, &frames, &entries, &replies, &after);
-    assert!(rt; matches!(found, Err(ReplayFault::Unlogged(2))));
+fn journals_are_played(rt: HostRuntime) -> Result<(), Fail> {
+    let wrong = wrong(&rt, rt.alloc())?;
+    assert!(rt; wrong.is_none(), "{wrong:?}");
     Ok(())
 }

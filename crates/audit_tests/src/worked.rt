@@ -1,15 +1,16 @@
 //! A batch that was worked out by hand: 60.00, 60.00, the first taken back, 60.00.
 
+ghost use Rattle.std.specs.Prelude.{◌≤◌, length};
+
 use fixtures::{body, first_book_with, with_rows};
 use fold::Prefix;
 use rows::{Book, Frame, ReplyBody};
 use rules::decide_all;
-use std::alloc::Global;
-use std::process::Abort;
+use std::alloc::{AllocError, Global};
 use std::test::Fail;
 
 // The bodies.
-pub const BODIES: &[&str] = &[
+const BODIES: &[&str] = &[
     "1100 000001 A 6000",
     "1100 000002 A 6000",
     "1420 000003 A 6000 request=000001",
@@ -26,29 +27,44 @@ const AFTER: &[&str] = &[
     "approved 000004 A 6000 000002 A",
 ];
 
-// The frames of these lines; a line that is none is left out.
-pub fn frames_of(alloc: Global, lines: &[&str]) -> Result<Vec<Frame>, Fail> {
-    Ok(lines.iter().filter_map(|line| body(line)).collect(alloc)?)
+// The book before the bodies, their frames, the right replies, and the book after them.
+#[derive(Drop)]
+pub(crate) struct Worked {
+    pub book: Book,
+    pub frames: Vec<Frame>,
+    pub replies: Vec<ReplyBody>,
+    pub after: Book,
 }
 
-// The book before them.
-pub fn opening(alloc: Global) -> Result<Book, Fail> {
-    first_book_with(alloc, &[])
+pub(crate) fn right(alloc: Global) -> Result<Worked, Fail> {
+    let frames = frames(alloc)?;
+    if frames.len() != 4 {
+        return Err(Fail::new("four bodies"));
+    }
+    let replies = replies_to(alloc, &frames)?;
+    let book = first_book_with(alloc, &[])?;
+    let after = book_after(alloc, &[])?;
+    Ok(Worked {
+        book,
+        frames,
+        replies,
+        after,
+    })
+}
+
+// The frames of the bodies; a line that is none is left out.
+fn frames(alloc: Global) -> Result<Vec<Frame>, AllocError> {
+    BODIES.iter().filter_map(|line| body(line)).collect(alloc)
+}
+
+fn replies_to(alloc: Global, frames: &[Frame]) -> Result<Vec<ReplyBody>, Fail>
+    requires { length frames.now ≤ 65536 }
+{
+    let prefix = Prefix::new(alloc, first_book_with(alloc, &[])?);
+    Ok(decide_all(alloc, prefix, frames)?.replies)
 }
 
 // The book after them, with these rows put over it.
-pub fn book_after(alloc: Global, changes: &[&str]) -> Result<Book, Fail> {
+pub(crate) fn book_after(alloc: Global, changes: &[&str]) -> Result<Book, Fail> {
     with_rows(first_book_with(alloc, AFTER)?, changes)
-}
-
-// The right replies to the frames.
-pub fn replies_to(
-    rt: &impl Abort,
-    alloc: Global,
-    frames: &[Frame],
-) -> Result<Vec<ReplyBody>, Fail> {
-    assert!(rt; frames.len() <= 64);
-    let prefix = Prefix::new(alloc, opening(alloc)?);
-    assert_eq!(rt; prefix.count, 0);
-    Ok(decide_all(alloc, prefix, frames)?.replies)
 }
