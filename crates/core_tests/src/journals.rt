@@ -7,11 +7,159 @@ use mvmem::Version;
 use rows::RowKey;
 use speccore_laws::Seat;
 use std::alloc::Global;
-use std::process::Abort;
-use std::test::Fail;
+
+// A row, by its kind.
+fn key(kind: &str) -> Option<RowKey> {
+    match kind {
+        "card" => Some(RowKey::Card(pan("A")?)),
+        "day" => Some(RowKey::Velocity(pan("A")?, Day::new(b"260110")?)),
+        "budget" => Some(RowKey::Budget(PanPrefix::new(b"411111")?)),
+        "original" => Some(RowKey::Original(identity("000001")?)),
+        "account" => Some(RowKey::Account(account("A")?)),
+        _ => None,
+    }
+}
+
+// Kinds of rows, and their text behind `> `.
+const KEYS: &[(&str, &[u8])] = &[
+    ("card", b"> card:4111110000000005"),
+    ("day", b"> day:4111110000000005:260110"),
+    ("budget", b"> budget:411111"),
+    ("original", b"> orig:123456:000001:260110120000"),
+    ("account", b"> acct:34313131313130303030303030303035"),
+];
+
+// Whether the kind's key is written so, behind what is there.
+fn is_written(kind: &str, text: &[u8], out: &mut Vec<u8>) -> bool {
+    out.clear();
+    let is_put = out.extend_from_slice(b"> ").is_ok();
+    match key(kind) {
+        Some(key) => is_put & write_key(&key, out).is_ok() & (out.as_slice() == text),
+        None => false,
+    }
+}
+
+// An event; a row that it reads is told by its kind.
+#[derive(Clone, Copy)]
+enum Told {
+    Claim,
+    Read(Version, &'static str),
+    Block(Version, u32),
+    Finish(Version),
+    BeginCheck(Version),
+    CheckOne,
+    EndCheck,
+    Commit,
+}
+
+const LATER: Version = Version {
+    index: 7,
+    incarnation: 2,
+};
+
+// Events at seat 63, and their lines.
+const EVENTS: &[(Told, &str)] = &[
+    (Told::Claim, "63 n\n"),
+    (
+        Told::Read(LATER, "card"),
+        "63 r 7.2 card:4111110000000005\n",
+    ),
+    (Told::Block(LATER, 4_294_967_295), "63 b 7.2 4294967295\n"),
+    (
+        Told::Finish(Version {
+            index: 10,
+            incarnation: 0,
+        }),
+        "63 f 10.0\n",
+    ),
+    (
+        Told::BeginCheck(Version {
+            index: 0,
+            incarnation: 10,
+        }),
+        "63 c 0.10\n",
+    ),
+    (Told::CheckOne, "63 o\n"),
+    (Told::EndCheck, "63 e\n"),
+    (Told::Commit, "63 k\n"),
+];
+
+fn event(told: &Told) -> Option<Event> {
+    match told {
+        Told::Claim => Some(Event::Claim),
+        Told::Read(version, kind) => Some(Event::Read(*version, key(kind)?)),
+        Told::Block(version, on) => Some(Event::Block(*version, *on)),
+        Told::Finish(version) => Some(Event::Finish(*version)),
+        Told::BeginCheck(version) => Some(Event::BeginCheck(*version)),
+        Told::CheckOne => Some(Event::CheckOne),
+        Told::EndCheck => Some(Event::EndCheck),
+        Told::Commit => Some(Event::Commit),
+    }
+}
+
+fn entry(number: u32, told: &Told) -> Option<Entry> {
+    Some(Entry {
+        seat: Seat::new(number)?,
+        event: event(told)?,
+    })
+}
+
+// Whether the entries are written so.
+fn are_written(alloc: Global, entries: &[Entry], text: &str) -> bool {
+    match write_journal(alloc, entries) {
+        Ok(written) => written.as_slice() == text.as_bytes(),
+        Err(_) => false,
+    }
+}
+
+// Whether the text is read as these entries.
+fn are_read(alloc: Global, entries: &[Entry], text: &str) -> bool {
+    match read_journal(alloc, text.as_bytes()) {
+        Ok(read) => read.as_slice() == entries,
+        Err(_) => false,
+    }
+}
+
+fn are_kept(alloc: Global, entries: &[Entry], text: &str) -> bool {
+    are_written(alloc, entries, text) & are_read(alloc, entries, text)
+}
+
+fn is_kept_alone(alloc: Global, told: &Told, text: &str) -> bool {
+    match entry(63, told) {
+        Some(entry) => are_kept(alloc, &[entry], text),
+        None => false,
+    }
+}
+
+// The line of the first event that isn't written and read.
+fn first_unkept(alloc: Global) -> Option<&'static str> {
+    for (told, line) in EVENTS {
+        if !is_kept_alone(alloc, told, line) {
+            return Some(*line);
+        }
+    }
+    None
+}
+
+const FIRST: Version = Version {
+    index: 0,
+    incarnation: 0,
+};
 
 // The journal of one message that one worker executes.
-const EXECUTED: &[u8] = b"0 n\n\
+fn executed() -> Option<[Entry; 7]> {
+    Some([
+        entry(0, &Told::Claim)?,
+        entry(0, &Told::Read(FIRST, "original"))?,
+        entry(0, &Told::Read(FIRST, "card"))?,
+        entry(0, &Told::Read(FIRST, "account"))?,
+        entry(0, &Told::Read(FIRST, "day"))?,
+        entry(0, &Told::Read(FIRST, "budget"))?,
+        entry(0, &Told::Finish(FIRST))?,
+    ])
+}
+
+const EXECUTED: &str = "0 n\n\
 0 r 0.0 orig:123456:000001:260110120000\n\
 0 r 0.0 card:4111110000000005\n\
 0 r 0.0 acct:34313131313130303030303030303035\n\
@@ -19,195 +167,122 @@ const EXECUTED: &[u8] = b"0 n\n\
 0 r 0.0 budget:411111\n\
 0 f 0.0\n";
 
-fn card() -> Result<RowKey, Fail> {
-    Ok(RowKey::Card(pan("A").ok_or("a card")?))
-}
-
-fn day() -> Result<RowKey, Fail> {
-    let day = Day::new(b"260110").ok_or("a day")?;
-    Ok(RowKey::Velocity(pan("A").ok_or("a card")?, day))
-}
-
-fn budget() -> Result<RowKey, Fail> {
-    Ok(RowKey::Budget(PanPrefix::new(b"411111").ok_or("a prefix")?))
-}
-
-fn original() -> Result<RowKey, Fail> {
-    Ok(RowKey::Original(identity("000001").ok_or("an identity")?))
-}
-
-fn named_account() -> Result<RowKey, Fail> {
-    Ok(RowKey::Account(account("A").ok_or("an account")?))
-}
-
-fn at_seat(number: u32, event: Event) -> Result<Entry, Fail> {
-    let seat = Seat::new(number).ok_or("a seat")?;
-    Ok(Entry { seat, event })
-}
-
-fn version(index: u32, incarnation: u32) -> Version {
-    Version { index, incarnation }
-}
-
-fn executed(alloc: Global) -> Result<Vec<Entry>, Fail> {
-    let first = version(0, 0);
-    Ok(vec![in alloc;
-        at_seat(0, Event::Claim)?,
-        at_seat(0, Event::Read(first, original()?))?,
-        at_seat(0, Event::Read(first, card()?))?,
-        at_seat(0, Event::Read(first, named_account()?))?,
-        at_seat(0, Event::Read(first, day()?))?,
-        at_seat(0, Event::Read(first, budget()?))?,
-        at_seat(0, Event::Finish(first))?,
-    ]?)
-}
-
-#[test]
-fn an_execution_is_written_and_read(rt: HostRuntime) -> Result<(), Fail> {
-    let entries = executed(rt.alloc())?;
-    let text = write_journal(rt.alloc(), &entries)?;
-    assert_eq!(rt; text.as_slice(), EXECUTED);
-    let read = read_journal(rt.alloc(), EXECUTED)?;
-    assert_eq!(rt; read.as_slice(), entries.as_slice());
-    Ok(())
-}
-
-#[test]
-fn each_event_has_its_line(rt: HostRuntime) -> Result<(), Fail> {
-    for (event, line) in [
-        (Event::Claim, b"63 n\n".as_slice()),
-        (
-            Event::Read(version(7, 2), card()?),
-            b"63 r 7.2 card:4111110000000005\n",
-        ),
-        (
-            Event::Block(version(7, 2), 4_294_967_295),
-            b"63 b 7.2 4294967295\n",
-        ),
-        (Event::Finish(version(10, 0)), b"63 f 10.0\n"),
-        (Event::BeginCheck(version(0, 10)), b"63 c 0.10\n"),
-        (Event::CheckOne, b"63 o\n"),
-        (Event::EndCheck, b"63 e\n"),
-        (Event::Commit, b"63 k\n"),
-    ] {
-        let entry = at_seat(63, event)?;
-        let text = write_journal(rt.alloc(), &[entry])?;
-        assert_eq!(rt; text.as_slice(), line);
-        let read = read_journal(rt.alloc(), line)?;
-        assert_eq!(rt; read.as_slice(), [entry].as_slice());
+// Whether an execution and no entries are written and read.
+fn is_executed(alloc: Global) -> bool {
+    match executed() {
+        Some(entries) => are_kept(alloc, &entries, EXECUTED) & are_kept(alloc, &[], ""),
+        None => false,
     }
-    Ok(())
 }
 
-#[test]
-fn each_kind_of_key_has_its_text(rt: HostRuntime) -> Result<(), Fail> {
-    for (key, text) in [
-        (card()?, b"> card:4111110000000005".as_slice()),
-        (day()?, b"> day:4111110000000005:260110"),
-        (budget()?, b"> budget:411111"),
-        (original()?, b"> orig:123456:000001:260110120000"),
-        (named_account()?, b"> acct:34313131313130303030303030303035"),
-    ] {
-        let mut out = b"> ".to_vec(rt.alloc())?;
-        write_key(&key, &mut out)?;
-        assert_eq!(rt; out.as_slice(), text);
+// Texts, and the first line of each that is no entry.
+const REFUSED: &[(&str, usize)] = &[
+    // Ends of lines.
+    ("\n", 1),
+    ("0 n", 1),
+    ("0 n\n0 o", 2),
+    ("0 n\n\n0 k\n", 2),
+    ("0 n\r\n", 1),
+    // Seats and marks.
+    ("64 n\n", 1),
+    ("00 n\n", 1),
+    ("+1 n\n", 1),
+    (" n\n", 1),
+    ("0 n \n", 1),
+    ("0 n\n1 k\n2  o\n", 3),
+    ("0\n", 1),
+    // Letters.
+    ("0 n\n0 N\n", 2),
+    ("0 x\n", 1),
+    ("0 n 0.0\n", 1),
+    ("0 f\n", 1),
+    // Versions and indices.
+    ("0 f 0\n", 1),
+    ("0 f 0.00\n", 1),
+    ("0 f 4294967296.0\n", 1),
+    ("0 c 0.0.0\n", 1),
+    ("0 b 1.0\n", 1),
+    ("0 b 1.0 00\n", 1),
+    // Keys of wrong parts.
+    ("0 r 0.0\n", 1),
+    ("0 r 0.0 4111110000000005\n", 1),
+    ("0 r 0.0 Card:4111110000000005\n", 1),
+    ("0 r 0.0 card:41111100000\n", 1),
+    ("0 r 0.0 card:4111110000000005:\n", 1),
+    ("0 r 0.0 day:4111110000000005\n", 1),
+    ("0 r 0.0 day:4111110000000005:261310\n", 1),
+    ("0 r 0.0 budget:41111\n", 1),
+    ("0 r 0.0 orig:123456:000001\n", 1),
+    ("0 r 0.0 orig:123456:000001:260110240000\n", 1),
+    ("0 r 0.0 orig::000001:260110120000\n", 1),
+    // Names of accounts: none, half a byte, a capital, no printable character, 29 bytes.
+    ("0 r 0.0 acct:\n", 1),
+    ("0 r 0.0 acct:3\n", 1),
+    ("0 r 0.0 acct:4A\n", 1),
+    ("0 r 0.0 acct:1f\n", 1),
+    (
+        "0 r 0.0 acct:3030303030303030303030303030303030303030303030303030303030\n",
+        1,
+    ),
+];
+
+fn fault_of(alloc: Global, text: &str) -> Option<ReplayFault> {
+    read_journal(alloc, text.as_bytes()).err()
+}
+
+// The first text that is read, or refused for another line.
+fn first_unrefused(alloc: Global) -> Option<&'static str> {
+    for (text, line) in REFUSED {
+        if fault_of(alloc, text) != Some(ReplayFault::Line(*line)) {
+            return Some(*text);
+        }
     }
-    Ok(())
+    None
 }
 
 #[test]
-fn no_entries_are_no_text(rt: HostRuntime) -> Result<(), Fail> {
-    assert!(rt; write_journal(rt.alloc(), &[])?.is_empty());
-    assert!(rt; read_journal(rt.alloc(), b"")?.is_empty());
-    Ok(())
+fn journals_are_written_and_read(rt: HostRuntime) {
+    let unkept = first_unkept(rt.alloc());
+    let unrefused = first_unrefused(rt.alloc());
+    assert!(rt;
+        unkept.is_none() & unrefused.is_none(),
+        "{unkept:?} {unrefused:?}"
+    );
+    assert!(rt; is_executed(rt.alloc()));
 }
 
 #[test]
-fn the_first_line_that_is_no_entry_is_named(rt: HostRuntime) {
-    for (text, line) in [
-        // Ends of lines.
-        (b"\n".as_slice(), 1),
-        (b"0 n", 1),
-        (b"0 n\n0 o", 2),
-        (b"0 n\n\n0 k\n", 2),
-        (b"0 n\r\n", 1),
-        // Seats and marks.
-        (b"64 n\n", 1),
-        (b"00 n\n", 1),
-        (b"+1 n\n", 1),
-        (b" n\n", 1),
-        (b"0 n \n", 1),
-        (b"0 n\n1 k\n2  o\n", 3),
-        (b"0\n", 1),
-        // Letters.
-        (b"0 n\n0 N\n", 2),
-        (b"0 x\n", 1),
-        (b"0 n 0.0\n", 1),
-        (b"0 f\n", 1),
-        // Versions and indices.
-        (b"0 f 0\n", 1),
-        (b"0 f 0.00\n", 1),
-        (b"0 f 4294967296.0\n", 1),
-        (b"0 c 0.0.0\n", 1),
-        (b"0 b 1.0\n", 1),
-        (b"0 b 1.0 00\n", 1),
-    ] {
-        is_refused(&rt, rt.alloc(), text, line);
+fn each_kind_of_key_has_its_text(rt: HostRuntime) {
+    let mut out = Vec::new(rt.alloc());
+    for (kind, text) in KEYS {
+        assert!(rt; is_written(kind, text, &mut out), "{kind}");
+    }
+}
+
+// Faults with their numbers, and what they print.
+const FAULTS: &[(ReplayFault, u8, &str)] = &[
+    (ReplayFault::Line(3), 1, "line 3 is no entry of a journal"),
+    (
+        ReplayFault::Unlogged(4),
+        2,
+        "the decision of entry 4 asks for a row that isn't logged",
+    ),
+    (ReplayFault::OutOfMemory, 3, "memory ran out"),
+];
+
+// Whether the fault has this number, and prints so.
+fn prints(alloc: Global, fault: ReplayFault, number: u8, text: &str) -> bool {
+    match fault.to_string(alloc) {
+        Ok(printed) => (printed.as_str() == text) & (fault.number() == number),
+        Err(_) => false,
     }
 }
 
 #[test]
-fn a_key_of_wrong_parts_is_no_entry(rt: HostRuntime) {
-    for text in [
-        b"0 r 0.0\n".as_slice(),
-        b"0 r 0.0 4111110000000005\n",
-        b"0 r 0.0 Card:4111110000000005\n",
-        b"0 r 0.0 card:41111100000\n",
-        b"0 r 0.0 card:4111110000000005:\n",
-        b"0 r 0.0 day:4111110000000005\n",
-        b"0 r 0.0 day:4111110000000005:261310\n",
-        b"0 r 0.0 budget:41111\n",
-        b"0 r 0.0 orig:123456:000001\n",
-        b"0 r 0.0 orig:123456:000001:260110240000\n",
-        b"0 r 0.0 orig::000001:260110120000\n",
-        // Names of accounts: none, half a byte, a capital, no printable character, 29 bytes.
-        b"0 r 0.0 acct:\n",
-        b"0 r 0.0 acct:3\n",
-        b"0 r 0.0 acct:4A\n",
-        b"0 r 0.0 acct:1f\n",
-        b"0 r 0.0 acct:3030303030303030303030303030303030303030303030303030303030\n",
-    ] {
-        is_refused(&rt, rt.alloc(), text, 1);
+fn faults_print_and_seats_are_below_64(rt: HostRuntime) {
+    for (fault, number, text) in FAULTS {
+        assert!(rt; prints(rt.alloc(), *fault, *number, text), "{text}");
     }
-}
-
-fn is_refused(rt: &impl Abort, alloc: Global, text: &[u8], line: usize) {
-    match read_journal(alloc, text) {
-        Ok(_) => assert!(rt; false, "{text:?} is read"),
-        Err(fault) => assert_eq!(rt; fault, ReplayFault::Line(line), "of {text:?}"),
-    }
-}
-
-#[test]
-fn seats_are_below_64(rt: HostRuntime) -> Result<(), Fail> {
-    assert_eq!(rt; Seat::new(63).ok_or("a seat")?.number(), 63);
+    assert!(rt; Seat::new(63).is_some_and(|seat| seat.number() == 63));
     assert!(rt; Seat::new(64).is_none());
-    Ok(())
-}
-
-#[test]
-fn faults_are_numbered_and_printed(rt: HostRuntime) -> Result<(), Fail> {
-    for (fault, number, text) in [
-        (ReplayFault::Line(3), 1, "line 3 is no entry of a journal"),
-        (
-            ReplayFault::Unlogged(4),
-            2,
-            "the decision of entry 4 asks for a row that isn't logged",
-        ),
-        (ReplayFault::OutOfMemory, 3, "memory ran out"),
-    ] {
-        assert_eq!(rt; fault.number(), number);
-        assert_eq!(rt; fault.to_string(rt.alloc())?.as_str(), text);
-    }
-    Ok(())
 }

@@ -2,16 +2,20 @@
 #![tactic(auto)]
 
 #[cfg(test)]
-mod journals;
+mod answers;
 #[cfg(test)]
-mod late_checks;
+mod calls;
+#[cfg(test)]
+mod journals;
 #[cfg(test)]
 mod limits;
 #[cfg(test)]
-mod one_card;
+mod marks;
 #[cfg(test)]
-mod refusals;
+mod rows_seen;
 #[cfg(test)]
-mod requests;
+mod schedules;
 #[cfg(test)]
-mod steps;
+mod scripts;
+#[cfg(test)]
+mod words;

@@ -1,11 +1,12 @@
 //! Whole batches through both engines, with 1, 4 and 64 workers.
+ghost use Rattle.std.specs.Prelude.{◌≤◌, length};
 
-use crate::deciding::decided_by;
+use crate::deciding::{decided_by, is_answer};
 use fixtures::{
-    Batch, advice_rules, answer_text, has_row, request_rules, reversal_rules, unchecked_rules,
-    worked,
+    Batch, advice_rules, has_row, request_rules, reversal_rules, unchecked_rules, worked,
 };
 use fold::Outcome;
+use rows::{Book, Frame};
 use rules::Shipped;
 use std::alloc::Global;
 use std::process::Abort;
@@ -14,49 +15,94 @@ use std::test::Fail;
 use std::thread::Threads;
 use workers::{Engine, OpenGate};
 
-// The bodies of the batch, decided on its book.
-fn outcome_of<R: Abort + Threads + Wait + Sync>(
+const RUNS: &[(Engine, u32)] = &[
+    (Engine::Locked, 1),
+    (Engine::Locked, 4),
+    (Engine::Locked, 64),
+    (Engine::Split, 1),
+    (Engine::Split, 4),
+    (Engine::Split, 64),
+];
+
+// Whether there are as many replies and rows as the batch tells, and the workers committed every message.
+fn is_whole(batch: &Batch, outcome: &Outcome) -> bool {
+    (outcome.replies.len() == batch.bodies.len())
+        & (outcome.book.len() == batch.rows)
+        & (outcome.committed as usize == batch.bodies.len())
+}
+
+// The first line of the batch that is not so: a body that is answered otherwise, or a row that isn't there.
+fn first_wrong(alloc: Global, batch: &Batch, outcome: &Outcome) -> Option<&'static str> {
+    for (reply, (line, answer)) in outcome.replies.iter().zip(batch.bodies) {
+        if !is_answer(alloc, reply, answer) {
+            return Some(*line);
+        }
+    }
+    for line in batch.after {
+        if !has_row(&outcome.book, line) {
+            return Some(*line);
+        }
+    }
+    if is_whole(batch, outcome) {
+        None
+    } else {
+        Some("as many replies, rows and commits")
+    }
+}
+
+// What is wrong with the batch, decided by so many workers of this engine.
+fn wrong_with<R: Threads + Wait + Sync>(
     rt: &R,
     alloc: Global,
     batch: &Batch,
-    engine: Engine,
-    workers: u32,
-) -> Result<Outcome, Fail> {
-    let frames = batch.frames(alloc)?;
-    assert_eq!(rt; frames.len(), batch.bodies.len(), "{}", batch.name);
-    assert!(rt; frames.len() <= 64);
-    let book = batch.opening(alloc)?;
-    decided_by(
-        rt, alloc, engine, workers, &book, &frames, &Shipped, &OpenGate,
-    )
+    book: &Book,
+    frames: &[Frame],
+    run: (Engine, u32),
+) -> Option<&'static str>
+    requires { length frames.now ≤ 65536 }
+{
+    let (engine, workers) = run;
+    match decided_by(
+        rt, alloc, engine, workers, book, frames, &Shipped, &OpenGate,
+    ) {
+        Some(outcome) => first_wrong(alloc, batch, &outcome),
+        None => Some("room"),
+    }
 }
 
-fn assert_replies(
-    rt: &impl Abort,
+// The first run that comes to something else, and what is wrong with it.
+fn first_wrong_run<R: Threads + Wait + Sync>(
+    rt: &R,
     alloc: Global,
     batch: &Batch,
-    outcome: &Outcome,
-) -> Result<(), Fail> {
-    assert_eq!(rt; outcome.replies.len(), batch.bodies.len(), "{}", batch.name);
-    for (reply, (line, answer)) in outcome.replies.iter().zip(batch.bodies) {
-        let text = answer_text(alloc, reply)?;
-        assert_eq!(rt; text.as_str(), *answer, "{}: {line}", batch.name);
+    book: &Book,
+    frames: &[Frame],
+) -> Option<(Engine, u32, &'static str)>
+    requires { length frames.now ≤ 65536 }
+{
+    for run in RUNS {
+        if let Some(wrong) = wrong_with(rt, alloc, batch, book, frames, *run) {
+            return Some((run.0, run.1, wrong));
+        }
     }
-    Ok(())
+    None
 }
 
-// The rows after the batch; and the workers committed every message.
-fn assert_rows(rt: &impl Abort, batch: &Batch, outcome: &Outcome) {
-    for line in batch.after {
-        assert!(rt; has_row(&outcome.book, line), "{}: {line}", batch.name);
-    }
-    assert_eq!(rt; outcome.book.len(), batch.rows, "{}", batch.name);
-    assert_eq!(rt;
-        outcome.committed as usize,
-        batch.bodies.len(),
+fn assert_batch<R: Abort + Threads + Wait + Sync>(
+    rt: &R,
+    alloc: Global,
+    batch: &Batch,
+) -> Result<(), Fail> {
+    let book = batch.opening(alloc)?;
+    let frames = batch.frames(alloc).expect(rt, "room");
+    assert!(rt;
+        frames.len() == batch.bodies.len() && frames.len() <= 64,
         "{}",
         batch.name
     );
+    let wrong = first_wrong_run(rt, alloc, batch, &book, &frames);
+    assert!(rt; wrong.is_none(), "{}: {wrong:?}", batch.name);
+    Ok(())
 }
 
 fn assert_batches<R: Abort + Threads + Wait + Sync>(
@@ -65,18 +111,7 @@ fn assert_batches<R: Abort + Threads + Wait + Sync>(
     batches: &[Batch],
 ) -> Result<(), Fail> {
     for batch in batches {
-        for (engine, workers) in [
-            (Engine::Locked, 1),
-            (Engine::Locked, 4),
-            (Engine::Locked, 64),
-            (Engine::Split, 1),
-            (Engine::Split, 4),
-            (Engine::Split, 64),
-        ] {
-            let outcome = outcome_of(rt, alloc, batch, engine, workers)?;
-            assert_replies(rt, alloc, batch, &outcome)?;
-            assert_rows(rt, batch, &outcome);
-        }
+        assert_batch(rt, alloc, batch)?;
     }
     Ok(())
 }
@@ -86,22 +121,11 @@ fn runs_the_worked_batches(rt: HostRuntime) -> Result<(), Fail> {
     assert_batches(&rt, rt.alloc(), worked())
 }
 
+// By each rule, and on books that no check takes.
 #[test]
-fn runs_requests_by_each_rule(rt: HostRuntime) -> Result<(), Fail> {
-    assert_batches(&rt, rt.alloc(), request_rules())
-}
-
-#[test]
-fn runs_advices_by_each_rule(rt: HostRuntime) -> Result<(), Fail> {
-    assert_batches(&rt, rt.alloc(), advice_rules())
-}
-
-#[test]
-fn runs_reversals_by_each_rule(rt: HostRuntime) -> Result<(), Fail> {
-    assert_batches(&rt, rt.alloc(), reversal_rules())
-}
-
-#[test]
-fn runs_on_books_that_no_check_takes(rt: HostRuntime) -> Result<(), Fail> {
+fn runs_batches_by_each_rule(rt: HostRuntime) -> Result<(), Fail> {
+    assert_batches(&rt, rt.alloc(), request_rules())?;
+    assert_batches(&rt, rt.alloc(), advice_rules())?;
+    assert_batches(&rt, rt.alloc(), reversal_rules())?;
     assert_batches(&rt, rt.alloc(), unchecked_rules())
 }

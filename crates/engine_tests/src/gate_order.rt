@@ -1,13 +1,11 @@
 //! Where the gate's two calls stand: before a message's decision begins, and after it ended.
-ghost use Rattle.std.specs.Prelude.{◌≡◌};
 
-use crate::deciding::decided_by;
-use fixtures::{answer_text, body, first_book_with};
+use crate::deciding::{are_answers, decided_by};
+use fixtures::{body, first_book_with};
 use fold::Outcome;
 use iso8583::Message;
 use rows::{Book, Frame, ReplyBody};
 use std::alloc::{AllocFailed, Global};
-use std::process::Abort;
 use std::sync::Wait;
 use std::sync::atomic::{AtomicU8, AtomicU64, Ordering};
 use std::test::Fail;
@@ -74,15 +72,17 @@ impl Diary {
         }
     }
 
-    fn text(&self, alloc: Global) -> Result<String, Fail> {
-        let mut text = Vec::new(alloc);
-        for slot in &self.bytes {
-            let byte = slot.load(Ordering::SeqCst);
-            if byte != 0 {
-                text.push(byte)?;
+    // Whether this is all that was noted.
+    fn has_noted(&self, text: &[u8]) -> bool {
+        if self.len.load(Ordering::SeqCst) as usize != text.len() {
+            return false;
+        }
+        for (slot, byte) in self.bytes.iter().zip(text) {
+            if slot.load(Ordering::SeqCst) != *byte {
+                return false;
             }
         }
-        Ok(String::from_utf8(text).ok().ok_or("text")?)
+        true
     }
 }
 
@@ -121,54 +121,55 @@ impl Decide for NotingDecision<'_> {
     }
 }
 
-fn assert_answers(rt: &impl Abort, alloc: Global, outcome: &Outcome) -> Result<(), Fail> {
-    assert_eq!(rt; outcome.replies.len(), ANSWERS.len());
-    for (reply, answer) in outcome.replies.iter().zip(ANSWERS) {
-        assert_eq!(rt; answer_text(alloc, reply)?.as_str(), answer);
-    }
-    Ok(())
+// Whether the workers committed all, with these answers.
+fn is_decided(alloc: Global, outcome: &Outcome) -> bool {
+    (outcome.committed == 4) & are_answers(alloc, &outcome.replies, &ANSWERS)
 }
 
-// What is noted of the batch, decided by one worker.
-fn noted_by<R: Abort + Threads + Wait + Sync>(
+// The events of each message, one message after another.
+const TURNS: &[u8] = b"\
+before 000000\n\
+begins 000000\n\
+ends 000000\n\
+after 000000\n\
+before 000001\n\
+begins 000001\n\
+ends 000001\n\
+after 000001\n\
+before 000002\n\
+begins 000002\n\
+ends 000002\n\
+after 000002\n\
+before 000003\n\
+begins 000003\n\
+ends 000003\n\
+after 000003\n\
+";
+
+// Whether the batch is decided by one worker, and noted in this diary.
+fn is_noted<R: Threads + Wait + Sync>(
     rt: &R,
     alloc: Global,
     engine: Engine,
     book: &Book,
-    frames: &[Frame; 4],
-) -> Result<String, Fail> {
-    let diary = Diary::new(alloc)?;
-    let gate = NotingGate { diary: &diary };
-    let decision = NotingDecision { diary: &diary };
-    let outcome = decided_by(rt, alloc, engine, 1, book, frames, &decision, &gate)?;
-    assert_eq!(rt; outcome.committed, 4);
-    assert_answers(rt, alloc, &outcome)?;
-    diary.text(alloc)
+    diary: &Diary,
+) -> bool {
+    let gate = NotingGate { diary };
+    let decision = NotingDecision { diary };
+    let Some(frames) = frames() else {
+        return false;
+    };
+    match decided_by(rt, alloc, engine, 1, book, &frames, &decision, &gate) {
+        Some(outcome) => is_decided(alloc, &outcome) & diary.has_noted(TURNS),
+        None => false,
+    }
 }
 
-// With one worker the messages have their turns one after another.
-#[test]
-fn the_gate_stands_round_each_decision(rt: HostRuntime) -> Result<(), Fail> {
-    let alloc = rt.alloc();
-    let book = first_book_with(alloc, &[])?;
-    let frames = frames().ok_or("bodies")?;
-    let turns = turns(alloc)?;
-    for engine in [Engine::Locked, Engine::Split] {
-        let noted = noted_by(&rt, alloc, engine, &book, &frames)?;
-        assert_eq!(rt; noted.as_str(), turns.as_str());
+fn notes<R: Threads + Wait + Sync>(rt: &R, alloc: Global, engine: Engine, book: &Book) -> bool {
+    match Diary::new(alloc) {
+        Ok(diary) => is_noted(rt, alloc, engine, book, &diary),
+        Err(_) => false,
     }
-    Ok(())
-}
-
-// The events of each message, one message after another.
-fn turns(alloc: Global) -> Result<String, Fail> {
-    let mut turns = String::new(alloc);
-    for trace in TRACES {
-        for event in ["before", "begins", "ends", "after"] {
-            turns.push_str(format!(in alloc; "{event} {trace}\n")?.as_str())?;
-        }
-    }
-    Ok(turns)
 }
 
 // How often each message's decision began and ended, and the gate was called round it; and how often a call came too early.
@@ -201,14 +202,15 @@ impl Tally {
         }
     }
 
-    // None came too early, and each message's last decision that ended was recorded.
-    fn assert_in_order(&self, rt: &impl Abort) {
-        assert_eq!(rt; self.too_early.load(Ordering::SeqCst), 0);
+    // Whether none came too early, and each message's last decision that ended was recorded.
+    fn is_in_order(&self) -> bool {
         for (ended, after) in self.ended.iter().zip(&self.after) {
             let recorded = after.load(Ordering::SeqCst);
-            assert!(rt; recorded > 0);
-            assert_eq!(rt; ended.load(Ordering::SeqCst), recorded);
+            if recorded == 0 || ended.load(Ordering::SeqCst) != recorded {
+                return false;
+            }
         }
+        self.too_early.load(Ordering::SeqCst) == 0
     }
 
     // One event more of this message, which needs as many of the event in front of it.
@@ -265,33 +267,53 @@ impl Decide for CountingDecision<'_> {
     }
 }
 
-// Decides the batch by four workers, whose calls are counted.
-fn assert_counted<R: Abort + Threads + Wait + Sync>(
+// Whether the batch is decided by four workers, whose calls come in order.
+fn is_counted<R: Threads + Wait + Sync>(
     rt: &R,
     alloc: Global,
     engine: Engine,
     book: &Book,
-    frames: &[Frame; 4],
-) -> Result<(), Fail> {
+) -> bool {
     let tally = Tally::new();
     let gate = CountingGate { tally: &tally };
     let decision = CountingDecision { tally: &tally };
-    let outcome = decided_by(rt, alloc, engine, 4, book, frames, &decision, &gate)?;
-    assert_eq!(rt; outcome.committed, 4);
-    assert_answers(rt, alloc, &outcome)?;
-    tally.assert_in_order(rt);
-    Ok(())
+    let Some(frames) = frames() else {
+        return false;
+    };
+    match decided_by(rt, alloc, engine, 4, book, &frames, &decision, &gate) {
+        Some(outcome) => is_decided(alloc, &outcome) & tally.is_in_order(),
+        None => false,
+    }
 }
 
-// Of each message, with four workers: no decision begins before the gate's first call, no second call comes before a decision
-// ended, and each that ended is recorded.
-#[test]
-fn no_call_of_the_gate_comes_too_early(rt: HostRuntime) -> Result<(), Fail> {
-    let alloc = rt.alloc();
-    let book = first_book_with(alloc, &[])?;
-    let frames = frames().ok_or("bodies")?;
-    for engine in [Engine::Locked, Engine::Split] {
-        assert_counted(&rt, alloc, engine, &book, &frames)?;
+// What isn't so.
+fn first_wrong<R: Threads + Wait + Sync>(
+    rt: &R,
+    alloc: Global,
+    book: &Book,
+) -> Option<&'static str> {
+    // With one worker the messages have their turns one after another.
+    if !notes(rt, alloc, Engine::Locked, book) {
+        return Some("the locked engine's gate stands round each decision");
     }
+    if !notes(rt, alloc, Engine::Split, book) {
+        return Some("the split engine's gate stands round each decision");
+    }
+    // Of each message, with four workers: no decision begins before the gate's first call, no second call comes before a decision
+    // ended, and each that ended is recorded.
+    if !is_counted(rt, alloc, Engine::Locked, book) {
+        return Some("no call of the locked engine's gate comes too early");
+    }
+    if !is_counted(rt, alloc, Engine::Split, book) {
+        return Some("no call of the split engine's gate comes too early");
+    }
+    None
+}
+
+#[test]
+fn the_gate_stands_round_each_decision(rt: HostRuntime) -> Result<(), Fail> {
+    let book = first_book_with(rt.alloc(), &[])?;
+    let wrong = first_wrong(&rt, rt.alloc(), &book).unwrap_or("");
+    assert!(rt; wrong.is_empty(), "{wrong}");
     Ok(())
 }

@@ -1,14 +1,12 @@
 //! What passes the gate, and what is committed where a decision stops.
-ghost use Rattle.std.specs.Prelude.{◌≡◌};
 
-use crate::deciding::decided_by;
-use fixtures::{answer_text, body, first_book_with, has_row};
+use crate::deciding::{are_answers, decided_by};
+use fixtures::{body, first_book_with, has_row};
 use fold::Outcome;
 use iso8583::Message;
-use rows::{Frame, ReplyBody};
+use rows::{Book, Frame, ReplyBody};
 use rules::Shipped;
 use std::alloc::Global;
-use std::process::Abort;
 use std::sync::Wait;
 use std::sync::atomic::{AtomicU64, Ordering};
 use std::test::Fail;
@@ -35,15 +33,11 @@ fn frames() -> Option<[Frame; 4]> {
     ])
 }
 
-// Replies and accounts after the batch.
-fn assert_decided(rt: &impl Abort, alloc: Global, outcome: &Outcome) -> Result<(), Fail> {
-    assert_eq!(rt; outcome.replies.len(), 4);
-    for (reply, answer) in outcome.replies.iter().zip(ANSWERS) {
-        assert_eq!(rt; answer_text(alloc, reply)?.as_str(), answer);
-    }
-    assert!(rt; has_row(&outcome.book, "account A 100 978"));
-    assert!(rt; has_row(&outcome.book, "account B 400 978"));
-    Ok(())
+// Whether replies and accounts are those after the batch.
+fn is_decided(alloc: Global, outcome: &Outcome) -> bool {
+    are_answers(alloc, &outcome.replies, &ANSWERS)
+        & has_row(&outcome.book, "account A 100 978")
+        & has_row(&outcome.book, "account B 400 978")
 }
 
 // The calls so far, as digits: 1 before a decision, 2 after its record, each followed by the message's index.
@@ -96,63 +90,90 @@ fn is_decline(frame: &Frame) -> bool {
     }
 }
 
-// The bodies, decided by one worker of this engine with one decision and one gate.
-fn outcome_of<R: Threads + Wait + Sync, F: Decide + Sync>(
+// Whether the bodies, decided by one worker of this engine with this decision, come to as many commits and to these calls of the gate.
+fn comes_to<R: Threads + Wait + Sync, F: Decide + Sync>(
     rt: &R,
     alloc: Global,
     engine: Engine,
+    book: &Book,
     decision: &F,
-    gate: &WritingGate,
-) -> Result<Outcome, Fail> {
-    let book = first_book_with(alloc, &[])?;
-    let frames = frames().ok_or("bodies")?;
-    decided_by(rt, alloc, engine, 1, &book, &frames, decision, gate)
-}
-
-fn gate() -> WritingGate {
-    WritingGate {
+    committed: u32,
+    calls: u64,
+) -> bool {
+    let gate = WritingGate {
         calls: AtomicU64::new(0),
+    };
+    let Some(frames) = frames() else {
+        return false;
+    };
+    match decided_by(rt, alloc, engine, 1, book, &frames, decision, &gate) {
+        Some(outcome) => {
+            (outcome.started == 1)
+                & (outcome.committed == committed)
+                & (gate.calls.load(Ordering::SeqCst) == calls)
+                & is_decided(alloc, &outcome)
+        }
+        None => false,
     }
 }
 
-// The workers commit every message, the decline and the bad body too: the rest that is decided one after another is empty.
-#[test]
-fn the_workers_commit_every_message(rt: HostRuntime) -> Result<(), Fail> {
-    for engine in [Engine::Locked, Engine::Split] {
-        let gate = gate();
-        let outcome = outcome_of(&rt, rt.alloc(), engine, &Shipped, &gate)?;
-        assert_eq!(rt; (outcome.started, outcome.committed), (1, 4));
-        assert_eq!(rt; gate.calls.load(Ordering::SeqCst), 1020_1121_1222_1323);
-        assert_decided(&rt, rt.alloc(), &outcome)?;
+// Whether as many threads as there may be commit all with a gate that holds nothing.
+fn comes_to_all<R: Threads + Wait + Sync>(
+    rt: &R,
+    alloc: Global,
+    engine: Engine,
+    book: &Book,
+) -> bool {
+    let Some(frames) = frames() else {
+        return false;
+    };
+    match decided_by(rt, alloc, engine, 64, book, &frames, &Shipped, &OpenGate) {
+        Some(outcome) => (outcome.committed == 4) & is_decided(alloc, &outcome),
+        None => false,
     }
-    Ok(())
 }
 
-// Where a decision finds no memory its worker leaves. The rest is decided by the shipped decision and without the gate: with the
-// locked engine the caller plays all messages anew, and the core that it plays on commits them; with the split engine what is
-// committed is what the worker had committed before it left.
-#[test]
-fn a_decision_that_stops_is_made_again_without_the_gate(rt: HostRuntime) -> Result<(), Fail> {
-    for (engine, committed) in [(Engine::Locked, 4), (Engine::Split, 1)] {
-        let gate = gate();
-        let outcome = outcome_of(&rt, rt.alloc(), engine, &WithoutMemory, &gate)?;
-        assert_eq!(rt; (outcome.started, outcome.committed), (1, committed));
-        assert_eq!(rt; gate.calls.load(Ordering::SeqCst), 10_2011);
-        assert_decided(&rt, rt.alloc(), &outcome)?;
+// What isn't so, of a batch whose every message the workers commit, and of one where a decision stops.
+fn first_wrong<R: Threads + Wait + Sync>(
+    rt: &R,
+    alloc: Global,
+    book: &Book,
+) -> Option<&'static str> {
+    // The workers commit every message, the decline and the bad body too: the rest that is decided one after another is empty.
+    let calls = 1020_1121_1222_1323;
+    if !comes_to(rt, alloc, Engine::Locked, book, &Shipped, 4, calls) {
+        return Some("the locked engine's workers commit every message");
     }
+    if !comes_to(rt, alloc, Engine::Split, book, &Shipped, 4, calls) {
+        return Some("the split engine's workers commit every message");
+    }
+    // Where a decision finds no memory its worker leaves. The rest is decided by the shipped decision and without the gate: with
+    // the locked engine the caller plays all messages anew, and the core that it plays on commits them; with the split engine what
+    // is committed is what the worker had committed before it left.
+    let calls = 10_2011;
+    if !comes_to(rt, alloc, Engine::Locked, book, &WithoutMemory, 4, calls) {
+        return Some("the locked engine makes a decision again that stopped");
+    }
+    if !comes_to(rt, alloc, Engine::Split, book, &WithoutMemory, 1, calls) {
+        return Some("the split engine makes a decision again that stopped");
+    }
+    None
+}
+
+#[test]
+fn what_the_workers_commit(rt: HostRuntime) -> Result<(), Fail> {
+    let book = first_book_with(rt.alloc(), &[])?;
+    let wrong = first_wrong(&rt, rt.alloc(), &book).unwrap_or("");
+    assert!(rt; wrong.is_empty(), "{wrong}");
     Ok(())
 }
 
 // A gate that holds nothing is called too, by as many threads as there may be.
 #[test]
 fn an_open_gate_holds_nothing(rt: HostRuntime) -> Result<(), Fail> {
-    let alloc = rt.alloc();
-    let book = first_book_with(alloc, &[])?;
-    let frames = frames().ok_or("bodies")?;
-    for engine in [Engine::Locked, Engine::Split] {
-        let outcome = decided_by(&rt, alloc, engine, 64, &book, &frames, &Shipped, &OpenGate)?;
-        assert_eq!(rt; outcome.committed, 4);
-        assert_decided(&rt, alloc, &outcome)?;
-    }
+    let book = first_book_with(rt.alloc(), &[])?;
+    let locked = comes_to_all(&rt, rt.alloc(), Engine::Locked, &book);
+    let split = comes_to_all(&rt, rt.alloc(), Engine::Split, &book);
+    assert!(rt; locked & split);
     Ok(())
 }

@@ -1,8 +1,9 @@
 //! The longest batch through both engines, with 1, 4 and 64 workers.
 
-use crate::deciding::decided_by;
-use fixtures::{answer_at, count_of, first_book_with, has_row, requests};
+use crate::deciding::{decided_by, is_answer};
+use fixtures::{count_of, first_book_with, has_row, requests};
 use fold::Outcome;
+use rows::ReplyBody;
 use rules::Shipped;
 use std::alloc::Global;
 use std::process::Abort;
@@ -11,16 +12,22 @@ use std::test::Fail;
 use std::thread::Threads;
 use workers::{Engine, OpenGate};
 
-// Three requests are approved, then the day's limit is reached; and the workers committed every message.
-fn assert_longest(rt: &impl Abort, alloc: Global, outcome: &Outcome) -> Result<(), Fail> {
-    let replies = &outcome.replies;
-    for (index, answer) in [(0, "000/000001"), (1, "000/000002"), (2, "000/000003")] {
-        assert_eq!(rt; answer_at(alloc, replies, index)?.as_str(), answer);
+// Whether three requests are approved, and then the day's limit is reached.
+fn are_longest(alloc: Global, replies: &[ReplyBody]) -> bool {
+    if replies.len() < 3 {
+        return false;
     }
-    assert_eq!(rt; count_of(alloc, replies, "123")?, 65_533);
-    assert!(rt; has_row(&outcome.book, "account A 9997 978"));
-    assert_eq!(rt; outcome.committed, 65_536);
-    Ok(())
+    is_answer(alloc, &replies[0], "000/000001")
+        & is_answer(alloc, &replies[1], "000/000002")
+        & is_answer(alloc, &replies[2], "000/000003")
+        & (count_of(alloc, replies, "123") == Ok(65_533))
+}
+
+// Whether the workers committed every message of the longest batch.
+fn is_longest(alloc: Global, outcome: &Outcome) -> bool {
+    are_longest(alloc, &outcome.replies)
+        & has_row(&outcome.book, "account A 9997 978")
+        & (outcome.committed == 65_536)
 }
 
 // The longest batch: the same replies with each engine and each number of workers.
@@ -30,41 +37,27 @@ fn assert_runs_the_longest<R: Abort + Threads + Wait + Sync>(
     engine: Engine,
     workers: u32,
 ) -> Result<(), Fail> {
+    let book = first_book_with(alloc, &[])?;
     let frames = requests(alloc, 65_536)?;
     assert!(rt; frames.len() == 65_536);
-    let book = first_book_with(alloc, &[])?;
-    let outcome = decided_by(
+    let decided = decided_by(
         rt, alloc, engine, workers, &book, &frames, &Shipped, &OpenGate,
-    )?;
-    assert_longest(rt, alloc, &outcome)
+    );
+    let outcome = decided.expect(rt, "room");
+    assert!(rt; is_longest(alloc, &outcome), "{workers} workers");
+    Ok(())
 }
 
 #[test]
-fn one_locked_worker_runs_the_longest_batch(rt: HostRuntime) -> Result<(), Fail> {
-    assert_runs_the_longest(&rt, rt.alloc(), Engine::Locked, 1)
-}
-
-#[test]
-fn four_locked_workers_run_the_longest_batch(rt: HostRuntime) -> Result<(), Fail> {
-    assert_runs_the_longest(&rt, rt.alloc(), Engine::Locked, 4)
-}
-
-#[test]
-fn sixty_four_locked_workers_run_the_longest_batch(rt: HostRuntime) -> Result<(), Fail> {
+fn locked_workers_run_the_longest_batch(rt: HostRuntime) -> Result<(), Fail> {
+    assert_runs_the_longest(&rt, rt.alloc(), Engine::Locked, 1)?;
+    assert_runs_the_longest(&rt, rt.alloc(), Engine::Locked, 4)?;
     assert_runs_the_longest(&rt, rt.alloc(), Engine::Locked, 64)
 }
 
 #[test]
-fn one_split_worker_runs_the_longest_batch(rt: HostRuntime) -> Result<(), Fail> {
-    assert_runs_the_longest(&rt, rt.alloc(), Engine::Split, 1)
-}
-
-#[test]
-fn four_split_workers_run_the_longest_batch(rt: HostRuntime) -> Result<(), Fail> {
-    assert_runs_the_longest(&rt, rt.alloc(), Engine::Split, 4)
-}
-
-#[test]
-fn sixty_four_split_workers_run_the_longest_batch(rt: HostRuntime) -> Result<(), Fail> {
+fn split_workers_run_the_longest_batch(rt: HostRuntime) -> Result<(), Fail> {
+    assert_runs_the_longest(&rt, rt.alloc(), Engine::Split, 1)?;
+    assert_runs_the_longest(&rt, rt.alloc(), Engine::Split, 4)?;
     assert_runs_the_longest(&rt, rt.alloc(), Engine::Split, 64)
 }

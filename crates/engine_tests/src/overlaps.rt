@@ -1,16 +1,17 @@
 //! Workers on threads: that they overlap, and that no lock is held while a message is decided.
 
-use crate::deciding::decided_by;
-use fixtures::{answer_text, body, first_book_with, has_row};
+use crate::deciding::{are_answers, decided_by};
+use fixtures::{body, first_book_with, has_row};
 use fold::Outcome;
 use iso8583::Message;
-use rows::{Frame, ReplyBody};
+use rows::{Book, Frame, ReplyBody};
 use rules::Shipped;
 use std::alloc::Global;
-use std::process::Abort;
+use std::sync::Wait;
 use std::sync::atomic::{AtomicU64, Ordering};
 use std::test::Fail;
 use std::thread;
+use std::thread::Threads;
 use view::{Decide, Recorder, RowSource, Stop};
 use workers::{Engine, Gate, OpenGate};
 
@@ -28,31 +29,21 @@ fn comes_to(flag: &AtomicU64, value: u64) -> bool {
     false
 }
 
-fn two_cards() -> Result<[Frame; 2], Fail> {
-    let first = body("1100 000001 A 100").ok_or("request")?;
-    let second = body("1100 000002 B 100").ok_or("request")?;
-    Ok([first, second])
+fn two_cards() -> Option<[Frame; 2]> {
+    Some([body("1100 000001 A 100")?, body("1100 000002 B 100")?])
 }
 
-fn one_card() -> Result<[Frame; 3], Fail> {
-    let first = body("1100 000001 A 100").ok_or("request")?;
-    let second = body("1100 000002 A 100").ok_or("request")?;
-    let third = body("1100 000003 A 100").ok_or("request")?;
-    Ok([first, second, third])
+fn one_card() -> Option<[Frame; 3]> {
+    Some([
+        body("1100 000001 A 100")?,
+        body("1100 000002 A 100")?,
+        body("1100 000003 A 100")?,
+    ])
 }
 
-fn assert_answers(
-    rt: &impl Abort,
-    alloc: Global,
-    outcome: &Outcome,
-    answers: &[&str],
-) -> Result<(), Fail> {
-    assert_eq!(rt; outcome.replies.len(), answers.len());
-    for (reply, answer) in outcome.replies.iter().zip(answers) {
-        assert_eq!(rt; answer_text(alloc, reply)?.as_str(), *answer);
-    }
-    assert_eq!(rt; outcome.committed as usize, answers.len());
-    Ok(())
+// Whether these are the answers, and the workers committed as many messages.
+fn is_decided(alloc: Global, outcome: &Outcome, answers: &[&str]) -> bool {
+    (outcome.committed as usize == answers.len()) & are_answers(alloc, &outcome.replies, answers)
 }
 
 // Holds the first message before its first decision until so many others were recorded.
@@ -87,39 +78,44 @@ impl Gate for HoldingGate {
     }
 }
 
-// The second message is recorded while the first one is held.
-#[test]
-fn a_message_is_recorded_while_one_before_it_is_held(rt: HostRuntime) -> Result<(), Fail> {
-    let alloc = rt.alloc();
-    let book = first_book_with(alloc, &[])?;
-    for engine in [Engine::Locked, Engine::Split] {
-        let gate = HoldingGate::new(1);
-        let frames = two_cards()?;
-        let outcome = decided_by(&rt, alloc, engine, 2, &book, &frames, &Shipped, &gate)?;
-        assert_eq!(rt; gate.was_in_time.load(Ordering::SeqCst), 1);
-        assert_eq!(rt; outcome.started, 2);
-        assert!(rt; has_row(&outcome.book, "account A 9900 978"));
-        assert!(rt; has_row(&outcome.book, "account B 400 978"));
-        assert_answers(&rt, alloc, &outcome, &["000/000001", "000/000001"])?;
+// Two messages on two cards: the second one is recorded while the first one is held.
+fn two_overlap<R: Threads + Wait + Sync>(
+    rt: &R,
+    alloc: Global,
+    engine: Engine,
+    book: &Book,
+    frames: &[Frame; 2],
+) -> bool {
+    let gate = HoldingGate::new(1);
+    match decided_by(rt, alloc, engine, 2, book, frames, &Shipped, &gate) {
+        Some(outcome) => {
+            (gate.was_in_time.load(Ordering::SeqCst) == 1)
+                & (outcome.started == 2)
+                & has_row(&outcome.book, "account A 9900 978")
+                & has_row(&outcome.book, "account B 400 978")
+                & is_decided(alloc, &outcome, &["000/000001", "000/000001"])
+        }
+        None => false,
     }
-    Ok(())
 }
 
 // Two messages on one card are recorded while the one before them is held: both read old rows, and come out right.
-#[test]
-fn what_was_decided_too_early_is_decided_again(rt: HostRuntime) -> Result<(), Fail> {
-    let alloc = rt.alloc();
-    let book = first_book_with(alloc, &[])?;
-    let answers = ["000/000001", "000/000002", "000/000003"];
-    for engine in [Engine::Locked, Engine::Split] {
-        let gate = HoldingGate::new(2);
-        let frames = one_card()?;
-        let outcome = decided_by(&rt, alloc, engine, 3, &book, &frames, &Shipped, &gate)?;
-        assert_eq!(rt; gate.was_in_time.load(Ordering::SeqCst), 1);
-        assert!(rt; has_row(&outcome.book, "account A 9700 978"));
-        assert_answers(&rt, alloc, &outcome, &answers)?;
+fn three_overlap<R: Threads + Wait + Sync>(
+    rt: &R,
+    alloc: Global,
+    engine: Engine,
+    book: &Book,
+    frames: &[Frame; 3],
+) -> bool {
+    let gate = HoldingGate::new(2);
+    match decided_by(rt, alloc, engine, 3, book, frames, &Shipped, &gate) {
+        Some(outcome) => {
+            (gate.was_in_time.load(Ordering::SeqCst) == 1)
+                & has_row(&outcome.book, "account A 9700 978")
+                & is_decided(alloc, &outcome, &["000/000001", "000/000002", "000/000003"])
+        }
+        None => false,
     }
-    Ok(())
 }
 
 // The shipped decision; but each of two messages raises its flag first, and waits for the other's.
@@ -156,21 +152,63 @@ fn is_first(frame: &Frame) -> bool {
     }
 }
 
-// Two decisions go on at the same time: no lock is held through one.
-#[test]
-fn two_decisions_meet(rt: HostRuntime) -> Result<(), Fail> {
-    let alloc = rt.alloc();
-    let book = first_book_with(alloc, &[])?;
-    for engine in [Engine::Locked, Engine::Split] {
-        let meeting = Meeting {
-            first: AtomicU64::new(0),
-            second: AtomicU64::new(0),
-            met: AtomicU64::new(0),
-        };
-        let frames = two_cards()?;
-        let outcome = decided_by(&rt, alloc, engine, 2, &book, &frames, &meeting, &OpenGate)?;
-        assert!(rt; meeting.met.load(Ordering::SeqCst) >= 2);
-        assert_answers(&rt, alloc, &outcome, &["000/000001", "000/000001"])?;
+// Whether two decisions go on at the same time.
+fn two_meet<R: Threads + Wait + Sync>(
+    rt: &R,
+    alloc: Global,
+    engine: Engine,
+    book: &Book,
+    frames: &[Frame; 2],
+) -> bool {
+    let meeting = Meeting {
+        first: AtomicU64::new(0),
+        second: AtomicU64::new(0),
+        met: AtomicU64::new(0),
+    };
+    match decided_by(rt, alloc, engine, 2, book, frames, &meeting, &OpenGate) {
+        Some(outcome) => {
+            (meeting.met.load(Ordering::SeqCst) >= 2)
+                & is_decided(alloc, &outcome, &["000/000001", "000/000001"])
+        }
+        None => false,
     }
+}
+
+// What isn't so.
+fn first_wrong<R: Threads + Wait + Sync>(
+    rt: &R,
+    alloc: Global,
+    book: &Book,
+) -> Option<&'static str> {
+    let (Some(two), Some(three)) = (two_cards(), one_card()) else {
+        return Some("requests");
+    };
+    if !two_overlap(rt, alloc, Engine::Locked, book, &two) {
+        return Some("the locked engine records a message while one before it is held");
+    }
+    if !two_overlap(rt, alloc, Engine::Split, book, &two) {
+        return Some("the split engine records a message while one before it is held");
+    }
+    if !three_overlap(rt, alloc, Engine::Locked, book, &three) {
+        return Some("the locked engine decides again what was decided too early");
+    }
+    if !three_overlap(rt, alloc, Engine::Split, book, &three) {
+        return Some("the split engine decides again what was decided too early");
+    }
+    // No lock is held through a decision.
+    if !two_meet(rt, alloc, Engine::Locked, book, &two) {
+        return Some("two decisions of the locked engine meet");
+    }
+    if !two_meet(rt, alloc, Engine::Split, book, &two) {
+        return Some("two decisions of the split engine meet");
+    }
+    None
+}
+
+#[test]
+fn workers_overlap(rt: HostRuntime) -> Result<(), Fail> {
+    let book = first_book_with(rt.alloc(), &[])?;
+    let wrong = first_wrong(&rt, rt.alloc(), &book).unwrap_or("");
+    assert!(rt; wrong.is_empty(), "{wrong}");
     Ok(())
 }

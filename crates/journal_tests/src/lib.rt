@@ -1,8 +1,8 @@
-//! Tests of journals: cores that keep one, journals played again, and the journals of runs on threads.
+//! Tests of journals: cores that keep one, journals played again, the journals of runs on threads, and workers' turns in every order.
 #![tactic(auto)]
 
 #[cfg(test)]
-mod expected;
+mod answers;
 #[cfg(test)]
 mod foolish;
 #[cfg(test)]
@@ -13,3 +13,5 @@ mod refusals;
 mod runs;
 #[cfg(test)]
 mod scripts;
+#[cfg(test)]
+mod turns;

@@ -1,9 +1,10 @@
-//! Journals that are kept, and played again: to the same core.
+//! Journals that are kept, and played again: to the same core, and with foolish calls among those of the journal too.
 ghost use Rattle.std.specs.Prelude.{None};
 
-use crate::expected::Expected;
-use crate::scripts::{Script, comes_late, journal_of, waits};
-use fixtures::{answer_text, body, first_book_with, has_row};
+use crate::answers::{frames_of, has_committed, has_marks, is_told};
+use crate::foolish::{Foolish, Stage};
+use crate::scripts::{Script, comes_late, waits};
+use fixtures::first_book_with;
 use journal::{Answer, Entry, Event, Traced, read_journal, replay, write_journal};
 use mvmem::Version;
 use rows::{Book, Frame, RowKey, RowVal};
@@ -12,15 +13,7 @@ use speccore::Core;
 use std::alloc::Global;
 use std::process::Abort;
 use std::test::Fail;
-use view::{Execution, RowSource, Stop, execute};
-
-/// The requests of a script.
-pub fn frames_of(script: &Script) -> Result<[Frame; 3], Fail> {
-    let first = body(script.bodies[0]).ok_or("request")?;
-    let second = body(script.bodies[1]).ok_or("request")?;
-    let third = body(script.bodies[2]).ok_or("request")?;
-    Ok([first, second, third])
-}
+use view::{RowSource, Stop, execute};
 
 // The rows that a version logged, to decide its message again.
 #[derive(Drop)]
@@ -39,149 +32,186 @@ impl RowSource for Logged<'_> {
     }
 }
 
-fn execution_of(
-    alloc: Global,
-    core: &Core,
-    frames: &[Frame],
-    version: Version,
-) -> Result<Execution, Fail> {
-    let frame = frames.get(version.index as usize).ok_or("a request")?;
-    Ok(execute(alloc, frame, Logged { core, version }, &Shipped)?)
-}
-
-/// Does what the entry says, on a core that keeps its journal.
-pub fn ask(
+// Decides the version's message on what it logged, and hands it in.
+fn finish(
     alloc: Global,
     traced: &mut Traced,
-    frames: &[Frame],
+    frames: &[Frame; 3],
     entry: Entry,
-) -> Result<Answer, Fail> {
-    let Entry { seat, event } = entry;
-    if let Event::Finish(version) = event {
-        let execution = execution_of(alloc, traced.core(), frames, version)?;
-        return Ok(traced.finish(alloc, seat, version, execution));
-    }
-    Ok(traced.step(seat, event))
-}
-
-/// The epoch, the floors and the stamps of the core, and how many messages are committed.
-pub fn assert_marks(rt: &impl Abort, core: &Core, book: &Book, frames: &[Frame], script: &Script) {
-    assert!(rt; frames.len() == 3);
-    assert!(rt; core.opened_with(book, frames));
-    assert_eq!(rt; (core.epoch(), core.committed()), (script.epoch, 3));
-    for (index, floor) in [
-        (0, script.floors[0]),
-        (1, script.floors[1]),
-        (2, script.floors[2]),
-        (3, script.floors[3]),
-    ] {
-        assert_eq!(rt; core.floor(index), floor);
-    }
-    for (index, stamp) in [
-        (0, script.stamps[0]),
-        (1, script.stamps[1]),
-        (2, script.stamps[2]),
-    ] {
-        assert_eq!(rt; core.stamp(index), stamp);
+    version: Version,
+) -> Option<Answer> {
+    let frame = frames.get(version.index as usize)?;
+    let rows = Logged {
+        core: traced.core(),
+        version,
+    };
+    match execute(alloc, frame, rows, &Shipped) {
+        Ok(execution) => Some(traced.finish(alloc, entry.seat, version, execution)),
+        Err(_) => None,
     }
 }
 
-// Makes the calls of the journal, and has the same journal then.
-fn assert_kept(
-    rt: &impl Abort,
-    alloc: Global,
-    book: &Book,
+// Does what the entry says, on a core that keeps its journal.
+fn ask(alloc: Global, traced: &mut Traced, frames: &[Frame; 3], entry: Entry) -> Option<Answer> {
+    match entry.event {
+        Event::Finish(version) => finish(alloc, traced, frames, entry, version),
+        event => Some(traced.step(entry.seat, event)),
+    }
+}
+
+// Makes the calls of the journal, with the foolish one behind each of them. Says which call of the journal is answered otherwise, or
+// has a foolish one behind it that isn't refused.
+fn unmet(
+    stage: &Stage,
     traced: &mut Traced,
     entries: &[Entry],
-    script: &Script,
-) -> Result<(), Fail> {
-    let frames = frames_of(script)?;
-    assert!(rt; traced.entries().is_empty());
-    let mut expected = Expected::new(script);
-    for entry in entries {
-        let answer = ask(alloc, traced, &frames, *entry)?;
-        expected.meet(rt, alloc, answer)?;
+    told: &[&str],
+    foolish: Foolish,
+    calls: &mut usize,
+) -> Option<usize> {
+    let mut met = 0usize;
+    for (place, entry) in entries.iter().enumerate() {
+        let is_met = match ask(stage.alloc, traced, stage.frames, *entry) {
+            Some(answer) => is_told(told, &mut met, &answer),
+            None => false,
+        };
+        if !(is_met & stage.is_refused(traced, foolish, calls)) {
+            return Some(place);
+        }
     }
-    assert!(rt; expected.is_met());
-    assert_eq!(rt; traced.entries(), entries);
-    assert!(rt; !traced.stopped());
+    if met == told.len() {
+        None
+    } else {
+        Some(entries.len())
+    }
+}
+
+// Whether the core keeps these entries, and its stop mark.
+fn keeps(traced: &mut Traced, entries: &[Entry]) -> bool {
+    let was_stopped = traced.stopped();
     traced.stop();
-    assert!(rt; traced.stopped());
-    assert_marks(rt, traced.core(), book, &frames, script);
-    Ok(())
+    !was_stopped & traced.stopped() & (traced.entries() == entries)
 }
 
-/// What is committed at the end.
-pub fn assert_committed(
-    rt: &impl Abort,
-    alloc: Global,
-    core: Core,
-    script: &Script,
-) -> Result<(), Fail> {
-    let prefix = core.into_prefix(alloc)?;
-    assert_eq!(rt; (prefix.count, prefix.replies.len()), (3, 3));
-    for (reply, answer) in prefix.replies.iter().zip(script.answers) {
-        assert_eq!(rt; answer_text(alloc, reply)?.as_str(), answer);
+// Whether the entries are written so.
+fn are_written(alloc: Global, entries: &[Entry], text: &[u8]) -> bool {
+    match write_journal(alloc, entries) {
+        Ok(written) => written.as_slice() == text,
+        Err(_) => false,
     }
-    assert!(rt; has_row(&prefix.book, script.account));
-    Ok(())
 }
 
-fn assert_replayed(
-    rt: &impl Abort,
-    alloc: Global,
-    book: &Book,
-    entries: &[Entry],
-    script: &Script,
-) -> Result<(), Fail> {
-    let frames = frames_of(script)?;
-    let core = replay(alloc, book, &frames, entries)?;
-    assert_marks(rt, &core, book, &frames, script);
-    assert_committed(rt, alloc, core, script)
+// Whether the entries, played again, come to what the script tells.
+fn are_replayed(stage: &Stage, entries: &[Entry], script: &Script) -> bool {
+    let frames = stage.frames;
+    match replay(stage.alloc, stage.own, frames, entries) {
+        Ok(core) => {
+            has_marks(&core, stage.own, frames, script) & has_committed(stage.alloc, core, script)
+        }
+        Err(_) => false,
+    }
 }
 
-// A core that keeps the journal, which is handed out then.
-fn kept_by_a_core(
+// The core after the calls, which are answered as the script tells, and after so many foolish ones. It has kept the journal where
+// there are none.
+fn played(
     rt: &impl Abort,
-    alloc: Global,
-    book: &Book,
+    stage: &Stage,
     entries: &[Entry],
     script: &Script,
-) -> Result<Vec<Entry>, Fail> {
-    let frames = frames_of(script)?;
-    let mut traced = Traced::new(alloc, book, &frames)?;
-    assert_kept(rt, alloc, book, &mut traced, entries, script)?;
-    let (core, journal) = traced.into_parts();
-    assert_committed(rt, alloc, core, script)?;
-    Ok(journal)
+    foolish: Foolish,
+    often: usize,
+) -> Core {
+    let frames = stage.frames;
+    let mut traced = Traced::new(stage.alloc, stage.own, frames).expect(rt, "room");
+    let is_fresh = traced.entries().is_empty();
+    let mut calls = 0usize;
+    let unmet = unmet(
+        stage,
+        &mut traced,
+        entries,
+        script.told,
+        foolish,
+        &mut calls,
+    );
+    let is_kept = calls != 0 || keeps(&mut traced, entries);
+    assert!(rt;
+        is_fresh & is_kept & (calls == often) & unmet.is_none(),
+        "{calls} {unmet:?}"
+    );
+    let (core, _) = traced.into_parts();
+    core
+}
+
+// With the foolish call, made so often, the core comes to what the script tells.
+fn assert_played(
+    rt: &impl Abort,
+    stage: &Stage,
+    entries: &[Entry],
+    script: &Script,
+    foolish: Foolish,
+    often: usize,
+) {
+    let core = played(rt, stage, entries, script, foolish, often);
+    assert!(rt;
+        has_marks(&core, stage.own, stage.frames, script),
+        "{often}"
+    );
+    assert!(rt; has_committed(stage.alloc, core, script), "{often}");
 }
 
 // The journal is read, kept by a core, written, and played again.
-fn assert_played_on(
-    rt: &impl Abort,
-    alloc: Global,
-    book: &Book,
-    script: &Script,
-) -> Result<(), Fail> {
-    let text = journal_of(alloc, script.lines)?;
-    let entries = read_journal(alloc, text.as_bytes())?;
-    let kept = kept_by_a_core(rt, alloc, book, &entries, script)?;
-    let written = write_journal(alloc, &kept)?;
-    assert!(rt; written.as_slice() == text.as_bytes());
-    assert_replayed(rt, alloc, book, &kept, script)
-}
-
-fn assert_played(rt: &impl Abort, alloc: Global, script: &Script) -> Result<(), Fail> {
-    let book = first_book_with(alloc, &[])?;
-    assert_played_on(rt, alloc, &book, script)
+fn assert_kept(rt: &impl Abort, alloc: Global, book: &Book, script: &Script) {
+    let frames = frames_of(&script.bodies).expect(rt, "three requests");
+    let stage = Stage {
+        alloc,
+        own: book,
+        other: book,
+        frames: &frames,
+    };
+    let entries = read_journal(alloc, script.text).expect(rt, "a journal");
+    assert_played(rt, &stage, &entries, script, Foolish::Nothing, 0);
+    let is_written = are_written(alloc, &entries, script.text);
+    let is_replayed = are_replayed(&stage, &entries, script);
+    assert!(rt; is_written & is_replayed, "{}", script.account);
 }
 
 #[test]
-fn a_request_that_waits_for_another(rt: HostRuntime) -> Result<(), Fail> {
-    assert_played(&rt, rt.alloc(), &waits())
+fn journals_are_kept_and_played_again(rt: HostRuntime) -> Result<(), Fail> {
+    let book = first_book_with(rt.alloc(), &[])?;
+    assert_kept(&rt, rt.alloc(), &book, waits());
+    assert_kept(&rt, rt.alloc(), &book, comes_late());
+    Ok(())
+}
+
+// Foolish calls, and how often there is one behind the 65 calls of the first journal.
+const FOOLISH: &[(Foolish, usize)] = &[
+    (Foolish::Read, 65),
+    (Foolish::Finish, 38),
+    (Foolish::BeginCheck, 38),
+    (Foolish::CheckOne, 65),
+    (Foolish::EndCheck, 65),
+    (Foolish::Block, 12),
+];
+
+fn assert_unmoved(rt: &impl Abort, alloc: Global, own: &Book, other: &Book) {
+    let frames = frames_of(&waits().bodies).expect(rt, "three requests");
+    let stage = Stage {
+        alloc,
+        own,
+        other,
+        frames: &frames,
+    };
+    let entries = read_journal(alloc, waits().text).expect(rt, "a journal");
+    for (foolish, often) in FOOLISH {
+        assert_played(rt, &stage, &entries, waits(), *foolish, *often);
+    }
 }
 
 #[test]
-fn a_check_that_comes_too_late(rt: HostRuntime) -> Result<(), Fail> {
-    assert_played(&rt, rt.alloc(), &comes_late())
+fn foolish_calls_are_refused_and_move_nothing(rt: HostRuntime) -> Result<(), Fail> {
+    let own = first_book_with(rt.alloc(), &[])?;
+    let other = first_book_with(rt.alloc(), &["account A 700 978"])?;
+    assert_unmoved(&rt, rt.alloc(), &own, &other);
+    Ok(())
 }

@@ -1,13 +1,11 @@
 //! Each fault that each element of each type can have.
 
-use crate::forms::{FORMS, Form};
+use crate::forms::{Form, SECOND_BITMAP, form_at, forms};
 use codec::{decode, decode_reply};
 use iso8583::CodecFault;
-use std::alloc::Global;
-use std::test::Fail;
 
 /// Whether a text is refused so, as a message or as a reply.
-pub(crate) fn is_refused(form: &Form, text: &[u8], fault: CodecFault) -> bool {
+fn is_refused(form: &Form, text: &[u8], fault: CodecFault) -> bool {
     if form.is_reply() {
         decode_reply(text) == Err(fault)
     } else {
@@ -15,8 +13,14 @@ pub(crate) fn is_refused(form: &Form, text: &[u8], fault: CodecFault) -> bool {
     }
 }
 
+/// An element's number, how it is spelled, and the fault of that.
+type Spelling = (u8, &'static [u8], CodecFault);
+
+/// A form by its place, and a fault that a text of it should have and has not.
+type Missed = Option<(usize, CodecFault)>;
+
 /// Wrong spellings of each element, in every form that has it, and the fault of each.
-const SPELLINGS: [(u8, &[u8], CodecFault); 57] = [
+const SPELLINGS: &[Spelling] = &[
     (2, b"114111110000000", CodecFault::BadLength(2)),
     (2, b"2041111100000000000005", CodecFault::BadLength(2)),
     (2, b"1x4111110000000005", CodecFault::BadLength(2)),
@@ -152,68 +156,174 @@ const SPELLINGS: [(u8, &[u8], CodecFault); 57] = [
     (102, b"02A\x1F", CodecFault::BadCharacter(102)),
 ];
 
-#[test]
-fn each_wrong_spelling(rt: HostRuntime) -> Result<(), Fail> {
-    for (i, form) in FORMS.iter().enumerate() {
-        for (number, spelled, fault) in &SPELLINGS {
-            if form.has(*number) {
-                let text = form.text_with(rt.alloc(), *number, spelled)?;
-                assert!(rt; is_refused(form, &text, *fault), "form {i}, {fault}");
-            }
-        }
-    }
-    Ok(())
-}
-
 /// Texts of each element that end too soon, in every form that has it.
-const SHORT: [(u8, &[u8]); 26] = [
-    (2, b""),
-    (2, b"1"),
-    (2, b"16"),
-    (2, b"16411111000000000"),
-    (3, b"00000"),
-    (4, b"00000000010"),
-    (7, b"011012000"),
-    (11, b"00000"),
-    (12, b"26011012000"),
-    (24, b"10"),
-    (30, b"00000000025000000000000"),
-    (32, b""),
-    (32, b"0"),
-    (32, b"06"),
-    (32, b"0612345"),
-    (37, b"ABC 1234567"),
-    (38, b"00000"),
-    (39, b"00"),
-    (41, b"TERM000"),
-    (49, b"97"),
-    (56, b""),
-    (56, b"3"),
-    (56, b"3011000000012601101200000612345"),
-    (102, b""),
-    (102, b"1"),
-    (102, b"16411111000000000"),
+const SHORT: &[Spelling] = &[
+    (2, b"", CodecFault::Short(2)),
+    (2, b"1", CodecFault::Short(2)),
+    (2, b"16", CodecFault::Short(2)),
+    (2, b"16411111000000000", CodecFault::Short(2)),
+    (3, b"00000", CodecFault::Short(3)),
+    (4, b"00000000010", CodecFault::Short(4)),
+    (7, b"011012000", CodecFault::Short(7)),
+    (11, b"00000", CodecFault::Short(11)),
+    (12, b"26011012000", CodecFault::Short(12)),
+    (24, b"10", CodecFault::Short(24)),
+    (30, b"00000000025000000000000", CodecFault::Short(30)),
+    (32, b"", CodecFault::Short(32)),
+    (32, b"0", CodecFault::Short(32)),
+    (32, b"06", CodecFault::Short(32)),
+    (32, b"0612345", CodecFault::Short(32)),
+    (37, b"ABC 1234567", CodecFault::Short(37)),
+    (38, b"00000", CodecFault::Short(38)),
+    (39, b"00", CodecFault::Short(39)),
+    (41, b"TERM000", CodecFault::Short(41)),
+    (49, b"97", CodecFault::Short(49)),
+    (56, b"", CodecFault::Short(56)),
+    (56, b"3", CodecFault::Short(56)),
+    (
+        56,
+        b"3011000000012601101200000612345",
+        CodecFault::Short(56),
+    ),
+    (102, b"", CodecFault::Short(102)),
+    (102, b"1", CodecFault::Short(102)),
+    (102, b"16411111000000000", CodecFault::Short(102)),
 ];
 
-#[test]
-fn each_element_that_ends_too_soon(rt: HostRuntime) -> Result<(), Fail> {
-    for (i, form) in FORMS.iter().enumerate() {
-        for (number, spelled) in &SHORT {
-            if form.has(*number) {
-                let text = form.text_ending(rt.alloc(), *number, spelled)?;
-                assert!(rt;
-                    is_refused(form, &text, CodecFault::Short(*number)),
-                    "form {i}, element {number}"
-                );
-            }
+/// Each form that has the element refuses it, spelled so, as the last one or with those that follow it.
+fn missed_by_any(spelling: &Spelling, is_last: bool, text: &mut Vec<u8>) -> Missed {
+    for (place, form) in forms().iter().enumerate() {
+        if form.has(spelling.0)
+            && !(form.put_spelled((spelling.0, spelling.1), is_last, text)
+                && is_refused(form, text, spelling.2))
+        {
+            return Some((place, spelling.2));
         }
     }
-    Ok(())
+    None
 }
 
-/// Elements that forms have or not by another rule than the bitmap's: 102 is there with its eight bytes.
+fn missed_spelling(spellings: &[Spelling], is_last: bool, text: &mut Vec<u8>) -> Missed {
+    for spelling in spellings {
+        let missed = missed_by_any(spelling, is_last, text);
+        if missed.is_some() {
+            return missed;
+        }
+    }
+    None
+}
+
+/// A form, one of its elements spelled otherwise, and the fault that comes of the other elements.
+const TOGETHER: &[(usize, Spelling)] = &[
+    (4, (24, b"401", CodecFault::Missing(30))),
+    (5, (24, b"401", CodecFault::Missing(30))),
+    (6, (24, b"400", CodecFault::Unexpected(30))),
+    (7, (24, b"400", CodecFault::Unexpected(30))),
+    (4, (24, b"402", CodecFault::BadValue(24))),
+    (5, (24, b"100", CodecFault::BadValue(24))),
+    (6, (24, b"402", CodecFault::BadValue(24))),
+    (7, (24, b"399", CodecFault::BadValue(24))),
+    (8, (39, b"116", CodecFault::Unexpected(38))),
+    (9, (39, b"000", CodecFault::Missing(38))),
+    // The fault of 24 comes before that of 30, which comes before that of 32.
+    (6, (24, b"40x", CodecFault::BadCharacter(24))),
+    (0, (49, b"9780", CodecFault::Trailing)),
+    (2, (49, b"9780", CodecFault::Trailing)),
+    (
+        4,
+        (
+            56,
+            b"301100000001260110120000061234560",
+            CodecFault::Trailing,
+        ),
+    ),
+    (
+        6,
+        (
+            56,
+            b"301100000001260110120000061234560",
+            CodecFault::Trailing,
+        ),
+    ),
+    (8, (49, b"9780", CodecFault::Trailing)),
+    (10, (49, b"9780", CodecFault::Trailing)),
+    (11, (49, b"9780", CodecFault::Trailing)),
+    (12, (102, b"1641111100000000050", CodecFault::Trailing)),
+    (16, (102, b"1641111100000000050", CodecFault::Trailing)),
+];
+
+/// Whether the form at this place refuses its element spelled so.
+fn holds(place: usize, spelling: &Spelling, text: &mut Vec<u8>) -> bool {
+    match form_at(place) {
+        Some(form) => {
+            form.put_spelled((spelling.0, spelling.1), false, text)
+                && is_refused(form, text, spelling.2)
+        }
+        None => false,
+    }
+}
+
+fn missed_rule(text: &mut Vec<u8>) -> Missed {
+    for (place, spelling) in TOGETHER {
+        if !holds(*place, spelling, text) {
+            return Some((*place, spelling.2));
+        }
+    }
+    None
+}
+
+/// Forms, the bytes of a second bitmap that they don't have, and the fault of that.
+const SECOND_BITMAPS: &[(&[usize], &[u8], CodecFault)] = &[
+    (
+        &[0, 1, 2, 3, 4, 5, 6, 7, 8, 9, 10, 11],
+        &[0, 0, 0, 0, 0, 0, 0, 0],
+        CodecFault::SecondaryBitmap,
+    ),
+    // A reversal and its reply have no account.
+    (
+        &[4, 5, 6, 7, 11],
+        SECOND_BITMAP,
+        CodecFault::Unexpected(102),
+    ),
+    (&[0], SECOND_BITMAP, CodecFault::Short(102)),
+];
+
+/// Whether the form at this place refuses its text with this second bitmap, and nothing else of element 102.
+fn refuses_second(place: usize, second: &[u8], fault: CodecFault, text: &mut Vec<u8>) -> bool {
+    match form_at(place) {
+        Some(form) => form.put_with(false, second, text) && is_refused(form, text, fault),
+        None => false,
+    }
+}
+
+fn missed_by_these(
+    places: &[usize],
+    second: &[u8],
+    fault: CodecFault,
+    text: &mut Vec<u8>,
+) -> Missed {
+    for place in places {
+        if !refuses_second(*place, second, fault, text) {
+            return Some((*place, fault));
+        }
+    }
+    None
+}
+
+fn missed_second_bitmap(text: &mut Vec<u8>) -> Missed {
+    for (places, second, fault) in SECOND_BITMAPS {
+        let missed = missed_by_these(places, second, *fault, text);
+        if missed.is_some() {
+            return missed;
+        }
+    }
+    None
+}
+
+/// Elements that forms have or not by another rule than the bitmap's: 102 is there with its eight bytes, and bit 1 says so.
 fn is_optional(form: &Form, number: u8) -> bool {
     match number {
+        1 => form.has(102),
         37 | 102 => true,
         30 => form.has(56),
         38 => form.is_request_reply(),
@@ -221,85 +331,65 @@ fn is_optional(form: &Form, number: u8) -> bool {
     }
 }
 
-/// The text of a form with one bit of its bitmap changed, and the fault of it.
-fn changed(alloc: Global, form: &Form, number: u8) -> Result<(Vec<u8>, CodecFault), Fail> {
-    let mut text = form.text(alloc, true)?;
+/// The fault of a form with one bit of its bitmap changed. Behind bit 1 alone the elements are read as a second bitmap.
+fn fault_of_bit(form: &Form, number: u8) -> CodecFault {
+    if number == 1 {
+        CodecFault::Unexpected(67)
+    } else if form.has(number) {
+        CodecFault::Missing(number)
+    } else {
+        CodecFault::Unexpected(number)
+    }
+}
+
+/// Whether the form's text with one bit of its bitmap changed is refused so.
+fn refuses_bit(form: &Form, number: u8, fault: CodecFault, text: &mut Vec<u8>) -> bool {
+    let is_put = form.put(true, text);
     let bit = number.saturating_sub(1);
     if let Some(byte) = text.get_mut(4 + usize::from(bit / 8)) {
         *byte ^= 0x80 >> (bit % 8);
     }
-    let fault = if form.has(number) {
-        CodecFault::Missing(number)
-    } else {
-        CodecFault::Unexpected(number)
-    };
-    Ok((text, fault))
+    is_put && is_refused(form, text, fault)
 }
 
-#[test]
-fn each_bit_changed(rt: HostRuntime) -> Result<(), Fail> {
-    for (i, form) in FORMS.iter().enumerate() {
-        let end = if form.has(102) { 129 } else { 65 };
-        for number in 2..end {
-            if !is_optional(form, number) {
-                let (text, fault) = changed(rt.alloc(), form, number)?;
-                assert!(rt; is_refused(form, &text, fault), "form {i}, {fault}");
-            }
+/// A bit that can be changed.
+fn missed_bit(form: &Form, text: &mut Vec<u8>) -> Option<CodecFault> {
+    let end = if form.has(102) { 129 } else { 65 };
+    for number in 1..end {
+        let fault = fault_of_bit(form, number);
+        if !is_optional(form, number) && !refuses_bit(form, number, fault, text) {
+            return Some(fault);
         }
     }
-    Ok(())
+    None
 }
 
-/// A form, one of its elements spelled otherwise, and the fault that comes of the other elements.
-const TOGETHER: [(usize, u8, &[u8], CodecFault); 20] = [
-    (4, 24, b"401", CodecFault::Missing(30)),
-    (5, 24, b"401", CodecFault::Missing(30)),
-    (6, 24, b"400", CodecFault::Unexpected(30)),
-    (7, 24, b"400", CodecFault::Unexpected(30)),
-    (4, 24, b"402", CodecFault::BadValue(24)),
-    (5, 24, b"100", CodecFault::BadValue(24)),
-    (6, 24, b"402", CodecFault::BadValue(24)),
-    (7, 24, b"399", CodecFault::BadValue(24)),
-    (8, 39, b"116", CodecFault::Unexpected(38)),
-    (9, 39, b"000", CodecFault::Missing(38)),
-    // The fault of 24 comes before that of 30, which comes before that of 32.
-    (6, 24, b"40x", CodecFault::BadCharacter(24)),
-    (0, 49, b"9780", CodecFault::Trailing),
-    (2, 49, b"9780", CodecFault::Trailing),
-    (
-        4,
-        56,
-        b"301100000001260110120000061234560",
-        CodecFault::Trailing,
-    ),
-    (
-        6,
-        56,
-        b"301100000001260110120000061234560",
-        CodecFault::Trailing,
-    ),
-    (8, 49, b"9780", CodecFault::Trailing),
-    (10, 49, b"9780", CodecFault::Trailing),
-    (11, 49, b"9780", CodecFault::Trailing),
-    (12, 102, b"1641111100000000050", CodecFault::Trailing),
-    (16, 102, b"1641111100000000050", CodecFault::Trailing),
-];
-
-#[test]
-fn each_rule_between_elements(rt: HostRuntime) -> Result<(), Fail> {
-    for (form, number, spelled, fault) in &TOGETHER {
-        let spelled_by = FORMS.get(*form).ok_or("no form")?;
-        let text = spelled_by.text_with(rt.alloc(), *number, spelled)?;
-        assert!(rt;
-            is_refused(spelled_by, &text, *fault),
-            "form {form}, {fault}"
-        );
+/// Whether the form refuses each text that ends in its bitmaps.
+fn refuses_headers(form: &Form, text: &mut Vec<u8>) -> bool {
+    text.clear();
+    let is_put = form.put_header(true, form.second(), text).is_ok();
+    for size in 0..text.len() {
+        if !is_refused(form, &text[..size], CodecFault::Short(0)) {
+            return false;
+        }
     }
-    Ok(())
+    is_put
+}
+
+fn missed_header(text: &mut Vec<u8>) -> Missed {
+    for (place, form) in forms().iter().enumerate() {
+        if let Some(fault) = missed_bit(form, text) {
+            return Some((place, fault));
+        }
+        if !refuses_headers(form, text) {
+            return Some((place, CodecFault::Short(0)));
+        }
+    }
+    None
 }
 
 /// Bytes of a request from a place on, and the fault that comes first.
-const ORDER: [(u8, &[u8], CodecFault); 9] = [
+const ORDER: &[(usize, &[u8], CodecFault)] = &[
     (0, b"1102", CodecFault::BadMti),
     (0, b"1110\xF2", CodecFault::BadMti),
     // Bit 1 before eight zeros, before element 5, which is not of the type.
@@ -329,36 +419,51 @@ const ORDER: [(u8, &[u8], CodecFault); 9] = [
     (30, b"x00000x", CodecFault::BadCharacter(3)),
 ];
 
-#[test]
-fn the_first_of_two_faults(rt: HostRuntime) -> Result<(), Fail> {
-    for (place, bytes, fault) in &ORDER {
-        let mut text = FORMS[0].text(rt.alloc(), true)?;
-        for (i, byte) in bytes.iter().enumerate() {
-            if let Some(old) = text.get_mut(usize::from(*place) + i) {
-                *old = *byte;
-            }
+/// Whether the first form's text with these bytes at this place is refused so.
+fn refuses_bytes(place: usize, bytes: &[u8], fault: CodecFault, text: &mut Vec<u8>) -> bool {
+    let is_put = match form_at(0) {
+        Some(form) => form.put(true, text),
+        None => false,
+    };
+    for (i, byte) in bytes.iter().enumerate() {
+        if let Some(old) = text.get_mut(place.saturating_add(i)) {
+            *old = *byte;
         }
-        assert_eq!(rt; decode(&text), Err(*fault));
     }
-    Ok(())
+    is_put && decode(text) == Err(fault)
+}
+
+fn missed_first(text: &mut Vec<u8>) -> Missed {
+    for (place, bytes, fault) in ORDER {
+        if !refuses_bytes(*place, bytes, *fault, text) {
+            return Some((0, *fault));
+        }
+    }
+    None
+}
+
+/// An element in place of the type.
+fn missed_type() -> Missed {
+    match decode(b"1641111100000000050000") {
+        Err(CodecFault::BadMti) => None,
+        _ => Some((0, CodecFault::BadMti)),
+    }
+}
+
+/// The first of all faults that is missed.
+fn missed(text: &mut Vec<u8>) -> Missed {
+    missed_spelling(SPELLINGS, false, text)
+        .or(missed_spelling(SHORT, true, text))
+        .or(missed_rule(text))
+        .or(missed_second_bitmap(text))
+        .or(missed_header(text))
+        .or(missed_first(text))
+        .or(missed_type())
 }
 
 #[test]
-fn each_header_that_ends_too_soon(rt: HostRuntime) -> Result<(), Fail> {
-    for (i, form) in FORMS.iter().enumerate() {
-        let header = form.header(rt.alloc(), true)?;
-        for size in 0..header.len() {
-            let front = header.as_slice().get(..size).ok_or("no front")?;
-            assert!(rt;
-                is_refused(form, front, CodecFault::Short(0)),
-                "form {i}, {size} bytes"
-            );
-        }
-    }
-    Ok(())
-}
-
-#[test]
-fn an_element_in_place_of_the_type(rt: HostRuntime) {
-    assert_eq!(rt; decode(b"1641111100000000050000"), Err(CodecFault::BadMti));
+fn each_fault(rt: HostRuntime) {
+    let mut text = Vec::new(rt.alloc());
+    let missed = missed(&mut text);
+    assert!(rt; missed.is_none(), "a form and its fault: {missed:?}");
 }

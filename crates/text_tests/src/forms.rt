@@ -1,10 +1,9 @@
 //! The forms of messages and replies, as they are spelled.
 
-use std::alloc::Global;
-use std::test::Fail;
+use std::alloc::AllocError;
 
 /// What a form is read as.
-#[derive(Clone, Copy, Debug, PartialEq, Eq)]
+#[derive(Clone, Copy, PartialEq, Eq)]
 pub(crate) enum Kind {
     Request,
     Advice,
@@ -23,7 +22,7 @@ pub(crate) struct Form {
     pub(crate) kind: Kind,
     pub(crate) repeat: bool,
     mti: &'static [u8],
-    bitmap: [u8; 8],
+    bitmap: &'static [u8],
     pub(crate) stan: &'static [u8],
     function: &'static [u8],
     original_amount: &'static [u8],
@@ -39,7 +38,7 @@ const REQUEST: Form = Form {
     kind: Kind::Request,
     repeat: false,
     mti: b"1100",
-    bitmap: [0x72, 0x30, 0x01, 0x01, 0x00, 0x80, 0x80, 0x00],
+    bitmap: &[0x72, 0x30, 0x01, 0x01, 0x00, 0x80, 0x80, 0x00],
     stan: b"000001",
     function: b"100",
     original_amount: b"",
@@ -54,7 +53,7 @@ const ADVICE: Form = Form {
     kind: Kind::Advice,
     repeat: false,
     mti: b"1120",
-    bitmap: [0x72, 0x30, 0x01, 0x01, 0x02, 0x80, 0x80, 0x00],
+    bitmap: &[0x72, 0x30, 0x01, 0x01, 0x02, 0x80, 0x80, 0x00],
     stan: b"000001",
     function: b"100",
     original_amount: b"",
@@ -69,7 +68,7 @@ const FULL_REVERSAL: Form = Form {
     kind: Kind::FullReversal,
     repeat: false,
     mti: b"1420",
-    bitmap: [0x72, 0x30, 0x01, 0x01, 0x00, 0x80, 0x81, 0x00],
+    bitmap: &[0x72, 0x30, 0x01, 0x01, 0x00, 0x80, 0x81, 0x00],
     stan: b"000002",
     function: b"400",
     original_amount: b"",
@@ -84,7 +83,7 @@ const PARTIAL_REVERSAL: Form = Form {
     kind: Kind::PartialReversal,
     repeat: false,
     mti: b"1420",
-    bitmap: [0x72, 0x30, 0x01, 0x05, 0x00, 0x80, 0x81, 0x00],
+    bitmap: &[0x72, 0x30, 0x01, 0x05, 0x00, 0x80, 0x81, 0x00],
     stan: b"000002",
     function: b"401",
     original_amount: b"000000000250000000000000",
@@ -99,7 +98,7 @@ const APPROVED: Form = Form {
     kind: Kind::Approved,
     repeat: false,
     mti: b"1110",
-    bitmap: [0x72, 0x30, 0x00, 0x01, 0x06, 0x80, 0x80, 0x00],
+    bitmap: &[0x72, 0x30, 0x00, 0x01, 0x06, 0x80, 0x80, 0x00],
     stan: b"000001",
     function: b"",
     original_amount: b"",
@@ -114,7 +113,7 @@ const DECLINED: Form = Form {
     kind: Kind::Declined,
     repeat: false,
     mti: b"1110",
-    bitmap: [0x72, 0x30, 0x00, 0x01, 0x02, 0x80, 0x80, 0x00],
+    bitmap: &[0x72, 0x30, 0x00, 0x01, 0x02, 0x80, 0x80, 0x00],
     stan: b"000001",
     function: b"",
     original_amount: b"",
@@ -155,7 +154,7 @@ const ADVICE_REPEAT: Form = Form {
 const ACCOUNT: &[u8] = b"164111110000000005";
 
 /// Messages, their repeats and replies, each that may have element 102 without it and with it.
-pub(crate) const FORMS: [Form; 19] = [
+const FORMS: &[Form] = &[
     REQUEST,
     REQUEST_REPEAT,
     ADVICE,
@@ -214,11 +213,24 @@ pub(crate) const FORMS: [Form; 19] = [
 ];
 
 /// The bytes of the second bitmap, where element 102 is there.
-pub(crate) const SECOND_BITMAP: [u8; 8] = [0, 0, 0, 0, 0x04, 0, 0, 0];
+pub(crate) const SECOND_BITMAP: &[u8] = &[0, 0, 0, 0, 0x04, 0, 0, 0];
+
+/// No element is spelled otherwise.
+const AS_IT_IS: (u8, &[u8]) = (0, b"");
+
+/// The forms.
+pub(crate) fn forms() -> &'static [Form] {
+    FORMS
+}
+
+/// The form at this place.
+pub(crate) fn form_at(place: usize) -> Option<&'static Form> {
+    FORMS.get(place)
+}
 
 impl Form {
     /// The numbers and texts of its elements. Those that it doesn't have are empty.
-    pub(crate) fn elements(&self, retrieval: bool) -> [(u8, &'static [u8]); 16] {
+    fn elements(&self, retrieval: bool) -> [(u8, &'static [u8]); 16] {
         let retrieval = if retrieval {
             b"ABC 12345678".as_slice()
         } else {
@@ -244,57 +256,76 @@ impl Form {
         ]
     }
 
-    /// The type and the bitmap.
-    pub(crate) fn header(&self, alloc: Global, retrieval: bool) -> Result<Vec<u8>, Fail> {
-        let mut text = Vec::from_slice(alloc, self.mti)?;
-        let [a, b, c, d, e, f, g, h] = self.bitmap;
-        let a = if self.account.is_empty() { a } else { a | 0x80 };
-        let e = if retrieval { e | 0x08 } else { e };
-        text.extend_from_slice(&[a, b, c, d, e, f, g, h])?;
-        if !self.account.is_empty() {
-            text.extend_from_slice(&SECOND_BITMAP)?;
-        }
-        Ok(text)
-    }
-
-    /// The whole text, with element 37 or without it.
-    pub(crate) fn text(&self, alloc: Global, retrieval: bool) -> Result<Vec<u8>, Fail> {
-        let mut text = self.header(alloc, retrieval)?;
-        for (_, element) in self.elements(retrieval) {
-            text.extend_from_slice(element)?;
-        }
-        Ok(text)
-    }
-
-    /// The whole text with element 37, and one element spelled otherwise.
-    pub(crate) fn text_with(
+    /// Puts the type and the bitmap, and the second bitmap where there is one, behind what is there.
+    pub(crate) fn put_header(
         &self,
-        alloc: Global,
-        number: u8,
-        spelled: &[u8],
-    ) -> Result<Vec<u8>, Fail> {
-        let mut text = self.header(alloc, true)?;
-        for (n, element) in self.elements(true) {
-            text.extend_from_slice(if n == number { spelled } else { element })?;
+        retrieval: bool,
+        second: &[u8],
+        text: &mut Vec<u8>,
+    ) -> Result<(), AllocError> {
+        let start = text.len();
+        text.extend_from_slice(self.mti)?;
+        text.extend_from_slice(self.bitmap)?;
+        text.extend_from_slice(second)?;
+        if !second.is_empty() {
+            set_bits(text, start + 4, 0x80);
         }
-        Ok(text)
+        if retrieval {
+            set_bits(text, start + 8, 0x08);
+        }
+        Ok(())
     }
 
-    /// The text with element 37 up to one element, which is spelled so and ends it.
-    pub(crate) fn text_ending(
+    /// The second bitmap that it has.
+    pub(crate) fn second(&self) -> &'static [u8] {
+        if self.account.is_empty() {
+            b""
+        } else {
+            SECOND_BITMAP
+        }
+    }
+
+    /// Puts the elements up to the last one behind what is there, one of them spelled otherwise.
+    pub(crate) fn put_elements(
         &self,
-        alloc: Global,
-        number: u8,
-        spelled: &[u8],
-    ) -> Result<Vec<u8>, Fail> {
-        let mut text = self.header(alloc, true)?;
-        for (n, element) in self.elements(true) {
-            if n < number {
+        retrieval: bool,
+        spelling: (u8, &[u8]),
+        last: u8,
+        text: &mut Vec<u8>,
+    ) -> Result<(), AllocError> {
+        for (number, element) in &self.elements(retrieval) {
+            if *number == spelling.0 {
+                text.extend_from_slice(spelling.1)?;
+            } else if *number <= last {
                 text.extend_from_slice(element)?;
             }
         }
-        text.extend_from_slice(spelled)?;
-        Ok(text)
+        Ok(())
+    }
+
+    /// Puts the whole text in place of what is there, with this second bitmap. Says whether there was room.
+    pub(crate) fn put_with(&self, retrieval: bool, second: &[u8], text: &mut Vec<u8>) -> bool {
+        text.clear();
+        self.put_header(retrieval, second, text).is_ok()
+            && self.put_elements(retrieval, AS_IT_IS, 128, text).is_ok()
+    }
+
+    /// The same with the second bitmap that it has.
+    pub(crate) fn put(&self, retrieval: bool, text: &mut Vec<u8>) -> bool {
+        self.put_with(retrieval, self.second(), text)
+    }
+
+    /// The same with element 37 and with one element spelled otherwise, which is the last one or not.
+    pub(crate) fn put_spelled(
+        &self,
+        spelling: (u8, &[u8]),
+        is_last: bool,
+        text: &mut Vec<u8>,
+    ) -> bool {
+        text.clear();
+        let last = if is_last { spelling.0 } else { 128 };
+        self.put_header(true, self.second(), text).is_ok()
+            && self.put_elements(true, spelling, last, text).is_ok()
     }
 
     /// Whether it is a reply.
@@ -312,8 +343,18 @@ impl Form {
 
     /// Whether the form has an element, 37 among them.
     pub(crate) fn has(&self, number: u8) -> bool {
-        self.elements(true)
-            .iter()
-            .any(|(n, element)| *n == number && !element.is_empty())
+        for (n, element) in &self.elements(true) {
+            if *n == number {
+                return !element.is_empty();
+            }
+        }
+        false
+    }
+}
+
+// Sets these bits of the byte at this place.
+fn set_bits(text: &mut [u8], place: usize, bits: u8) {
+    if let Some(byte) = text.get_mut(place) {
+        *byte |= bits;
     }
 }

@@ -1,172 +1,161 @@
 //! Each form is read as its message or reply, and written again.
 
-use crate::forms::{FORMS, Form, Kind};
+use crate::forms::{Form, Kind, form_at, forms};
 use codec::{decode, decode_reply, encode, encode_reply};
 use iso8583::{
-    AccountId, Acquirer, Action, Advice, Amount, Answer, Approval, CodecFault, Currency,
-    DeclineCode, FunctionCode, Identity, LocalStamp, Message, OriginalKind, OriginalRef, Pan,
-    Processing, Reply, Request, Retrieval, Reversal, ReversalScope, Stan, Terminal, Transaction,
-    Transmission, Verdict,
+    AccountId, Acquirer, Action, Amount, Answer, Approval, CodecFault, Currency, FunctionCode,
+    LocalStamp, Message, OriginalKind, OriginalRef, Pan, Processing, Reply, Retrieval,
+    ReversalScope, Stan, Terminal, Transaction, Transmission, Verdict,
 };
-use std::alloc::Global;
-use std::test::Fail;
 
-/// The transaction of every form: 1.00 on a card of sixteen digits.
-fn transaction(stan: &[u8], retrieval: bool) -> Option<Transaction> {
-    let retrieval = if retrieval {
-        Retrieval::new(b"ABC 12345678")
+/// Whether it is the transaction of every form: 1.00 on a card of sixteen digits.
+fn is_transaction(form: &Form, retrieval: bool, read: &Transaction) -> bool {
+    (Some(read.pan) == Pan::new(b"4111110000000005"))
+        & (Some(read.processing) == Processing::new(b"000000"))
+        & (Some(read.amount) == Amount::new(100))
+        & (Some(read.transmission) == Transmission::new(b"0110120000"))
+        & (Some(read.stan) == Stan::new(form.stan))
+        & (Some(read.stamp) == LocalStamp::new(b"260110120000"))
+        & (Some(read.acquirer) == Acquirer::new(b"123456"))
+        & is_retrieval(retrieval, read.retrieval)
+        & (Some(read.terminal) == Terminal::new(b"TERM0001"))
+        & (Some(read.currency) == Currency::new(b"978"))
+}
+
+/// Whether it is element 37, or none.
+fn is_retrieval(retrieval: bool, read: Option<Retrieval>) -> bool {
+    if retrieval {
+        read.is_some() && read == Retrieval::new(b"ABC 12345678")
     } else {
-        None
+        read.is_none()
+    }
+}
+
+/// Whether it is element 102 of the form, or none.
+fn is_account(form: &Form, read: Option<AccountId>) -> bool {
+    match form.account.get(2..) {
+        Some(name) => read.is_some() && read == AccountId::new(name),
+        None => read.is_none(),
+    }
+}
+
+/// Whether it is the original that each reversal names.
+fn is_original(read: &OriginalRef) -> bool {
+    read.kind == OriginalKind::Request
+        && !read.repeat
+        && Some(read.identity.acquirer) == Acquirer::new(b"123456")
+        && Some(read.identity.stan) == Stan::new(b"000001")
+        && Some(read.identity.stamp) == LocalStamp::new(b"260110120000")
+}
+
+/// Whether it is what the reversal takes back.
+fn is_scope(form: &Form, read: ReversalScope) -> bool {
+    match read {
+        ReversalScope::Full => form.kind == Kind::FullReversal,
+        ReversalScope::Partial(all) => {
+            form.kind == Kind::PartialReversal && Some(all) == Amount::new(250)
+        }
+    }
+}
+
+/// Whether it is the message that a form spells.
+fn is_message(form: &Form, retrieval: bool, read: &Message) -> bool {
+    match read {
+        Message::Request(request) => {
+            form.kind == Kind::Request
+                && request.repeat == form.repeat
+                && Some(request.function) == FunctionCode::new(b"100")
+                && is_account(form, request.account)
+                && is_transaction(form, retrieval, &request.transaction)
+        }
+        Message::Advice(advice) => {
+            form.kind == Kind::Advice
+                && advice.repeat == form.repeat
+                && Some(advice.function) == FunctionCode::new(b"100")
+                && Some(advice.action) == Action::new(0)
+                && is_account(form, advice.account)
+                && is_transaction(form, retrieval, &advice.transaction)
+        }
+        Message::Reversal(reversal) => {
+            reversal.repeat == form.repeat
+                && is_scope(form, reversal.scope)
+                && is_original(&reversal.original)
+                && is_transaction(form, retrieval, &reversal.transaction)
+        }
+    }
+}
+
+/// Whether it is the answer that a form spells.
+fn is_answer(form: &Form, read: &Answer) -> bool {
+    match read {
+        Answer::Request(Verdict::Approved(code), account) => {
+            form.kind == Kind::Approved
+                && Some(*code) == Approval::new(b"000001")
+                && is_account(form, *account)
+        }
+        Answer::Request(Verdict::Declined(code), account) => {
+            form.kind == Kind::Declined && code.action().code() == 116 && is_account(form, *account)
+        }
+        Answer::Advice(action, account) => {
+            form.kind == Kind::AdviceReply && action.code() == 901 && is_account(form, *account)
+        }
+        Answer::Reversal(action) => form.kind == Kind::ReversalReply && action.code() == 400,
+    }
+}
+
+/// Whether a text is read as the reply that its form spells, and written again behind what is there.
+fn is_kept_reply(form: &Form, retrieval: bool, text: &[u8], out: &mut Vec<u8>) -> bool {
+    match decode_reply(text) {
+        Ok(reply) => {
+            is_answer(form, &reply.answer)
+                & is_transaction(form, retrieval, &reply.transaction)
+                & (decode(text) == Err(CodecFault::BadMti))
+                & encode_reply(&reply, out).is_ok()
+        }
+        Err(_) => false,
+    }
+}
+
+/// The same of a message.
+fn is_kept_message(form: &Form, retrieval: bool, text: &[u8], out: &mut Vec<u8>) -> bool {
+    match decode(text) {
+        Ok(message) => {
+            is_message(form, retrieval, &message)
+                & (decode_reply(text) == Err(CodecFault::BadMti))
+                & encode(&message, out).is_ok()
+        }
+        Err(_) => false,
+    }
+}
+
+/// Whether the form's text has its size, is read as what the form spells, and is written again.
+fn is_round(form: &Form, retrieval: bool, text: &mut Vec<u8>, out: &mut Vec<u8>) -> bool {
+    out.clear();
+    let is_put = form.put(retrieval, text) & out.extend_from_slice(b"before").is_ok();
+    let is_kept = if form.is_reply() {
+        is_kept_reply(form, retrieval, text, out)
+    } else {
+        is_kept_message(form, retrieval, text, out)
     };
-    Some(Transaction {
-        pan: Pan::new(b"4111110000000005")?,
-        processing: Processing::new(b"000000")?,
-        amount: Amount::new(100)?,
-        transmission: Transmission::new(b"0110120000")?,
-        stan: Stan::new(stan)?,
-        stamp: LocalStamp::new(b"260110120000")?,
-        acquirer: Acquirer::new(b"123456")?,
-        retrieval,
-        terminal: Terminal::new(b"TERM0001")?,
-        currency: Currency::new(b"978")?,
-    })
+    let more = if retrieval { 12 } else { 0 };
+    is_put
+        & is_kept
+        & (text.len() == form.size.saturating_add(more))
+        & (out.get(6..) == Some(text.as_slice()))
 }
 
-/// The original that a reversal names.
-fn original() -> Option<OriginalRef> {
-    Some(OriginalRef {
-        kind: OriginalKind::Request,
-        repeat: false,
-        identity: Identity {
-            acquirer: Acquirer::new(b"123456")?,
-            stan: Stan::new(b"000001")?,
-            stamp: LocalStamp::new(b"260110120000")?,
-        },
-    })
-}
-
-/// The message that a form spells.
-fn message(form: &Form, transaction: Transaction) -> Option<Message> {
-    let repeat = form.repeat;
-    Some(match form.kind {
-        Kind::Request => Message::Request(Request {
-            repeat,
-            function: FunctionCode::new(b"100")?,
-            account: account(form),
-            transaction,
-        }),
-        Kind::Advice => Message::Advice(Advice {
-            repeat,
-            function: FunctionCode::new(b"100")?,
-            action: Action::new(0)?,
-            account: account(form),
-            transaction,
-        }),
-        Kind::FullReversal => Message::Reversal(Reversal {
-            repeat,
-            scope: ReversalScope::Full,
-            original: original()?,
-            transaction,
-        }),
-        _ => Message::Reversal(Reversal {
-            repeat,
-            scope: ReversalScope::Partial(Amount::new(250)?),
-            original: original()?,
-            transaction,
-        }),
-    })
-}
-
-/// Element 102 of a form.
-fn account(form: &Form) -> Option<AccountId> {
-    AccountId::new(form.account.get(2..)?)
-}
-
-/// The reply that a form spells.
-fn reply(form: &Form, transaction: Transaction) -> Option<Reply> {
-    let account = account(form);
-    let answer = match form.kind {
-        Kind::Approved => { Answer::Request(Verdict::Approved(Approval::new(b"000001")?), account) }
-        Kind::Declined => {
-            let code = DeclineCode::new(Action::new(116)?)?;
-            Answer::Request(Verdict::Declined(code), account)
-        }
-        Kind::AdviceReply => Answer::Advice(Action::new(901)?, account),
-        _ => Answer::Reversal(Action::new(400)?),
-    };
-    Some(Reply {
-        transaction,
-        answer,
-    })
-}
-
-/// Whether a text is read as the message that its form spells, and written again.
-fn is_message(alloc: Global, form: &Form, text: &[u8], retrieval: bool) -> Result<bool, Fail> {
-    let transaction = transaction(form.stan, retrieval).ok_or("no transaction")?;
-    let message = message(form, transaction).ok_or("no message")?;
-    let mut out = Vec::from_slice(alloc, b"before")?;
-    encode(&message, &mut out)?;
-    Ok(
-        decode(text) == Ok(message)
-            && decode_reply(text) == Err(CodecFault::BadMti)
-            && out.as_slice().get(6..) == Some(text),
-    )
-}
-
-/// The same of a reply.
-fn is_reply(alloc: Global, form: &Form, text: &[u8], retrieval: bool) -> Result<bool, Fail> {
-    let transaction = transaction(form.stan, retrieval).ok_or("no transaction")?;
-    let reply = reply(form, transaction).ok_or("no reply")?;
-    let mut out = Vec::from_slice(alloc, b"before")?;
-    encode_reply(&reply, &mut out)?;
-    Ok(
-        decode_reply(text) == Ok(reply)
-            && decode(text) == Err(CodecFault::BadMti)
-            && out.as_slice().get(6..) == Some(text),
-    )
-}
-
-#[test]
-fn each_message_is_read_and_written(rt: HostRuntime) -> Result<(), Fail> {
-    for (i, form) in FORMS.iter().enumerate() {
-        for retrieval in [false, true] {
-            if !form.is_reply() {
-                let text = form.text(rt.alloc(), retrieval)?;
-                assert!(rt; is_message(rt.alloc(), form, &text, retrieval)?, "form {i}");
-            }
+/// The first form that isn't read and written, without element 37 and with it.
+fn first_unkept(text: &mut Vec<u8>, out: &mut Vec<u8>) -> Option<usize> {
+    for (place, form) in forms().iter().enumerate() {
+        if !(is_round(form, false, text, out) & is_round(form, true, text, out)) {
+            return Some(place);
         }
     }
-    Ok(())
-}
-
-#[test]
-fn each_reply_is_read_and_written(rt: HostRuntime) -> Result<(), Fail> {
-    for (i, form) in FORMS.iter().enumerate() {
-        for retrieval in [false, true] {
-            if form.is_reply() {
-                let text = form.text(rt.alloc(), retrieval)?;
-                assert!(rt; is_reply(rt.alloc(), form, &text, retrieval)?, "form {i}");
-            }
-        }
-    }
-    Ok(())
-}
-
-#[test]
-fn each_form_has_its_size(rt: HostRuntime) -> Result<(), Fail> {
-    for (i, form) in FORMS.iter().enumerate() {
-        assert_eq!(rt; form.text(rt.alloc(), false)?.len(), form.size, "form {i}");
-        assert_eq!(rt;
-            form.text(rt.alloc(), true)?.len(),
-            form.size + 12,
-            "form {i}"
-        );
-    }
-    Ok(())
+    None
 }
 
 /// Spellings of element 56, and the type of the original that each names.
-const ORIGINALS: [(&[u8], OriginalKind, bool); 4] = [
+const ORIGINALS: &[(&[u8], OriginalKind, bool)] = &[
     (
         b"30110000000126011012000006123456",
         OriginalKind::Request,
@@ -189,19 +178,94 @@ const ORIGINALS: [(&[u8], OriginalKind, bool); 4] = [
     ),
 ];
 
-#[test]
-fn each_type_of_an_original_is_kept(rt: HostRuntime) -> Result<(), Fail> {
-    let form = FORMS.get(4).ok_or("no form")?;
-    for (spelled, kind, repeat) in &ORIGINALS {
-        let text = form.text_with(rt.alloc(), 56, spelled)?;
-        let Ok(Message::Reversal(reversal)) = decode(&text) else {
-            return Err("no reversal".into());
-        };
-        assert_eq!(rt; reversal.original.kind, *kind);
-        assert_eq!(rt; reversal.original.repeat, *repeat);
-        let mut out = Vec::new(rt.alloc());
-        encode(&Message::Reversal(reversal), &mut out)?;
-        assert_eq!(rt; out, text);
+/// Whether the text of a reversal names an original of this type, and is written again.
+fn names_original(text: &[u8], kind: OriginalKind, repeat: bool, out: &mut Vec<u8>) -> bool {
+    out.clear();
+    match decode(text) {
+        Ok(Message::Reversal(reversal)) => {
+            (reversal.original.kind == kind)
+                & (reversal.original.repeat == repeat)
+                & encode(&Message::Reversal(reversal), out).is_ok()
+                & (out.as_slice() == text)
+        }
+        _ => false,
     }
-    Ok(())
+}
+
+/// Whether a reversal with this element 56 names an original of this type, and is written again.
+fn keeps_original(
+    spelled: &[u8],
+    kind: OriginalKind,
+    repeat: bool,
+    text: &mut Vec<u8>,
+    out: &mut Vec<u8>,
+) -> bool {
+    match form_at(4) {
+        Some(form) => {
+            form.put_spelled((56, spelled), false, text) && names_original(text, kind, repeat, out)
+        }
+        None => false,
+    }
+}
+
+/// The first of them that isn't kept.
+fn first_unnamed(text: &mut Vec<u8>, out: &mut Vec<u8>) -> Option<usize> {
+    for (place, (spelled, kind, repeat)) in ORIGINALS.iter().enumerate() {
+        if !keeps_original(spelled, *kind, *repeat, text, out) {
+            return Some(place);
+        }
+    }
+    None
+}
+
+/// The request and the approval without element 37 and with element 102.
+const REQUEST: &[u8] =
+    b"1100\xF2\x30\x01\x01\x00\x80\x80\x00\x00\x00\x00\x00\x04\x00\x00\x00164111110000000005000000000000000100011012000000000126011012000010006123456TERM0001978164111110000000005";
+
+const APPROVAL: &[u8] =
+    b"1110\xF2\x30\x00\x01\x06\x80\x80\x00\x00\x00\x00\x00\x04\x00\x00\x00164111110000000005000000000000000100011012000000000126011012000006123456000001000TERM0001978164111110000000005";
+
+/// Whether the text of a request names this account, and is written again.
+fn names_account(text: &[u8], name: &[u8], out: &mut Vec<u8>) -> bool {
+    out.clear();
+    match decode(text) {
+        Ok(Message::Request(request)) => {
+            request.account.is_some()
+                & (request.account == AccountId::new(name))
+                & encode(&Message::Request(request), out).is_ok()
+                & (out.as_slice() == text)
+        }
+        _ => false,
+    }
+}
+
+/// Whether the form at this place, without element 37, is spelled so, in as many bytes.
+fn is_spelled(place: usize, spelled: &[u8], size: usize, text: &mut Vec<u8>) -> bool {
+    match form_at(place) {
+        Some(form) => {
+            form.put(false, text) & (text.as_slice() == spelled) & (spelled.len() == size)
+        }
+        None => false,
+    }
+}
+
+fn is_request_spelled(text: &mut Vec<u8>) -> bool {
+    is_spelled(12, REQUEST, 124, text) & names_account(REQUEST, b"4111110000000005", text)
+}
+
+fn is_approval_spelled(text: &mut Vec<u8>) -> bool {
+    is_spelled(16, APPROVAL, 130, text)
+}
+
+#[test]
+fn each_form_is_read_and_written(rt: HostRuntime) {
+    let mut text = Vec::new(rt.alloc());
+    let mut out = Vec::new(rt.alloc());
+    let unkept = first_unkept(&mut text, &mut out);
+    let unnamed = first_unnamed(&mut text, &mut out);
+    let is_spelled = is_request_spelled(&mut text) & is_approval_spelled(&mut text);
+    assert!(rt;
+        (unkept, unnamed, is_spelled) == (None, None, true),
+        "forms {unkept:?}, originals {unnamed:?}"
+    );
 }
