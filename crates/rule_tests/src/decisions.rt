@@ -2,11 +2,9 @@
 ghost use Rattle.std.specs.Prelude.{None};
 
 use fixtures::{body, row};
-use rows::{Frame, ReplyBody, RowKey, RowVal};
+use rows::{ReplyBody, RowKey, RowVal};
 use rules::Shipped;
-use std::alloc::Global;
-use std::process::Abort;
-use std::test::Fail;
+use std::alloc::{AllocError, Global};
 use view::{Execution, Recorder, RowSource, Stop, execute};
 
 // Rows that were told, and how often it was asked for any.
@@ -32,10 +30,12 @@ impl RowSource for Told {
     }
 }
 
-fn source_of(alloc: Global, lines: &[&str]) -> Result<Told, Fail> {
+fn source_of(alloc: Global, lines: &[&str]) -> Result<Told, AllocError> {
     let mut rows = Vec::new(alloc);
     for line in lines {
-        rows.push(row(line).ok_or("a row")?)?;
+        if let Some(told) = row(line) {
+            rows.push(told)?;
+        }
     }
     Ok(Told { rows, asked: 0 })
 }
@@ -44,10 +44,11 @@ const CARD: &str = "card A 2812 active 0 3 20000 A -";
 
 const ACCOUNT: &str = "account A 10000 978";
 
-// A request of 100 on card A, decided on these rows.
-fn request_on(alloc: Global, lines: &[&str]) -> Result<Execution, Fail> {
-    let frame = body("1100 000001 A 100").ok_or("a body")?;
-    Ok(execute(alloc, &frame, source_of(alloc, lines)?, &Shipped)?)
+// A body decided on these rows.
+fn decided_on(alloc: Global, line: &str, lines: &[&str]) -> Option<Execution> {
+    let frame = body(line)?;
+    let source = source_of(alloc, lines).ok()?;
+    execute(alloc, &frame, source, &Shipped).ok()
 }
 
 // The place of a row's kind among the five.
@@ -72,91 +73,94 @@ fn kinds_read(execution: &Execution) -> u32 {
     kinds
 }
 
+// Rows that a request of 100 on card A is decided on, the kinds that it reads, and how many rows it puts.
+const READS: &[(&[&str], u32, usize)] = &[
+    (&[], 30, 1),
+    (&[CARD], 304, 1),
+    (&[CARD, ACCOUNT], 30412, 4),
+    (&[CARD, ACCOUNT, "day A 260110 3 0"], 3041, 1),
+];
+
+// The kinds that the request reads on these rows, and how many rows it puts.
+fn found_on(alloc: Global, lines: &[&str]) -> Option<(u32, usize)> {
+    let execution = decided_on(alloc, "1100 000001 A 100", lines)?;
+    Some((kinds_read(&execution), execution.writes().len()))
+}
+
 // A row is read where the first test that needs it is reached: identity, card, account, day, budget.
 #[test]
-fn reads_the_rows_that_it_needs(rt: HostRuntime) -> Result<(), Fail> {
-    let alloc = rt.alloc();
-    let full: [&str; 3] = [CARD, ACCOUNT, "day A 260110 3 0"];
-    for (lines, kinds, writes) in [
-        (&full[..0], 30, 1),
-        (&full[..1], 304, 1),
-        (&full[..2], 30412, 4),
-        (&full[..3], 3041, 1),
-    ] {
-        let execution = request_on(alloc, lines)?;
-        assert_eq!(rt; kinds_read(&execution), kinds);
-        assert_eq!(rt; execution.writes().len(), writes);
+fn reads_the_rows_that_it_needs(rt: HostRuntime) {
+    for (lines, kinds, writes) in READS {
+        let found = found_on(rt.alloc(), lines);
+        assert!(rt; found == Some((*kinds, *writes)), "{kinds}");
     }
-    Ok(())
 }
 
-// Asserts that the execution read and put nothing, and answers a fault.
-fn assert_fault_alone(rt: &impl Abort, execution: Execution) {
+// Whether the execution read and put nothing, and answers a fault.
+fn is_fault_alone(execution: Execution) -> bool {
     let (_, reads, writes, reply) = execution.into_parts();
-    assert!(rt; matches!(reply, ReplyBody::Fault(_)));
-    assert!(rt; reads.is_empty() && writes.is_empty());
+    matches!(reply, ReplyBody::Fault(_)) & reads.is_empty() & writes.is_empty()
 }
 
 #[test]
-fn a_bad_body_reads_nothing(rt: HostRuntime) -> Result<(), Fail> {
-    let bad = body("bad").ok_or("a body")?;
-    let execution = execute(rt.alloc(), &bad, source_of(rt.alloc(), &[])?, &Shipped)?;
-    assert_eq!(rt; *execution.frame(), bad);
-    assert_fault_alone(&rt, execution);
-    Ok(())
+fn a_bad_body_reads_nothing(rt: HostRuntime) {
+    let bad = body("bad").expect(&rt, "a body");
+    let execution = decided_on(rt.alloc(), "bad", &[]).expect(&rt, "an execution");
+    let is_frame = *execution.frame() == bad;
+    assert!(rt; is_frame & is_fault_alone(execution));
 }
 
-// Asks twice for a row that is there, and for one that isn't.
-fn ask_twice(
-    rt: &impl Abort,
-    recorder: &mut Recorder<Told>,
-    there: (RowKey, RowVal),
-    absent: RowKey,
-) -> Result<(), Fail> {
-    for _ in 0..2 {
-        assert_eq!(rt; recorder.read(&there.0)?, Some(there.1));
-        assert_eq!(rt; recorder.read(&absent)?, None);
-    }
-    Ok(())
+// Whether a row that is there and one that isn't are answered so.
+fn answers(recorder: &mut Recorder<Told>, there: &(RowKey, RowVal), absent: &RowKey) -> bool {
+    let is_there = matches!(recorder.read(&there.0), Ok(Some(found)) if found == there.1);
+    is_there & matches!(recorder.read(absent), Ok(None))
 }
 
-// Puts a row, which is answered then.
-fn put(rt: &impl Abort, recorder: &mut Recorder<Told>, row: (RowKey, RowVal)) -> Result<(), Fail> {
-    let (key, val) = row;
-    assert!(rt; val.suits(&key));
-    recorder.write(key, val)?;
-    assert_eq!(rt; recorder.read(&key)?, Some(val));
-    Ok(())
+// Whether a row is put, and is answered then.
+fn puts(recorder: &mut Recorder<Told>, row: &(RowKey, RowVal)) -> bool {
+    let (key, val) = *row;
+    val.suits(&key)
+        && recorder.write(key, val).is_ok()
+        && matches!(recorder.read(&key), Ok(Some(found)) if found == val)
 }
 
-// The source was asked for two rows, these are logged, and one was put.
-fn assert_counts(rt: &impl Abort, recorder: Recorder<Told>) {
+// Whether the source was asked for two rows, these are logged, and one was put.
+fn has_counts(recorder: Recorder<Told>) -> bool {
     let (source, reads, writes) = recorder.into_parts();
-    assert_eq!(rt; (source.asked, reads.len(), writes.len()), (2, 2, 1));
+    (source.asked, reads.len(), writes.len()) == (2, 2, 1)
 }
 
 // A row that was read, and one that isn't there, are asked for once; a row that is put is answered as it is put.
 #[test]
-fn asks_once_and_answers_what_it_put(rt: HostRuntime) -> Result<(), Fail> {
-    let there = row(ACCOUNT).ok_or("a row")?;
-    let (absent, _) = row(CARD).ok_or("a row")?;
-    let after = row("account A 4000 978").ok_or("a row")?;
-    let mut recorder = Recorder::new(rt.alloc(), source_of(rt.alloc(), &[ACCOUNT])?);
-    ask_twice(&rt, &mut recorder, there, absent)?;
-    put(&rt, &mut recorder, after)?;
-    assert_counts(&rt, recorder);
-    Ok(())
+fn asks_once_and_answers_what_it_put(rt: HostRuntime) {
+    let there = row(ACCOUNT).expect(&rt, "a row");
+    let (absent, _) = row(CARD).expect(&rt, "a row");
+    let after = row("account A 4000 978").expect(&rt, "a row");
+    let source = source_of(rt.alloc(), &[ACCOUNT]).expect(&rt, "room");
+    let mut recorder = Recorder::new(rt.alloc(), source);
+    let first = answers(&mut recorder, &there, &absent);
+    let again = answers(&mut recorder, &there, &absent);
+    let is_put = puts(&mut recorder, &after);
+    assert!(rt; first & again & is_put & has_counts(recorder));
+}
+
+// What stops a decision, and what it prints.
+const STOPS: &[(Stop, &str)] = &[
+    (Stop::Blocked(7), "blocked by message 7"),
+    (Stop::Lost, "no longer the one that decides"),
+    (Stop::OutOfMemory, "out of memory"),
+];
+
+fn prints(alloc: Global, stop: Stop, text: &str) -> bool {
+    match stop.to_string(alloc) {
+        Ok(printed) => printed.as_str() == text,
+        Err(_) => false,
+    }
 }
 
 #[test]
-fn stops_print(rt: HostRuntime) -> Result<(), Fail> {
-    for (stop, text) in [
-        (Stop::Blocked(7), "blocked by message 7"),
-        (Stop::Lost, "no longer the one that decides"),
-        (Stop::OutOfMemory, "out of memory"),
-    ] {
-        let printed = format!(in rt.alloc(); "{stop}")?;
-        assert_eq!(rt; printed.as_str(), text);
+fn stops_print(rt: HostRuntime) {
+    for (stop, text) in STOPS {
+        assert!(rt; prints(rt.alloc(), *stop, text), "{text}");
     }
-    Ok(())
 }
