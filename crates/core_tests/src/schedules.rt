@@ -84,13 +84,18 @@ fn each_schedule(rt: HostRuntime) -> Result<(), Fail> {
     Ok(())
 }
 
-// A core tells another book and other frames from its own.
+// Whether a core of this book tells the other one, and other frames, from its own.
+fn are_told_apart(alloc: Global, book: &Book, other: &Book) -> Option<bool> {
+    let frames = frames_of(three_requests())?;
+    let core = Core::new(alloc, book, &frames).ok()?;
+    let is_other = core.opened_with(other, &frames) | core.opened_with(book, &frames[..2]);
+    Some(!is_other)
+}
+
 #[test]
 fn opened_with_another_book_or_other_frames(rt: HostRuntime) -> Result<(), Fail> {
     let book = first_book_with(rt.alloc(), &[])?;
     let other = first_book_with(rt.alloc(), &["account A 9900 978"])?;
-    let frames = frames_of(three_requests()).expect(&rt, "three requests");
-    let core = Core::new(rt.alloc(), &book, &frames).expect(&rt, "room");
-    assert!(rt; !(core.opened_with(&other, &frames) | core.opened_with(&book, &frames[..2])));
+    assert!(rt; are_told_apart(rt.alloc(), &book, &other) == Some(true));
     Ok(())
 }

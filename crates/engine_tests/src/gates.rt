@@ -90,7 +90,8 @@ fn is_decline(frame: &Frame) -> bool {
     }
 }
 
-// Whether the bodies, decided by one worker of this engine with this decision, come to as many commits and to these calls of the gate.
+// Whether the bodies, decided by one worker of this engine with this decision, come to as many commits and to these calls of
+// the gate.
 fn comes_to<R: Threads + Wait + Sync, F: Decide + Sync>(
     rt: &R,
     alloc: Global,

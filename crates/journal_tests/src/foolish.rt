@@ -69,7 +69,8 @@ fn refuses_to_read(traced: &mut Traced, calls: &mut usize) -> bool {
 }
 
 impl Stage<'_> {
-    /// Makes the foolish call wherever the core stands so that there is one, and counts it. Says whether it is refused as it should be.
+    /// Makes the foolish call wherever the core stands so that there is one, and counts it. Says whether it is refused as it
+    /// should be.
     pub(crate) fn is_refused(
         &self,
         traced: &mut Traced,

@@ -1,4 +1,5 @@
-//! Tests of journals: cores that keep one, journals played again, the journals of runs on threads, and workers' turns in every order.
+//! Tests of journals: cores that keep one, journals played again, the journals of runs on threads, and workers' turns in every
+//! order.
 #![tactic(auto)]
 
 #[cfg(test)]
