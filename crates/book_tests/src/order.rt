@@ -95,7 +95,8 @@ const TEXTS: &[(&[u8], Option<JsonFault>)] = &[
         br#"{"accounts":[],"ahead":[],"budgets":[],"cards":1,"days":[],"originals":[],"version":4}"#,
         Some(JsonFault::Range),
     ),
-    // Fields are read in the order of their keys: approvals that are too many, and an expiry of another kind; an account of another kind, and too many approvals.
+    // Fields are read in the order of their keys: approvals that are too many before an expiry of another kind, and an account of
+    // another kind before approvals that are too many.
     (
         br#"{"accounts":[],"ahead":[],"budgets":[],"cards":[{"account":"4111110000000005","approvals":1000000,"day_amount":20000,"day_count":3,"expiry":2812,"pan":"4111110000000005","second":null,"status":"active"}],"days":[],"originals":[],"version":3}"#,
         Some(JsonFault::Range),

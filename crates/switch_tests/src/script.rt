@@ -2,11 +2,13 @@
 //!
 //! A line that begins with `#` begins a case, without files. `put FILE PART..` puts a file of these parts, `is FILE PART..` says
 //! that the file has these bytes, `has FILE PART..` that they are among its own, and `none FILE` that it is not there. A part is a
-//! text behind `'`, the name of a text, the name of a file, with `+10` either of them from its tenth byte on, or hexadecimal digits.
+//! text behind `'`, the name of a text, the name of a file, either of them with `+10` for what is behind its first ten bytes, or
+//! hexadecimal digits.
 //!
 //! `0 switch WORD..` says that the program ends with status 0 for these words, in which `_` is a space and `00*513` stands for 513
-//! times `00`. Then `> LINE` is the next line that it printed, `! LINE` the next one on standard error, and `>> PART` a part of what
-//! it printed. All that was printed has to be told, but what is wrong with words that are no command (status 2).
+//! times `00`. Then `> LINE` is the next line that it printed, `! LINE` the next one on standard error, and `>> PART` a part of
+//! what it printed. All of that has to be told. What is wrong with words that are no command (status 2) is told whole or not at
+//! all, but there has to be something.
 
 use crate::texts::text_of;
 use commands::{Printer, act};
@@ -83,11 +85,13 @@ fn begins(alloc: Global, stage: &mut Stage) -> bool {
 
 fn is_told(stage: &Stage) -> bool {
     let Stage { out, err, .. } = stage;
-    let is_usage = stage.status == 2 && !err.bytes.is_empty();
-    out.is_whole
-        && err.is_whole
-        && out.told == out.bytes.len()
-        && (is_usage || err.told == err.bytes.len())
+    let is_all = err.told == err.bytes.len();
+    let is_err_told = if stage.status == 2 {
+        !err.bytes.is_empty() && (is_all || err.told == 0)
+    } else {
+        is_all
+    };
+    out.is_whole && err.is_whole && out.told == out.bytes.len() && is_err_told
 }
 
 // Whether the next line is this one.
