@@ -8,8 +8,9 @@ ghost use Rattle.book_json_laws.specs.Steps.{GivesOrMemory};
 use crate::fields::{has_keys, number_at};
 use crate::lists::add_list;
 use crate::written::read_written;
+use book_check::check_book;
 use book_json_laws::{BookVersion, JsonFault, Part, RowList, TextFault};
-use rows::{Book, check_book};
+use rows::Book;
 use serde_json::Value;
 use std::alloc::Global;
 

@@ -2,7 +2,7 @@
 use Rattle.std.specs.Prelude.{◌≡◌, ℕ, ◌==◌, List, [], ◌∷◌, Option, None, Result, Ok, Err, if◌then◌else◌, codes}
 use Rattle.std.specs.FinMap as map
 use Rattle.std.specs.Str.{is_utf8}
-use Rattle.rows.specs.CheckBook.{IsSound, IsFirstFault}
+use Rattle.book_check.specs.CheckBook.{IsSound, IsFirstFault}
 use Rattle.rows.specs.Fold.{Rows}
 use Rattle.serde_json.specs.Data.{Data}
 use Rattle.serde_json.specs.Read.{read}

@@ -3,7 +3,7 @@ ghost use Rattle.book_json_laws.specs.JsonFault.{number_of_json_fault, fault_of_
 
 use crate::part::Part;
 use crate::text_fault::TextFault;
-use rows::BookFault;
+use book_check::BookFault;
 use std::error::Error;
 use std::fmt;
 

@@ -1,8 +1,8 @@
 //! What is wrong with an entry, list by list.
 
 use crate::texts::{ACCOUNT, AHEAD, BUDGET, CARD, DAY, ORIGINAL};
+use book_check::BookFault;
 use book_json::{JsonFault, Part, read_book};
-use rows::BookFault;
 use std::alloc::Global;
 
 // A book, a text in it, what stands in its place, and the fault.

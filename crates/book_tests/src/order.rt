@@ -1,7 +1,7 @@
 //! Which of several faults is answered, and texts that are no JSON.
 
+use book_check::BookFault;
 use book_json::{JsonFault, Part, read_book};
-use rows::BookFault;
 use std::alloc::{AllocError, Global};
 
 // Texts, and why they are no book.

@@ -1,4 +1,3 @@
-pub mod BackingLaws
 pub mod BookLaws
 pub mod ExpiryLaws
 pub mod KeyLaws

@@ -3,7 +3,6 @@ pub mod Agreement
 pub mod Backing
 pub mod Book
 pub mod CardAccounts
-pub mod CheckBook
 pub mod Decision
 pub mod Expiry
 pub mod Facts

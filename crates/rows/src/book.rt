@@ -166,8 +166,8 @@ impl Book {
         SortedRows::new(alloc, self.rows.iter())
     }
 
-    // The rows, each once, in any order.
-    pub(crate) fn rows(&self) -> Iter<'_, RowKey, RowVal>
+    /// The rows, each once, in any order.
+    pub fn rows(&self) -> Iter<'_, RowKey, RowVal>
         ensures { IsPermutation (map.entries self.now) result }
     {
         self.rows.iter()

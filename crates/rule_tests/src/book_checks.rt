@@ -1,10 +1,11 @@
 //! What is wrong with a book.
 
+use book_check::{BookFault, check_book};
 use fixtures::{
     Batch, advice_rules, first_book_with, request_rules, reversal_rules, unchecked_rules, with_row,
     worked,
 };
-use rows::{Book, BookFault, check_book};
+use rows::Book;
 use std::alloc::Global;
 use std::ops::Range;
 use std::process::Abort;

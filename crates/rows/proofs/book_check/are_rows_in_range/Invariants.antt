@@ -1,7 +1,0 @@
-use Rattle.std.proofs.Common.{◌↔◌}
-use Rattle.std.specs.FinMap as map
-use Rattle.rows.specs.CheckBook.{AreRowsInRange}
-use Rattle.rows.proofs.book_check.are_rows_in_range.Given as goal
-
-abbrev pub invariant-loop-key : goal.invariant-loop-key
-invariant-loop-key l = AreRowsInRange l.book l.key-iterator ↔ AreRowsInRange l.book (map.entries l.book)
