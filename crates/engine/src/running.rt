@@ -16,7 +16,7 @@ use rules::decide_all;
 use speccore::Core;
 use speccore_laws::{Limits, Seat};
 use std::alloc::{AllocError, Global};
-use std::sync::{Mutex, Wait};
+use std::sync::{Condvar, Mutex, Wait};
 use std::thread;
 use std::thread::Threads;
 use view::Decide;
@@ -238,6 +238,8 @@ fn work_together<C: SharedCore + Send, R: Threads + Wait + Sync, F: Decide + Syn
     ensures { IsStarted result workers }
 {
     let count = workers.count();
+    let condvar = Condvar::new();
+    let bed = &condvar;
     thread::scope(
         thread::scope_env(),
         rt,
@@ -248,13 +250,13 @@ fn work_together<C: SharedCore + Send, R: Threads + Wait + Sync, F: Decide + Syn
             let mut started = 1u32;
             for number in 1..count {
                 if scope
-                    .spawn(move || work_at(rt, alloc, frames, core, number, decision, gate))
+                    .spawn(move || work_at(rt, alloc, frames, core, number, decision, gate, bed))
                     .is_ok()
                 {
                     started += 1;
                 }
             }
-            work_at(rt, alloc, frames, core, 0, decision, gate);
+            work_at(rt, alloc, frames, core, 0, decision, gate, bed);
             started
         },
     )
@@ -269,6 +271,7 @@ fn work_at<C: SharedCore, R: Wait, F: Decide, G: Gate>(
     number: u32,
     decision: &F,
     gate: &G,
+    bed: &Condvar,
 ) {
     if let Some(seat) = Seat::new(number) {
         let worker = Worker {
@@ -278,6 +281,7 @@ fn work_at<C: SharedCore, R: Wait, F: Decide, G: Gate>(
             frames,
             decision,
             gate,
+            bed,
         };
         worker.work(seat);
     }

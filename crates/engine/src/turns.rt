@@ -1,3 +1,5 @@
+ghost use Rattle.std.specs.Prelude.{◌≡◌, IsTrue, Ok};
+
 use crate::checking::check;
 use crate::core_rows::CoreRows;
 use crate::leave::Leave;
@@ -22,30 +24,32 @@ pub(crate) struct Worker<'a, R: Wait, C: SharedCore, F: Decide, G: Gate> {
     pub(crate) frames: &'a [Frame],
     pub(crate) decision: &'a F,
     pub(crate) gate: &'a G,
+    // Where workers rest. They are woken when one leaves.
+    pub(crate) bed: &'a Condvar,
 }
 
 impl<'a, R: Wait, C: SharedCore, F: Decide, G: Gate> Worker<'a, R, C, F, G> {
-    /// Turns at this seat, until all is committed or the stop mark is set. A turn that has to leave sets it.
+    /// Turns at this seat, until all is committed or the stop mark is set. A turn that has to leave sets it. Those that rest then are woken.
     pub(crate) fn work(&self, seat: Seat) {
         let mut sets = (ReadSet::new(self.alloc), WriteSet::new(self.alloc));
         let mut pace = Pace::of(seat == Seat::first());
-        let bed = Condvar::new();
         let mut turn = self.claim(seat);
         for _ in self.rt.forever() {
             turn = match turn {
-                Ok(Task::Done) => return,
+                Ok(Task::Done) => break,
                 Ok(Task::Idle) => {
-                    pace.rest(self.rt, &bed);
+                    pace.rest(self.rt, self.bed);
                     self.claim(seat)
                 }
                 Ok(Task::Execute(version)) => self.execute(seat, version, &mut sets, &mut pace),
                 Ok(Task::Validate(version)) => self.check(seat, version),
                 Err(_) => {
                     lock(self.rt, self.core).stop();
-                    return;
+                    break;
                 }
             };
         }
+        self.bed.notify_all();
     }
 
     // What is to be done next; nothing any more where the stop mark is set.
@@ -159,7 +163,9 @@ fn check_here<R: Wait, C: SharedCore>(
 }
 
 // What is to be done next; nothing any more where the stop mark is set.
-fn next_task<C: SharedCore>(core: &mut C, seat: Seat) -> Result<Task, Leave> {
+fn next_task<C: SharedCore>(core: &mut C, seat: Seat) -> Result<Task, Leave>
+    ensures stopped { IsTrue (C.mark core.old) → result ≡ Ok Task.Done }
+{
     if core.stopped() {
         return Ok(Task::Done);
     }

@@ -1,4 +1,5 @@
 pub mod Answered
 pub mod Finished
 pub mod Journaled
+pub mod Marked
 pub mod SomePlay

@@ -171,15 +171,28 @@ impl Traced {
 impl SharedCore for Traced {
     ghost known_worn = { λ t. IsFinished t.core t.entries };
 
-    fn stop(&mut self) {
+    ghost mark = { λ t. t.stopped };
+
+    fn stop(&mut self)
+        ensures core { self.new.core ≡ self.old.core }
+        ensures entries { self.new.entries ≡ self.old.entries }
+        ensures stopped { self.new.stopped ≡ true }
+    {
         self.stopped = true;
     }
 
-    fn stopped(&self) -> bool {
+    fn stopped(&self) -> bool
+        ensures { result ≡ self.now.stopped }
+    {
         self.stopped
     }
 
-    fn block(&mut self, seat: Seat, version: Version, on: u32) -> Answer {
+    fn block(&mut self, seat: Seat, version: Version, on: u32) -> Answer
+        ensures played { IsPlayed self.old.core self.old.entries }
+        ensures answer { AnswersTo self.old.core seat (Event.Block version on) result self.new.core }
+        ensures entries { self.new.entries ≡ self.old.entries ++ entered seat (Event.Block version on) result }
+        ensures stopped { self.new.stopped ≡ self.old.stopped }
+    {
         self.step(seat, Event::Block(version, on))
     }
 

@@ -1,13 +1,13 @@
 //! The rows of a set that stand behind its first ones, in a map.
 
-ghost use Rattle.std.specs.Prelude.{◌≡◌, ◌<◌, ◌^◌, ◌-◌, [], Some, None, length, slice_get, option_map, option_copied, IsOk, IfOk, IfErr, IfSome, OnOk, OnErr};
+ghost use Rattle.std.specs.Prelude.{◌≡◌, ◌<◌, ◌^◌, ◌-◌, [], Some, None, length, slice_get, option_map, option_copied, IsOk, IsSome, IfOk, IfErr, IfSome, OnOk, OnErr};
 ghost use Rattle.std.specs.FinMap as map;
 ghost use Rattle.std.specs.Map.Iter.{deref_pair};
 ghost use Rattle.indexmap.specs.IndexMap.{insert_entry, spare};
 ghost use Rattle.rows.specs.RowKey.{key_eq};
 ghost use Rattle.rows.specs.RowVal.{IsOfKind};
 ghost use Rattle.view.specs.Recording.{answer_of, AsksOnce};
-ghost use Rattle.view.specs.RowSets.{value_in, latest, logged};
+ghost use Rattle.view.specs.RowSets.{value_in, latest, logged, rows_in};
 
 use crate::row_source::RowSource;
 use crate::stop::Stop;
@@ -97,14 +97,10 @@ impl<V: Copy + Drop> Behind<V> {
         ensures err { OnErr result (self.new ≡ self.old) }
         ensures absent { OnErr result (value_in self.old key.now ≡ None) }
     {
+        make_map(&mut self.map, alloc)?;
         match &mut self.map {
             Some(rows) => insert_copy(&mut rows.map, key, row),
-            None => {
-                let mut rows = BoxedRows::new(alloc)?;
-                insert_copy(&mut rows.map, key, row)?;
-                self.map = Some(rows);
-                Ok(())
-            }
+            None => unreachable!(),
         }
     }
 }
@@ -126,14 +122,10 @@ impl Behind<Option<RowVal>> {
         ensures stops { IfSome (S.book source.old) (λ _. IfErr result (λ stop. stop ≡ Stop.OutOfMemory)) }
         ensures same { S.book source.new ≡ S.book source.old }
     {
+        make_map(&mut self.map, alloc)?;
         match &mut self.map {
             Some(rows) => ask_map(&mut rows.map, key, source),
-            None => {
-                let mut rows = BoxedRows::new(alloc)?;
-                ask_map(&mut rows.map, key, source)?;
-                self.map = Some(rows);
-                Ok(())
-            }
+            None => unreachable!(),
         }
     }
 }
@@ -176,6 +168,17 @@ impl<V: Drop> BoxedRows<V> {
             map: Box::new(alloc, IndexMap::new(alloc))?,
         })
     }
+}
+
+// Makes the map, where there is none yet.
+fn make_map<V: Drop>(map: &mut Option<BoxedRows<V>>, alloc: Global) -> Result<(), AllocError>
+    ensures rows { rows_in map.new ≡ rows_in map.old }
+    ensures made { OnOk result (IsSome map.new) }
+{
+    if map.is_none() {
+        *map = Some(BoxedRows::new(alloc)?);
+    }
+    Ok(())
 }
 
 // Puts a copy of a row into a map, over what was there.

@@ -41,7 +41,7 @@ impl Pace {
         self.rest > 0
     }
 
-    /// Rests: lets other threads run, once at least, or sleeps, which nobody ends.
+    /// Rests: lets other threads run, once at least, or sleeps, until the bed is notified at the latest.
     pub fn rest<R: Wait>(self, rt: &R, bed: &Condvar) {
         if self.rest > AWAKE {
             let time = Duration::from_micros(u64::from(self.rest));
