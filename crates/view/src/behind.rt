@@ -174,6 +174,7 @@ impl<V: Drop> BoxedRows<V> {
 fn make_map<V: Drop>(map: &mut Option<BoxedRows<V>>, alloc: Global) -> Result<(), AllocError>
     ensures rows { rows_in map.new ≡ rows_in map.old }
     ensures made { OnOk result (IsSome map.new) }
+    ensures none { OnErr result (rows_in map.old ≡ []) }
 {
     if map.is_none() {
         *map = Some(BoxedRows::new(alloc)?);
