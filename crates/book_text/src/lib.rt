@@ -1,0 +1,10 @@
+//! The text of a book, as it is written.
+#![tactic(auto)]
+
+mod field_writers;
+mod listed_row;
+mod row_writers;
+mod tokens;
+mod writing;
+
+pub use writing::write_book;
