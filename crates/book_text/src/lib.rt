@@ -2,7 +2,6 @@
 #![tactic(auto)]
 
 mod field_writers;
-mod listed_row;
 mod row_writers;
 mod tokens;
 mod writing;

@@ -1,49 +1,49 @@
 //! The text of a book.
 
-ghost use Rattle.std.specs.Prelude.{◌≡◌, ◌∷◌, [], Ok, OnOk, IfOk};
-ghost use Rattle.std.specs.FinMap as map;
+ghost use Rattle.std.specs.Prelude.{◌≡◌, ◌∷◌, [], Ok, OnOk, IfOk, IsTrue};
 ghost use Rattle.std.specs.List.{AllByRecursion};
 ghost use Rattle.json.specs.Token.{key as key_token};
 ghost use Rattle.rows.specs.Book.{AllOfKind};
-ghost use Rattle.rows.specs.Fold.{Rows};
-ghost use Rattle.book_json_laws.proofs.BookAgain.{AreReadBack};
-ghost use Rattle.book_json_laws.specs.Parts.{list_key};
+ghost use Rattle.rows.specs.RowVal.{IsOfKind};
+ghost use Rattle.book_json_laws.specs.Parts.{list_key, is_in};
 ghost use Rattle.book_json_laws.specs.Reading.{reading};
-ghost use Rattle.book_json_laws.specs.Text.{Adds, ReadsBack, tokens_of, list_data, rows_of, book_data, book_text};
+ghost use Rattle.book_json_laws.specs.Text.{Adds, ReadsBack, tokens_of, entry_data, list_data, rows_of, book_text};
+ghost use Rattle.book_text.specs.Top.{top_data, AreReadBack};
 
-use crate::listed_row::ListedRow;
+use crate::row_writers::write_entry;
 use crate::tokens::{begin_array, begin_object, end_array, end_object, key, number_field};
 use book_json_laws::RowList;
 use json::Writer;
-use rows::{Book, SortedRows};
+use rows::{Book, RowKey, RowVal, SortedRows};
 use std::alloc::{AllocError, Global};
 
-// The rows, each with its list.
-fn listed_rows<'a>(
-    alloc: Global,
-    rows: &'a SortedRows<'_>,
-    count: usize,
-) -> Result<Vec<ListedRow<'a>>, AllocError>
-    requires { AllOfKind rows.now }
-    ensures { IfOk result (λ listed. listed.items ≡ rows.now) }
+// Writes the entry of a row that stands in the list.
+fn write_listed(
+    out: &mut Writer,
+    list: RowList,
+    key: &RowKey,
+    val: &RowVal,
+) -> Result<(), AllocError>
+    requires kind { IsOfKind key.now val.now }
+    requires listed { IsTrue (is_in list val.now) }
+    ensures text { OnOk result (Adds out.old out.new (tokens_of (entry_data key.now val.now))) }
+    ensures back { OnOk result (ReadsBack list (key.now, val.now)) }
 {
-    let mut listed = Vec::with_capacity(alloc, count)?;
-    for (key, val) in rows.iter() {
-        listed.push(ListedRow::new(key, val))?;
-    }
-    Ok(listed)
+    write_entry(out, key, val)?;
+    Ok(())
 }
 
 // Writes those of the rows that stand in the list.
-fn write_list(out: &mut Writer, list: RowList, rows: &[ListedRow<'_>]) -> Result<(), AllocError>
+fn write_list(out: &mut Writer, list: RowList, rows: &SortedRows<'_>) -> Result<(), AllocError>
+    requires { AllOfKind rows.now }
     ensures text { OnOk result (Adds out.old out.new (key_token (list_key list) ∷ tokens_of (list_data list rows.now))) }
     ensures back { OnOk result (AllByRecursion (ReadsBack list) (rows_of list rows.now)) }
 {
     key(out, list.key())?;
     begin_array(out)?;
-    for row in rows.iter() {
-        if row.is_in(list) {
-            row.write(out, list)?;
+    for (key, val) in rows.iter() {
+        if list.has(val) {
+            write_listed(out, list, key, val)?;
         }
     }
     end_array(out)?;
@@ -51,9 +51,10 @@ fn write_list(out: &mut Writer, list: RowList, rows: &[ListedRow<'_>]) -> Result
 }
 
 // Writes the top object of the book that has these rows.
-fn write_top(out: &mut Writer, rows: &[ListedRow<'_>]) -> Result<(), AllocError>
-    ensures text { OnOk result ((book : Rows) → rows.now ≡ map.entries book → Adds out.old out.new (tokens_of (book_data book))) }
-    ensures back { OnOk result ((book : Rows) → rows.now ≡ map.entries book → AreReadBack book) }
+fn write_top(out: &mut Writer, rows: &SortedRows<'_>) -> Result<(), AllocError>
+    requires { AllOfKind rows.now }
+    ensures text { OnOk result (Adds out.old out.new (tokens_of (top_data rows.now))) }
+    ensures back { OnOk result (AreReadBack rows.now) }
 {
     begin_object(out)?;
     write_list(out, RowList::Accounts, rows)?;
@@ -85,8 +86,7 @@ pub fn write_book(alloc: Global, book: &Book) -> Result<Vec<u8>, AllocError>
     ensures text { IfOk result (λ text. text.items ≡ book_text book.now) }
     ensures back { IfOk result (λ text. reading text.items ≡ Ok book.now) }
 {
-    let sorted = book.sorted_rows(alloc)?;
-    let rows = listed_rows(alloc, &sorted, book.len())?;
+    let rows = book.sorted_rows(alloc)?;
     let mut out = Writer::new(room_for(alloc, book.len())?);
     write_top(&mut out, &rows)?;
     Ok(out.into_inner())
