@@ -1,4 +1,4 @@
-ghost use Rattle.std.specs.Prelude.{◌≡◌, ◌≢◌, ◌↔◌, ℕ, ◌<◌, ◌≤◌, [], length, slice_index_or, Some, None, IsTrue, OnOk, IfOk, IfErr, IfSome, IsSome, option_map};
+ghost use Rattle.std.specs.Prelude.{◌≡◌, ◌≢◌, ◌↔◌, ℕ, ◌<◌, ◌≤◌, [], length, vec_capacity, insert, slice_index_or, Some, None, IsTrue, OnOk, IfOk, IfErr, IfSome, IsSome, option_map};
 ghost use Rattle.std.specs.Option.{option_copied};
 ghost use Rattle.mvmem.specs.Chains.{found, seen_of, AreInOrder, StandsAt, FitsAt};
 ghost use Rattle.mvmem.specs.Entries.{estimate_of, value_at};
@@ -76,20 +76,19 @@ impl Chain {
         ensures others { (i : ℕ) → i ≢ version.index → found self.new.links i ≡ found self.old.links i }
         ensures new { IsTrue result ↔ (found self.old.links version.index ≡ None) }
     {
-        let link = Link {
-            index: version.index,
-            incarnation: version.incarnation,
-            value: Some(*value),
-        };
         match place_of(&self.links, version.index) {
             Ok(place) => {
-                self.links[place] = link;
+                self.links[place] = Link {
+                    index: version.index,
+                    incarnation: version.incarnation,
+                    value: Some(*value),
+                };
                 false
             }
-            Err(place) => match self.links.insert(place, link) {
-                Ok(()) => true,
-                Err(_) => unreachable!(),
-            },
+            Err(place) => {
+                put_in(&mut self.links, place, version, value);
+                true
+            }
         }
     }
 
@@ -122,6 +121,30 @@ impl Chain {
         if let Ok(place) = place_of(&self.links, index) {
             self.links[place].value = None;
         }
+    }
+}
+
+// Puts a link in at this place, where there is room for it. Mostly that is the last place. It is a call of its own so that the value is
+// copied once.
+#[inline(never)]
+#[tactic(auto, using(std::proofs::lemmas::List::Edits::insert_end))]
+fn put_in(links: &mut Vec<Link>, place: usize, version: Version, value: &RowVal)
+    requires within { place ≤ length links.old.items }
+    requires room { length links.old.items < vec_capacity links.old }
+    ensures { links.new.items ≡ insert links.old.items place (record { index = version.index; incarnation = version.incarnation; value = Some value.now }) }
+{
+    let link = Link {
+        index: version.index,
+        incarnation: version.incarnation,
+        value: Some(*value),
+    };
+    if place == links.len() {
+        links.push_reserved(link);
+        return;
+    }
+    match links.insert(place, link) {
+        Ok(()) => {}
+        Err(_) => unreachable!(),
     }
 }
 

@@ -22,16 +22,16 @@ returns-in-Ok-clause-new c =
     let own = found_at c.self.inside.links.items c.args.version.index c.in-Ok.place (record { index = c.args.version.index; incarnation = c.args.version.incarnation; value = Some c.args.value.now }) c.self.invariant stands in
     (λ t. absurd (false≢true t), λ none. absurd (none-some _ (sym none ∙ sym (ap (λ (x : Chain). found x.links c.args.version.index) c.self.view_is) ∙ own)))
 
-pub returns-in-Ok-insert-clause-own : goal.returns-in-Ok-insert-clause-own
-returns-in-Ok-insert-clause-own c =
+pub returns-in-Err-clause-own : goal.returns-in-Err-clause-own
+returns-in-Err-clause-own c =
     let fits = subst (λ (links : List Link). FitsAt links c.args.version.index c.in-Err.place) c.deref.ensures.value c.in-Err.ensures.absent in
-    rw c.in-Ok-insert.ensures.items (insert_own c.self.inside.links.items c.in-Err.place (record { index = c.args.version.index; incarnation = c.args.version.incarnation; value = Some c.args.value.now }) fits)
+    rw c.put_in.ensures (insert_own c.self.inside.links.items c.in-Err.place (record { index = c.args.version.index; incarnation = c.args.version.incarnation; value = Some c.args.value.now }) fits)
 
-pub returns-in-Ok-insert-clause-others : goal.returns-in-Ok-insert-clause-others
-returns-in-Ok-insert-clause-others c i ne =
-    rw c.in-Ok-insert.ensures.items (insert_other c.self.inside.links.items c.in-Err.place (record { index = c.args.version.index; incarnation = c.args.version.incarnation; value = Some c.args.value.now }) i ne ∙ ap (λ (x : Chain). found x.links i) c.self.view_is)
+pub returns-in-Err-clause-others : goal.returns-in-Err-clause-others
+returns-in-Err-clause-others c i ne =
+    rw c.put_in.ensures (insert_other c.self.inside.links.items c.in-Err.place (record { index = c.args.version.index; incarnation = c.args.version.incarnation; value = Some c.args.value.now }) i ne ∙ ap (λ (x : Chain). found x.links i) c.self.view_is)
 
-pub returns-in-Ok-insert-clause-new : goal.returns-in-Ok-insert-clause-new
-returns-in-Ok-insert-clause-new c =
+pub returns-in-Err-clause-new : goal.returns-in-Err-clause-new
+returns-in-Err-clause-new c =
     let fits = subst (λ (links : List Link). FitsAt links c.args.version.index c.in-Err.place) c.deref.ensures.value c.in-Err.ensures.absent in
     (λ t. sym (ap (λ (x : Chain). found x.links c.args.version.index) c.self.view_is) ∙ insert_new c.self.inside.links.items c.in-Err.place c.args.version.index fits, λ none. refl)
