@@ -133,9 +133,10 @@ fn put_in(links: &mut Vec<Link>, place: usize, version: Version, value: &RowVal)
     requires room { length links.old.items < vec_capacity links.old }
     ensures { links.new.items ≡ insert links.old.items place (record { index = version.index; incarnation = version.incarnation; value = Some value.now }) }
 {
+    let Version { index, incarnation } = version;
     let link = Link {
-        index: version.index,
-        incarnation: version.incarnation,
+        index,
+        incarnation,
         value: Some(*value),
     };
     if place == links.len() {
