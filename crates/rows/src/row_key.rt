@@ -42,7 +42,7 @@ impl RowKey {
     }
 
     // The text that the order looks at first.
-    fn first(&self) -> &str
+    pub(crate) fn first(&self) -> &str
         ensures { result.now ≡ first_text self.now }
     {
         match self {
@@ -54,7 +54,7 @@ impl RowKey {
     }
 
     // The text that it looks at next, if the kind has one.
-    fn second(&self) -> &str
+    pub(crate) fn second(&self) -> &str
         ensures { result.now ≡ second_text self.now }
     {
         match self {
