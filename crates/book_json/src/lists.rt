@@ -1,47 +1,18 @@
 //! The lists of rows in a book's text.
 
-ghost use Rattle.std.specs.Prelude.{◌≡◌, None, IfOk, IfErr};
+ghost use Rattle.std.specs.Prelude.{◌≡◌, None, IfErr};
 ghost use Rattle.std.specs.FinMap as map;
 ghost use Rattle.rows.specs.RowVal.{IsOfKind};
 ghost use Rattle.serde_json.specs.View.{view, items_view};
 ghost use Rattle.book_json_laws.specs.Cards.{migrated_card};
-ghost use Rattle.book_json_laws.specs.Lists.{entry_of, card_row_of, has_old_cards, with_row, with_rows, add_entry, add_entries, add_list};
+ghost use Rattle.book_json_laws.specs.Lists.{has_old_cards, with_row, with_rows, add_entry, add_entries, add_list};
 ghost use Rattle.book_json_laws.specs.Steps.{GivesOrMemory};
 ghost use Rattle.book_json_laws.specs.declared.row_list.RowList.TheVariants.{Cards};
 
-use crate::cards::{card_of, old_card_of};
-use crate::entries::{account_of, budget_of, day_of, mark_of};
-use crate::originals::original_of;
+use book_entries::{entry_of, old_card_of};
 use book_json_laws::{BookVersion, OldCard, RowList, TextFault, own_account};
 use rows::{Book, RowKey, RowVal};
 use serde_json::Value;
-
-fn card_row_of(entry: &Value) -> Result<(RowKey, RowVal), TextFault>
-    ensures value { result ≡ card_row_of (view entry.now) }
-    ensures kind { IfOk result (λ row. IsOfKind row.0 row.1) }
-{
-    let (pan, card) = card_of(entry)?;
-    Ok((RowKey::Card(pan), RowVal::Card(card)))
-}
-
-/// The row that an entry of a list is.
-fn entry_of(
-    version: BookVersion,
-    list: RowList,
-    entry: &Value,
-) -> Result<(RowKey, RowVal), TextFault>
-    ensures value { result ≡ entry_of version list (view entry.now) }
-    ensures kind { IfOk result (λ row. IsOfKind row.0 row.1) }
-{
-    match list {
-        RowList::Cards => card_row_of(entry),
-        RowList::Days => day_of(entry),
-        RowList::Budgets => budget_of(entry),
-        RowList::Originals => original_of(version, entry),
-        RowList::Ahead => mark_of(entry),
-        RowList::Accounts => account_of(entry),
-    }
-}
 
 /// Puts a row into the book, unless an earlier entry has its key.
 fn put_new(list: RowList, key: RowKey, val: RowVal, book: &mut Book) -> Result<(), TextFault>

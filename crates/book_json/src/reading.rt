@@ -5,9 +5,9 @@ ghost use Rattle.serde_json.specs.View.{view};
 ghost use Rattle.book_json_laws.specs.Reading.{version_of_keys, version_of, add_lists, all_lists, book_of, reading, IsAnswer};
 ghost use Rattle.book_json_laws.specs.Steps.{GivesOrMemory};
 
-use crate::fields::{has_keys, number_at};
 use crate::lists::add_list;
 use crate::written::read_written;
+use book_entries::{has_keys, number_at};
 use book_json_laws::{BookVersion, JsonFault, Part, RowList, TextFault};
 use rows::{Book, check_book};
 use serde_json::Value;

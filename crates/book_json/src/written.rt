@@ -3,10 +3,9 @@
 ghost use Rattle.std.specs.Prelude.{◌≡◌, Ok, IfOk, IfSome};
 ghost use Rattle.book_json_laws.specs.Reading.{reading};
 
-use crate::writing::write_book;
-use crate::written_rows::row_of;
-use crate::written_text::WrittenText;
+use book_entries::{WrittenText, row_of};
 use book_json_laws::RowList;
+use book_text::write_book;
 use json::{Reader, Scratch};
 use rows::Book;
 use std::alloc::{AllocError, Global};
