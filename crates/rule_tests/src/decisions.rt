@@ -4,40 +4,36 @@ ghost use Rattle.std.specs.Prelude.{None};
 use fixtures::{body, row};
 use rows::{ReplyBody, RowKey, RowVal};
 use rules::Shipped;
-use std::alloc::{AllocError, Global};
+use std::alloc::Global;
 use view::{Execution, Recorder, RowSource, Stop, execute};
 
-// Rows that were told, and how often it was asked for any.
+// Rows that were told, as lines, and how often it was asked for any.
 #[derive(Drop)]
-struct Told {
-    rows: Vec<(RowKey, RowVal)>,
+struct Told<'a> {
+    lines: &'a [&'a str],
     asked: u32,
 }
 
-impl RowSource for Told {
+impl RowSource for Told<'_> {
     ghost book = { λ _. None };
 
     ghost answers = { λ _ _ _ _. Unit {0} };
 
     fn read(&mut self, key: &RowKey) -> Result<Option<RowVal>, Stop> {
         self.asked = self.asked.saturating_add(1);
-        for (there, val) in &self.rows {
-            if there == key && val.suits(key) {
-                return Ok(Some(*val));
-            }
-        }
-        Ok(None)
+        Ok(value_in(self.lines, key))
     }
 }
 
-fn source_of(alloc: Global, lines: &[&str]) -> Result<Told, AllocError> {
-    let mut rows = Vec::new(alloc);
+// The row's value, of the first of these lines that has one.
+fn value_in(lines: &[&str], key: &RowKey) -> Option<RowVal> {
     for line in lines {
-        if let Some(told) = row(line) {
-            rows.push(told)?;
+        match row(line) {
+            Some((there, val)) if there == *key && val.suits(key) => return Some(val),
+            _ => {}
         }
     }
-    Ok(Told { rows, asked: 0 })
+    None
 }
 
 const CARD: &str = "card A 2812 active 0 3 20000 A -";
@@ -47,8 +43,7 @@ const ACCOUNT: &str = "account A 10000 978";
 // A body decided on these rows.
 fn decided_on(alloc: Global, line: &str, lines: &[&str]) -> Option<Execution> {
     let frame = body(line)?;
-    let source = source_of(alloc, lines).ok()?;
-    execute(alloc, &frame, source, &Shipped).ok()
+    execute(alloc, &frame, Told { lines, asked: 0 }, &Shipped).ok()
 }
 
 // The place of a row's kind among the five.
@@ -96,32 +91,42 @@ fn reads_the_rows_that_it_needs(rt: HostRuntime) {
     }
 }
 
-// Whether the execution read and put nothing, and answers a fault.
-fn is_fault_alone(execution: Execution) -> bool {
-    let (_, reads, writes, reply) = execution.into_parts();
-    matches!(reply, ReplyBody::Fault(_)) & reads.is_empty() & writes.is_empty()
+// Whether the execution is of the bad body, read and put nothing, and answers a fault.
+fn is_fault_alone(execution: &Execution) -> bool {
+    (Some(*execution.frame()) == body("bad"))
+        & matches!(execution.reply(), ReplyBody::Fault(_))
+        & execution.reads().is_empty()
+        & execution.writes().is_empty()
 }
 
 #[test]
 fn a_bad_body_reads_nothing(rt: HostRuntime) {
-    let bad = body("bad").expect(&rt, "a body");
     let execution = decided_on(rt.alloc(), "bad", &[]).expect(&rt, "an execution");
-    let is_frame = *execution.frame() == bad;
-    assert!(rt; is_frame & is_fault_alone(execution));
+    assert!(rt; is_fault_alone(&execution));
 }
 
-// Whether a row that is there and one that isn't are answered so.
-fn answers(recorder: &mut Recorder<Told>, there: &(RowKey, RowVal), absent: &RowKey) -> bool {
-    let is_there = matches!(recorder.read(&there.0), Ok(Some(found)) if found == there.1);
-    is_there & matches!(recorder.read(absent), Ok(None))
+// Whether the line's row is answered so.
+fn answers(recorder: &mut Recorder<Told>, line: &str) -> bool {
+    match row(line) {
+        Some((key, val)) => matches!(recorder.read(&key), Ok(Some(found)) if found == val),
+        None => false,
+    }
 }
 
-// Whether a row is put, and is answered then.
-fn puts(recorder: &mut Recorder<Told>, row: &(RowKey, RowVal)) -> bool {
-    let (key, val) = *row;
-    val.suits(&key)
-        && recorder.write(key, val).is_ok()
-        && matches!(recorder.read(&key), Ok(Some(found)) if found == val)
+// Whether there is no row where the line's row would be.
+fn has_none(recorder: &mut Recorder<Told>, line: &str) -> bool {
+    match row(line) {
+        Some((key, _)) => matches!(recorder.read(&key), Ok(None)),
+        None => false,
+    }
+}
+
+// Whether the line's row is put.
+fn puts(recorder: &mut Recorder<Told>, line: &str) -> bool {
+    match row(line) {
+        Some((key, val)) => val.suits(&key) && recorder.write(key, val).is_ok(),
+        None => false,
+    }
 }
 
 // Whether the source was asked for two rows, these are logged, and one was put.
@@ -133,14 +138,15 @@ fn has_counts(recorder: Recorder<Told>) -> bool {
 // A row that was read, and one that isn't there, are asked for once; a row that is put is answered as it is put.
 #[test]
 fn asks_once_and_answers_what_it_put(rt: HostRuntime) {
-    let there = row(ACCOUNT).expect(&rt, "a row");
-    let (absent, _) = row(CARD).expect(&rt, "a row");
-    let after = row("account A 4000 978").expect(&rt, "a row");
-    let source = source_of(rt.alloc(), &[ACCOUNT]).expect(&rt, "room");
+    let source = Told {
+        lines: &[ACCOUNT],
+        asked: 0,
+    };
     let mut recorder = Recorder::new(rt.alloc(), source);
-    let first = answers(&mut recorder, &there, &absent);
-    let again = answers(&mut recorder, &there, &absent);
-    let is_put = puts(&mut recorder, &after);
+    let first = answers(&mut recorder, ACCOUNT) & has_none(&mut recorder, CARD);
+    let again = answers(&mut recorder, ACCOUNT) & has_none(&mut recorder, CARD);
+    let after = "account A 4000 978";
+    let is_put = puts(&mut recorder, after) & answers(&mut recorder, after);
     assert!(rt; first & again & is_put & has_counts(recorder));
 }
 
