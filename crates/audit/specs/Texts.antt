@@ -11,6 +11,9 @@ use Rattle.audit.specs.declared.block_audit.BlockAudit.TheVariants as blocks
 abbrev pub reply_text : ℕ → List ℕ
 reply_text place = codes "reply " ++ (decimal place ++ codes " differs")
 
+abbrev pub block_reply_text : ℕ → ℕ → List ℕ
+block_reply_text block index = codes "block " ++ (decimal block ++ (codes " " ++ reply_text index))
+
 -- the key as a journal writes it
 abbrev pub row_text : RowKey → List ℕ
 row_text key = codes "row " ++ (key_text key ++ codes " differs")
@@ -24,5 +27,5 @@ audit_text (batch.BookDiffers key) = row_text key
 abbrev pub block_audit_text : BlockAudit → List ℕ
 block_audit_text blocks.Same = codes "same"
 block_audit_text blocks.CountDiffers = codes "count differs"
-block_audit_text (blocks.ReplyDiffers block index) = codes "block " ++ (decimal block ++ (codes " " ++ reply_text index))
+block_audit_text (blocks.ReplyDiffers block index) = block_reply_text block index
 block_audit_text (blocks.BookDiffers key) = row_text key

@@ -1,8 +1,9 @@
 //! Auditing blocks of bodies, which are decided one after another.
 
-ghost use Rattle.std.specs.Prelude.{◌≡◌, ◌≤◌, ◌↔◌, length, map, IfOk, IsTrue};
+ghost use Rattle.std.specs.Prelude.{◌≡◌, ◌≤◌, ◌↔◌, List, length, map, IfOk, IsTrue};
 ghost use Rattle.std.specs.List.{All};
 ghost use Rattle.batch_laws.specs.Blocks.{replies_to_blocks, rows_after_blocks};
+ghost use Rattle.rows.specs.declared.reply_body.ReplyBody.{ReplyBody};
 ghost use Rattle.audit.specs.Blocks.{FindsInBlocks, counts};
 
 use crate::block_audit::BlockAudit;
@@ -38,7 +39,14 @@ pub fn audit_blocks(
         }
         right = prefix.book;
     }
-    match least_differing_row(alloc, after, &right)? {
+    compared_after(alloc, after, &right)
+}
+
+/// What differs first where all replies are the right ones: the least key of a row, if any.
+fn compared_after(alloc: Global, after: &Book, right: &Book) -> Result<BlockAudit, AllocError>
+    ensures { IfOk result (λ found. (replies : List (List ReplyBody)) → FindsInBlocks replies after.now replies right.now found) }
+{
+    match least_differing_row(alloc, after, right)? {
         Some(key) => Ok(BlockAudit::BookDiffers(key)),
         None => Ok(BlockAudit::Same),
     }

@@ -2,7 +2,7 @@
 
 ghost use Rattle.std.specs.Prelude.{◌≡◌, ◌++◌, IfOk, OnOk};
 ghost use Rattle.std.specs.Fmt.{decimal};
-ghost use Rattle.audit.specs.Texts.{audit_text, block_audit_text, reply_text, row_text};
+ghost use Rattle.audit.specs.Texts.{audit_text, block_audit_text, block_reply_text, reply_text, row_text};
 
 use crate::audited::Audit;
 use crate::block_audit::BlockAudit;
@@ -17,12 +17,7 @@ pub fn audit_text(alloc: Global, found: &Audit) -> Result<Vec<u8>, AllocError>
     ensures { IfOk result (λ text. text.items ≡ audit_text found.now) }
 {
     let mut text = Vec::new(alloc);
-    match found {
-        Audit::Same => text.extend_from_slice(b"same")?,
-        Audit::CountDiffers => text.extend_from_slice(b"count differs")?,
-        Audit::ReplyDiffers(place) => put_reply(&mut text, *place)?,
-        Audit::BookDiffers(key) => put_row(&mut text, key)?,
-    }
+    put_audit(&mut text, found)?;
     Ok(text)
 }
 
@@ -31,18 +26,32 @@ pub fn block_audit_text(alloc: Global, found: &BlockAudit) -> Result<Vec<u8>, Al
     ensures { IfOk result (λ text. text.items ≡ block_audit_text found.now) }
 {
     let mut text = Vec::new(alloc);
-    match found {
-        BlockAudit::Same => text.extend_from_slice(b"same")?,
-        BlockAudit::CountDiffers => text.extend_from_slice(b"count differs")?,
-        BlockAudit::ReplyDiffers { block, index } => {
-            text.extend_from_slice(b"block ")?;
-            put_number(&mut text, *block)?;
-            text.extend_from_slice(b" ")?;
-            put_reply(&mut text, *index)?;
-        }
-        BlockAudit::BookDiffers(key) => put_row(&mut text, key)?,
-    }
+    put_block_audit(&mut text, found)?;
     Ok(text)
+}
+
+/// Appends what an audit found.
+fn put_audit(text: &mut Vec<u8>, found: &Audit) -> Result<(), AllocError>
+    ensures { OnOk result (text.new.items ≡ text.old.items ++ audit_text found.now) }
+{
+    match found {
+        Audit::Same => text.extend_from_slice(b"same"),
+        Audit::CountDiffers => text.extend_from_slice(b"count differs"),
+        Audit::ReplyDiffers(place) => put_reply(text, *place),
+        Audit::BookDiffers(key) => put_row(text, key),
+    }
+}
+
+/// Appends what an audit of blocks found.
+fn put_block_audit(text: &mut Vec<u8>, found: &BlockAudit) -> Result<(), AllocError>
+    ensures { OnOk result (text.new.items ≡ text.old.items ++ block_audit_text found.now) }
+{
+    match found {
+        BlockAudit::Same => text.extend_from_slice(b"same"),
+        BlockAudit::CountDiffers => text.extend_from_slice(b"count differs"),
+        BlockAudit::ReplyDiffers { block, index } => put_block_reply(text, *block, *index),
+        BlockAudit::BookDiffers(key) => put_row(text, key),
+    }
 }
 
 /// Appends the number in decimal.
@@ -60,6 +69,16 @@ fn put_reply(text: &mut Vec<u8>, place: u32) -> Result<(), AllocError>
     text.extend_from_slice(b"reply ")?;
     put_number(text, place)?;
     text.extend_from_slice(b" differs")
+}
+
+/// Appends that the reply at this place of this block differs.
+fn put_block_reply(text: &mut Vec<u8>, block: u32, index: u32) -> Result<(), AllocError>
+    ensures { OnOk result (text.new.items ≡ text.old.items ++ block_reply_text block index) }
+{
+    text.extend_from_slice(b"block ")?;
+    put_number(text, block)?;
+    text.extend_from_slice(b" ")?;
+    put_reply(text, index)
 }
 
 /// Appends that the row of this key differs.

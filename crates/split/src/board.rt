@@ -26,30 +26,49 @@ pub(crate) struct Board<B: Room> {
     ghost at: { cursors ≡ B.table },
 }
 
+/// Where messages and rows stand: a slot for each message, which was never executed, and shards with no row.
+#[derive(Drop)]
+pub(crate) struct Storage {
+    slots: Vec<Mutex<Slot>>,
+    shards: Shards,
+}
+
+impl Storage {
+    // For so many messages.
+    pub(crate) fn new(alloc: Global, messages: usize) -> Result<Storage, AllocError>
+        ensures { IfOk result (λ storage. length storage.slots.items ≡ messages) }
+    {
+        let slots = ready_slots(alloc, messages)?;
+        let shards = Shards::new(alloc)?;
+        Ok(Storage { slots, shards })
+    }
+}
+
 impl<B: Room> Board<B> {
-    // A board for the ledger's batch, which has so many messages, and the place of the first worker.
+    // A board for the ledger's batch, and the place of the first worker.
     pub(crate) fn new(
         alloc: Global,
         cursors: Cursors,
         mut seat: CursorSeat,
         ledger: Ledger,
-        messages: usize,
-    ) -> Result<(Board<B>, Place<B>), AllocError>
+        storage: Storage,
+    ) -> (Board<B>, Place<B>)
         requires table { (cursors ≡ B.table) × (seat.table_id ≡ B.table) }
         requires first { seat.me ≡ (publisher (length ledger.frames), []) }
-        requires messages { messages ≡ length ledger.frames }
-        ensures slots { IfOk result (λ made. length made.0.slots.items ≡ length ledger.frames) }
+        requires slots { length storage.slots.items ≡ length ledger.frames }
+        ensures slots { length result.0.slots.items ≡ length ledger.frames }
     {
         let place = Place::new(alloc, cursors.another(&mut seat));
         let desk = Desk::new(Published::new(ledger, seat));
+        let Storage { slots, shards } = storage;
         let board = Board {
             cursors,
             desk: CachePadded::new(Mutex::new(desk)),
-            slots: ready_slots(alloc, messages)?,
-            shards: Shards::new(alloc)?,
+            slots,
+            shards,
             spares: CachePadded::new(Mutex::new(Vec::new(alloc))),
         };
-        Ok((board, place))
+        (board, place)
     }
 
     // The cursors.

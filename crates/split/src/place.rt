@@ -93,20 +93,28 @@ impl<B: Room> Place<B> {
         board: &Board<B>,
     ) -> Result<(ReadSet, WriteSet, Vec<Sight>), AllocError> {
         if self.spares.is_empty() {
-            move_some(&mut board.spares(rt), &mut self.spares, SPARES / 2)?;
+            self.fetch(rt, board)?;
         }
         match self.spares.pop() {
-            Some(spare) => {
-                let Attempt { execution, log } = Box::into_inner(spare);
-                let (_, reads, writes, _) = execution.into_parts();
-                Ok((reads, writes, log))
-            }
+            Some(spare) => Ok(sets_of(spare)),
             None => {
                 let alloc = *self.spares.allocator();
                 Ok((ReadSet::new(alloc), WriteSet::new(alloc), Vec::new(alloc)))
             }
         }
     }
+
+    // Fetches executions that are done with from the board.
+    fn fetch<R: Wait>(&mut self, rt: &R, board: &Board<B>) -> Result<(), AllocError> {
+        move_some(&mut board.spares(rt), &mut self.spares, SPARES / 2)
+    }
+}
+
+// The sets and the log of an execution that is done with.
+fn sets_of(spare: Box<Attempt>) -> (ReadSet, WriteSet, Vec<Sight>) {
+    let Attempt { execution, log } = Box::into_inner(spare);
+    let (_, reads, writes, _) = execution.into_parts();
+    (reads, writes, log)
 }
 
 // Moves so many executions from one list to another, or all that there are.

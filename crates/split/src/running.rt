@@ -4,7 +4,7 @@ ghost use Rattle.cursors.specs.CursorRule.{publisher};
 ghost use Rattle.workers.specs.Started.{IsStarted};
 ghost use Rattle.ledger.specs.Progress.{opened};
 
-use crate::board::Board;
+use crate::board::{Board, Storage};
 use crate::place::Place;
 use crate::room::Room;
 use crate::turns::Worker;
@@ -40,11 +40,12 @@ pub fn run_split<R: Threads + Wait + Sync, F: Decide + Sync, G: Gate>(
     ensures started { IfOk result (λ outcome. IsStarted outcome.started workers) }
     ensures committed { IfOk result (λ outcome. outcome.committed ≤ length frames.now) }
 {
-    let ledger = Ledger::new(alloc, book, frames)?;
+    let storage = Storage::new(alloc, frames.len())?;
     let (cursors, seat) = Cursors::new(alloc, frames.len() as u64)?;
+    let ledger = Ledger::new(alloc, book, frames)?;
     let (ledger, started) = ledger_of::<Brand, R, F, G>(
-        rt, alloc, book, frames, workers, decision, gate, cursors, seat, ledger,
-    )?;
+        rt, alloc, book, frames, workers, decision, gate, cursors, seat, ledger, storage,
+    );
     let prefix = prefix_of(alloc, ledger, book, frames)?;
     outcome_of(alloc, prefix, book, frames, started)
 }
@@ -61,13 +62,14 @@ fn ledger_of<B: Room + Send + Sync, R: Threads + Wait + Sync, F: Decide + Sync, 
     cursors: Cursors,
     seat: CursorSeat,
     ledger: Ledger,
-) -> Result<(Ledger, u32), AllocError>
+    storage: Storage,
+) -> (Ledger, u32)
     requires table { (cursors ≡ B.table) × (seat.table_id ≡ B.table) }
     requires first { seat.me ≡ (publisher (length ledger.frames), []) }
-    requires bodies { ledger.frames ≡ frames.now }
-    ensures { IfOk result (λ left. IsStarted left.1 workers) }
+    requires slots { length storage.slots.items ≡ length ledger.frames }
+    ensures { IsStarted result.1 workers }
 {
-    let (board, place): (Board<B>, _) = Board::new(alloc, cursors, seat, ledger, frames.len())?;
+    let (board, place): (Board<B>, _) = Board::new(alloc, cursors, seat, ledger, storage);
     let worker = Worker {
         rt,
         alloc,
@@ -78,7 +80,7 @@ fn ledger_of<B: Room + Send + Sync, R: Threads + Wait + Sync, F: Decide + Sync, 
         gate,
     };
     let started = work_together(&worker, place, workers);
-    Ok((board.into_ledger(), started))
+    (board.into_ledger(), started)
 }
 
 // Starts the other workers and works as the first; the answer is how many took part.

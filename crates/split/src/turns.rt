@@ -73,24 +73,40 @@ impl<B: Room, R: Wait, F: Decide, G: Gate> Worker<'_, B, R, F, G> {
         let Some(mut desk) = self.board.free_desk() else {
             return Ok(());
         };
+        self.commit_at(place, &mut desk)
+    }
+
+    // Commits messages in their order, as many as can be, at the desk that the worker holds.
+    fn commit_at(&self, place: &mut Place<B>, desk: &mut Desk<B>) -> Result<(), Leave> {
         if desk.stopped() {
             return Err(Leave::Stopped);
         }
         for _ in self.rt.forever() {
-            if !self.commit_next(place, &mut desk)? {
+            if !self.commit_next(place, desk)? {
                 return Ok(());
             }
         }
         unreachable!()
     }
 
-    // Commits the next message where it is executed, and gives it up where the book doesn't agree with what it read. Answers whether it
-    // is committed.
+    // Commits the next message, where it can be. Answers whether it is committed.
     fn commit_next(&self, place: &mut Place<B>, desk: &mut Desk<B>) -> Result<bool, Leave> {
         let index = desk.count();
         let Some(mut slot) = self.board.slot(self.rt, index) else {
             return Ok(false);
         };
+        self.commit_in(place, desk, index, &mut slot)
+    }
+
+    // Commits the message of this slot where it is executed, and gives it up where the book doesn't agree with what it read. Answers
+    // whether it is committed.
+    fn commit_in(
+        &self,
+        place: &mut Place<B>,
+        desk: &mut Desk<B>,
+        index: u32,
+        slot: &mut Slot,
+    ) -> Result<bool, Leave> {
         let Some(attempt) = slot.attempt() else {
             return Ok(false);
         };
@@ -102,7 +118,7 @@ impl<B: Room, R: Wait, F: Decide, G: Gate> Worker<'_, B, R, F, G> {
                 Ok(true)
             }
             Verdict::Stale => {
-                self.give_up(place, index, &mut slot)?;
+                self.give_up(place, index, slot)?;
                 Ok(false)
             }
         }
@@ -114,13 +130,23 @@ impl<B: Room, R: Wait, F: Decide, G: Gate> Worker<'_, B, R, F, G> {
         let Some(mut slot) = self.board.slot(self.rt, index) else {
             return Ok(false);
         };
+        self.validate_in(place, index, &mut slot)
+    }
+
+    // The same of the message of this slot.
+    fn validate_in(
+        &self,
+        place: &mut Place<B>,
+        index: u32,
+        slot: &mut Slot,
+    ) -> Result<bool, Leave> {
         let Some(attempt) = slot.attempt() else {
             return Ok(false);
         };
         let reads = attempt.execution.reads();
         let shards = self.board.shards();
         if !shards.is_as_logged(self.rt, index, reads, &attempt.log) {
-            self.give_up(place, index, &mut slot)?;
+            self.give_up(place, index, slot)?;
         }
         Ok(true)
     }

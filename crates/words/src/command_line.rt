@@ -1,5 +1,5 @@
 ghost use Rattle.std.specs.Prelude.{◌≡◌, IfOk, codes};
-ghost use Rattle.clap.specs.Simple.{app_of};
+ghost use Rattle.clap.specs.Simple.{app_of, with_subcommand};
 ghost use Rattle.words.specs.CommandLine.{IsLine, IsWord, audit_blocks_line, audit_line, blocks_line, command_line, files_line, one_line, operand, pack_line, run_line, serial_line, setting, setting_or, show_line, with_engine};
 
 use clap::{Arg, Command};
@@ -32,14 +32,24 @@ pub(crate) fn command_line<'a>(alloc: Global) -> Result<Command<'a>, AllocError>
         .after_help(AFTER_HELP)
         .subcommand_required(true)
         .arg_required_else_help(true);
-    let one = top.subcommand(one_line(alloc)?)?;
-    let run = one.subcommand(run_line(alloc)?)?;
-    let serial = run.subcommand(serial_line(alloc)?)?;
-    let blocks = serial.subcommand(blocks_line(alloc)?)?;
-    let audit = blocks.subcommand(audit_line(alloc)?)?;
-    let audit_blocks = audit.subcommand(audit_blocks_line(alloc)?)?;
-    let show = audit_blocks.subcommand(show_line(alloc)?)?;
-    show.subcommand(pack_line(alloc)?)
+    let one = with_line(top, one_line(alloc))?;
+    let run = with_line(one, run_line(alloc))?;
+    let serial = with_line(run, serial_line(alloc))?;
+    let blocks = with_line(serial, blocks_line(alloc))?;
+    let audit = with_line(blocks, audit_line(alloc))?;
+    let audit_blocks = with_line(audit, audit_blocks_line(alloc))?;
+    let show = with_line(audit_blocks, show_line(alloc))?;
+    with_line(show, pack_line(alloc))
+}
+
+// The line with one more subcommand, where memory didn't run out while that was made.
+fn with_line<'a>(
+    line: Command<'a>,
+    subcommand: Result<Command<'a>, AllocError>,
+) -> Result<Command<'a>, AllocError>
+    ensures { (app sub_app : _) → IsLine app line.entry → IfOk subcommand.entry (IsLine sub_app) → IfOk result (IsLine (with_subcommand app sub_app.top)) }
+{
+    line.subcommand(subcommand?)
 }
 
 // `one FRAME`.

@@ -1,8 +1,12 @@
-use Rattle.std.proofs.Common.{rules, ◌≡◌, ◌≤◌, ◌<◌, ℕ, length, map, sym, ap, subst, ◌∙◌, arith}
+use Rattle.std.proofs.Common.{rules, ◌≡◌, ◌≤◌, ◌<◌, ℕ, List, IfOk, length, map, sym, ap, subst, ◌∙◌, arith}
 use Rattle.std.proofs.lemmas.Bool.{false≢true}
+use Rattle.std.proofs.lemmas.Result.{IfOk-weaker}
+use Rattle.batch_laws.specs.Blocks.{replies_to_blocks}
 use Rattle.fold.proofs.FoldLaws.{length-replies_to}
 use Rattle.rows.specs.Fold.{Rows, replies_to}
-use Rattle.audit.specs.Difference.{IsFirstDifference, IsLeastDifference}
+use Rattle.rows.specs.declared.reply_body.ReplyBody.{ReplyBody}
+use Rattle.audit.specs.Blocks.{FindsInBlocks}
+use Rattle.audit.specs.Difference.{IsFirstDifference}
 use Rattle.audit.proofs.BlockSteps.{goes_on, ends, differs, counts_of_replies, same_lengths, same_count}
 use Rattle.audit.proofs.auditing_blocks.audit_blocks.Goals as goal
 
@@ -59,11 +63,13 @@ loop-block-preserved c =
     goes_on (λ b. b.items) (λ b. b.items) c.args.blocks.now c.args.replies.now c.args.book.now c.loop-block.right c.in_ok-prefix.prefix.book c.loop-block.block v w
     c.loop-block.invariant c.loop-block-test.true within c.index-blocks-block.is c.index-replies-block.is same (search rules)
 
-pub returns-in-Some-2 : goal.returns-in-Some-2
-returns-in-Some-2 c =
+pub returns : goal.returns
+returns c =
     let counted = c.have_same_counts.ensures.0 c.if-not-have_same_counts.false in
     let end : length c.args.blocks.now ≡ c.loop-block.block = omega (arith, c.loop-block-test.false) in
+    let replies = map (λ b. b.items) c.args.replies.now in
     let done = ends (λ b. b.items) (λ b. b.items) c.args.blocks.now c.args.replies.now c.args.book.now c.loop-block.right c.loop-block.block
     c.loop-block.invariant end (sym (same_lengths (λ b. b.items) (λ b. b.items) c.args.blocks.now c.args.replies.now counted) ∙ end) in
-    let least : IsLeastDifference c.args.after.now c.loop-block.right c.in-Some-2.key = search rules in
-    (done.0, subst (λ (rows : Rows). IsLeastDifference c.args.after.now rows c.in-Some-2.key) done.1 least)
+    let finds = IfOk-weaker c.compared_after.result _ _ (λ found h. h replies) c.compared_after.ensures in
+    subst (λ (rows : Rows). IfOk c.compared_after.result (FindsInBlocks replies c.args.after.now (replies_to_blocks c.args.book.now (map (λ b. b.items) c.args.blocks.now)) rows)) done.1
+    (subst (λ (right : List (List ReplyBody)). IfOk c.compared_after.result (FindsInBlocks replies c.args.after.now right c.loop-block.right)) done.0 finds)

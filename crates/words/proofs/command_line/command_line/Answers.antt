@@ -4,7 +4,6 @@ use Rattle.clap.specs.Simple.{App, app_of_fields, new_app, on_top}
 use Rattle.clap.specs.declared.builder.command.Command.{Command}
 use Rattle.clap.specs.declared.builder.command.Command.TheOpen.{Command-F}
 use Rattle.words.specs.CommandLine.{IsLine}
-use Rattle.words.proofs.LineLemmas.{with_line}
 use Rattle.words.proofs.command_line.command_line.Goals as goal
 
 abbrev with_version : App → App
@@ -34,11 +33,11 @@ returns c =
       ap app_of_fields c.arg_required_else_help-top.ensures ∙ ap with_help_for_none needs.0,
       ap (λ (f : Command-F Command). f.has_globals) c.arg_required_else_help-top.ensures ∙ needs.1,
     ) in
-    let one = with_line _ _ _ _ _ c.in_ok-one.ensures top c.in_ok-one_line.ensures in
-    let run = with_line _ _ _ _ _ c.in_ok-run.ensures one c.in_ok-run_line.ensures in
-    let serial = with_line _ _ _ _ _ c.in_ok-serial.ensures run c.in_ok-serial_line.ensures in
-    let blocks = with_line _ _ _ _ _ c.in_ok-blocks.ensures serial c.in_ok-blocks_line.ensures in
-    let audit = with_line _ _ _ _ _ c.in_ok-audit.ensures blocks c.in_ok-audit_line.ensures in
-    let audit_blocks = with_line _ _ _ _ _ c.in_ok-audit_blocks.ensures audit c.in_ok-audit_blocks_line.ensures in
-    let show = with_line _ _ _ _ _ c.in_ok-show.ensures audit_blocks c.in_ok-show_line.ensures in
-    IfOk-weaker c.subcommand-8.result _ _ (λ command adds. (with_line _ _ _ _ _ adds show c.in_ok-pack_line.ensures).0) c.subcommand-8.ensures
+    let one = c.in_ok-one.ensures _ _ top c.one_line.ensures in
+    let run = c.in_ok-run.ensures _ _ one c.run_line.ensures in
+    let serial = c.in_ok-serial.ensures _ _ run c.serial_line.ensures in
+    let blocks = c.in_ok-blocks.ensures _ _ serial c.blocks_line.ensures in
+    let audit = c.in_ok-audit.ensures _ _ blocks c.audit_line.ensures in
+    let audit_blocks = c.in_ok-audit_blocks.ensures _ _ audit c.audit_blocks_line.ensures in
+    let show = c.in_ok-show.ensures _ _ audit_blocks c.show_line.ensures in
+    IfOk-weaker c.with_line-8.result _ _ (λ command line. line.0) (c.with_line-8.ensures _ _ show c.pack_line.ensures)

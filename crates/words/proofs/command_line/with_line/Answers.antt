@@ -1,0 +1,9 @@
+use Rattle.std.proofs.lemmas.Result.{IfOk-weaker}
+use Rattle.words.specs.CommandLine.{IsLine}
+use Rattle.words.proofs.LineLemmas.{with_line}
+use Rattle.words.proofs.command_line.with_line.Goals as goal
+
+pub returns : goal.returns
+returns c app sub_app line sub =
+    let made : IsLine sub_app c.in_ok-subcommand.field-0 = rw c.in_ok-subcommand.was at sub in
+    IfOk-weaker c.subcommand.result _ _ (λ command adds. with_line _ _ _ _ _ adds line made) c.subcommand.ensures
