@@ -1,9 +1,8 @@
 //! Scripts played on a core: each call is answered as its line says.
 
-use crate::answers::is_answer;
 use crate::calls::Stage;
-use crate::scripts::{Script, scripts, three_requests};
-use fixtures::{body, first_book_with, has_row};
+use crate::scripts::{OF_100, Script, scripts};
+use fixtures::{first_book_with, first_wrong, frames};
 use fold::Prefix;
 use rows::{Book, Frame};
 use speccore::Core;
@@ -11,10 +10,6 @@ use speccore_laws::Limits;
 use std::alloc::{AllocError, Global};
 use std::process::Abort;
 use std::test::Fail;
-
-fn frames_of(bodies: &[&str; 3]) -> Option<[Frame; 3]> {
-    Some([body(bodies[0])?, body(bodies[1])?, body(bodies[2])?])
-}
 
 // A core in which none of the requests was decided.
 fn open(
@@ -31,48 +26,47 @@ fn open(
 
 // The first line that is answered otherwise.
 fn unmet(stage: &Stage, core: &mut Core, script: &Script) -> Option<&'static str> {
-    for lines in script.parts {
-        for line in *lines {
+    for calls in script.calls {
+        for line in calls.lines() {
             if !stage.is_answered(core, line) {
-                return Some(*line);
+                return Some(line);
             }
         }
     }
     None
 }
 
-// Whether all three messages are committed, with the script's answers and account.
-fn are_committed(alloc: Global, prefix: &Prefix, answers: &[&str; 3], account: &str) -> bool {
-    prefix.count == 3
-        && prefix.replies.len() == 3
-        && is_answer(alloc, &prefix.replies[0], answers[0])
-        && is_answer(alloc, &prefix.replies[1], answers[1])
-        && is_answer(alloc, &prefix.replies[2], answers[2])
-        && has_row(&prefix.book, account)
-}
-
-fn assert_committed(rt: &impl Abort, alloc: Global, core: Core, script: &Script) {
-    if let Some(answers) = &script.answers {
-        let prefix = core.into_prefix(alloc).expect(rt, "room");
-        assert!(rt;
-            are_committed(alloc, &prefix, answers, script.account),
-            "{}",
-            script.name
-        );
+// Whether all three messages are committed, with the answers and the book that the batch tells, if it does.
+fn is_committed(alloc: Global, core: Core, batch: &str) -> bool {
+    match core.into_prefix(alloc) {
+        Ok(prefix) => prefix.count == 3
+            && first_wrong(alloc, batch, &prefix.replies, &prefix.book).is_none(),
+        Err(_) => false,
     }
 }
 
+// The three requests.
+fn frames_of(alloc: Global, batch: &str) -> Option<[Frame; 3]> {
+    let frames = frames(alloc, batch).ok()?;
+    <[Frame; 3]>::try_from(frames.as_slice()).ok()
+}
+
 fn assert_played(rt: &impl Abort, alloc: Global, book: &Book, script: &Script) {
-    let frames = frames_of(&script.bodies).expect(rt, "three requests");
+    let frames = frames_of(alloc, script.batch).expect(rt, "three requests");
     let mut core = open(alloc, book, &frames, script.limits).expect(rt, "room");
     let stage = Stage {
         alloc,
         book,
         frames: &frames,
     };
-    let unmet = unmet(&stage, &mut core, script).unwrap_or("");
-    assert!(rt; unmet.is_empty(), "{unmet}: {}", script.name);
-    assert_committed(rt, alloc, core, script);
+    let unmet = unmet(&stage, &mut core, script);
+    assert!(rt; unmet.is_none(), "{unmet:?}: {}", script.batch);
+    let is_told = script.batch.contains("\nrows ");
+    assert!(rt;
+        !is_told || is_committed(alloc, core, script.batch),
+        "{}",
+        script.batch
+    );
 }
 
 #[test]
@@ -86,7 +80,7 @@ fn each_schedule(rt: HostRuntime) -> Result<(), Fail> {
 
 // Whether a core of this book tells the other one, and other frames, from its own.
 fn are_told_apart(alloc: Global, book: &Book, other: &Book) -> Option<bool> {
-    let frames = frames_of(three_requests())?;
+    let frames = frames_of(alloc, OF_100)?;
     let core = Core::new(alloc, book, &frames).ok()?;
     let is_other = core.opened_with(other, &frames) | core.opened_with(book, &frames[..2]);
     Some(!is_other)

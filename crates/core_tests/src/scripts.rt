@@ -12,236 +12,222 @@ use speccore_laws::Limits;
 /// A schedule.
 #[derive(Clone, Copy)]
 pub(crate) struct Script {
-    /// What it shows.
-    pub(crate) name: &'static str,
-    /// The three requests.
-    pub(crate) bodies: [&'static str; 3],
+    /// The three requests as those of a batch; with what they are answered at the end and the book then, if that is told.
+    pub(crate) batch: &'static str,
     /// Those of the core, where it has any.
     pub(crate) limits: Option<Limits>,
     /// The calls with their answers.
-    pub(crate) parts: &'static [&'static [&'static str]],
-    /// What all three are answered at the end, if that is told.
-    pub(crate) answers: Option<[&'static str; 3]>,
-    /// A row of the book then.
-    pub(crate) account: &'static str,
+    pub(crate) calls: [&'static str; 3],
 }
 
-const OF_100: [&str; 3] = [
-    "1100 000001 A 100",
-    "1100 000002 A 100",
-    "1100 000003 A 100",
-];
-
-const OF_ALL: [&str; 3] = [
-    "1100 000001 A 10000",
-    "1100 000002 A 100",
-    "1100 000003 A 1",
-];
+/// Three requests of 100.
+pub(crate) const OF_100: &str = "\
+body 1100 000001 A 100
+body 1100 000002 A 100
+body 1100 000003 A 100
+";
 
 // Of three requests the second one is decided first, on the opening book; the first one is decided and checked; and the check of
 // the second one, at seat 1, has failed at its second read, which is that of the card.
-const SECOND_FAILS: &[&str] = &[
-    "task = execute 0.0",
-    "task = execute 1.0",
-    "finish 1.0 1 = no",
-    "marks = epoch 2 floors 0 0 2 0 stamps - - -",
-    "finish 0.0 0 = no",
-    "marks = epoch 3 floors 0 3 2 0 stamps - - -",
-    "task = check 0.0",
-    "pass 2 0.0 = yes",
-    "marks = epoch 3 floors 0 3 2 0 stamps 3 - -",
-    "task = check 1.0",
-    "begin 1 1.0 = no",
-    "one 1 = no",
-    "one 1 = yes",
-    "one 1 = not running",
-];
+const SECOND_FAILS: &str = "\
+task = execute 0.0
+task = execute 1.0
+finish 1.0 1 = no
+marks = epoch 2 floors 0 0 2 0 stamps - - -
+finish 0.0 0 = no
+marks = epoch 3 floors 0 3 2 0 stamps - - -
+task = check 0.0
+pass 2 0.0 = yes
+marks = epoch 3 floors 0 3 2 0 stamps 3 - -
+task = check 1.0
+begin 1 1.0 = no
+one 1 = no
+one 1 = yes
+one 1 = not running
+";
 
 // The second message is given up and claimed again, and the third one, which meets its estimate, waits for it.
-const THIRD_WAITS: &[&str] = &[
-    "end 1 = no",
-    "marks = epoch 4 floors 0 3 4 0 stamps 3 - -",
-    "task = execute 1.1",
-    "task = execute 2.0",
-    "decide 2.0 2 = blocked by 1",
-    "block 2.0 1 = yes",
-    "stand = executed 0 running 1 waits-for-1 1",
-];
+const THIRD_WAITS: &str = "\
+end 1 = no
+marks = epoch 4 floors 0 3 4 0 stamps 3 - -
+task = execute 1.1
+task = execute 2.0
+decide 2.0 2 = blocked by 1
+block 2.0 1 = yes
+stand = executed 0 running 1 waits-for-1 1
+";
 
 // The second message finishes at the rows that it put before, is checked at once, and passes. The third message was woken: it
 // finishes and passes.
-const BOTH_PASS: &[&str] = &[
-    "finish 1.1 1 = yes",
-    "pass 0 1.1 = yes",
-    "marks = epoch 4 floors 0 3 4 0 stamps 3 4 -",
-    "task = execute 2.1",
-    "finish 2.1 2 = no",
-    "task = check 2.1",
-    "pass 2 2.1 = yes",
-    "marks = epoch 5 floors 0 3 4 5 stamps 3 4 5",
-    "commit = yes",
-    "commit = yes",
-    "commit = yes",
-    "commit = no",
-    "task = done",
-];
+const BOTH_PASS: &str = "\
+finish 1.1 1 = yes
+pass 0 1.1 = yes
+marks = epoch 4 floors 0 3 4 0 stamps 3 4 -
+task = execute 2.1
+finish 2.1 2 = no
+task = check 2.1
+pass 2 2.1 = yes
+marks = epoch 5 floors 0 3 4 5 stamps 3 4 5
+commit = yes
+commit = yes
+commit = yes
+commit = no
+task = done
+";
 
 // At the last epoch.
-const IS_WORN: &[&str] = &[
-    "end 1 = worn",
-    "marks = epoch 3 floors 0 3 2 0 stamps 3 - -",
-    "stand = executed 0 executed 0 ready 0",
-    "commit = yes",
-    "commit = no",
-];
+const IS_WORN: &str = "\
+end 1 = worn
+marks = epoch 3 floors 0 3 2 0 stamps 3 - -
+stand = executed 0 executed 0 ready 0
+commit = yes
+commit = no
+";
 
 // The three versions read before any of them was checked: the second one all from the opening book, the third one what the first
 // one put.
-const ALL_FINISH: &[&str] = &[
-    "task = execute 0.0",
-    "task = execute 1.0",
-    "task = execute 2.0",
-    "decide 1.0 1 = yes",
-    "finish 0.0 0 = no",
-    "finish 2.0 2 = no",
-    "marks = epoch 3 floors 0 2 0 3 stamps - - -",
-    "finish 1.0 1 = no",
-    "marks = epoch 4 floors 0 2 4 3 stamps - - -",
-];
+const ALL_FINISH: &str = "\
+task = execute 0.0
+task = execute 1.0
+task = execute 2.0
+decide 1.0 1 = yes
+finish 0.0 0 = no
+finish 2.0 2 = no
+marks = epoch 3 floors 0 2 0 3 stamps - - -
+finish 1.0 1 = no
+marks = epoch 4 floors 0 2 4 3 stamps - - -
+";
 
 // Each seat begins the check of its message. That of the third one fails and is left open, the second one is given up.
-const ALL_ARE_CHECKED: &[&str] = &[
-    "task = check 0.0",
-    "task = check 1.0",
-    "task = check 2.0",
-    "begin 2 2.0 = no",
-    "one 2 = no",
-    "one 2 = yes",
-    "one 2 = not running",
-    "pass 0 0.0 = yes",
-    "begin 1 1.0 = no",
-    "one 1 = no",
-    "one 1 = yes",
-    "one 1 = not running",
-    "end 1 = no",
-    "marks = epoch 5 floors 0 2 5 3 stamps 4 - -",
-];
+const ALL_ARE_CHECKED: &str = "\
+task = check 0.0
+task = check 1.0
+task = check 2.0
+begin 2 2.0 = no
+one 2 = no
+one 2 = yes
+one 2 = not running
+pass 0 0.0 = yes
+begin 1 1.0 = no
+one 1 = no
+one 1 = yes
+one 1 = not running
+end 1 = no
+marks = epoch 5 floors 0 2 5 3 stamps 4 - -
+";
 
 // The second message is declined now and puts no card: both messages pass. A late verdict on a committed message changes nothing.
-const ONE_IS_LATE: &[&str] = &[
-    "task = execute 1.1",
-    "finish 1.1 1 = yes",
-    "pass 0 1.1 = yes",
-    "task = check 2.0",
-    "pass 1 2.0 = yes",
-    "marks = epoch 5 floors 0 2 5 3 stamps 4 5 5",
-    "commit = yes",
-    "commit = yes",
-    "commit = yes",
-    "end 2 = outdated",
-    "marks = epoch 5 floors 0 2 5 3 stamps 4 5 5",
-];
+const ONE_IS_LATE: &str = "\
+task = execute 1.1
+finish 1.1 1 = yes
+pass 0 1.1 = yes
+task = check 2.0
+pass 1 2.0 = yes
+marks = epoch 5 floors 0 2 5 3 stamps 4 5 5
+commit = yes
+commit = yes
+commit = yes
+end 2 = outdated
+marks = epoch 5 floors 0 2 5 3 stamps 4 5 5
+";
 
 // A version that isn't running can neither read nor wait nor finish, and logged nothing; none that isn't executed is checked.
-const NOT_RUNNING: &[&str] = &[
-    "read 0.0 = not running",
-    "block 0.0 0 = not running",
-    "unread 0.0 0 = not running",
-    "logged 0.0 = no",
-    "begin 0 0.0 = outdated",
-    "read 1.0 = not running",
-    "block 1.0 0 = not running",
-    "unread 1.0 0 = not running",
-    "logged 1.0 = no",
-    "begin 0 1.0 = outdated",
-    "read 0.1 = not running",
-    "block 0.1 0 = not running",
-    "unread 0.1 0 = not running",
-    "logged 0.1 = no",
-    "begin 0 0.1 = outdated",
-    "read 7.0 = not running",
-    "block 7.0 0 = not running",
-    "unread 7.0 0 = not running",
-    "logged 7.0 = no",
-    "begin 0 7.0 = outdated",
-    "one 0 = not running",
-    "end 0 = not running",
-    "one 63 = not running",
-    "end 63 = not running",
-    "commit = no",
-    "stand = ready 0 ready 0 ready 0",
-];
+const NOT_RUNNING: &str = "\
+read 0.0 = not running
+block 0.0 0 = not running
+unread 0.0 0 = not running
+logged 0.0 = no
+begin 0 0.0 = outdated
+read 1.0 = not running
+block 1.0 0 = not running
+unread 1.0 0 = not running
+logged 1.0 = no
+begin 0 1.0 = outdated
+read 0.1 = not running
+block 0.1 0 = not running
+unread 0.1 0 = not running
+logged 0.1 = no
+begin 0 0.1 = outdated
+read 7.0 = not running
+block 7.0 0 = not running
+unread 7.0 0 = not running
+logged 7.0 = no
+begin 0 7.0 = outdated
+one 0 = not running
+end 0 = not running
+one 63 = not running
+end 63 = not running
+commit = no
+stand = ready 0 ready 0 ready 0
+";
 
 // An execution that was not made on the core's rows is refused; what was read of it is taken once.
-const ONE_IS_TAKEN: &[&str] = &[
-    "task = execute 0.0",
-    "unread 0.0 0 = other reads",
-    "finish 0.0 0 = no",
-    "logged 0.0 = yes",
-    "unread 0.0 0 = not running",
-    "committed = 0",
-];
+const ONE_IS_TAKEN: &str = "\
+task = execute 0.0
+unread 0.0 0 = other reads
+finish 0.0 0 = no
+logged 0.0 = yes
+unread 0.0 0 = not running
+committed = 0
+";
 
 // The second message's decision, made on the core's rows for the first one's version, is another message's.
-const ANOTHER_IS_REFUSED: &[&str] = &["task = execute 0.0", "finish 0.0 1 = other reads"];
-
-const PLAIN: Script = Script {
-    name: "",
-    bodies: OF_100,
-    limits: None,
-    parts: &[],
-    answers: None,
-    account: "",
-};
+const ANOTHER_IS_REFUSED: &str = "\
+task = execute 0.0
+finish 0.0 1 = other reads
+";
 
 const SCRIPTS: &[Script] = &[
     Script {
-        name: "a message that read an old row is given up, another one waits for it, and all come out as one after another",
-        parts: &[SECOND_FAILS, THIRD_WAITS, BOTH_PASS],
-        answers: Some(["000/000001", "000/000002", "000/000003"]),
-        account: "account A 9700 978",
-        ..PLAIN
+        batch: "\
+# a message that read an old row is given up, another one waits for it, and all come out as one after another
+body 1100 000001 A 100 = 000/000001
+body 1100 000002 A 100 = 000/000002
+body 1100 000003 A 100 = 000/000003
+has account A 9700 978
+rows 8",
+        limits: None,
+        calls: [SECOND_FAILS, THIRD_WAITS, BOTH_PASS],
     },
+    // At the last epoch a failed check gives nothing up, and the messages before it are committed.
     Script {
-        name: "at the last epoch a failed check gives nothing up, and the messages before it are committed",
+        batch: OF_100,
         limits: Some(Limits {
             incarnation: 4,
             epoch: 3,
         }),
-        parts: &[&["limits = 4 3"], SECOND_FAILS, IS_WORN],
-        ..PLAIN
+        calls: ["limits = 4 3", SECOND_FAILS, IS_WORN],
     },
     Script {
-        name: "a check that stays open until its message is committed",
-        bodies: OF_ALL,
-        parts: &[ALL_FINISH, ALL_ARE_CHECKED, ONE_IS_LATE],
-        answers: Some(["000/000001", "116", "116"]),
-        account: "account A 0 978",
-        ..PLAIN
+        batch: "\
+# a check that stays open until its message is committed
+body 1100 000001 A 10000 = 000/000001
+body 1100 000002 A 100 = 116
+body 1100 000003 A 1 = 116
+has account A 0 978
+rows 8",
+        limits: None,
+        calls: [ALL_FINISH, ALL_ARE_CHECKED, ONE_IS_LATE],
+    },
+    // Each on a core of its own.
+    Script {
+        batch: OF_100,
+        limits: None,
+        calls: [NOT_RUNNING, "", ""],
     },
     Script {
-        name: "what is not running is refused",
-        parts: &[NOT_RUNNING],
-        ..PLAIN
+        batch: OF_100,
+        limits: None,
+        calls: [ONE_IS_TAKEN, "", ""],
     },
     Script {
-        name: "what was read of a core is taken once",
-        parts: &[ONE_IS_TAKEN],
-        ..PLAIN
-    },
-    Script {
-        name: "another message's execution is refused",
-        parts: &[ANOTHER_IS_REFUSED],
-        ..PLAIN
+        batch: OF_100,
+        limits: None,
+        calls: [ANOTHER_IS_REFUSED, "", ""],
     },
 ];
 
 /// The schedules.
 pub(crate) fn scripts() -> &'static [Script] {
     SCRIPTS
-}
-
-/// Three requests of 100.
-pub(crate) fn three_requests() -> &'static [&'static str; 3] {
-    &OF_100
 }

@@ -1,10 +1,10 @@
-//! A batch that is decided by either engine, and what it is answered.
+//! A batch that is decided by either engine, and what it comes to.
 ghost use Rattle.std.specs.Prelude.{◌≤◌, length};
 
 use engine::run;
-use fixtures::answer_text;
+use fixtures::{first_wrong, frames, opening};
 use fold::Outcome;
-use rows::{Book, Frame, ReplyBody};
+use rows::{Book, Frame};
 use split::run_split;
 use std::alloc::Global;
 use std::sync::Wait;
@@ -12,12 +12,19 @@ use std::thread::Threads;
 use view::Decide;
 use workers::{Engine, Gate, Workers};
 
+/// How many threads took part, and how many of the bodies the workers committed.
+#[derive(Clone, Copy)]
+pub(crate) struct Commits {
+    pub(crate) started: u32,
+    pub(crate) committed: usize,
+    pub(crate) bodies: usize,
+}
+
 /// The bodies, decided on the book by so many workers of this engine; nothing where memory runs out.
 pub(crate) fn decided_by<R: Threads + Wait + Sync, F: Decide + Sync, G: Gate>(
     rt: &R,
     alloc: Global,
-    engine: Engine,
-    workers: u32,
+    run_by: (Engine, u32),
     book: &Book,
     frames: &[Frame],
     decision: &F,
@@ -25,30 +32,68 @@ pub(crate) fn decided_by<R: Threads + Wait + Sync, F: Decide + Sync, G: Gate>(
 ) -> Option<Outcome>
     requires { length frames.now ≤ 65536 }
 {
-    let workers = Workers::new(workers)?;
-    match engine {
+    let workers = Workers::new(run_by.1)?;
+    match run_by.0 {
         Engine::Locked => run(rt, alloc, book, frames, workers, decision, gate).ok(),
         Engine::Split => run_split(rt, alloc, book, frames, workers, decision, gate).ok(),
     }
 }
 
-/// Whether this is the reply's action and approval code.
-pub(crate) fn is_answer(alloc: Global, reply: &ReplyBody, answer: &str) -> bool {
-    match answer_text(alloc, reply) {
-        Ok(text) => text.as_str() == answer,
-        Err(_) => false,
+// The batch on this book, with these bodies.
+fn came_on<'a, R: Threads + Wait + Sync, F: Decide + Sync, G: Gate>(
+    rt: &R,
+    alloc: Global,
+    run_by: (Engine, u32),
+    batch: &'a str,
+    book: &Book,
+    frames: &[Frame],
+    decision: &F,
+    gate: &G,
+) -> Result<Commits, &'a str> {
+    if frames.len() > 64 {
+        return Err("64 bodies at most");
+    }
+    let Some(outcome) = decided_by(rt, alloc, run_by, book, frames, decision, gate) else {
+        return Err("room");
+    };
+    match first_wrong(alloc, batch, &outcome.replies, &outcome.book) {
+        Some(line) => Err(line),
+        None => Ok(Commits {
+            started: outcome.started,
+            committed: outcome.committed as usize,
+            bodies: frames.len(),
+        }),
     }
 }
 
-/// Whether these are all answers.
-pub(crate) fn are_answers(alloc: Global, replies: &[ReplyBody], answers: &[&str]) -> bool {
-    if replies.len() != answers.len() {
-        return false;
+/// The batch, decided by so many workers of this engine: what it comes to, or its first line that isn't so.
+pub(crate) fn came<'a, R: Threads + Wait + Sync, F: Decide + Sync, G: Gate>(
+    rt: &R,
+    alloc: Global,
+    run_by: (Engine, u32),
+    batch: &'a str,
+    decision: &F,
+    gate: &G,
+) -> Result<Commits, &'a str> {
+    match (opening(alloc, batch), frames(alloc, batch)) {
+        (Some(book), Ok(frames)) => came_on(
+            rt, alloc, run_by, batch, &book, &frames, decision, gate,
+        ),
+        _ => Err("its book, and room"),
     }
-    for (reply, answer) in replies.iter().zip(answers) {
-        if !is_answer(alloc, reply, answer) {
-            return false;
-        }
+}
+
+/// Whether the batch comes out as it is told, and the workers committed all of it.
+pub(crate) fn is_committed<R: Threads + Wait + Sync, F: Decide + Sync, G: Gate>(
+    rt: &R,
+    alloc: Global,
+    run_by: (Engine, u32),
+    batch: &str,
+    decision: &F,
+    gate: &G,
+) -> bool {
+    match came(rt, alloc, run_by, batch, decision, gate) {
+        Ok(came) => came.committed == came.bodies,
+        Err(_) => false,
     }
-    true
 }

@@ -1,39 +1,26 @@
 //! Where the gate's two calls stand: before a message's decision begins, and after it ended.
 
-use crate::deciding::{are_answers, decided_by};
-use fixtures::{body, first_book_with};
-use fold::Outcome;
+use crate::deciding::is_committed;
 use iso8583::Message;
-use rows::{Book, Frame, ReplyBody};
+use rows::{Frame, ReplyBody};
 use std::alloc::{AllocFailed, Global};
 use std::sync::Wait;
 use std::sync::atomic::{AtomicU8, AtomicU64, Ordering};
-use std::test::Fail;
 use std::thread::Threads;
 use view::{Decide, Recorder, RowSource, Stop};
 use workers::{Engine, Gate};
 
-// Requests on one card, a repeat among them, each with its index as trace number and a minor unit more than the last.
-const BODIES: [&str; 4] = [
-    "1100 000000 A 100",
-    "1100 000001 A 101",
-    "1101 000002 A 102",
-    "1100 000003 A 103",
-];
-
-const ANSWERS: [&str; 4] = ["000/000001", "000/000002", "000/000003", "123"];
+const BATCH: &str = "\
+# requests on one card, a repeat among them, each with its index as trace number and a minor unit more than the last
+body 1100 000000 A 100 = 000/000001
+body 1100 000001 A 101 = 000/000002
+body 1101 000002 A 102 = 000/000003
+body 1100 000003 A 103 = 123
+rows 9
+";
 
 // Trace numbers are indices here.
 const TRACES: [&str; 4] = ["000000", "000001", "000002", "000003"];
-
-fn frames() -> Option<[Frame; 4]> {
-    Some([
-        body(BODIES[0])?,
-        body(BODIES[1])?,
-        body(BODIES[2])?,
-        body(BODIES[3])?,
-    ])
-}
 
 // The message's trace number; nothing for any other body.
 fn trace_of(frame: &Frame) -> &str {
@@ -121,11 +108,6 @@ impl Decide for NotingDecision<'_> {
     }
 }
 
-// Whether the workers committed all, with these answers.
-fn is_decided(alloc: Global, outcome: &Outcome) -> bool {
-    (outcome.committed == 4) & are_answers(alloc, &outcome.replies, &ANSWERS)
-}
-
 // The events of each message, one message after another.
 const TURNS: &[u8] = b"\
 before 000000\n\
@@ -151,23 +133,16 @@ fn is_noted<R: Threads + Wait + Sync>(
     rt: &R,
     alloc: Global,
     engine: Engine,
-    book: &Book,
     diary: &Diary,
 ) -> bool {
     let gate = NotingGate { diary };
     let decision = NotingDecision { diary };
-    let Some(frames) = frames() else {
-        return false;
-    };
-    match decided_by(rt, alloc, engine, 1, book, &frames, &decision, &gate) {
-        Some(outcome) => is_decided(alloc, &outcome) & diary.has_noted(TURNS),
-        None => false,
-    }
+    is_committed(rt, alloc, (engine, 1), BATCH, &decision, &gate) & diary.has_noted(TURNS)
 }
 
-fn notes<R: Threads + Wait + Sync>(rt: &R, alloc: Global, engine: Engine, book: &Book) -> bool {
+fn notes<R: Threads + Wait + Sync>(rt: &R, alloc: Global, engine: Engine) -> bool {
     match Diary::new(alloc) {
-        Ok(diary) => is_noted(rt, alloc, engine, book, &diary),
+        Ok(diary) => is_noted(rt, alloc, engine, &diary),
         Err(_) => false,
     }
 }
@@ -268,52 +243,35 @@ impl Decide for CountingDecision<'_> {
 }
 
 // Whether the batch is decided by four workers, whose calls come in order.
-fn is_counted<R: Threads + Wait + Sync>(
-    rt: &R,
-    alloc: Global,
-    engine: Engine,
-    book: &Book,
-) -> bool {
+fn is_counted<R: Threads + Wait + Sync>(rt: &R, alloc: Global, engine: Engine) -> bool {
     let tally = Tally::new();
     let gate = CountingGate { tally: &tally };
     let decision = CountingDecision { tally: &tally };
-    let Some(frames) = frames() else {
-        return false;
-    };
-    match decided_by(rt, alloc, engine, 4, book, &frames, &decision, &gate) {
-        Some(outcome) => is_decided(alloc, &outcome) & tally.is_in_order(),
-        None => false,
-    }
+    is_committed(rt, alloc, (engine, 4), BATCH, &decision, &gate) & tally.is_in_order()
 }
 
 // What isn't so.
-fn first_wrong<R: Threads + Wait + Sync>(
-    rt: &R,
-    alloc: Global,
-    book: &Book,
-) -> Option<&'static str> {
+fn first_wrong<R: Threads + Wait + Sync>(rt: &R, alloc: Global) -> Option<&'static str> {
     // With one worker the messages have their turns one after another.
-    if !notes(rt, alloc, Engine::Locked, book) {
+    if !notes(rt, alloc, Engine::Locked) {
         return Some("the locked engine's gate stands round each decision");
     }
-    if !notes(rt, alloc, Engine::Split, book) {
+    if !notes(rt, alloc, Engine::Split) {
         return Some("the split engine's gate stands round each decision");
     }
     // Of each message, with four workers: no decision begins before the gate's first call, no second call comes before a decision
     // ended, and each that ended is recorded.
-    if !is_counted(rt, alloc, Engine::Locked, book) {
+    if !is_counted(rt, alloc, Engine::Locked) {
         return Some("no call of the locked engine's gate comes too early");
     }
-    if !is_counted(rt, alloc, Engine::Split, book) {
+    if !is_counted(rt, alloc, Engine::Split) {
         return Some("no call of the split engine's gate comes too early");
     }
     None
 }
 
 #[test]
-fn the_gate_stands_round_each_decision(rt: HostRuntime) -> Result<(), Fail> {
-    let book = first_book_with(rt.alloc(), &[])?;
-    let wrong = first_wrong(&rt, rt.alloc(), &book).unwrap_or("");
-    assert!(rt; wrong.is_empty(), "{wrong}");
-    Ok(())
+fn the_gate_stands_round_each_decision(rt: HostRuntime) {
+    let wrong = first_wrong(&rt, rt.alloc());
+    assert!(rt; wrong.is_none(), "{wrong:?}");
 }

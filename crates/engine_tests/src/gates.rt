@@ -1,44 +1,26 @@
 //! What passes the gate, and what is committed where a decision stops.
 
-use crate::deciding::{are_answers, decided_by};
-use fixtures::{body, first_book_with, has_row};
-use fold::Outcome;
+use crate::deciding::{came, is_committed};
 use iso8583::Message;
-use rows::{Book, Frame, ReplyBody};
+use rows::{Frame, ReplyBody};
 use rules::Shipped;
 use std::alloc::Global;
 use std::sync::Wait;
 use std::sync::atomic::{AtomicU64, Ordering};
-use std::test::Fail;
 use std::thread::Threads;
 use view::{Decide, Recorder, RowSource, Stop};
 use workers::{Engine, Gate, OpenGate};
 
-// An approved request, a decline, a body that is no message, and a request on the other card.
-const BODIES: [&str; 4] = [
-    "1100 000001 A 9900",
-    "1100 000002 A 101",
-    "bad",
-    "1100 000003 B 100",
-];
-
-const ANSWERS: [&str; 4] = ["000/000001", "116", "F08000", "000/000001"];
-
-fn frames() -> Option<[Frame; 4]> {
-    Some([
-        body(BODIES[0])?,
-        body(BODIES[1])?,
-        body(BODIES[2])?,
-        body(BODIES[3])?,
-    ])
-}
-
-// Whether replies and accounts are those after the batch.
-fn is_decided(alloc: Global, outcome: &Outcome) -> bool {
-    are_answers(alloc, &outcome.replies, &ANSWERS)
-        & has_row(&outcome.book, "account A 100 978")
-        & has_row(&outcome.book, "account B 400 978")
-}
+const BATCH: &str = "\
+# an approved request, a decline, a body that is no message, and a request on the other card
+body 1100 000001 A 9900 = 000/000001
+body 1100 000002 A 101 = 116
+body bad = F08000
+body 1100 000003 B 100 = 000/000001
+has account A 100 978
+has account B 400 978
+rows 9
+";
 
 // The calls so far, as digits: 1 before a decision, 2 after its record, each followed by the message's index.
 #[derive(Drop)]
@@ -90,91 +72,63 @@ fn is_decline(frame: &Frame) -> bool {
     }
 }
 
-// Whether the bodies, decided by one worker of this engine with this decision, come to as many commits and to these calls of
-// the gate.
+// Whether the batch, decided by one worker of this engine with this decision, comes to as many commits and to these calls of the
+// gate.
 fn comes_to<R: Threads + Wait + Sync, F: Decide + Sync>(
     rt: &R,
     alloc: Global,
     engine: Engine,
-    book: &Book,
     decision: &F,
-    committed: u32,
+    committed: usize,
     calls: u64,
 ) -> bool {
     let gate = WritingGate {
         calls: AtomicU64::new(0),
     };
-    let Some(frames) = frames() else {
-        return false;
-    };
-    match decided_by(rt, alloc, engine, 1, book, &frames, decision, &gate) {
-        Some(outcome) => {
-            (outcome.started == 1)
-                & (outcome.committed == committed)
+    match came(rt, alloc, (engine, 1), BATCH, decision, &gate) {
+        Ok(came) => {
+            (came.started == 1)
+                & (came.committed == committed)
                 & (gate.calls.load(Ordering::SeqCst) == calls)
-                & is_decided(alloc, &outcome)
         }
-        None => false,
-    }
-}
-
-// Whether as many threads as there may be commit all with a gate that holds nothing.
-fn comes_to_all<R: Threads + Wait + Sync>(
-    rt: &R,
-    alloc: Global,
-    engine: Engine,
-    book: &Book,
-) -> bool {
-    let Some(frames) = frames() else {
-        return false;
-    };
-    match decided_by(rt, alloc, engine, 64, book, &frames, &Shipped, &OpenGate) {
-        Some(outcome) => (outcome.committed == 4) & is_decided(alloc, &outcome),
-        None => false,
+        Err(_) => false,
     }
 }
 
 // What isn't so, of a batch whose every message the workers commit, and of one where a decision stops.
-fn first_wrong<R: Threads + Wait + Sync>(
-    rt: &R,
-    alloc: Global,
-    book: &Book,
-) -> Option<&'static str> {
+fn first_wrong<R: Threads + Wait + Sync>(rt: &R, alloc: Global) -> Option<&'static str> {
     // The workers commit every message, the decline and the bad body too: the rest that is decided one after another is empty.
     let calls = 1020_1121_1222_1323;
-    if !comes_to(rt, alloc, Engine::Locked, book, &Shipped, 4, calls) {
+    if !comes_to(rt, alloc, Engine::Locked, &Shipped, 4, calls) {
         return Some("the locked engine's workers commit every message");
     }
-    if !comes_to(rt, alloc, Engine::Split, book, &Shipped, 4, calls) {
+    if !comes_to(rt, alloc, Engine::Split, &Shipped, 4, calls) {
         return Some("the split engine's workers commit every message");
     }
     // Where a decision finds no memory its worker leaves. The rest is decided by the shipped decision and without the gate: with
     // the locked engine the caller plays all messages anew, and the core that it plays on commits them; with the split engine what
     // is committed is what the worker had committed before it left.
     let calls = 10_2011;
-    if !comes_to(rt, alloc, Engine::Locked, book, &WithoutMemory, 4, calls) {
+    if !comes_to(rt, alloc, Engine::Locked, &WithoutMemory, 4, calls) {
         return Some("the locked engine makes a decision again that stopped");
     }
-    if !comes_to(rt, alloc, Engine::Split, book, &WithoutMemory, 1, calls) {
+    if !comes_to(rt, alloc, Engine::Split, &WithoutMemory, 1, calls) {
         return Some("the split engine makes a decision again that stopped");
     }
     None
 }
 
 #[test]
-fn what_the_workers_commit(rt: HostRuntime) -> Result<(), Fail> {
-    let book = first_book_with(rt.alloc(), &[])?;
-    let wrong = first_wrong(&rt, rt.alloc(), &book).unwrap_or("");
-    assert!(rt; wrong.is_empty(), "{wrong}");
-    Ok(())
+fn what_the_workers_commit(rt: HostRuntime) {
+    let wrong = first_wrong(&rt, rt.alloc());
+    assert!(rt; wrong.is_none(), "{wrong:?}");
 }
 
 // A gate that holds nothing is called too, by as many threads as there may be.
 #[test]
-fn an_open_gate_holds_nothing(rt: HostRuntime) -> Result<(), Fail> {
-    let book = first_book_with(rt.alloc(), &[])?;
-    let locked = comes_to_all(&rt, rt.alloc(), Engine::Locked, &book);
-    let split = comes_to_all(&rt, rt.alloc(), Engine::Split, &book);
+fn an_open_gate_holds_nothing(rt: HostRuntime) {
+    let alloc = rt.alloc();
+    let locked = is_committed(&rt, alloc, (Engine::Locked, 64), BATCH, &Shipped, &OpenGate);
+    let split = is_committed(&rt, alloc, (Engine::Split, 64), BATCH, &Shipped, &OpenGate);
     assert!(rt; locked & split);
-    Ok(())
 }

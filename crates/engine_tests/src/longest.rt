@@ -1,7 +1,7 @@
 //! The longest batch through both engines, with 1, 4 and 64 workers.
 
-use crate::deciding::{decided_by, is_answer};
-use fixtures::{count_of, first_book_with, has_row, requests};
+use crate::deciding::decided_by;
+use fixtures::{count_of, first_book_with, has_row, is_answer, requests};
 use fold::Outcome;
 use rows::ReplyBody;
 use rules::Shipped;
@@ -20,7 +20,7 @@ fn are_longest(alloc: Global, replies: &[ReplyBody]) -> bool {
     is_answer(alloc, &replies[0], "000/000001")
         & is_answer(alloc, &replies[1], "000/000002")
         & is_answer(alloc, &replies[2], "000/000003")
-        & (count_of(alloc, replies, "123") == Ok(65_533))
+        & (count_of(alloc, replies, "123") == 65_533)
 }
 
 // Whether the workers committed every message of the longest batch.
@@ -41,7 +41,13 @@ fn assert_runs_the_longest<R: Abort + Threads + Wait + Sync>(
     let frames = requests(alloc, 65_536)?;
     assert!(rt; frames.len() == 65_536);
     let decided = decided_by(
-        rt, alloc, engine, workers, &book, &frames, &Shipped, &OpenGate,
+        rt,
+        alloc,
+        (engine, workers),
+        &book,
+        &frames,
+        &Shipped,
+        &OpenGate,
     );
     let outcome = decided.expect(rt, "room");
     assert!(rt; is_longest(alloc, &outcome), "{workers} workers");

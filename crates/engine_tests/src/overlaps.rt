@@ -1,15 +1,12 @@
 //! Workers on threads: that they overlap, and that no lock is held while a message is decided.
 
-use crate::deciding::{are_answers, decided_by};
-use fixtures::{body, first_book_with, has_row};
-use fold::Outcome;
+use crate::deciding::{came, is_committed};
 use iso8583::Message;
-use rows::{Book, Frame, ReplyBody};
+use rows::{Frame, ReplyBody};
 use rules::Shipped;
 use std::alloc::Global;
 use std::sync::Wait;
 use std::sync::atomic::{AtomicU64, Ordering};
-use std::test::Fail;
 use std::thread;
 use std::thread::Threads;
 use view::{Decide, Recorder, RowSource, Stop};
@@ -29,22 +26,23 @@ fn comes_to(flag: &AtomicU64, value: u64) -> bool {
     false
 }
 
-fn two_cards() -> Option<[Frame; 2]> {
-    Some([body("1100 000001 A 100")?, body("1100 000002 B 100")?])
-}
+const TWO_CARDS: &str = "\
+# two requests, one on each card
+body 1100 000001 A 100 = 000/000001
+body 1100 000002 B 100 = 000/000001
+has account A 9900 978
+has account B 400 978
+rows 8
+";
 
-fn one_card() -> Option<[Frame; 3]> {
-    Some([
-        body("1100 000001 A 100")?,
-        body("1100 000002 A 100")?,
-        body("1100 000003 A 100")?,
-    ])
-}
-
-// Whether these are the answers, and the workers committed as many messages.
-fn is_decided(alloc: Global, outcome: &Outcome, answers: &[&str]) -> bool {
-    (outcome.committed as usize == answers.len()) & are_answers(alloc, &outcome.replies, answers)
-}
+const ONE_CARD: &str = "\
+# three requests on one card
+body 1100 000001 A 100 = 000/000001
+body 1100 000002 A 100 = 000/000002
+body 1100 000003 A 100 = 000/000003
+has account A 9700 978
+rows 8
+";
 
 // Holds the first message before its first decision until so many others were recorded.
 #[derive(Drop)]
@@ -79,43 +77,23 @@ impl Gate for HoldingGate {
 }
 
 // Two messages on two cards: the second one is recorded while the first one is held.
-fn two_overlap<R: Threads + Wait + Sync>(
-    rt: &R,
-    alloc: Global,
-    engine: Engine,
-    book: &Book,
-    frames: &[Frame; 2],
-) -> bool {
+fn two_overlap<R: Threads + Wait + Sync>(rt: &R, alloc: Global, engine: Engine) -> bool {
     let gate = HoldingGate::new(1);
-    match decided_by(rt, alloc, engine, 2, book, frames, &Shipped, &gate) {
-        Some(outcome) => {
+    match came(rt, alloc, (engine, 2), TWO_CARDS, &Shipped, &gate) {
+        Ok(came) => {
             (gate.was_in_time.load(Ordering::SeqCst) == 1)
-                & (outcome.started == 2)
-                & has_row(&outcome.book, "account A 9900 978")
-                & has_row(&outcome.book, "account B 400 978")
-                & is_decided(alloc, &outcome, &["000/000001", "000/000001"])
+                & (came.started == 2)
+                & (came.committed == 2)
         }
-        None => false,
+        Err(_) => false,
     }
 }
 
 // Two messages on one card are recorded while the one before them is held: both read old rows, and come out right.
-fn three_overlap<R: Threads + Wait + Sync>(
-    rt: &R,
-    alloc: Global,
-    engine: Engine,
-    book: &Book,
-    frames: &[Frame; 3],
-) -> bool {
+fn three_overlap<R: Threads + Wait + Sync>(rt: &R, alloc: Global, engine: Engine) -> bool {
     let gate = HoldingGate::new(2);
-    match decided_by(rt, alloc, engine, 3, book, frames, &Shipped, &gate) {
-        Some(outcome) => {
-            (gate.was_in_time.load(Ordering::SeqCst) == 1)
-                & has_row(&outcome.book, "account A 9700 978")
-                & is_decided(alloc, &outcome, &["000/000001", "000/000002", "000/000003"])
-        }
-        None => false,
-    }
+    is_committed(rt, alloc, (engine, 3), ONE_CARD, &Shipped, &gate)
+        & (gate.was_in_time.load(Ordering::SeqCst) == 1)
 }
 
 // The shipped decision; but each of two messages raises its flag first, and waits for the other's.
@@ -153,62 +131,42 @@ fn is_first(frame: &Frame) -> bool {
 }
 
 // Whether two decisions go on at the same time.
-fn two_meet<R: Threads + Wait + Sync>(
-    rt: &R,
-    alloc: Global,
-    engine: Engine,
-    book: &Book,
-    frames: &[Frame; 2],
-) -> bool {
+fn two_meet<R: Threads + Wait + Sync>(rt: &R, alloc: Global, engine: Engine) -> bool {
     let meeting = Meeting {
         first: AtomicU64::new(0),
         second: AtomicU64::new(0),
         met: AtomicU64::new(0),
     };
-    match decided_by(rt, alloc, engine, 2, book, frames, &meeting, &OpenGate) {
-        Some(outcome) => {
-            (meeting.met.load(Ordering::SeqCst) >= 2)
-                & is_decided(alloc, &outcome, &["000/000001", "000/000001"])
-        }
-        None => false,
-    }
+    is_committed(rt, alloc, (engine, 2), TWO_CARDS, &meeting, &OpenGate)
+        & (meeting.met.load(Ordering::SeqCst) >= 2)
 }
 
 // What isn't so.
-fn first_wrong<R: Threads + Wait + Sync>(
-    rt: &R,
-    alloc: Global,
-    book: &Book,
-) -> Option<&'static str> {
-    let (Some(two), Some(three)) = (two_cards(), one_card()) else {
-        return Some("requests");
-    };
-    if !two_overlap(rt, alloc, Engine::Locked, book, &two) {
+fn first_wrong<R: Threads + Wait + Sync>(rt: &R, alloc: Global) -> Option<&'static str> {
+    if !two_overlap(rt, alloc, Engine::Locked) {
         return Some("the locked engine records a message while one before it is held");
     }
-    if !two_overlap(rt, alloc, Engine::Split, book, &two) {
+    if !two_overlap(rt, alloc, Engine::Split) {
         return Some("the split engine records a message while one before it is held");
     }
-    if !three_overlap(rt, alloc, Engine::Locked, book, &three) {
+    if !three_overlap(rt, alloc, Engine::Locked) {
         return Some("the locked engine decides again what was decided too early");
     }
-    if !three_overlap(rt, alloc, Engine::Split, book, &three) {
+    if !three_overlap(rt, alloc, Engine::Split) {
         return Some("the split engine decides again what was decided too early");
     }
     // No lock is held through a decision.
-    if !two_meet(rt, alloc, Engine::Locked, book, &two) {
+    if !two_meet(rt, alloc, Engine::Locked) {
         return Some("two decisions of the locked engine meet");
     }
-    if !two_meet(rt, alloc, Engine::Split, book, &two) {
+    if !two_meet(rt, alloc, Engine::Split) {
         return Some("two decisions of the split engine meet");
     }
     None
 }
 
 #[test]
-fn workers_overlap(rt: HostRuntime) -> Result<(), Fail> {
-    let book = first_book_with(rt.alloc(), &[])?;
-    let wrong = first_wrong(&rt, rt.alloc(), &book).unwrap_or("");
-    assert!(rt; wrong.is_empty(), "{wrong}");
-    Ok(())
+fn workers_overlap(rt: HostRuntime) {
+    let wrong = first_wrong(&rt, rt.alloc());
+    assert!(rt; wrong.is_none(), "{wrong:?}");
 }

@@ -21,16 +21,22 @@ impl RowSource for Told<'_> {
 
     fn read(&mut self, key: &RowKey) -> Result<Option<RowVal>, Stop> {
         self.asked = self.asked.saturating_add(1);
-        Ok(value_in(self.lines, key))
+        if let Some(val) = value_in(self.lines, key) {
+            if val.suits(key) {
+                return Ok(Some(val));
+            }
+        }
+        Ok(None)
     }
 }
 
 // The row's value, of the first of these lines that has one.
 fn value_in(lines: &[&str], key: &RowKey) -> Option<RowVal> {
     for line in lines {
-        match row(line) {
-            Some((there, val)) if there == *key && val.suits(key) => return Some(val),
-            _ => {}
+        if let Some((there, val)) = row(line) {
+            if there == *key {
+                return Some(val);
+            }
         }
     }
     None
