@@ -1,3 +1,4 @@
+pub mod Audits
 pub mod BytesFaults
 pub mod Faults
 pub mod Held

@@ -9,6 +9,13 @@ use Rattle.rows.specs.declared.frame.Frame.{Frame}
 use Rattle.rows.specs.declared.reply_body.ReplyBody.{ReplyBody}
 use Rattle.jobs.specs.Decided.{Holding, IsBookOf}
 
+-- The files, as far as it is known what they hold, hold this book, this batch, these replies, and this book after it.
+pub record AreHeld (old : Holding) (book batch replies new_book : List ℕ) (rows : Rows) (frames : List Frame) (answers : List ReplyBody) (rows_after_it : Rows) : Type 0 where
+  pub opening : IsBookOf old book rows
+  pub messages : (bytes : List ℕ) → old batch bytes → IsBatchOf bytes frames
+  pub answered : (bytes : List ℕ) → old replies bytes → IsReplyFileOf bytes answers
+  pub after : IsBookOf old new_book rows_after_it
+
 -- Replies and new book, as the files hold them, are compared with what deciding the batch on the book comes to.
 pub record IsAudited (old : Holding) (book batch replies new_book : List ℕ) (found : Audit) : Type 0 where
   pub rows : Rows

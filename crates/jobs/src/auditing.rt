@@ -1,7 +1,7 @@
-ghost use Rattle.std.specs.Prelude.{IfOk, IfErr, string_bytes};
+ghost use Rattle.std.specs.Prelude.{◌≤◌, IfOk, IfErr, length, string_bytes};
 ghost use Rattle.files.specs.Failing.{HasFailed};
-ghost use Rattle.jobs.specs.Audited.{IsAudited};
-ghost use Rattle.jobs.specs.Faults.{IsAuditingFault};
+ghost use Rattle.jobs.specs.Audited.{AreHeld, IsAudited};
+ghost use Rattle.jobs.specs.Faults.{IsAuditingFault, IsFaultInOrder};
 ghost use Rattle.jobs.specs.JournalFaults.{IsJournalAuditingFault};
 ghost use Rattle.jobs.specs.Journaled.{IsAuditedWithJournal};
 
@@ -9,6 +9,7 @@ use crate::job_fault::JobFault;
 use crate::opening::{open_batch, open_book, open_journal, open_replies};
 use audit::{Audit, audit, audit_journal};
 use files::{BatchNames, Files};
+use rows::{Book, Frame, ReplyBody};
 use std::alloc::Global;
 
 /// Whether the files of replies and of the new book hold what deciding the batch on the book comes to; else what differs first.
@@ -22,11 +23,8 @@ pub fn audit_batch<F: Files>(
     ensures fault { IfErr result (IsAuditingFault (F.holds files.now)
         (string_bytes names.now.book) (string_bytes names.now.batch) (string_bytes names.now.replies) (string_bytes names.now.new_book) (HasFailed F.Input.failures)) }
 {
-    let book = open_book(alloc, files, names.book.as_str())?;
-    let frames = open_batch(alloc, files, names.batch.as_str())?;
-    let replies = open_replies(alloc, files, names.replies.as_str())?;
-    let after = open_book(alloc, files, names.new_book.as_str())?;
-    Ok(audit(alloc, &book, &frames, &replies, &after)?)
+    let run = open_run(alloc, files, names)?;
+    Ok(audit(alloc, &run.book, &run.frames, &run.replies, &run.after)?)
 }
 
 /// Whether the files of replies and of the new book hold what the journal plays to, which stands in a file of its own; else what
@@ -42,13 +40,47 @@ pub fn audit_batch_with_journal<F: Files>(
     ensures fault { IfErr result (IsJournalAuditingFault (F.holds files.now)
         (string_bytes names.now.book) (string_bytes names.now.batch) (string_bytes names.now.replies) (string_bytes names.now.new_book) journal.now (HasFailed F.Input.failures)) }
 {
+    let run = open_run(alloc, files, names)?;
+    let entries = open_journal(alloc, files, journal)?;
+    match audit_journal(
+        alloc,
+        &run.book,
+        &run.frames,
+        &entries,
+        &run.replies,
+        &run.after,
+    ) {
+        Ok(found) => Ok(found),
+        Err(fault) => Err(JobFault::Journal(fault)),
+    }
+}
+
+// What an audit looks at: a batch and its book, the replies to it, and the book after it.
+#[derive(Drop)]
+struct AuditedRun {
+    book: Book,
+    frames: Vec<Frame>,
+    replies: Vec<ReplyBody>,
+    after: Book,
+}
+
+// What the files of these names hold. They are read in the order book, batch, replies, new book.
+fn open_run<F: Files>(alloc: Global, files: &F, names: &BatchNames) -> Result<AuditedRun, JobFault>
+    ensures held { IfOk result (λ run. AreHeld (F.holds files.now)
+        (string_bytes names.now.book) (string_bytes names.now.batch) (string_bytes names.now.replies) (string_bytes names.now.new_book)
+        run.book run.frames.items run.replies.items run.after) }
+    ensures count { IfOk result (λ run. length run.frames.items ≤ 65536) }
+    ensures fault { IfErr result (IsFaultInOrder (F.holds files.now)
+        (string_bytes names.now.book) (string_bytes names.now.batch) (string_bytes names.now.replies) (string_bytes names.now.new_book) (HasFailed F.Input.failures) ⊥) }
+{
     let book = open_book(alloc, files, names.book.as_str())?;
     let frames = open_batch(alloc, files, names.batch.as_str())?;
     let replies = open_replies(alloc, files, names.replies.as_str())?;
     let after = open_book(alloc, files, names.new_book.as_str())?;
-    let entries = open_journal(alloc, files, journal)?;
-    match audit_journal(alloc, &book, &frames, &entries, &replies, &after) {
-        Ok(found) => Ok(found),
-        Err(fault) => Err(JobFault::Journal(fault)),
-    }
+    Ok(AuditedRun {
+        book,
+        frames,
+        replies,
+        after,
+    })
 }

@@ -15,7 +15,7 @@ use Rattle.workers.specs.declared.engine.Engine.{Engine}
 use Rattle.workers.specs.declared.engine.Engine.TheVariants.{Locked, Split}
 use Rattle.words.specs.Asked.{Asked, Names, asked, asked_of, audit, audit_blocks, audit_blocks_in, audit_in, blocks, blocks_in, engine_in, help, names_in, one, one_in, pack, pack_in, run, run_by, run_in, run_with_journal, serial, serial_in, show, show_in, version, workers_in}
 use Rattle.words.specs.CommandLine.{command_line}
-use Rattle.words.specs.Words.{IsRead, IsReadOfKind, asked_in}
+use Rattle.words.specs.Words.{IsRead, IsReadAs, IsReadOfKind, asked_in}
 use Rattle.words.specs.declared.command.Command.{Command}
 use Rattle.words.specs.declared.command.Command.TheVariants.{Help, Version, One, Serial, Run, RunWithJournal, Blocks, Audit, AuditBlocks, Show, Pack}
 use Rattle.words.specs.declared.line_fault.LineFault.{LineFault}
@@ -120,7 +120,7 @@ met_asks (Some (name, rows)) what h =
     (bytes_eq name (codes "audit")) (bytes_eq name (codes "audit-blocks")) (bytes_eq name (codes "show")) (bytes_eq name (codes "pack")) rows what h
 
 -- what a command is that the words ask for
-pub read_as : (words : List Text) (command : Command) → fault_of command_line words ≡ [] → Some (asked_of command) ≡ asked_in words → IsRead words (Ok command)
+read_as : (words : List Text) (command : Command) → fault_of command_line words ≡ [] → Some (asked_of command) ≡ asked_in words → IsRead words (Ok command)
 read_as words (Help text) fault h = let no : false ≡ true = met_asks (subcommand_of command_line words) (help (string_bytes text)) (sym h) in cc
 read_as words Version fault h = let no : false ≡ true = met_asks (subcommand_of command_line words) version (sym h) in cc
 read_as words (One body) fault h = (fault, sym h)
@@ -132,6 +132,12 @@ read_as words (Audit names journal) fault h = (fault, sym h)
 read_as words (AuditBlocks names) fault h = (fault, sym h)
 read_as words (Show file) fault h = (fault, sym h)
 read_as words (Pack text batch) fault h = (fault, sym h)
+
+-- what the words are read as where their subcommand is
+pub read_met : (words : List Text) (result : Result Command LineFault) → fault_of command_line words ≡ [] → IsReadAs (asked_in words) result → IsRead words result
+read_met words (Ok command) fault h = read_as words command fault h
+read_met words (Err (Usage text)) fault h = inr (fault, h)
+read_met words (Err OutOfMemory) fault h = tt
 
 -- a number of workers
 pub workers_are : (n : ℕ) (r : Option ℕ) → SomeIff r ((1 ≤ n) × (n ≤ 64)) n → r ≡ (if nat_lt 0 n && nat_lt n 65 then Some n else None)

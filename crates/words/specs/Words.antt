@@ -45,6 +45,12 @@ IsRead words (Ok command) = Asks words (asked_of command)
 IsRead words (Err (Usage text)) = IsUsageFault words
 IsRead words (Err OutOfMemory) = ⊤
 
+-- what a subcommand asks for is answered as this command, or that it asks for nothing as a usage fault; or memory ran out
+abbrev pub IsReadAs : Option Asked → Result Command LineFault → Type 0
+IsReadAs what (Ok command) = Some (asked_of command) ≡ what
+IsReadAs what (Err (Usage text)) = what ≡ None
+IsReadAs what (Err OutOfMemory) = ⊤
+
 -- what the words' reader says where it reads no command, by the kind of its error
 abbrev pub IsReadOfKind : ErrorKind → Result Command LineFault → Type 0
 IsReadOfKind kind (Ok (Help text)) = kind ≡ DisplayHelp

@@ -4,7 +4,7 @@ ghost use Rattle.clap.specs.Simple.{subcommand_rows_of};
 ghost use Rattle.clap.specs.Values.{kind_of};
 ghost use Rattle.clap.specs.Walk.{first_of, rows_of};
 ghost use Rattle.words.specs.Asked.{asked, asked_of, audit_blocks_in, audit_in, blocks_in, engine_in, names_in, names_of, names_of_words, one_in, pack_in, run_by, run_in, serial_in, show_in, workers_in};
-ghost use Rattle.words.specs.Words.{IsRead, IsReadOfKind};
+ghost use Rattle.words.specs.Words.{IsRead, IsReadAs, IsReadOfKind};
 
 use crate::command::Command;
 use crate::command_line::command_line;
@@ -20,13 +20,19 @@ use workers::{Engine, Workers};
 pub fn read_words(alloc: Global, words: &[String]) -> Result<Command, LineFault>
     ensures { IsRead (map string_bytes words.now) result }
 {
-    let matches = match command_line(alloc)?.try_get_matches_from(words) {
-        Ok(matches) => matches,
-        Err(error) => return request_of(alloc, &error),
-    };
-    match command_of(alloc, &matches)? {
+    match command_line(alloc)?.try_get_matches_from(words) {
+        Ok(matches) => command_or_fault(alloc, &matches),
+        Err(error) => request_of(alloc, &error),
+    }
+}
+
+// The command that the words ask for, or that they ask for nothing.
+fn command_or_fault(alloc: Global, matches: &ArgMatches<'_>) -> Result<Command, LineFault>
+    ensures { IsReadAs (option_and_then asked (subcommand_rows_of matches.now)) result }
+{
+    match command_of(alloc, matches)? {
         Some(command) => Ok(command),
-        None => Err(LineFault::Usage(String::from_str(alloc, wrong_word(&matches))?)),
+        None => Err(LineFault::Usage(String::from_str(alloc, wrong_word(matches))?)),
     }
 }
 

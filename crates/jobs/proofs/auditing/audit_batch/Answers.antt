@@ -1,52 +1,24 @@
-use Rattle.std.proofs.Common.{inl, inr}
+use Rattle.std.proofs.Common.{string_bytes}
 use Rattle.std.proofs.lemmas.Result.{err_from_is_err_and}
+use Rattle.files.specs.Failing.{HasFailed}
+use Rattle.jobs.proofs.Audits.{of_four}
 use Rattle.jobs.proofs.auditing.audit_batch.Goals as goal
+
+pub returns-in_err-run-clause-fault : goal.returns-in_err-run-clause-fault
+returns-in_err-run-clause-fault g c =
+    let p = err_from_is_err_and c.from_residual.result c.from_residual.ensures.1 in
+    rw (p.1, p.2) (of_four (g.F.Files.holds c.args.files.now) (string_bytes c.args.names.now.book) (string_bytes c.args.names.now.batch) (string_bytes c.args.names.now.replies) (string_bytes c.args.names.now.new_book)
+    (HasFailed g.F.Input.Source.failures) _ c.in_err-run.field-0.0 c.in_err-run.ensures.fault)
 
 pub returns-clause-audited : goal.returns-clause-audited
 returns-clause-audited g c = record {
-  rows = c.in_ok-book.book;
-  frames = c.in_ok-frames.frames.items;
-  answers = c.in_ok-replies.replies.items;
-  rows_after_it = c.in_ok-after.after;
-  opening = λ bytes h. c.in_ok-book.ensures.book bytes (rw c.as_str.ensures.value h);
-  messages = λ bytes h. c.in_ok-frames.ensures.frames bytes (rw c.as_str-2.ensures.value h);
-  answered = λ bytes h. c.in_ok-replies.ensures.replies bytes (rw c.as_str-3.ensures.value h);
-  after = λ bytes h. c.in_ok-after.ensures.book bytes (rw c.as_str-4.ensures.value h);
+  rows = c.in_ok-run.run'.book;
+  frames = c.in_ok-run.run'.frames.items;
+  answers = c.in_ok-run.run'.replies.items;
+  rows_after_it = c.in_ok-run.run'.after;
+  opening = c.in_ok-run.ensures.held.opening;
+  messages = c.in_ok-run.ensures.held.messages;
+  answered = c.in_ok-run.ensures.held.answered;
+  after = c.in_ok-run.ensures.held.after;
   finds = rw (c.deref.ensures.value, c.deref-2.ensures.value) at c.in_ok-audit.ensures;
 }
-
-pub returns-in_err-frames-clause-fault : goal.returns-in_err-frames-clause-fault
-returns-in_err-frames-clause-fault g c =
-    let p = err_from_is_err_and c.from_residual-in_err-frames.result c.from_residual-in_err-frames.ensures.1 in
-    let book = rw c.as_str.ensures.value at c.in_ok-book.ensures.book in
-    rw (p.1, p.2) (inr ((c.in_ok-book.book, book), inl (rw c.as_str-2.ensures.value at c.in_err-frames.ensures.fault)))
-
-pub returns-in_err-replies-clause-fault : goal.returns-in_err-replies-clause-fault
-returns-in_err-replies-clause-fault g c =
-    let p = err_from_is_err_and c.from_residual-in_err-replies.result c.from_residual-in_err-replies.ensures.1 in
-    let book = rw c.as_str.ensures.value at c.in_ok-book.ensures.book in
-    let frames = rw c.as_str-2.ensures.value at c.in_ok-frames.ensures.frames in
-    rw (p.1, p.2) (inr (
-      (c.in_ok-book.book, book),
-      inr (
-        (c.in_ok-frames.frames.items, frames),
-        inl (rw c.as_str-3.ensures.value at c.in_err-replies.ensures.fault),
-      ),
-    ))
-
-pub returns-in_err-after-clause-fault : goal.returns-in_err-after-clause-fault
-returns-in_err-after-clause-fault g c =
-    let p = err_from_is_err_and c.from_residual-in_err-after.result c.from_residual-in_err-after.ensures.1 in
-    let book = rw c.as_str.ensures.value at c.in_ok-book.ensures.book in
-    let frames = rw c.as_str-2.ensures.value at c.in_ok-frames.ensures.frames in
-    let replies = rw c.as_str-3.ensures.value at c.in_ok-replies.ensures.replies in
-    rw (p.1, p.2) (inr (
-      (c.in_ok-book.book, book),
-      inr (
-        (c.in_ok-frames.frames.items, frames),
-        inr (
-          (c.in_ok-replies.replies.items, replies),
-          inl (rw c.as_str-4.ensures.value at c.in_err-after.ensures.fault),
-        ),
-      ),
-    ))

@@ -1,14 +1,24 @@
-use Rattle.std.proofs.Common.{◌≡◌, ◌∙◌, ap, sym, subst, map, string_bytes, List, option_and_then, [], inr}
+use Rattle.std.proofs.Common.{◌≡◌, ◌∙◌, ap, sym, subst, map, string_bytes, List, Option, option_and_then, []}
 use Rattle.clap.specs.Faults.{fault_of, is_simple_and_free}
 use Rattle.clap.specs.Kinds.{HasKind}
 use Rattle.clap.specs.Simple.{App, is_simple, subcommand_of, subcommand_rows_of}
 use Rattle.clap.specs.Values.{kind_of}
 use Rattle.clap.specs.Walk.{Text}
-use Rattle.words.specs.Asked.{asked}
+use Rattle.words.specs.Asked.{Asked, asked}
 use Rattle.words.specs.CommandLine.{command_line}
-use Rattle.words.specs.Words.{asked_in}
-use Rattle.words.proofs.WordsLemmas.{simple_line, free_line, read_as, read_of_kind}
+use Rattle.words.specs.Words.{IsReadAs, asked_in}
+use Rattle.words.proofs.WordsLemmas.{simple_line, free_line, read_met, read_of_kind}
 use Rattle.words.proofs.asked.read_words.Goals as goal
+
+pub returns-in-Ok : goal.returns-in-Ok
+returns-in-Ok c =
+    let words : List Text = map string_bytes c.args.words.now in
+    let line_is = c.in_ok-command_line.ensures in
+    let no_fault : fault_of command_line words ≡ [] =
+    sym (ap (λ a. fault_of a words) line_is) ∙ c.in-Ok.ensures.kinds (ap is_simple_and_free line_is ∙ free_line) in
+    let met : option_and_then asked (subcommand_rows_of c.in-Ok.matches) ≡ asked_in words =
+    ap (option_and_then asked) ((c.in-Ok.ensures.matches (ap is_simple line_is ∙ simple_line)).1 ∙ ap (λ a. subcommand_of a words) line_is) in
+    read_met words c.command_or_fault.result no_fault (subst (λ (what : Option Asked). IsReadAs what c.command_or_fault.result) met c.command_or_fault.ensures)
 
 pub returns-in-Err : goal.returns-in-Err
 returns-in-Err c =
@@ -17,25 +27,3 @@ returns-in-Err c =
     let has_kind : App → Type 0 = λ a. HasKind (fault_of a words) c.in-Err.error in
     read_of_kind words (kind_of c.in-Err.error) c.request_of.result
     (subst has_kind line_is (c.in-Err.ensures.kinds (ap is_simple_and_free line_is ∙ free_line))) c.request_of.ensures
-
-pub returns-in-Some : goal.returns-in-Some
-returns-in-Some c =
-    let words : List Text = map string_bytes c.args.words.now in
-    let line_is = c.in_ok-command_line.ensures in
-    let no_fault : fault_of command_line words ≡ [] =
-    sym (ap (λ a. fault_of a words) line_is) ∙ c.in-Ok.ensures.kinds (ap is_simple_and_free line_is ∙ free_line) in
-    let met : option_and_then asked (subcommand_rows_of c.in-Ok.matches) ≡ asked_in words =
-    ap (option_and_then asked) ((c.in-Ok.ensures.matches (ap is_simple line_is ∙ simple_line)).1 ∙ ap (λ a. subcommand_of a words) line_is) in
-    let found = rw c.in-Some.is at c.in_ok-command.ensures in
-    read_as words c.in-Some.command no_fault (found ∙ met)
-
-pub returns : goal.returns
-returns c =
-    let words : List Text = map string_bytes c.args.words.now in
-    let line_is = c.in_ok-command_line.ensures in
-    let no_fault : fault_of command_line words ≡ [] =
-    sym (ap (λ a. fault_of a words) line_is) ∙ c.in-Ok.ensures.kinds (ap is_simple_and_free line_is ∙ free_line) in
-    let met : option_and_then asked (subcommand_rows_of c.in-Ok.matches) ≡ asked_in words =
-    ap (option_and_then asked) ((c.in-Ok.ensures.matches (ap is_simple line_is ∙ simple_line)).1 ∙ ap (λ a. subcommand_of a words) line_is) in
-    let found = rw c.in-None.is at c.in_ok-command.ensures in
-    inr (no_fault, sym (found ∙ met))

@@ -1,0 +1,25 @@
+-- Faults of what an audit opens, as those of the audit.
+use Rattle.std.proofs.Common.{ℕ, List, inl, inr}
+use Rattle.rows.specs.Fold.{Rows}
+use Rattle.rows.specs.declared.frame.Frame.{Frame}
+use Rattle.rows.specs.declared.reply_body.ReplyBody.{ReplyBody}
+use Rattle.jobs.specs.Audited.{AreHeld}
+use Rattle.jobs.specs.Decided.{Holding}
+use Rattle.jobs.specs.Faults.{IsFaultInOrder}
+use Rattle.jobs.specs.declared.job_fault.JobFault.{JobFault}
+
+-- a fault of one of the four files, whatever may come behind them
+pub of_four : (old : Holding) (book batch replies new_book : List ℕ) (read_failed behind : Type 0) (fault : JobFault)
+    → IsFaultInOrder old book batch replies new_book read_failed ⊥ fault → IsFaultInOrder old book batch replies new_book read_failed behind fault
+of_four old book batch replies new_book read_failed behind fault (inl a) = inl a
+of_four old book batch replies new_book read_failed behind fault (inr (b, inl a)) = inr (b, inl a)
+of_four old book batch replies new_book read_failed behind fault (inr (b, inr (c, inl a))) = inr (b, inr (c, inl a))
+of_four old book batch replies new_book read_failed behind fault (inr (b, inr (c, inr (d, inl a)))) = inr (b, inr (c, inr (d, inl a)))
+of_four old book batch replies new_book read_failed behind fault (inr (b, inr (c, inr (d, inr (e, none))))) = absurd none
+
+-- a fault behind all four
+pub behind_four : (old : Holding) (book batch replies new_book : List ℕ) (rows : Rows) (frames : List Frame) (answers : List ReplyBody) (rows_after_it : Rows)
+    (read_failed behind : Type 0) (fault : JobFault) → AreHeld old book batch replies new_book rows frames answers rows_after_it
+    → behind → IsFaultInOrder old book batch replies new_book read_failed behind fault
+behind_four old book batch replies new_book rows frames answers rows_after_it read_failed behind fault held h =
+    inr ((rows, held.opening), inr ((frames, held.messages), inr ((answers, held.answered), inr ((rows_after_it, held.after), h))))
