@@ -19,8 +19,8 @@ pub fn drive(
     requires { length frames.now ≤ 65536 }
     ensures { IfOk result (λ traced. IsDrive book.now frames.now seats.now traced.entries traced.core) }
 {
-    let mut traced = Traced::new(alloc, book, frames)?;
     let mut hands = empty_hands(alloc)?;
+    let mut traced = Traced::new(alloc, book, frames)?;
     for index in 0..seats.len() {
         let seat = seats[index];
         let place = seat.number() as usize;
