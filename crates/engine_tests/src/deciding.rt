@@ -66,6 +66,22 @@ fn came_on<'a, R: Threads + Wait + Sync, F: Decide + Sync, G: Gate>(
     }
 }
 
+// The batch on this book.
+fn came_from<'a, R: Threads + Wait + Sync, F: Decide + Sync, G: Gate>(
+    rt: &R,
+    alloc: Global,
+    run_by: (Engine, u32),
+    batch: &'a str,
+    book: &Book,
+    decision: &F,
+    gate: &G,
+) -> Result<Commits, &'a str> {
+    match frames(alloc, batch) {
+        Ok(frames) => came_on(rt, alloc, run_by, batch, book, &frames, decision, gate),
+        Err(_) => Err("room"),
+    }
+}
+
 /// The batch, decided by so many workers of this engine: what it comes to, or its first line that isn't so.
 pub(crate) fn came<'a, R: Threads + Wait + Sync, F: Decide + Sync, G: Gate>(
     rt: &R,
@@ -75,11 +91,9 @@ pub(crate) fn came<'a, R: Threads + Wait + Sync, F: Decide + Sync, G: Gate>(
     decision: &F,
     gate: &G,
 ) -> Result<Commits, &'a str> {
-    match (opening(alloc, batch), frames(alloc, batch)) {
-        (Some(book), Ok(frames)) => came_on(
-            rt, alloc, run_by, batch, &book, &frames, decision, gate,
-        ),
-        _ => Err("its book, and room"),
+    match opening(alloc, batch) {
+        Some(book) => came_from(rt, alloc, run_by, batch, &book, decision, gate),
+        None => Err("its book"),
     }
 }
 
