@@ -1,7 +1,7 @@
 use rows::RowKey;
 
 /// What an audit finds first.
-#[derive(Clone, Copy, Debug, PartialEq, Eq)]
+#[derive(Clone, Copy, PartialEq, Eq)]
 pub enum Audit {
     /// Replies and book are the right ones.
     Same,

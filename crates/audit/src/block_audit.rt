@@ -1,7 +1,7 @@
 use rows::RowKey;
 
 /// What an audit of blocks finds first.
-#[derive(Clone, Copy, Debug, PartialEq, Eq)]
+#[derive(Clone, Copy, PartialEq, Eq)]
 pub enum BlockAudit {
     /// Replies and book are the right ones.
     Same,

@@ -7,7 +7,7 @@ use iso8583::{AccountId, Amount, PanPrefix};
 use rows::{Kept, Payer, RowKey, RowVal};
 
 // Originals, by what paid for them.
-#[derive(Clone, Copy, Debug, PartialEq, Eq)]
+#[derive(Clone, Copy, PartialEq, Eq)]
 pub(crate) enum PaidFrom {
     // All of them.
     Anything,

@@ -5,7 +5,7 @@ use iso8583::{AccountId, Currency, Pan, PrintableUpTo};
 use rows::{AccountRow, Balance, CardAccounts, CardRow, CardStatus, Count, Expiry};
 
 /// A card of versions 1 and 2: it has its own money.
-#[derive(Clone, Copy, Debug, PartialEq, Eq)]
+#[derive(Clone, Copy, PartialEq, Eq)]
 pub struct OldCard {
     /// Its number.
     pub pan: Pan,

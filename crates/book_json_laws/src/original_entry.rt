@@ -10,7 +10,7 @@ use iso8583::{
 use rows::{Kept, Outcome, Payer, Payment, Settlement, UnpostedAction};
 
 /// What a book's text says of an original.
-#[derive(Clone, Copy, Debug, PartialEq, Eq)]
+#[derive(Clone, Copy, PartialEq, Eq)]
 pub struct OriginalEntry {
     /// The account that paid, if one did.
     pub account: Option<AccountId>,

@@ -1,4 +1,5 @@
-//! Tests of both engines, with one text for each: batches that come out as one after another, workers that overlap, and the gate.
+//! Tests of deciding: rows and one decision, batches one after another, and both engines, with one text for each: batches that
+//! come out as one after another, workers that overlap, and the gate.
 #![tactic(auto)]
 
 #[cfg(test)]
@@ -13,3 +14,5 @@ mod gates;
 mod longest;
 #[cfg(test)]
 mod overlaps;
+#[cfg(test)]
+mod tables;

@@ -5,7 +5,7 @@ ghost use Rattle.iso8583.specs.Padded.{HasPrintable};
 use crate::printable_up_to::PrintableUpTo;
 
 /// Account identification 1, element 102: 1 to 28 printable characters, 0x20 to 0x7E (ISO 8583:1993).
-#[derive(Clone, Copy, Debug, PartialEq, Eq, PartialOrd, Ord, Hash)]
+#[derive(Clone, Copy, PartialEq, Eq, PartialOrd, Ord)]
 pub struct AccountId(pub PrintableUpTo<1, 28>);
 
 impl AccountId {

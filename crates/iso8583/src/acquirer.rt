@@ -5,7 +5,7 @@ ghost use Rattle.iso8583.specs.Padded.{HasDigits};
 use crate::digits_up_to::DigitsUpTo;
 
 /// Acquiring institution identification code, element 32: 1 to 11 digits (ISO 8583:1993).
-#[derive(Clone, Copy, Debug, PartialEq, Eq, PartialOrd, Ord, Hash)]
+#[derive(Clone, Copy, PartialEq, Eq, PartialOrd, Ord)]
 pub struct Acquirer(pub DigitsUpTo<1, 11>);
 
 impl Acquirer {

@@ -7,7 +7,7 @@ use crate::number::number_of;
 use std::marker::Model;
 
 /// Action code, element 39: 0 to 999 (ISO 8583:1993).
-#[derive(Clone, Copy, Debug, PartialEq, Eq, PartialOrd, Ord, Hash)]
+#[derive(Clone, Copy, PartialEq, Eq)]
 pub struct Action {
     code: u16,
 }

@@ -6,7 +6,7 @@ use crate::function_code::FunctionCode;
 use crate::transaction::Transaction;
 
 /// Authorization advice, 1120, or its repeat, 1121 (ISO 8583:1993): the acquirer tells what it decided for the issuer.
-#[derive(Clone, Copy, Debug, PartialEq, Eq)]
+#[derive(Clone, Copy)]
 pub struct Advice {
     /// Whether it is a repeat.
     pub repeat: bool,

@@ -7,7 +7,7 @@ use crate::digits::Digits;
 use std::marker::Model;
 
 /// A text of `N` letters, digits and spaces (anp).
-#[derive(Clone, Copy, Debug, PartialEq, Eq, PartialOrd, Ord, Hash)]
+#[derive(Clone, Copy, PartialEq, Eq)]
 pub struct Alphanumeric<const N: usize> {
     bytes: [u8; N],
 }

@@ -7,7 +7,7 @@ use crate::number::number_of;
 use std::marker::Model;
 
 /// Amount of a transaction in minor units, element 4: 0 to 999,999,999,999 (ISO 8583:1993).
-#[derive(Clone, Copy, Debug, PartialEq, Eq, PartialOrd, Ord, Hash)]
+#[derive(Clone, Copy, PartialEq, Eq, PartialOrd, Ord)]
 pub struct Amount {
     minor: u64,
 }

@@ -7,7 +7,7 @@ use crate::alphanumeric::Alphanumeric;
 use crate::digits::Digits;
 
 /// Approval code, element 38: six letters, digits or spaces (ISO 8583:1993).
-#[derive(Clone, Copy, Debug, PartialEq, Eq, PartialOrd, Ord, Hash)]
+#[derive(Clone, Copy, PartialEq, Eq)]
 pub struct Approval(pub Alphanumeric<6>);
 
 impl Approval {

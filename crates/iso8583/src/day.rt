@@ -7,7 +7,7 @@ use crate::local_stamp::is_day;
 use std::marker::Model;
 
 /// A day, YYMMDD. The month is 01 to 12 and the day 01 to 31; years are two digits.
-#[derive(Clone, Copy, Debug, PartialEq, Eq, PartialOrd, Ord, Hash)]
+#[derive(Clone, Copy, PartialEq, Eq, PartialOrd, Ord)]
 pub struct Day {
     digits: Digits<6>,
 }

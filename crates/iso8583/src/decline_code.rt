@@ -5,7 +5,7 @@ use crate::action::Action;
 use std::marker::Model;
 
 /// An action code that is no approval: 1 to 999 (ISO 8583:1993, element 39).
-#[derive(Clone, Copy, Debug, PartialEq, Eq, PartialOrd, Ord, Hash)]
+#[derive(Clone, Copy, PartialEq, Eq)]
 pub struct DeclineCode {
     action: Action,
 }

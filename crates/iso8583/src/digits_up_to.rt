@@ -8,7 +8,7 @@ use std::marker::Model;
 
 /// A text of `MIN` to `MAX` digits; `MAX` is at most 255. By the bytes of the digits: a text stands behind each that it
 /// begins with.
-#[derive(Clone, Copy, Debug, PartialEq, Eq, PartialOrd, Ord, Hash)]
+#[derive(Clone, Copy, PartialEq, Eq, PartialOrd, Ord)]
 pub struct DigitsUpTo<const MIN: usize, const MAX: usize> {
     text: PrintableUpTo<MIN, MAX>,
 }

@@ -5,7 +5,7 @@ ghost use Rattle.iso8583.specs.Class.{IsDigits};
 use crate::digits::Digits;
 
 /// Function code, element 24: three digits (ISO 8583:1993).
-#[derive(Clone, Copy, Debug, PartialEq, Eq, PartialOrd, Ord, Hash)]
+#[derive(Clone, Copy, PartialEq, Eq)]
 pub struct FunctionCode(pub Digits<3>);
 
 impl FunctionCode {

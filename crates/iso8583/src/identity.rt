@@ -3,7 +3,7 @@ use crate::local_stamp::LocalStamp;
 use crate::stan::Stan;
 
 /// What names a message: elements 32, 11 and 12 (ISO 8583:1993).
-#[derive(Clone, Copy, Debug, PartialEq, Eq, PartialOrd, Ord, Hash)]
+#[derive(Clone, Copy, PartialEq, Eq)]
 pub struct Identity {
     /// Element 32.
     pub acquirer: Acquirer,

@@ -9,7 +9,7 @@ use std::marker::Model;
 
 /// Local date and time of a transaction, element 12: YYMMDDhhmmss (ISO 8583:1993). The month is 01 to 12,
 /// the day 01 to 31, the hour 00 to 23, the minute and the second 00 to 59; the calendar isn't looked at.
-#[derive(Clone, Copy, Debug, PartialEq, Eq, PartialOrd, Ord, Hash)]
+#[derive(Clone, Copy, PartialEq, Eq, PartialOrd, Ord)]
 pub struct LocalStamp {
     digits: Digits<12>,
 }

@@ -5,7 +5,7 @@ use crate::request::Request;
 use crate::reversal::Reversal;
 
 /// A message that is taken in (ISO 8583:1993).
-#[derive(Clone, Copy, Debug, PartialEq, Eq)]
+#[derive(Clone, Copy)]
 pub enum Message {
     /// Authorization request, 1100 or 1101.
     Request(Request),

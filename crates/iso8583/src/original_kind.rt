@@ -1,5 +1,5 @@
 /// Which kind of message an original is.
-#[derive(Clone, Copy, Debug, PartialEq, Eq)]
+#[derive(Clone, Copy, PartialEq, Eq)]
 pub enum OriginalKind {
     /// Authorization request, 1100 or 1101.
     Request,

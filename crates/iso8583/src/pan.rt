@@ -7,7 +7,7 @@ use crate::digits_up_to::DigitsUpTo;
 use crate::pan_prefix::PanPrefix;
 
 /// Primary account number, element 2: 12 to 19 digits (ISO/IEC 7812-1, ISO 8583:1993).
-#[derive(Clone, Copy, Debug, PartialEq, Eq, PartialOrd, Ord, Hash)]
+#[derive(Clone, Copy, PartialEq, Eq, PartialOrd, Ord)]
 pub struct Pan(pub DigitsUpTo<12, 19>);
 
 impl Pan {

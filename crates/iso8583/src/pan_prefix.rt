@@ -5,7 +5,7 @@ ghost use Rattle.iso8583.specs.Class.{IsDigits};
 use crate::digits::Digits;
 
 /// The first six digits of a card number, which name its issuer (ISO/IEC 7812-1).
-#[derive(Clone, Copy, Debug, PartialEq, Eq, PartialOrd, Ord, Hash)]
+#[derive(Clone, Copy, PartialEq, Eq, PartialOrd, Ord)]
 pub struct PanPrefix(pub Digits<6>);
 
 impl PanPrefix {

@@ -6,7 +6,7 @@ use crate::class::is_printable;
 use std::marker::Model;
 
 /// A text of `N` printable characters, 0x20 to 0x7E (ans).
-#[derive(Clone, Copy, Debug, PartialEq, Eq, PartialOrd, Ord, Hash)]
+#[derive(Clone, Copy, PartialEq, Eq)]
 pub struct Printable<const N: usize> {
     bytes: [u8; N],
 }

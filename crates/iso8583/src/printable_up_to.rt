@@ -2,8 +2,7 @@ ghost use Rattle.std.specs.Prelude.{◌≡◌, ℕ, ◌≤◌, ◌<◌, ◌==◌
 ghost use Rattle.std.proofs.Common.{rules};
 ghost use Rattle.std.specs.Cmp.{partial_order_from_own_ties};
 ghost use Rattle.std.specs.Cmp.Lexicographic.{pointwise, slice_cmp};
-ghost use Rattle.std.specs.Cmp.Rules.{comparing, hashing};
-ghost use Rattle.std.specs.Hash as fed;
+ghost use Rattle.std.specs.Cmp.Rules.{comparing};
 ghost use Rattle.std.specs.Option.{SomeIff};
 ghost use Rattle.std.specs.Ordering.{nat_cmp, as_partial_cmp};
 ghost use Rattle.iso8583.specs.Class.{IsPrintable};
@@ -12,11 +11,10 @@ ghost use Rattle.iso8583.specs.Padded.{HasPrintable};
 use crate::class::is_printable;
 use crate::order::order;
 use std::cmp::Ordering;
-use std::hash::{Hash, Hasher};
 use std::marker::Model;
 
 /// A text of `MIN` to `MAX` printable characters, 0x20 to 0x7E (ans); `MAX` is at most 255.
-#[derive(Clone, Copy, Debug)]
+#[derive(Clone, Copy)]
 pub struct PrintableUpTo<const MIN: usize, const MAX: usize> {
     bytes: [u8; MAX],
     len: u8,
@@ -126,15 +124,5 @@ impl<const MIN: usize, const MAX: usize> PartialOrd for PrintableUpTo<MIN, MAX> 
 
     fn partial_cmp(&self, other: &Self) -> Option<Ordering> {
         Some(self.cmp(other))
-    }
-}
-
-impl<const MIN: usize, const MAX: usize> Hash for PrintableUpTo<MIN, MAX> {
-    ghost hash_input = { fed.slice fed.u8 };
-
-    ghost respects_eq = { Prim.search (hashing, rules) };
-
-    fn hash<H: Hasher>(&self, state: &mut H) {
-        self.as_slice().hash(state);
     }
 }

@@ -5,7 +5,7 @@ ghost use Rattle.iso8583.specs.Class.{IsDigits};
 use crate::digits::Digits;
 
 /// Processing code, element 3: six digits (ISO 8583:1993).
-#[derive(Clone, Copy, Debug, PartialEq, Eq, PartialOrd, Ord, Hash)]
+#[derive(Clone, Copy, PartialEq, Eq)]
 pub struct Processing(pub Digits<6>);
 
 impl Processing {

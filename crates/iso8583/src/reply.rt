@@ -4,7 +4,7 @@ use crate::answer::Answer;
 use crate::transaction::Transaction;
 
 /// A reply that is given out: 1110, 1130 or 1430 (ISO 8583:1993).
-#[derive(Clone, Copy, Debug, PartialEq, Eq)]
+#[derive(Clone, Copy)]
 pub struct Reply {
     /// The elements that it repeats.
     pub transaction: Transaction,

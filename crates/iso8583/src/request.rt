@@ -5,7 +5,7 @@ use crate::function_code::FunctionCode;
 use crate::transaction::Transaction;
 
 /// Authorization request, 1100, or its repeat, 1101 (ISO 8583:1993).
-#[derive(Clone, Copy, Debug, PartialEq, Eq)]
+#[derive(Clone, Copy)]
 pub struct Request {
     /// Whether it is a repeat.
     pub repeat: bool,

@@ -5,7 +5,7 @@ ghost use Rattle.iso8583.specs.Class.{IsAlphanumeric};
 use crate::alphanumeric::Alphanumeric;
 
 /// Retrieval reference number, element 37: twelve letters, digits or spaces (ISO 8583:1993).
-#[derive(Clone, Copy, Debug, PartialEq, Eq, PartialOrd, Ord, Hash)]
+#[derive(Clone, Copy, PartialEq, Eq)]
 pub struct Retrieval(pub Alphanumeric<12>);
 
 impl Retrieval {

@@ -5,7 +5,7 @@ use crate::reversal_scope::ReversalScope;
 use crate::transaction::Transaction;
 
 /// Reversal advice, 1420, or its repeat, 1421 (ISO 8583:1993): an original is taken back, whole or in part.
-#[derive(Clone, Copy, Debug, PartialEq, Eq)]
+#[derive(Clone, Copy)]
 pub struct Reversal {
     /// Whether it is a repeat.
     pub repeat: bool,

@@ -1,7 +1,7 @@
 use crate::amount::Amount;
 
 /// How much of an original is taken back: elements 24 and 30 of a reversal (ISO 8583:1993).
-#[derive(Clone, Copy, Debug, PartialEq, Eq)]
+#[derive(Clone, Copy, PartialEq, Eq)]
 pub enum ReversalScope {
     /// Function code 400: all of it.
     Full,

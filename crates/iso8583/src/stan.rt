@@ -5,7 +5,7 @@ ghost use Rattle.iso8583.specs.Class.{IsDigits};
 use crate::digits::Digits;
 
 /// Systems trace audit number, element 11: six digits (ISO 8583:1993).
-#[derive(Clone, Copy, Debug, PartialEq, Eq, PartialOrd, Ord, Hash)]
+#[derive(Clone, Copy, PartialEq, Eq, PartialOrd, Ord)]
 pub struct Stan(pub Digits<6>);
 
 impl Stan {

@@ -5,7 +5,7 @@ ghost use Rattle.iso8583.specs.Class.{IsPrintable};
 use crate::printable::Printable;
 
 /// Card acceptor terminal identification, element 41: eight printable characters, 0x20 to 0x7E (ISO 8583:1993).
-#[derive(Clone, Copy, Debug, PartialEq, Eq, PartialOrd, Ord, Hash)]
+#[derive(Clone, Copy, PartialEq, Eq)]
 pub struct Terminal(pub Printable<8>);
 
 impl Terminal {

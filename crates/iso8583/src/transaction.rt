@@ -13,7 +13,7 @@ use crate::terminal::Terminal;
 use crate::transmission::Transmission;
 
 /// The elements of a message that its reply repeats (ISO 8583:1993).
-#[derive(Clone, Copy, Debug, PartialEq, Eq)]
+#[derive(Clone, Copy)]
 pub struct Transaction {
     /// Element 2.
     pub pan: Pan,

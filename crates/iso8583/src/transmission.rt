@@ -5,7 +5,7 @@ ghost use Rattle.iso8583.specs.Class.{IsDigits};
 use crate::digits::Digits;
 
 /// Transmission date and time, element 7: ten digits, MMDDhhmmss (ISO 8583:1993).
-#[derive(Clone, Copy, Debug, PartialEq, Eq, PartialOrd, Ord, Hash)]
+#[derive(Clone, Copy, PartialEq, Eq)]
 pub struct Transmission(pub Digits<10>);
 
 impl Transmission {

@@ -2,7 +2,7 @@ use sched::Task;
 use speccore_laws::{CoreFault, Got};
 
 /// What the core answers to an event (Block-STM).
-#[derive(Clone, Copy, Debug)]
+#[derive(Clone, Copy)]
 pub enum Answer {
     /// The task that was claimed.
     Claimed(Task),

@@ -1,9 +1,11 @@
 //! Tests of journals: cores that keep one, journals played again, the journals of runs on threads, and workers' turns in every
-//! order.
+//! order; and of audits, of journals too.
 #![tactic(auto)]
 
 #[cfg(test)]
 mod answers;
+#[cfg(test)]
+mod audits;
 #[cfg(test)]
 mod foolish;
 #[cfg(test)]

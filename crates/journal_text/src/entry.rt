@@ -2,7 +2,7 @@ use crate::event::Event;
 use speccore_laws::Seat;
 
 /// An entry of a journal: what was done, and at which seat.
-#[derive(Clone, Copy, Debug, PartialEq, Eq)]
+#[derive(Clone, Copy, PartialEq, Eq)]
 pub struct Entry {
     /// Where it was done.
     pub seat: Seat,

@@ -2,7 +2,7 @@ use mvmem::Version;
 use rows::RowKey;
 
 /// What is asked of the core (Block-STM).
-#[derive(Clone, Copy, Debug, PartialEq, Eq)]
+#[derive(Clone, Copy, PartialEq, Eq)]
 pub enum Event {
     /// The next task is claimed.
     Claim,

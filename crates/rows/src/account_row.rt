@@ -2,7 +2,7 @@ use crate::balance::Balance;
 use iso8583::Currency;
 
 /// An account.
-#[derive(Clone, Copy, Debug, PartialEq, Eq)]
+#[derive(Clone, Copy, PartialEq, Eq)]
 pub struct AccountRow {
     /// Money that may be spent.
     pub available: Balance,

@@ -5,7 +5,7 @@ use iso8583::Amount;
 use std::marker::Model;
 
 /// Money kept in a row, in minor units: 0 to 10^15.
-#[derive(Clone, Copy, Debug, PartialEq, Eq, PartialOrd, Ord)]
+#[derive(Clone, Copy, PartialEq, Eq, PartialOrd, Ord)]
 pub struct Balance {
     minor: u64,
 }

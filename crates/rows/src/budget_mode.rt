@@ -1,5 +1,5 @@
 /// Who pays for the cards of a prefix.
-#[derive(Clone, Copy, Debug, PartialEq, Eq)]
+#[derive(Clone, Copy, PartialEq, Eq)]
 pub enum BudgetMode {
     /// Their accounts.
     Direct,

@@ -2,7 +2,7 @@ use crate::balance::Balance;
 use crate::budget_mode::BudgetMode;
 
 /// The budget that stands in for the accounts of the cards of a prefix.
-#[derive(Clone, Copy, Debug, PartialEq, Eq)]
+#[derive(Clone, Copy, PartialEq, Eq)]
 pub struct BudgetRow {
     /// Whether it stands in.
     pub mode: BudgetMode,

@@ -5,7 +5,7 @@ use iso8583::AccountId;
 use std::marker::Model;
 
 /// The accounts of a card: one that pays where a message names none, and perhaps another that a message may name.
-#[derive(Clone, Copy, Debug, PartialEq, Eq)]
+#[derive(Clone, Copy)]
 pub struct CardAccounts {
     first: AccountId,
     second: Option<AccountId>,

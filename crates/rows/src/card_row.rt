@@ -7,7 +7,7 @@ use crate::count::Count;
 use crate::expiry::Expiry;
 
 /// What the issuer keeps of a card.
-#[derive(Clone, Copy, Debug, PartialEq, Eq)]
+#[derive(Clone, Copy)]
 pub struct CardRow {
     /// Last month of use.
     pub expiry: Expiry,

@@ -1,5 +1,5 @@
 /// Whether a card may be used.
-#[derive(Clone, Copy, Debug, PartialEq, Eq)]
+#[derive(Clone, Copy, PartialEq, Eq)]
 pub enum CardStatus {
     /// In use.
     Active,

@@ -8,7 +8,7 @@ use iso8583::{Digits, LocalStamp, number_of};
 use std::marker::Model;
 
 /// Month in which a card expires, YYMM: the month is 01 to 12.
-#[derive(Clone, Copy, Debug, PartialEq, Eq, PartialOrd, Ord)]
+#[derive(Clone, Copy, PartialEq, Eq, PartialOrd, Ord)]
 pub struct Expiry {
     digits: Digits<4>,
 }

@@ -4,7 +4,7 @@ use crate::frame_fault::FrameFault;
 use iso8583::Message;
 
 /// A body of a batch.
-#[derive(Clone, Copy, Debug, PartialEq, Eq)]
+#[derive(Clone, Copy)]
 pub enum Frame {
     /// It is this message.
     Good(Message),

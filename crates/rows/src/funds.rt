@@ -8,7 +8,7 @@ use crate::payer::Payer;
 use iso8583::{AccountId, PanPrefix};
 
 /// What pays for a message, with its row.
-#[derive(Clone, Copy, Debug, PartialEq, Eq)]
+#[derive(Clone, Copy, PartialEq, Eq)]
 pub enum Funds {
     /// An account.
     Account(AccountId, AccountRow),

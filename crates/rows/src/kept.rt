@@ -7,7 +7,7 @@ use iso8583::{Amount, Identity, Pan, Processing};
 use std::marker::Model;
 
 /// What is kept of a request or an advice that was decided. No more than its amount stays paid.
-#[derive(Clone, Copy, Debug, PartialEq, Eq)]
+#[derive(Clone, Copy)]
 pub struct Kept {
     card: Pan,
     amount: Amount,

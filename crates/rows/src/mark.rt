@@ -3,7 +3,7 @@ ghost use Rattle.std.specs.Prelude.{◌≡◌, ◌↔◌, IsTrue};
 use iso8583::{Identity, OriginalKind, Pan};
 
 /// Stands for an original whose reversal came ahead of it.
-#[derive(Clone, Copy, Debug, PartialEq, Eq)]
+#[derive(Clone, Copy)]
 pub struct Mark {
     /// The card that the reversal named.
     pub card: Pan,

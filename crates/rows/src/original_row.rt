@@ -4,7 +4,7 @@ use crate::kept::Kept;
 use crate::mark::Mark;
 
 /// What is known of the message of an identity.
-#[derive(Clone, Copy, Debug, PartialEq, Eq)]
+#[derive(Clone, Copy)]
 pub enum OriginalRow {
     /// It was decided.
     Kept(Kept),

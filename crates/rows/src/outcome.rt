@@ -7,7 +7,7 @@ use iso8583::{Action, Amount, Approval, DeclineCode, Identity, OriginalKind};
 
 /// What became of an original. It is posted exactly where it is paid: a request with action 000, which has an approval
 /// code, or an advice with action 901.
-#[derive(Clone, Copy, Debug, PartialEq, Eq)]
+#[derive(Clone, Copy)]
 pub enum Outcome {
     /// A request, action 000.
     Approved(Approval, Payment),

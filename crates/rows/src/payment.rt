@@ -6,7 +6,7 @@ use crate::settlement::Settlement;
 use iso8583::{Amount, Identity};
 
 /// How a posted original is paid.
-#[derive(Clone, Copy, Debug, PartialEq, Eq)]
+#[derive(Clone, Copy)]
 pub struct Payment {
     /// What paid.
     pub payer: Payer,

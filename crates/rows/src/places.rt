@@ -2,7 +2,7 @@ use crate::row_key::RowKey;
 
 /// Where a row of each kind was found last, which saves a look-up for one that still stands there. It is a hint alone: what
 /// a book answers and what it holds do not depend on it.
-#[derive(Clone, Copy, Debug)]
+#[derive(Clone, Copy)]
 pub struct Places {
     of_kind: [usize; 5],
 }

@@ -4,7 +4,7 @@ use crate::frame_fault::FrameFault;
 use iso8583::Reply;
 
 /// The answer to a body of a batch.
-#[derive(Clone, Copy, Debug, PartialEq, Eq)]
+#[derive(Clone, Copy)]
 pub enum ReplyBody {
     /// To a message.
     Reply(Reply),

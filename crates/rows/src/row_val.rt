@@ -10,7 +10,7 @@ use crate::row_key::RowKey;
 use crate::velocity_row::VelocityRow;
 
 /// What a row holds.
-#[derive(Clone, Copy, Debug, PartialEq, Eq)]
+#[derive(Clone, Copy)]
 pub enum RowVal {
     /// Of a card.
     Card(CardRow),

@@ -3,7 +3,7 @@ ghost use Rattle.std.specs.Prelude.{◌≡◌, ◌↔◌, IsTrue};
 use iso8583::{Amount, Identity};
 
 /// How a posted original was reversed.
-#[derive(Clone, Copy, Debug, PartialEq, Eq)]
+#[derive(Clone, Copy)]
 pub struct Settlement {
     /// The identity of its reversal.
     pub reversal: Identity,

@@ -5,7 +5,7 @@ use iso8583::Action;
 use std::marker::Model;
 
 /// An action code for an advice that isn't posted: 0 to 999, but not 901 (ISO 8583:1993, element 39).
-#[derive(Clone, Copy, Debug, PartialEq, Eq, PartialOrd, Ord, Hash)]
+#[derive(Clone, Copy, PartialEq, Eq)]
 pub struct UnpostedAction {
     action: Action,
 }

@@ -2,7 +2,7 @@ use crate::balance::Balance;
 use crate::count::Count;
 
 /// What was spent with a card on a day.
-#[derive(Clone, Copy, Debug, PartialEq, Eq)]
+#[derive(Clone, Copy, PartialEq, Eq)]
 pub struct VelocityRow {
     /// Approvals on that day, less those that were reversed whole.
     pub count: Count,

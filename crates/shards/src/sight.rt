@@ -6,7 +6,7 @@ use mvmem::{Link, Version};
 use rows::RowVal;
 
 /// Whose row a message sees (Block-STM): that of the nearest message before it that put the row.
-#[derive(Clone, Copy, Debug, PartialEq, Eq)]
+#[derive(Clone, Copy, PartialEq, Eq)]
 pub enum Sight {
     /// No message before it has an entry: the row of the opening book.
     Base,

@@ -6,7 +6,7 @@ use speccore_laws::CoreFault;
 use std::alloc::AllocError;
 
 /// Why a version that asks for a row is given none.
-#[derive(Clone, Copy, Debug)]
+#[derive(Clone, Copy)]
 pub enum Unread {
     /// This message put the row, was given up, and will likely put it again (Block-STM: estimate).
     Estimate(u32),

@@ -1,7 +1,7 @@
 use rows::RowVal;
 
 /// What the core answers to a version that asks for a row.
-#[derive(Clone, Copy, Debug)]
+#[derive(Clone, Copy)]
 pub enum Got {
     /// The row's value; `None` is no such row.
     Row(Option<RowVal>),

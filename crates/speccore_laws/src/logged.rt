@@ -2,7 +2,7 @@ use mvmem::Version;
 use rows::RowVal;
 
 /// What a version was answered for a row (Block-STM: an entry of the read set).
-#[derive(Clone, Copy, Debug)]
+#[derive(Clone, Copy)]
 pub struct Logged {
     /// The execution that put the value; `None` is the opening book.
     pub origin: Option<Version>,

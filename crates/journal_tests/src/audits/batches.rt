@@ -1,6 +1,6 @@
 //! Audits of a batch.
 
-use crate::worked::{Worked, book_after, right};
+use crate::audits::worked::{Worked, book_after, right};
 use audit::{Audit, audit, audit_text};
 use rows::{Book, ReplyBody};
 use std::alloc::Global;

@@ -1,6 +1,6 @@
 //! Files that are refused, each with its first fault.
 
-use crate::texts::{BAD_BATCHES, BAD_REPLIES, BATCH};
+use crate::batches::texts::{BAD_BATCHES, BAD_REPLIES, BATCH};
 use batch::{BatchFault, IntoWrite, read_batch, read_replies, write_batch};
 use std::alloc::{AllocError, Global};
 

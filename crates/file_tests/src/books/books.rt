@@ -1,7 +1,7 @@
 //! Books that are written so, byte for byte, and read again; and books of versions 1 and 2, which are read alone: each card gets an
 //! account of its own number, and pays from it what it paid itself.
 
-use crate::texts::{ACCOUNT, AHEAD, BUDGET, DAY};
+use crate::books::texts::{ACCOUNT, AHEAD, BUDGET, DAY};
 use book_json::{read_book, write_book};
 use fixtures::with_rows;
 use rows::Book;

@@ -1,7 +1,7 @@
 //! Sources and sinks that give or take a byte a call, and that fail at each call in turn.
 
-use crate::serial::process_serially;
-use crate::texts::{BATCH, REPLIES};
+use crate::batches::serial::process_serially;
+use crate::batches::texts::{BATCH, REPLIES};
 use batch::{BatchFault, FailingSink, FailingSource, read_batch};
 use fixtures::first_book_with;
 use rows::{Book, Frame};

@@ -1,6 +1,6 @@
 //! The serial answer beside its batches: the longest one, a prefix that is gone on with, and a book as a source.
 
-use crate::answers::begin_with;
+use crate::tables::answers::begin_with;
 use fixtures::{body, count_of, first_book_with, has_row, requests};
 use fold::{PlainRows, Prefix, decide_all_by, put_all};
 use rows::{Book, Frame, RowKey};
@@ -57,10 +57,10 @@ fn answers_of(book: &Book) -> Option<bool> {
     let there = RowKey::Card(fixtures::pan("A")?);
     let absent = RowKey::Account(fixtures::account("NONE")?);
     let mut source = PlainRows::new(book);
-    let card = source.read(&there).ok()?;
+    let card = source.read(&there).ok()??;
     let again = source.read(&there).ok()?;
     let none = source.read(&absent).ok()?;
-    Some((card == book.get(&there)) & again.is_some() & none.is_none())
+    Some(card.is_same(&book.get(&there)?) & again.is_some() & none.is_none())
 }
 
 #[test]

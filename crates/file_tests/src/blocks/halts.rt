@@ -1,7 +1,7 @@
 //! Block files that are not decided whole: which blocks are kept.
 
-use crate::serial::{Came, decided};
-use crate::texts::{CUT, TOO_MANY, TWO_REPLIES, TWO_REQUESTS};
+use crate::blocks::serial::{Came, decided};
+use crate::blocks::texts::{CUT, TOO_MANY, TWO_REPLIES, TWO_REQUESTS};
 use batch::{BatchFault, FailingSink, FailingSource, IntoWrite};
 use fixtures::{first_book_with, has_row};
 use rows::Book;

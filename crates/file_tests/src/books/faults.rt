@@ -1,6 +1,6 @@
 //! What is wrong with an entry, list by list.
 
-use crate::texts::{ACCOUNT, AHEAD, BUDGET, CARD, DAY, ORIGINAL};
+use crate::books::texts::{ACCOUNT, AHEAD, BUDGET, CARD, DAY, ORIGINAL};
 use book_check::BookFault;
 use book_json::{JsonFault, Part, read_book};
 use std::alloc::Global;

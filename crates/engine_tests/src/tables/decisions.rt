@@ -99,7 +99,7 @@ fn reads_the_rows_that_it_needs(rt: HostRuntime) {
 
 // Whether the execution is of the bad body, read and put nothing, and answers a fault.
 fn is_fault_alone(execution: &Execution) -> bool {
-    (Some(*execution.frame()) == body("bad"))
+    matches!(body("bad"), Some(bad) if execution.frame().is_same(&bad))
         & matches!(execution.reply(), ReplyBody::Fault(_))
         & execution.reads().is_empty()
         & execution.writes().is_empty()
@@ -114,7 +114,7 @@ fn a_bad_body_reads_nothing(rt: HostRuntime) {
 // Whether the line's row is answered so.
 fn answers(recorder: &mut Recorder<Told>, line: &str) -> bool {
     match row(line) {
-        Some((key, val)) => matches!(recorder.read(&key), Ok(Some(found)) if found == val),
+        Some((key, val)) => matches!(recorder.read(&key), Ok(Some(found)) if found.is_same(&val)),
         None => false,
     }
 }

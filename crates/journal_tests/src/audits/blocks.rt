@@ -1,6 +1,6 @@
 //! Audits of blocks.
 
-use crate::worked::{Worked, book_after, right};
+use crate::audits::worked::{Worked, book_after, right};
 use audit::{BlockAudit, audit_blocks, block_audit_text};
 use rows::{Book, Frame, ReplyBody};
 use std::alloc::{AllocError, Global};

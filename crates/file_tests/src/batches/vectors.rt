@@ -1,7 +1,7 @@
 //! Files byte for byte.
 
-use crate::serial::process_serially;
-use crate::texts::{BATCH, EMPTY, EMPTY_REPLIES, REPLIES, SHORT, SHORT_REPLIES};
+use crate::batches::serial::process_serially;
+use crate::batches::texts::{BATCH, EMPTY, EMPTY_REPLIES, REPLIES, SHORT, SHORT_REPLIES};
 use batch::{FromRead, IntoWrite, read_batch, read_replies, write_batch, write_replies};
 use codec::decode_reply;
 use fixtures::{first_book_with, has_row};

@@ -1,6 +1,6 @@
 //! Audits against a journal.
 
-use crate::worked::{Worked, right};
+use crate::audits::worked::{Worked, right};
 use audit::{Audit, audit_journal};
 use engine::run_traced;
 use journal::{Entry, ReplayFault, read_journal};

@@ -1,7 +1,7 @@
 //! Block files that are decided whole, and read back.
 
-use crate::serial::{Came, decided};
-use crate::texts::{
+use crate::blocks::serial::{Came, decided};
+use crate::blocks::texts::{
     EMPTY, EMPTY_REPLIES, REQUEST_AND_REVERSAL, TWO_REPLIES, TWO_REQUESTS, thousand_requests,
 };
 use batch::{IntoWrite, read_block_replies, read_blocks};
