@@ -1,5 +1,5 @@
 /// Why a worker leaves before all is committed. It sets the stop mark then, and the rest is decided one after another.
-#[derive(Clone, Copy, Debug, PartialEq, Eq)]
+#[derive(Clone, Copy, PartialEq, Eq)]
 pub(crate) enum Leave {
     /// Memory ran out.
     OutOfMemory,

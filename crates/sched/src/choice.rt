@@ -8,7 +8,7 @@ use crate::task::Task;
 use mvmem::Version;
 
 /// What is handed out next, and where the cursors stand then.
-#[derive(Clone, Copy, Debug)]
+#[derive(Clone, Copy)]
 pub(crate) struct Choice {
     // What is handed out.
     pub(crate) task: Task,

@@ -4,7 +4,7 @@ ghost use Rattle.split.specs.declared.leave.Leave.TheVariants.{OutOfMemory};
 use std::alloc::AllocError;
 
 /// Why a worker leaves.
-#[derive(Clone, Copy, Debug, PartialEq, Eq)]
+#[derive(Clone, Copy, PartialEq, Eq)]
 pub(crate) enum Leave {
     /// All messages are committed.
     Done,
