@@ -7,9 +7,9 @@ use iso8583::CodecFault;
 /// Whether a text is refused so, as a message or as a reply.
 fn is_refused(form: &Form, text: &[u8], fault: CodecFault) -> bool {
     if form.is_reply() {
-        decode_reply(text).err() == Some(fault)
+        matches!(decode_reply(text), Err(found) if found == fault)
     } else {
-        decode(text).err() == Some(fault)
+        matches!(decode(text), Err(found) if found == fault)
     }
 }
 
@@ -430,7 +430,7 @@ fn refuses_bytes(place: usize, bytes: &[u8], fault: CodecFault, text: &mut Vec<u
             *old = *byte;
         }
     }
-    is_put && decode(text).err() == Some(fault)
+    is_put && matches!(decode(text), Err(found) if found == fault)
 }
 
 fn missed_first(text: &mut Vec<u8>) -> Missed {

@@ -109,7 +109,7 @@ fn is_kept_reply(form: &Form, retrieval: bool, text: &[u8], out: &mut Vec<u8>) -
         Ok(reply) => {
             is_answer(form, &reply.answer)
                 & is_transaction(form, retrieval, &reply.transaction)
-                & (decode(text).err() == Some(CodecFault::BadMti))
+                & matches!(decode(text), Err(CodecFault::BadMti))
                 & encode_reply(&reply, out).is_ok()
         }
         Err(_) => false,
@@ -121,7 +121,7 @@ fn is_kept_message(form: &Form, retrieval: bool, text: &[u8], out: &mut Vec<u8>)
     match decode(text) {
         Ok(message) => {
             is_message(form, retrieval, &message)
-                & (decode_reply(text).err() == Some(CodecFault::BadMti))
+                & matches!(decode_reply(text), Err(CodecFault::BadMti))
                 & encode(&message, out).is_ok()
         }
         Err(_) => false,
