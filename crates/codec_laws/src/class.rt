@@ -1,5 +1,5 @@
 /// The class of an element's characters (ISO 8583:1993: n, anp and ans).
-#[derive(Clone, Copy, Debug, PartialEq, Eq)]
+#[derive(Clone, Copy)]
 pub enum Class {
     /// `0` to `9`.
     Digits,

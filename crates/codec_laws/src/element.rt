@@ -5,7 +5,7 @@ use crate::class::Class;
 use crate::shape::Shape;
 
 /// A data element (ISO 8583:1993).
-#[derive(Clone, Copy, Debug, PartialEq, Eq)]
+#[derive(Clone, Copy)]
 pub enum Element {
     /// 2, primary account number.
     Pan,

@@ -4,7 +4,7 @@ ghost use Rattle.codec_laws.specs.Types.{may_have, must_have};
 use crate::element::Element;
 
 /// A message type identifier (ISO 8583:1993).
-#[derive(Clone, Copy, Debug, PartialEq, Eq)]
+#[derive(Clone, Copy)]
 pub enum Mti {
     /// 1100, authorization request.
     Request,

@@ -1,5 +1,5 @@
 /// What an element's text has to do with the other elements that are there.
-#[derive(Clone, Copy, Debug, PartialEq, Eq)]
+#[derive(Clone, Copy)]
 pub enum Rule {
     /// Nothing.
     Free,

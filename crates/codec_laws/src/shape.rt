@@ -1,5 +1,5 @@
 /// How long an element's text is, in characters.
-#[derive(Clone, Copy, Debug, PartialEq, Eq)]
+#[derive(Clone, Copy)]
 pub enum Shape {
     /// Always so many.
     Fixed(usize),
