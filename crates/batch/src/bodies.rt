@@ -45,7 +45,6 @@ fn put_bodies<W: Sink>(
 /// this text and nothing else. More than 65,536 bodies are `Count`, and else a body whose length is outside 1 to 512 is
 /// `Length`, before the first byte. After another fault the sink has a beginning of the text. `Device` is the fault
 /// exactly where a call of the sink failed; and memory can run out.
-#[tactic(auto, using(crate::proofs::Lengths::are_bodies, crate::proofs::Lengths::are_vecs))]
 pub fn write_batch<W: Sink>(
     alloc: Global,
     bodies: &[Vec<u8>],
