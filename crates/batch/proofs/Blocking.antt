@@ -53,12 +53,10 @@ goes_on opening before after reads reads' bytes left left' puts puts' old mid ne
     }
 
 -- a block's replies were not put, or a beginning of them was
-pub begun : (rows : Rows) (reads : Type 0) (bytes left : List ℕ) (puts : Type 0) (old new : List ℕ) (failed same : Type 0) (block : List Frame) (replies texts : List ReplyBody)
-    → same ⊎ (failed × (puts → AppendsPart old new (block_text texts))) → texts ≡ replies → replies ≡ replies_to rows block → (reads → IsBlock bytes block left)
-    → same ⊎ BeginsBlock rows reads bytes puts old new failed
-begun rows reads bytes left puts old new failed same block replies texts (inl s) e f read = inl s
-begun rows reads bytes left puts old new failed same block replies texts (inr p) e f read =
-    inr (p.0, block, left, read, λ known. subst (λ (t : List ReplyBody). AppendsPart old new (block_text t)) (e ∙ f) (p.1 known))
+pub begun : (rows : Rows) (reads : Type 0) (bytes left : List ℕ) (puts : Type 0) (old new : List ℕ) (failed same : Type 0) (block : List Frame) → (reads → IsBlock bytes block left)
+    → same ⊎ (failed × (puts → AppendsPart old new (block_text (replies_to rows block)))) → same ⊎ BeginsBlock rows reads bytes puts old new failed
+begun rows reads bytes left puts old new failed same block read (inl s) = inl s
+begun rows reads bytes left puts old new failed same block read (inr p) = inr (p.0, block, left, read, p.1)
 
 as_begun : (rows : Rows) (reads reads' : Type 0) (left : List ℕ) (puts puts' : Type 0) (mid new : List ℕ) (failed failed' same : Type 0) → (reads → reads') → (puts → puts') → (same → new ≡ mid) → (failed → failed')
     → same ⊎ BeginsBlock rows reads' left puts' mid new failed → (puts → new ≡ mid) ⊎ BeginsBlock rows reads left puts mid new failed'

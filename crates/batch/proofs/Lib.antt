@@ -8,3 +8,4 @@ pub mod ReadReplies
 pub mod Blocking
 pub mod ReadBlocks
 pub mod ReadReplyBlocks
+pub mod Puts

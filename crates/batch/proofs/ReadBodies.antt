@@ -4,7 +4,7 @@ use Rattle.std.specs.Prelude.{IsTrue}
 use Rattle.std.proofs.lemmas.List.{append-nil}
 use Rattle.rows.specs.declared.frame.Frame.{Frame}
 use Rattle.batch_laws.specs.BatchFault.{is_of_bytes}
-use Rattle.batch_laws.specs.Reading.{◌>>=◌, body_at, bodies_at, ended}
+use Rattle.batch_laws.specs.Reading.{◌>>=◌, head_at, body_at, bodies_at, bodies_of, ended}
 use Rattle.batch_laws.specs.Frames.{IsFrameOf, AreFramesOf}
 use Rattle.batch_laws.specs.declared.batch_fault.BatchFault.{BatchFault}
 use Rattle.batch_laws.specs.declared.batch_fault.BatchFault.TheVariants.{Trailing}
@@ -70,3 +70,9 @@ is_done frames count i bytes total le so_far =
 pub ended_more : (bytes : List ℕ) → 0 < length bytes → ended bytes ≡ Err Trailing
 ended_more [] more = absurd (omega (arith, more))
 ended_more (b ∷ bytes) more = refl
+
+-- a head, so many bodies, and nothing behind them
+pub is_whole : (magic bytes : List ℕ) (count : ℕ) (behind : List ℕ) (bodies : Bodies) (left : List ℕ) → head_at magic bytes ≡ Ok (count, behind) → bodies_at count behind ≡ Ok (bodies, left) → ended left ≡ Ok tt
+    → bodies_of magic bytes ≡ Ok bodies
+unfolding bodies_of
+is_whole magic bytes count behind bodies left head read end = rw (head, read, end) refl

@@ -1,4 +1,4 @@
-ghost use Rattle.std.specs.Prelude.{◌≡◌, ◌↔◌, ◌+◌, ◌<◌, ◌≤◌, ◌^◌, ◌++◌, length, Err, IfErr, IsTrue, OnOk, OnErr, All};
+ghost use Rattle.std.specs.Prelude.{◌≡◌, ◌↔◌, ◌+◌, ◌<◌, ◌≤◌, ◌^◌, ◌++◌, [], length, Err, IfErr, IsTrue, OnOk, OnErr, All};
 ghost use Rattle.std.specs.List.{AllByRecursion};
 ghost use Rattle.batch_laws.specs.BatchFault.{failures_after, is_of_bytes};
 ghost use Rattle.batch_laws.specs.Files.{IsBody, AreBodies, batch_text};
@@ -17,11 +17,34 @@ fn are_bodies(bodies: &[Vec<u8>]) -> bool
     bodies.iter().all(|body| matches!(body.len(), 1..=512))
 }
 
+// Puts the text of bodies that a file can have, a piece at a time, over memory in which nothing is about to be put.
+fn put_bodies<W: Sink>(
+    out: &mut Vec<u8>,
+    bodies: &[Vec<u8>],
+    sink: &mut W,
+) -> Result<(), BatchFault>
+    requires room { W.failures sink.old + 1 < 2 ^ 64 }
+    requires none { out.old.items ≡ [] }
+    requires count { length bodies.now ≤ 65536 }
+    requires each { All (λ body. IsBody body.items) bodies.now }
+    ensures failures { W.failures sink.new ≡ failures_after result (W.failures sink.old) }
+    ensures known { W.is_known sink.old → W.is_known sink.new }
+    ensures ok { OnOk result (W.is_known sink.old → W.written sink.new ≡ W.written sink.old ++ batch_text (bytes_of bodies.now)) }
+    ensures err { OnErr result (W.is_known sink.old → AppendsPart (W.written sink.old) (W.written sink.new) (batch_text (bytes_of bodies.now))) }
+    ensures fault { IfErr result (λ e. ¬ IsTrue (is_of_bytes e)) }
+{
+    add_head(out, b"I83B", bodies.len() as u32)?;
+    for body in bodies {
+        add_framed(out, body)?;
+        put_piece(sink, out)?;
+    }
+    put_all(sink, out)
+}
+
 /// Writes a batch file: `I83B`, version 1, the number of bodies, and each behind its length. After `Ok` the sink has
 /// this text and nothing else. More than 65,536 bodies are `Count`, and else a body whose length is outside 1 to 512 is
 /// `Length`, before the first byte. After another fault the sink has a beginning of the text. `Device` is the fault
 /// exactly where a call of the sink failed; and memory can run out.
-#[tactic(auto, using(crate::proofs::Lengths::are_bodies, crate::proofs::Lengths::are_vecs))]
 pub fn write_batch<W: Sink>(
     alloc: Global,
     bodies: &[Vec<u8>],
@@ -45,11 +68,5 @@ pub fn write_batch<W: Sink>(
         return Err(BatchFault::Length);
     }
     let mut out = Vec::with_capacity(alloc, PIECE)?;
-    add_head(&mut out, b"I83B", bodies.len() as u32)?;
-    for body in bodies {
-        add_framed(&mut out, body)?;
-        put_piece(sink, &mut out)?;
-    }
-    put_all(sink, &out)?;
-    Ok(())
+    put_bodies(&mut out, bodies, sink)
 }

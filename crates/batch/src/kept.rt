@@ -46,6 +46,50 @@ fn write_head<W: Sink>(alloc: Global, count: u32, sink: &mut W) -> Result<(), Ba
 }
 
 impl Kept {
+    // Keeps a block of so many messages, whose replies went out.
+    fn keep(&mut self, outcome: Outcome, messages: u32)
+        requires blocks { self.old.blocks + 1 < 2 ^ 32 }
+        requires messages { self.old.messages + messages < 2 ^ 32 }
+        ensures blocks { self.new.blocks ≡ self.old.blocks + 1 }
+        ensures messages { self.new.messages ≡ self.old.messages + messages }
+        ensures book { self.new.book ≡ outcome.book }
+    {
+        self.book = outcome.book;
+        self.blocks += 1;
+        self.messages += messages;
+    }
+
+    // Decides a block on the book and puts its replies. After a fault what is kept is as it was.
+    fn answer<W: Sink, E: Fn(&Book, &[Frame]) -> Result<Outcome, AllocError>>(
+        &mut self,
+        alloc: Global,
+        frames: &[Frame],
+        sink: &mut W,
+        decide: &E,
+    ) -> Result<(), BatchFault>
+        requires sink { W.failures sink.old + 1 < 2 ^ 64 }
+        requires count { length frames.now ≤ 65536 }
+        requires called { (rows : _) (frames : _) → length frames.now ≤ 65536 → E.pre decide.now rows frames }
+        requires fold { (rows : _) (frames : _) (answer : _) → E.post decide.now rows frames answer → AnswersFold rows.now frames.now answer }
+        requires blocks { self.old.blocks + 1 < 2 ^ 32 }
+        requires messages { self.old.messages + 65536 < 2 ^ 32 }
+        ensures failures { W.failures sink.new ≡ failures_after result (W.failures sink.old) }
+        ensures known { W.is_known sink.old → W.is_known sink.new }
+        ensures number { OnOk result (self.new.blocks ≡ self.old.blocks + 1) }
+        ensures all { OnOk result (self.new.messages ≡ self.old.messages + length frames.now) }
+        ensures book { OnOk result (self.new.book ≡ rows_after self.old.book frames.now) }
+        ensures put { OnOk result (W.is_known sink.old → W.written sink.new ≡ W.written sink.old ++ block_text (replies_to self.old.book frames.now)) }
+        ensures kept { OnErr result (self.new ≡ self.old) }
+        ensures fault { IfErr result (λ e. ¬ IsTrue (is_of_bytes e)) }
+        ensures err { OnErr result ((sink.new ≡ sink.old) ⊎ ((W.failures sink.new ≡ W.failures sink.old + 1)
+            × (W.is_known sink.old → AppendsPart (W.written sink.old) (W.written sink.new) (block_text (replies_to self.old.book frames.now))))) }
+    {
+        let outcome = decide(&self.book, frames)?;
+        write_block(alloc, &outcome.replies, sink)?;
+        self.keep(outcome, frames.len() as u32);
+        Ok(())
+    }
+
     // Reads a block, decides it on the book and puts its replies. After a fault what is kept is as it was.
     fn step<R: Source, W: Sink, E: Fn(&Book, &[Frame]) -> Result<Outcome, AllocError>>(
         &mut self,
@@ -75,12 +119,7 @@ impl Kept {
             (W.is_known sink.old) (W.written sink.old) (W.written sink.new) (W.failures sink.new ≡ W.failures sink.old + 1)) }
     {
         let frames = window.read_block(alloc, source)?;
-        let outcome = decide(&self.book, &frames)?;
-        write_block(alloc, &outcome.replies, sink)?;
-        self.book = outcome.book;
-        self.blocks += 1;
-        self.messages += frames.len() as u32;
-        Ok(())
+        self.answer(alloc, &frames, sink, decide)
     }
 
     // Decides so many blocks, one after another, each on the book after those before it, and puts each one's replies

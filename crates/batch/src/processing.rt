@@ -1,4 +1,4 @@
-ghost use Rattle.std.specs.Prelude.{◌≡◌, ◌⊎◌, List, [], ◌+◌, ◌<◌, ◌≤◌, ◌^◌, ◌++◌, length, Ok, Err, IfOk, IfErr, OnOk, IsTrue};
+ghost use Rattle.std.specs.Prelude.{◌≡◌, ◌⊎◌, List, [], ◌+◌, ◌<◌, ◌≤◌, ◌^◌, ◌++◌, length, Ok, Err, IfOk, IfErr, OnOk, OnErr, IsTrue};
 ghost use Rattle.rows.specs.Fold.{replies_to};
 ghost use Rattle.rows.specs.declared.frame.Frame.{Frame};
 ghost use Rattle.batch_laws.specs.BatchFault.{failures_after, is_of_bytes};
@@ -16,6 +16,31 @@ use batch_laws::BatchFault;
 use fold::Outcome;
 use rows::{Book, Frame};
 use std::alloc::{AllocError, Global};
+
+// Decides the frames on the book and writes the reply file.
+fn answer<W: Sink, E: Fn(&Book, &[Frame]) -> Result<Outcome, AllocError>>(
+    alloc: Global,
+    book: &Book,
+    frames: &[Frame],
+    sink: &mut W,
+    decide: &E,
+) -> Result<Outcome, BatchFault>
+    requires sink { W.failures sink.old + 1 < 2 ^ 64 }
+    requires count { length frames.now ≤ 65536 }
+    requires called { (rows : _) (frames : _) → length frames.now ≤ 65536 → E.pre decide.now rows frames }
+    requires fold { (rows : _) (frames : _) (answer : _) → E.post decide.now rows frames answer → AnswersFold rows.now frames.now answer }
+    ensures failures { W.failures sink.new ≡ failures_after result (W.failures sink.old) }
+    ensures known { W.is_known sink.old → W.is_known sink.new }
+    ensures ok { IfOk result (λ outcome. W.is_known sink.old → W.written sink.new ≡ W.written sink.old ++ replies_text outcome.replies.items) }
+    ensures answered { IfOk result (λ outcome. E.post decide.now book.entry frames.entry (Ok outcome)) }
+    ensures fault { IfErr result (λ e. ¬ IsTrue (is_of_bytes e)) }
+    ensures begun { OnErr result ((sink.new ≡ sink.old) ⊎ ((outcome : _) × E.post decide.now book.entry frames.entry (Ok outcome)
+        × (W.is_known sink.old → AppendsPart (W.written sink.old) (W.written sink.new) (replies_text outcome.replies.items)))) }
+{
+    let outcome = decide(book, frames)?;
+    write_replies(alloc, &outcome.replies, sink)?;
+    Ok(outcome)
+}
 
 /// Reads a batch file, decides it on the book and writes the reply file. All of the batch is read and decided before
 /// the first byte is put: a fault until then leaves the sink as it was, a fault while writing leaves a beginning of
@@ -50,7 +75,5 @@ pub fn process<R: Source, W: Sink, E: Fn(&Book, &[Frame]) -> Result<Outcome, All
     ensures untouched { IfErr result (λ e. IsTrue (is_of_bytes e) → sink.new ≡ sink.old) }
 {
     let frames = read_batch(alloc, source)?;
-    let outcome = decide(book, &frames)?;
-    write_replies(alloc, &outcome.replies, sink)?;
-    Ok(outcome)
+    answer(alloc, book, &frames, sink, decide)
 }

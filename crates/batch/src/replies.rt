@@ -1,4 +1,4 @@
-ghost use Rattle.std.specs.Prelude.{◌≡◌, ◌+◌, ◌<◌, ◌≤◌, ◌^◌, ◌++◌, length, Err, IfErr, OnOk, OnErr};
+ghost use Rattle.std.specs.Prelude.{◌≡◌, ◌+◌, ◌<◌, ◌≤◌, ◌^◌, ◌++◌, [], length, Err, IfErr, OnOk, OnErr};
 ghost use Rattle.batch_laws.specs.BatchFault.{failures_after};
 ghost use Rattle.batch_laws.specs.Files.{reply_text, framed, replies_text};
 ghost use Rattle.batch.specs.Devices.{AppendsPart, IsWritingFault};
@@ -37,6 +37,31 @@ pub(crate) fn add_reply(
     add_framed(out, text)
 }
 
+// Puts the text of so many replies that fit, a piece at a time, over memory in which nothing is about to be put, and memory for
+// the text of one reply.
+fn put_replies<W: Sink>(
+    out: &mut Vec<u8>,
+    text: &mut Vec<u8>,
+    replies: &[ReplyBody],
+    sink: &mut W,
+) -> Result<(), BatchFault>
+    requires room { W.failures sink.old + 1 < 2 ^ 64 }
+    requires none { out.old.items ≡ [] }
+    requires count { length replies.now ≤ 65536 }
+    ensures failures { W.failures sink.new ≡ failures_after result (W.failures sink.old) }
+    ensures known { W.is_known sink.old → W.is_known sink.new }
+    ensures ok { OnOk result (W.is_known sink.old → W.written sink.new ≡ W.written sink.old ++ replies_text replies.now) }
+    ensures err { OnErr result (W.is_known sink.old → AppendsPart (W.written sink.old) (W.written sink.new) (replies_text replies.now)) }
+    ensures fault { IfErr result (IsWritingFault (length replies.now)) }
+{
+    add_head(out, b"I83R", replies.len() as u32)?;
+    for reply in replies {
+        add_reply(out, text, reply)?;
+        put_piece(sink, out)?;
+    }
+    put_all(sink, out)
+}
+
 /// Writes a reply file: `I83R`, version 1, the number of replies, and each behind its length, as `R` and its bytes or
 /// `F` and five digits of a fault. After `Ok` the sink has this text and nothing else, after a fault a beginning of
 /// it. `Device` is the fault exactly where a call of the sink failed; more than 65,536 replies are `Count`, before the
@@ -59,11 +84,5 @@ pub fn write_replies<W: Sink>(
     }
     let mut out = Vec::with_capacity(alloc, PIECE)?;
     let mut text = Vec::new(alloc);
-    add_head(&mut out, b"I83R", replies.len() as u32)?;
-    for reply in replies {
-        add_reply(&mut out, &mut text, reply)?;
-        put_piece(sink, &mut out)?;
-    }
-    put_all(sink, &out)?;
-    Ok(())
+    put_replies(&mut out, &mut text, replies, sink)
 }

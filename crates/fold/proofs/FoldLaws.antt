@@ -1,5 +1,6 @@
 -- One more row that is put, and one more body that is decided.
-use Rattle.std.proofs.Common.{◌≡◌, ℕ, suc, ◌+◌, List, [], ◌∷◌, ◌++◌, take, drop, length, slice_get, Some, refl, sym, ap, ◌∙◌, add-one, take-append-drop}
+use Rattle.std.proofs.Common.{◌≡◌, ℕ, suc, ◌+◌, ◌-◌, ◌<◌, List, [], ◌∷◌, ◌++◌, take, drop, length, get_or, slice_get, Some, refl, sym, ap, ◌∙◌, add-one, take-append-drop, arith}
+use Rattle.std.proofs.lemmas.List.{take_all, length-drop}
 use Rattle.std.proofs.Math.Seq.{drop-cons}
 use Rattle.std.proofs.lemmas.Option.{slice_get_within, get_or_from_slice_get}
 use Rattle.std.specs.FinMap as map
@@ -13,10 +14,18 @@ use Rattle.rows.specs.declared.row_val.RowVal.{RowVal}
 pub left_at : {X : Type 0} (xs : List X) (i : ℕ) (x : X) → slice_get xs i ≡ Some x → drop i xs ≡ x ∷ drop (i + 1) xs
 left_at xs i x at = rw add-one (drop-cons xs i x (slice_get_within xs i x at) ∙ ap (λ y. y ∷ drop (suc i) xs) (get_or_from_slice_get xs i x x at))
 
+-- the same of an item that a loop is at
+pub left_in_turn : {X : Type 0} (xs : List X) (i : ℕ) (x : X) → i < length xs → x ≡ get_or xs i x → drop i xs ≡ x ∷ drop (i + 1) xs
+left_in_turn xs i x lt at = rw add-one (drop-cons xs i x lt ∙ ap (λ y. y ∷ drop (suc i) xs) (sym at))
+
 -- the rows that are left are put after the one at this place
 pub overlay-drop : (rows : Rows) (writes : Writes) (i : ℕ) (w : RowKey × RowVal) → slice_get writes i ≡ Some w
     → overlay (map.insert rows w.0 w.1) (drop (i + 1) writes) ≡ overlay rows (drop i writes)
 overlay-drop rows writes i w at = sym (ap (overlay rows) (left_at writes i w at))
+
+-- what is behind this place, as a slice's rest says it
+pub rest_is : {X : Type 0} (xs : List X) (i : ℕ) → take (length xs - i) (drop i xs) ≡ drop i xs
+rest_is xs i = take_all (length xs - i) (drop i xs) (omega (arith, length-drop i xs))
 
 -- the bodies of two lists, one list after the other
 pub rows_after-append : (rows : Rows) (front back : List Frame) → rows_after rows (front ++ back) ≡ rows_after (rows_after rows front) back

@@ -1,11 +1,56 @@
-ghost use Rattle.std.specs.Prelude.{◌≡◌, ◌≤◌, ◌++◌, drop, length, IfOk};
-ghost use Rattle.rows.specs.Fold.{rows_after, replies_to};
+ghost use Rattle.std.specs.Prelude.{◌≡◌, ◌+◌, ◌<◌, ◌≤◌, ◌^◌, ◌∷◌, [], ◌++◌, drop, length, IfOk, OnOk};
+ghost use Rattle.rows.specs.Fold.{rows_after, replies_to, rows_after_one, reply_of};
 
 use crate::plain_rows::PlainRows;
 use crate::prefix::Prefix;
 use rows::Frame;
 use std::alloc::{AllocError, Global};
 use view::{Decide, ReadSet, Recorder, WriteSet};
+
+impl Prefix {
+    // Decides one more body, over the memory of two sets, which are handed back.
+    fn decide_one<F: Decide>(
+        &mut self,
+        frame: &Frame,
+        decision: &F,
+        reads: ReadSet,
+        writes: WriteSet,
+    ) -> Result<(ReadSet, WriteSet), AllocError>
+        requires room { self.old.count + 1 < 2 ^ 32 }
+        ensures count { OnOk result (self.new.count ≡ self.old.count + 1) }
+        ensures book { OnOk result (self.new.book ≡ rows_after_one self.old.book frame.now) }
+        ensures replies { OnOk result (self.new.replies.items ≡ self.old.replies.items ++ reply_of self.old.book frame.now ∷ []) }
+    {
+        let mut recorder = Recorder::over(PlainRows::new(&self.book), reads, writes);
+        let decided = decision.decide(frame, &mut recorder);
+        let (source, reads, writes) = recorder.into_parts();
+        let places = source.into_places();
+        self.append(frame, &decided, &reads, &writes, &places)?;
+        Ok((reads, writes))
+    }
+
+    // Decides these bodies, one after another.
+    fn decide_each<F: Decide>(
+        &mut self,
+        alloc: Global,
+        frames: &[Frame],
+        decision: &F,
+    ) -> Result<(), AllocError>
+        requires room { self.old.count + length frames.now < 2 ^ 32 }
+        ensures count { OnOk result (self.new.count ≡ self.old.count + length frames.now) }
+        ensures book { OnOk result (self.new.book ≡ rows_after self.old.book frames.now) }
+        ensures replies { OnOk result (self.new.replies.items ≡ self.old.replies.items ++ replies_to self.old.book frames.now) }
+    {
+        self.book.reserve(frames.len())?;
+        self.replies.reserve(frames.len())?;
+        let mut reads = ReadSet::new(alloc);
+        let mut writes = WriteSet::new(alloc);
+        for frame in frames {
+            (reads, writes) = self.decide_one(frame, decision, reads, writes)?;
+        }
+        Ok(())
+    }
+}
 
 /// Decides the bodies that a prefix leaves, one after another, by any local decision. The prefix is gone after an
 /// error.
@@ -22,18 +67,7 @@ pub fn decide_all_by<F: Decide>(
     ensures replies { IfOk result (λ after. after.replies.items ≡ prefix.replies.items ++ replies_to prefix.book (drop prefix.count frames.now)) }
 {
     let mut after = prefix;
-    let mut reads = ReadSet::new(alloc);
-    let mut writes = WriteSet::new(alloc);
     let rest = &frames[after.count as usize..];
-    after.book.reserve(rest.len())?;
-    after.replies.reserve(rest.len())?;
-    for frame in rest {
-        let mut recorder = Recorder::over(PlainRows::new(&after.book), reads, writes);
-        let decided = decision.decide(frame, &mut recorder);
-        let source;
-        (source, reads, writes) = recorder.into_parts();
-        let places = source.into_places();
-        after.append(frame, &decided, &reads, &writes, &places)?;
-    }
+    after.decide_each(alloc, rest, decision)?;
     Ok(after)
 }

@@ -1,75 +1,22 @@
-use Rattle.std.proofs.Common.{rules, ◌≡◌, ◌+◌, ◌++◌, ℕ, length, drop, arith, sym, ◌∙◌, refl, ap}
-use Rattle.std.specs.Global.{Vec}
-use Rattle.std.specs.List.{flat_map}
-use Rattle.std.proofs.lemmas.Result.{err_from_is_err_and}
-use Rattle.batch_laws.specs.Files.{framed, head_text, batch_text}
-use Rattle.batch_laws.specs.Reading.{batch_magic}
-use Rattle.batch.specs.Bodies.{bytes_of}
-use Rattle.batch.proofs.Lengths.{all_are_bodies, text_of_vecs}
-use Rattle.batch.proofs.Pieces.{so_many, adds, moves, stops, halts, ends, one_more_at, the_rest, all_of_them}
+use Rattle.std.proofs.Common.{arith, refl}
+use Rattle.std.proofs.lemmas.List.{length-map}
+use Rattle.std.proofs.lemmas.Result.{on_ok_weaker}
+use Rattle.batch.proofs.FaultTexts.{clash}
+use Rattle.batch.proofs.Lengths.{are_bodies, are_vecs, all_are_bodies}
 use Rattle.batch.proofs.bodies.write_batch.Goals as goal
 
-pub returns-in_err-add_framed-clause-err : goal.returns-in_err-add_framed-clause-err
-returns-in_err-add_framed-clause-err g c =
-    let p = err_from_is_err_and c.from_residual-in_err-add_framed.result c.from_residual-in_err-add_framed.ensures.1 in
-    let bodies = c.args.bodies.now in
-    let text = λ (body : Vec ℕ). framed body.items in
-    let head = head_text batch_magic (length bodies) in
-    rw p.1 (λ known. halts (g.W.Sink.written c.args.sink.now) (g.W.Sink.written c.loop-body.sink) c.loop-body.out.items
-    (so_many text head bodies c.loop-body.body-index) (flat_map text (drop c.loop-body.body-index bodies)) (batch_text (bytes_of bodies))
-    (text_of_vecs bodies ∙ the_rest text head bodies c.loop-body.body-index) (c.loop-body.invariant.bytes known))
+pub returns-then-bodies-gt65536-clause-fit : goal.returns-then-bodies-gt65536-clause-fit
+returns-then-bodies-gt65536-clause-fit g c = λ fit. absurd (omega (arith, c.if-bodies-gt65536.true, rw length-map at fit.0))
 
-pub returns-in_err-put_piece-clause-err : goal.returns-in_err-put_piece-clause-err
-returns-in_err-put_piece-clause-err g c =
-    let p = err_from_is_err_and c.from_residual-in_err-put_piece.result c.from_residual-in_err-put_piece.ensures.1 in
-    let bodies = c.args.bodies.now in
-    let text = λ (body : Vec ℕ). framed body.items in
-    let i = c.loop-body.body-index in
-    let head = head_text batch_magic (length bodies) in
-    rw p.1 (λ known. stops (g.W.Sink.written c.args.sink.now) (g.W.Sink.written c.loop-body.sink) (g.W.Sink.written c.put_piece.new.sink)
-    c.add_framed.new.out.items (so_many text head bodies (i + 1)) (flat_map text (drop (i + 1) bodies)) (batch_text (bytes_of bodies))
-    (c.in_err-put_piece.ensures.err (c.loop-body.invariant.known known)) (text_of_vecs bodies ∙ the_rest text head bodies (i + 1))
-    (adds (g.W.Sink.written c.args.sink.now) (g.W.Sink.written c.loop-body.sink) c.loop-body.out.items (so_many text head bodies i)
-    c.add_framed.new.out.items (so_many text head bodies (i + 1)) (framed c.body-item.result.items)
-    (rw c.deref.ensures.value at c.in_ok-add_framed.ensures) (one_more_at text head bodies i c.body-item.result c.loop-body-test.true c.body-item.is) (c.loop-body.invariant.bytes known)))
+pub returns-then-not-are_bodies-clause-fit : goal.returns-then-not-are_bodies-clause-fit
+returns-then-not-are_bodies-clause-fit g c = λ fit. absurd (clash c.are_bodies.result (c.are_bodies.ensures.1 (are_vecs c.args.bodies.now fit.1)) c.if-not-are_bodies.true)
 
-pub loop-body-preserved : goal.loop-body-preserved
-loop-body-preserved g c =
-    let bodies = c.args.bodies.now in
-    let text = λ (body : Vec ℕ). framed body.items in
-    let i = c.loop-body.body-index in
-    let head = head_text batch_magic (length bodies) in
-    record {
-      kept = search rules;
-      known = λ known. c.in_ok-put_piece.ensures.known (c.loop-body.invariant.known known);
-      bytes = λ known. moves (g.W.Sink.written c.args.sink.now) (g.W.Sink.written c.loop-body.sink) (g.W.Sink.written c.put_piece.new.sink)
-          c.add_framed.new.out.items c.put_piece.new.out.items (so_many text head bodies (i + 1))
-          (c.in_ok-put_piece.ensures.ok (c.loop-body.invariant.known known))
-          (adds (g.W.Sink.written c.args.sink.now) (g.W.Sink.written c.loop-body.sink) c.loop-body.out.items (so_many text head bodies i)
-          c.add_framed.new.out.items (so_many text head bodies (i + 1)) (framed c.body-item.result.items)
-          (rw c.deref.ensures.value at c.in_ok-add_framed.ensures) (one_more_at text head bodies i c.body-item.result c.loop-body-test.true c.body-item.is) (c.loop-body.invariant.bytes known));
-    }
+pub returns-in_err-out-clause-length : goal.returns-in_err-out-clause-length
+returns-in_err-out-clause-length g c = λ few none. absurd (none (are_bodies c.args.bodies.now (c.if-not-are_bodies.ensures.0 refl)))
 
-pub returns-in_err-put_all-clause-err : goal.returns-in_err-put_all-clause-err
-returns-in_err-put_all-clause-err g c =
-    let p = err_from_is_err_and c.from_residual-in_err-put_all.result c.from_residual-in_err-put_all.ensures.1 in
-    let bodies = c.args.bodies.now in
-    let text = λ (body : Vec ℕ). framed body.items in
-    let i = c.loop-body.body-index in
-    let head = head_text batch_magic (length bodies) in
-    rw p.1 (λ known. stops (g.W.Sink.written c.args.sink.now) (g.W.Sink.written c.loop-body.sink) (g.W.Sink.written c.put_all.new.sink)
-    c.loop-body.out.items (so_many text head bodies i) (flat_map text (drop i bodies)) (batch_text (bytes_of bodies))
-    (rw c.deref-2.ensures.value at (c.in_err-put_all.ensures.err (c.loop-body.invariant.known known))) (text_of_vecs bodies ∙ the_rest text head bodies i) (c.loop-body.invariant.bytes known))
-
-pub returns-clause-ok : goal.returns-clause-ok
-returns-clause-ok g c = λ known.
-    let bodies = c.args.bodies.now in
-    let text = λ (body : Vec ℕ). framed body.items in
-    let i = c.loop-body.body-index in
-    let head = head_text batch_magic (length bodies) in
-    let put : g.W.Sink.written c.put_all.new.sink ≡ g.W.Sink.written c.loop-body.sink ++ c.loop-body.out.items = rw c.deref-2.ensures.value at (c.in_ok-put_all.ensures.ok (c.loop-body.invariant.known known)) in
-    ends (g.W.Sink.written c.args.sink.now) (g.W.Sink.written c.loop-body.sink) (g.W.Sink.written c.put_all.new.sink) c.loop-body.out.items (so_many text head bodies i) put (c.loop-body.invariant.bytes known)
-    ∙ ap (λ x. g.W.Sink.written c.args.sink.now ++ x) (all_of_them text head bodies i c.loop-body-test.false ∙ sym (text_of_vecs bodies))
+pub returns-clause-length : goal.returns-clause-length
+returns-clause-length g c = λ few none. absurd (none (are_bodies c.args.bodies.now (c.if-not-are_bodies.ensures.0 refl)))
 
 pub returns-clause-bodies : goal.returns-clause-bodies
-returns-clause-bodies g c = all_are_bodies c.args.bodies.now (omega (arith, c.if-bodies-gt65536.false)) (c.if-not-are_bodies.ensures.0 refl)
+returns-clause-bodies g c =
+    on_ok_weaker c.put_bodies.result (λ _. all_are_bodies c.args.bodies.now (omega (arith, c.if-bodies-gt65536.false)) (c.if-not-are_bodies.ensures.0 refl)) c.put_bodies.ensures.ok

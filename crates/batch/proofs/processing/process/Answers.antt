@@ -1,25 +1,12 @@
-use Rattle.std.proofs.Common.{◌≡◌, ◌≤◌, length, ap, ◌∙◌, inr}
-use Rattle.std.proofs.lemmas.Result.{err_from_is_err_and}
-use Rattle.batch.proofs.Folds.{as_many, no_fault}
+use Rattle.std.proofs.Common.{◌⊎◌, inl, inr}
+use Rattle.std.proofs.lemmas.Result.{on_err_weaker}
 use Rattle.batch.proofs.processing.process.Goals as goal
 
-pub returns-in_err-write_replies-clause-fault : goal.returns-in_err-write_replies-clause-fault
-returns-in_err-write_replies-clause-fault g c =
-    let p = err_from_is_err_and c.from_residual-in_err-write_replies.result c.from_residual-in_err-write_replies.ensures.1 in
-    let folded = c.requires.fold c.args.book c.deref.result _ c.in_ok-outcome.ensures in
-    let replies = c.in_ok-outcome.outcome.replies.items in
-    let same : length replies ≡ length c.deref.result.now = ap length folded.0 ∙ as_many c.args.book.now c.deref.result.now in
-    let few : length replies ≤ 65536 = rw (same, c.deref.ensures.value) c.in_ok-frames.ensures.count in
-    let fault = rw c.deref-2.ensures.value at c.in_err-write_replies.ensures.fault in
-    rw (p.1, p.2) (λ of_bytes known. absurd (no_fault (length replies) c.in_err-write_replies.field-0.0 few fault of_bytes))
+-- what was put of the replies, and what was read
+begun : {same F O : Type 0} (read : F → Type 0) (post : F → O → Type 0) (put : O → Type 0) (frames : F) → read frames → same ⊎ ((outcome : O) × post frames outcome × put outcome)
+    → same ⊎ ((frames : F) × (outcome : O) × post frames outcome × read frames × put outcome)
+begun read post put frames is (inl same) = inl same
+begun read post put frames is (inr decided) = inr (frames, decided.0, decided.1, is, decided.2)
 
-pub returns-in_err-write_replies-clause-begun : goal.returns-in_err-write_replies-clause-begun
-returns-in_err-write_replies-clause-begun g c =
-    let p = err_from_is_err_and c.from_residual-in_err-write_replies.result c.from_residual-in_err-write_replies.ensures.1 in
-    rw p.1 (inr (
-      c.deref.result,
-      c.in_ok-outcome.outcome,
-      c.in_ok-outcome.ensures,
-      λ known. rw c.deref.ensures.value (c.in_ok-frames.ensures.gives known),
-      λ known. rw c.deref-2.ensures.value at (c.in_err-write_replies.ensures.err known),
-    ))
+pub returns-clause-begun : goal.returns-clause-begun
+returns-clause-begun g c = on_err_weaker c.answer.result (begun _ _ _ c.deref.result (rw c.deref.ensures.value c.in_ok-frames.ensures.gives)) c.answer.ensures.begun

@@ -1,11 +1,11 @@
 use Rattle.std.proofs.Common.{rules, ◌≡◌, ◌+◌, ◌++◌, length, drop, ◌∙◌, ap}
 use Rattle.std.specs.List.{flat_map}
-use Rattle.std.proofs.lemmas.Result.{err_from_is_err_and}
+use Rattle.std.proofs.lemmas.Result.{err_from_is_err_and, on_err_weaker, on_ok_weaker}
 use Rattle.rows.specs.declared.reply_body.ReplyBody.{ReplyBody}
 use Rattle.batch_laws.specs.Files.{framed, reply_text, head_text, replies_text}
 use Rattle.batch_laws.specs.Reading.{replies_magic}
 use Rattle.batch.proofs.Pieces.{so_many, adds, moves, stops, halts, ends, one_more_at, the_rest, all_of_them}
-use Rattle.batch.proofs.replies.write_replies.Goals as goal
+use Rattle.batch.proofs.replies.put_replies.Goals as goal
 
 pub returns-in_err-add_reply-clause-err : goal.returns-in_err-add_reply-clause-err
 returns-in_err-add_reply-clause-err g c =
@@ -48,23 +48,22 @@ loop-reply-preserved g c =
           c.in_ok-add_reply.ensures (one_more_at text head replies i c.reply-item.result c.loop-reply-test.true c.reply-item.is) (c.loop-reply.invariant.bytes known));
     }
 
-pub returns-in_err-put_all-clause-err : goal.returns-in_err-put_all-clause-err
-returns-in_err-put_all-clause-err g c =
-    let p = err_from_is_err_and c.from_residual-in_err-put_all.result c.from_residual-in_err-put_all.ensures.1 in
+pub returns-clause-err : goal.returns-clause-err
+returns-clause-err g c = on_err_weaker c.put_all.result (λ part known.
     let replies = c.args.replies.now in
     let text = λ (reply : ReplyBody). framed (reply_text reply) in
     let i = c.loop-reply.reply-index in
     let head = head_text replies_magic (length replies) in
-    rw p.1 (λ known. stops (g.W.Sink.written c.args.sink.now) (g.W.Sink.written c.loop-reply.sink) (g.W.Sink.written c.put_all.new.sink)
+    stops (g.W.Sink.written c.args.sink.now) (g.W.Sink.written c.loop-reply.sink) (g.W.Sink.written c.put_all.new.sink)
     c.loop-reply.out.items (so_many text head replies i) (flat_map text (drop i replies)) (replies_text replies)
-    (rw c.deref.ensures.value at (c.in_err-put_all.ensures.err (c.loop-reply.invariant.known known))) (the_rest text head replies i) (c.loop-reply.invariant.bytes known))
+    (rw c.deref.ensures.value at (part (c.loop-reply.invariant.known known))) (the_rest text head replies i) (c.loop-reply.invariant.bytes known)) c.put_all.ensures.err
 
 pub returns-clause-ok : goal.returns-clause-ok
-returns-clause-ok g c = λ known.
+returns-clause-ok g c = on_ok_weaker c.put_all.result (λ all known.
     let replies = c.args.replies.now in
     let text = λ (reply : ReplyBody). framed (reply_text reply) in
     let i = c.loop-reply.reply-index in
     let head = head_text replies_magic (length replies) in
-    let put : g.W.Sink.written c.put_all.new.sink ≡ g.W.Sink.written c.loop-reply.sink ++ c.loop-reply.out.items = rw c.deref.ensures.value at (c.in_ok-put_all.ensures.ok (c.loop-reply.invariant.known known)) in
+    let put : g.W.Sink.written c.put_all.new.sink ≡ g.W.Sink.written c.loop-reply.sink ++ c.loop-reply.out.items = rw c.deref.ensures.value at (all (c.loop-reply.invariant.known known)) in
     ends (g.W.Sink.written c.args.sink.now) (g.W.Sink.written c.loop-reply.sink) (g.W.Sink.written c.put_all.new.sink) c.loop-reply.out.items (so_many text head replies i) put (c.loop-reply.invariant.bytes known)
-    ∙ ap (λ x. g.W.Sink.written c.args.sink.now ++ x) (all_of_them text head replies i c.loop-reply-test.false)
+    ∙ ap (λ x. g.W.Sink.written c.args.sink.now ++ x) (all_of_them text head replies i c.loop-reply-test.false)) c.put_all.ensures.ok

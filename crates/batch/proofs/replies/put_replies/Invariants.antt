@@ -2,7 +2,7 @@ use Rattle.std.proofs.Common.{◌≡◌, length}
 use Rattle.batch_laws.specs.Files.{framed, reply_text, head_text}
 use Rattle.batch_laws.specs.Reading.{replies_magic}
 use Rattle.batch.proofs.Pieces.{Progress, so_many}
-use Rattle.batch.proofs.replies.write_replies.Given as goal
+use Rattle.batch.proofs.replies.put_replies.Given as goal
 
 -- what was put and what is about to be put are the text of the replies so far
 abbrev pub invariant-loop-reply : goal.invariant-loop-reply

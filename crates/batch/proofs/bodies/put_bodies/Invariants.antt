@@ -2,7 +2,7 @@ use Rattle.std.proofs.Common.{◌≡◌, length}
 use Rattle.batch_laws.specs.Files.{framed, head_text}
 use Rattle.batch_laws.specs.Reading.{batch_magic}
 use Rattle.batch.proofs.Pieces.{Progress, so_many}
-use Rattle.batch.proofs.bodies.write_batch.Given as goal
+use Rattle.batch.proofs.bodies.put_bodies.Given as goal
 
 -- what was put and what is about to be put are the text of the replies so far
 abbrev pub invariant-loop-body : goal.invariant-loop-body

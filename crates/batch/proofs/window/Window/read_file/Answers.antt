@@ -1,0 +1,14 @@
+use Rattle.batch_laws.specs.Reading.{batch_magic}
+use Rattle.batch.specs.Window.{ahead}
+use Rattle.batch.proofs.ReadBodies.{is_whole}
+use Rattle.batch.proofs.window.Window.read_file.Goals as goal
+
+pub returns-clause-gives : goal.returns-clause-gives
+returns-clause-gives g c = λ known.
+    let bytes = ahead c.args.self.now (g.R.Source.remaining c.args.source.now) in
+    let behind = ahead c.read_head.new.self (g.R.Source.remaining c.read_head.new.source) in
+    let left = ahead c.read_frames.new.self (g.R.Source.remaining c.read_frames.new.source) in
+    let in_head = c.in_ok-count.ensures.known known in
+    let given = c.in_ok-frames.ensures.gives in_head in
+    let end = c.in_ok-read_end.ensures.gives (c.in_ok-frames.ensures.known in_head) in
+    (given.0, is_whole batch_magic bytes c.in_ok-count.count behind given.0 left (c.in_ok-count.ensures.gives known) given.1 end, given.2)
