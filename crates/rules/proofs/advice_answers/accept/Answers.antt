@@ -26,7 +26,7 @@ returns-clause-done g c =
     let outcome : outcome.Accepted (record { payer = c.payer.result; settlement = None }) ≡ outcome.Accepted (paid_by paying) =
     λ i. outcome.Accepted (record { payer = c.payer.ensures i; settlement = None }) in
     let kept = c.kept_of-kept.ensures ∙ ap (kept_of_advice a) outcome in
-    let balance : c.in-Some.balance ≡ balance_of paying - a.transaction.amount = c.in-Some.ensures.1 ∙ ap (λ n. n - a.transaction.amount) c.balance.ensures in
+    let balance : c.saturating_sub-balance.result ≡ balance_of paying - a.transaction.amount = c.saturating_sub-balance.ensures ∙ ap (λ n. n - a.transaction.amount) c.balance.ensures in
     let paid = ap (λ n. row_of_funds (with_balance paying n)) balance in
     let puts = two_puts c.args.rows.now _ _ _ _ paying _ _ c.requires.follows.unput c.in_ok-write.ensures.ok c.in_ok-put_funds.ensures.ok refl in
     let table : c.put_funds.new.rows.writes ≡ accepted_writes a paying =
