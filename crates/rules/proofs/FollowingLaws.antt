@@ -1,11 +1,12 @@
 -- How a decision follows its plan from one row to the next, and what it has come to at its end.
-use Rattle.std.proofs.Common.{◌≡◌, ℕ, Bool, true, false, not, ◌&&◌, ◌==◌, if◌then◌else◌, List, [], ◌∷◌, ◌++◌, length, take, Option, Some, None, refl, sym, ap, subst, ◌∙◌, rules, arith, cond, Contains}
+use Rattle.std.proofs.Common.{◌≡◌, ℕ, Bool, true, false, not, ◌&&◌, ◌==◌, if◌then◌else◌, List, [], ◌∷◌, ◌++◌, length, take, Option, Some, None, Result, IfSome, IfErr, refl, sym, ap, subst, ◌∙◌, rules, arith, cond, Contains}
 use Rattle.std.proofs.lemmas.Bool.{false≢true}
 use Rattle.std.proofs.lemmas.Bool.Decides.{nat_tests}
 use Rattle.std.proofs.lemmas.List.Elements.{recursion_from_All, All-contains_itself}
 use Rattle.std.specs.List.{list_all}
 use Rattle.rows.specs.Agreement.{Reads, Agrees, keys_read, IsLocal, ComesTo, AreRead}
 use Rattle.rows.specs.Decision.{decision, plan_of}
+use Rattle.rows.specs.Fold.{Rows}
 use Rattle.rows.specs.Plan.{Plan, Answer, Look, Writes, Lookup, Decided, after_look, carried_out}
 use Rattle.rows.specs.RowKey.{kind_of, key_eq}
 use Rattle.rows.specs.declared.frame.Frame.{Frame}
@@ -16,6 +17,8 @@ use Rattle.rules.specs.Following.{Follows, Concludes, after_looks, kinds_read}
 use Rattle.rules.specs.Needs.{ReadsNeeds, ReadsAllNeeds}
 use Rattle.view.specs.Recording.{Recording, kept, first_kept}
 use Rattle.view.specs.RowSets.{value_in, logged, put}
+use Rattle.view.specs.declared.stop.Stop.{Stop}
+use Rattle.view.specs.declared.stop.Stop.TheVariants.{OutOfMemory}
 
 -- a test whose negation holds, or fails
 pub not_true : (b : Bool) → not b ≡ true → b ≡ false
@@ -120,6 +123,10 @@ follows_then frame reads writes test plan other follows holds = subst (λ (t : B
 pub follows_else : (frame : Frame) (reads : Reads) (writes : Writes) (test : Bool) (plan other : Plan)
     → Follows frame reads writes (if test then plan else other) → test ≡ false → Follows frame reads writes other
 follows_else frame reads writes test plan other follows fails = subst (λ (t : Bool). Follows frame reads writes (if t then plan else other)) fails follows
+
+-- where a book stays, what stops a decision there is what stopped it before
+pub stops_kept : {T : Type 0} (before after : Option Rows) (result : Result T Stop) → after ≡ before → IfSome after (λ _. IfErr result (λ stop. stop ≡ OutOfMemory)) → IfSome before (λ _. IfErr result (λ stop. stop ≡ OutOfMemory))
+stops_kept before after result same stops = subst (λ (book : Option Rows). IfSome book (λ _. IfErr result (λ stop. stop ≡ OutOfMemory))) same stops
 
 -- ---- at the end
 

@@ -117,9 +117,7 @@ pub(crate) fn accept<S: RowSource>(
     ensures stops { IfSome (S.book rows.old.source) (λ _. IfErr result (λ stop. stop ≡ Stop.OutOfMemory)) }
     ensures book { S.book rows.new.source ≡ S.book rows.old.source }
 {
-    let Some(balance) = paying.balance().checked_sub(advice.transaction.amount) else {
-        unreachable!()
-    };
+    let balance = paying.balance().saturating_sub(advice.transaction.amount);
     let payment = Payment {
         payer: paying.payer(),
         settlement: None,

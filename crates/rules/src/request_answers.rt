@@ -15,7 +15,7 @@ ghost use Rattle.view.specs.RowSets.{value_in, latest, put};
 use crate::facts::{is_marked, is_of_same, kept_of};
 use crate::put_funds::put_funds;
 use crate::request_facts::kept_verdict;
-use iso8583::{Approval, DeclineCode, OriginalKind, Request, Transaction, Verdict};
+use iso8583::{Amount, Approval, DeclineCode, OriginalKind, Request, Transaction, Verdict};
 use rows::{
     Balance, CardRow, Count, Funds, Kept, Mark, OriginalRow, Outcome, Payment, RowKey, RowVal,
     VelocityRow,
@@ -131,16 +131,10 @@ pub(crate) fn approve<S: RowSource>(
     ensures book { S.book rows.new.source ≡ S.book rows.old.source }
 {
     let amount = request.transaction.amount;
-    let (Some(approvals), Some(count)) = (card.approvals.checked_next(), day.count.checked_next())
-    else {
-        unreachable!()
-    };
-    let (Some(sum), Some(balance)) = (
-        day.sum.checked_add(amount),
-        paying.balance().checked_sub(amount),
-    ) else {
-        unreachable!()
-    };
+    let approvals = next_of(card.approvals);
+    let count = next_of(day.count);
+    let sum = sum_of(day.sum, amount);
+    let balance = paying.balance().saturating_sub(amount);
     let code = Approval::of_count(approvals.number());
     let answer_code = code;
     let verdict = Verdict::Approved(answer_code);
@@ -154,6 +148,28 @@ pub(crate) fn approve<S: RowSource>(
     charge_day(&request.transaction, count, sum, rows)?;
     put_funds(paying, balance, rows)?;
     Ok(verdict)
+}
+
+// One more approval, where there is room for it.
+fn next_of(count: Count) -> Count
+    requires { count < 999999 }
+    ensures { result ≡ count + 1 }
+{
+    match count.checked_next() {
+        Some(next) => next,
+        None => unreachable!(),
+    }
+}
+
+// What was spent and this amount, where that is a balance.
+fn sum_of(spent: Balance, amount: Amount) -> Balance
+    requires { spent + amount ≤ 10 ^ 15 }
+    ensures { result ≡ spent + amount }
+{
+    match spent.checked_add(amount) {
+        Some(sum) => sum,
+        None => unreachable!(),
+    }
 }
 
 // Puts the card with so many approvals. A function of its own, so that the card is copied as a whole.

@@ -29,6 +29,17 @@ latest_set before rows place read within =
     let one_more : place + 1 ≡ suc place = omega arith in
     ap (λ n. latest_after before (take n (set rows place read))) one_more ∙ written_last before rows place read within
 
+written_behind : (rows : Reads) (place : ℕ) (read : RowKey × Option RowVal) → place < length rows → take (suc place) (set rows place read) ≡ take place rows ++ read ∷ []
+written_behind [] place read within = absurd (omega (arith, within))
+written_behind (row ∷ rows) zero read within = refl
+written_behind (row ∷ rows) (suc place) read within = ap (λ (rest : Reads). row ∷ rest) (written_behind rows place read (omega (arith, within)))
+
+-- what was written at the last of the places that count goes behind the others
+pub taken : (rows : Reads) (place : ℕ) (read : RowKey × Option RowVal) → place < length rows → take (place + 1) (set rows place read) ≡ take place rows ++ read ∷ []
+taken rows place read within =
+    let one_more : place + 1 ≡ suc place = omega arith in
+    ap (λ n. take n (set rows place read)) one_more ∙ written_behind rows place read within
+
 -- what was read last stands at the last place
 pub last_place : (before : Option RowVal) (reads : Reads) (i : ℕ) (other : RowKey × Option RowVal) → suc i ≡ length reads → (slice_index_or reads i other).1 ≡ latest_after before reads
 last_place before [] i other last = absurd (omega (arith, last))

@@ -112,12 +112,25 @@ pub fn execute<S: RowSource, F: Decide>(
     ensures stops { IfSome (S.book source) (λ _. IfErr result (λ stop. stop ≡ Stop.OutOfMemory)) }
 {
     let mut recorder = Recorder::new(alloc, source);
-    let reply = decision.decide(frame, &mut recorder)?;
+    match decision.decide(frame, &mut recorder) {
+        Ok(reply) => Ok(executed(frame, recorder, reply)),
+        Err(stop) => Err(stop),
+    }
+}
+
+// The execution of a decision that came to this reply.
+fn executed<S: RowSource>(frame: &Frame, recorder: Recorder<S>, reply: ReplyBody) -> Execution
+    requires { IsLocal frame.now recorder.reads recorder.writes reply }
+    ensures done { result ≡ record { frame = frame.now; reads = recorder.reads; writes = recorder.writes; reply = reply } }
+    ensures agrees { AgreesWithBook (S.book recorder.source) recorder.reads }
+    ensures reply { IfSome (S.book recorder.source) (λ rows. reply ≡ reply_of rows frame.now) }
+    ensures writes { IfSome (S.book recorder.source) (λ rows. recorder.writes ≡ writes_of rows frame.now) }
+{
     let (_, reads, writes) = recorder.into_parts();
-    Ok(Execution {
+    Execution {
         frame: *frame,
         reads,
         writes,
         reply,
-    })
+    }
 }

@@ -1,4 +1,4 @@
-ghost use Rattle.std.specs.Prelude.{◌≡◌, ◌+◌, ◌<◌, ◌^◌, ◌++◌, ◌∷◌, [], Some, None, length, take, slice_get, set, IfErr, IfSome, IfNone, OnOk, OnErr};
+ghost use Rattle.std.specs.Prelude.{◌≡◌, ◌+◌, ◌<◌, ◌≤◌, ◌^◌, ◌++◌, ◌∷◌, [], Some, None, length, take, slice_get, set, IfErr, IfSome, IfNone, OnOk, OnErr};
 ghost use Rattle.std.specs.FinMap as map;
 ghost use Rattle.rows.specs.RowVal.{IsOfKind};
 ghost use Rattle.view.specs.Recording.{answer_of, AsksOnce};
@@ -117,13 +117,29 @@ impl Few<Option<RowVal>> {
         ensures stops { IfSome (S.book source.old) (λ _. IfErr result (λ stop. stop ≡ Stop.OutOfMemory)) }
         ensures same { S.book source.new ≡ S.book source.old }
     {
-        if self.used == self.rows.len() {
-            push_row(&mut self.rows, *key, &None)?;
-        }
+        make_place(&mut self.rows, self.used, key)?;
         read_at(&mut self.rows, self.used, key, source)?;
         self.used += 1;
         Ok(())
     }
+}
+
+// Makes one more place behind so many rows, where there is none; what stands there is written over.
+#[inline(always)]
+fn make_place(
+    rows: &mut Vec<(RowKey, Option<RowVal>)>,
+    used: usize,
+    key: &RowKey,
+) -> Result<(), AllocError>
+    requires { used ≤ length rows.old.items }
+    ensures kept { take used rows.new.items ≡ take used rows.old.items }
+    ensures within { used ≤ length rows.new.items }
+    ensures ok { OnOk result (used < length rows.new.items) }
+{
+    if used < rows.len() {
+        return Ok(());
+    }
+    push_row(rows, *key, &None)
 }
 
 // Puts a copy of a row last, where no place can be used again.
@@ -136,7 +152,8 @@ fn push_row<V: Copy + Drop>(
     ensures ok { OnOk result (rows.new.items ≡ rows.old.items ++ (key, row.now) ∷ []) }
     ensures err { OnErr result (rows.new.items ≡ rows.old.items) }
 {
-    rows.push((key, *row))?;
+    rows.reserve(1)?;
+    rows.push_reserved((key, *row));
     Ok(())
 }
 
@@ -171,8 +188,7 @@ fn read_at<S: RowSource>(
 {
     let there = &mut rows[place];
     there.0 = *key;
-    source.read_into(&there.0, &mut there.1)?;
-    Ok(())
+    source.read_into(&there.0, &mut there.1)
 }
 
 /// Where a row stands, if it is in the list.

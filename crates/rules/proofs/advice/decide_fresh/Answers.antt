@@ -2,7 +2,7 @@ use Rattle.std.proofs.Common.{refl, sym, ap, ◌∙◌}
 use Rattle.rows.specs.declared.row_key.RowKey.TheVariants as key
 use Rattle.rows.specs.AdviceTable as table
 use Rattle.rows.specs.Typed as typed
-use Rattle.rules.proofs.FollowingLaws.{unread, looked_as, follows_then, follows_else, follows_needs, same_number, other_number}
+use Rattle.rules.proofs.FollowingLaws.{unread, looked_as, follows_then, follows_else, follows_needs, same_number, other_number, kinds_more}
 use Rattle.rules.proofs.advice.decide_fresh.Goals as goal
 
 pub acknowledge-requires : goal.acknowledge-requires
@@ -42,3 +42,6 @@ acknowledge-requires-in-None g c =
           c.in_ok-ask.ensures.logged c.in_ok-ask.ensures.writes refl
           (ap (table.advice_on_card a) (sym (c.card_in.ensures ∙ ap typed.card_in c.latest.ensures) ∙ c.in-Some.is) ∙ ap (table.advice_on_named a) (sym (c.copied.ensures ∙ c.account_of.ensures) ∙ c.in-None.is));
     }
+
+pub decide_on_account-requires-clause-kinds : goal.decide_on_account-requires-clause-kinds
+decide_on_account-requires-clause-kinds g c = kinds_more _ _ _ _ _ c.requires.kinds c.in_ok-ask.ensures.logged

@@ -2,7 +2,7 @@ use Rattle.std.proofs.Common.{refl, sym, ap, ◌∙◌}
 use Rattle.rows.specs.declared.row_key.RowKey.TheVariants as key
 use Rattle.rows.specs.AdviceTable as table
 use Rattle.rows.specs.Typed as typed
-use Rattle.rules.proofs.FollowingLaws.{unread, looked_as, follows_then, follows_else, follows_needs, not_true, not_false}
+use Rattle.rules.proofs.FollowingLaws.{unread, looked_as, follows_then, follows_else, follows_needs, not_true, not_false, kinds_more}
 use Rattle.rows.specs.Facts.{is_same_currency}
 use Rattle.rules.proofs.advice.decide_on_account.Goals as goal
 
@@ -34,3 +34,6 @@ decide_on_funds-requires-clause-follows g c =
     (looked_as _ _ _ _ _ _ _ _ _ _ c.requires.follows c.in_ok-ask.ensures.logged c.in_ok-ask.ensures.writes refl
     (ap (table.advice_on_account c.args.advice.now c.args.id) (sym (c.account_in.ensures ∙ ap typed.account_in c.latest.ensures) ∙ c.in-Some.is)))
     (not_false _ (sym c.ne.ensures ∙ c.if-ne.false))
+
+pub decide_on_funds-requires-clause-kinds : goal.decide_on_funds-requires-clause-kinds
+decide_on_funds-requires-clause-kinds g c = kinds_more _ _ _ _ _ c.requires.kinds c.in_ok-ask.ensures.logged

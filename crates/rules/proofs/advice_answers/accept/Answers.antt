@@ -26,7 +26,7 @@ returns-clause-done g c =
     let outcome : outcome.Accepted (record { payer = c.payer.result; settlement = None }) ≡ outcome.Accepted (paid_by paying) =
     λ i. outcome.Accepted (record { payer = c.payer.ensures i; settlement = None }) in
     let kept = c.kept_of-kept.ensures ∙ ap (kept_of_advice a) outcome in
-    let balance : c.in-Some.balance ≡ balance_of paying - a.transaction.amount = c.in-Some.ensures.1 ∙ ap (λ n. n - a.transaction.amount) c.balance.ensures in
+    let balance : c.saturating_sub-balance.result ≡ balance_of paying - a.transaction.amount = c.saturating_sub-balance.ensures ∙ ap (λ n. n - a.transaction.amount) c.balance.ensures in
     let paid = ap (λ n. row_of_funds (with_balance paying n)) balance in
     let puts = two_puts c.args.rows.now _ _ _ _ paying _ _ c.requires.follows.unput c.in_ok-write.ensures.ok c.in_ok-put_funds.ensures.ok refl in
     let table : c.put_funds.new.rows.writes ≡ accepted_writes a paying =
@@ -35,3 +35,9 @@ returns-clause-done g c =
 
 pub returns-clause-so_far : goal.returns-clause-so_far
 returns-clause-so_far g c = concluded_needs _ _ _ _ (returns-clause-done g c)
+
+pub returns-in_err-put_funds-clause-book : goal.returns-in_err-put_funds-clause-book
+returns-in_err-put_funds-clause-book g c = ap (λ (r : _). g.S.RowSource.book r.source) c.in_err-put_funds.ensures.err ∙ ap (λ (r : _). g.S.RowSource.book r.source) c.in_ok-write.ensures.ok
+
+pub returns-clause-book : goal.returns-clause-book
+returns-clause-book g c = ap (λ (r : _). g.S.RowSource.book r.source) c.in_ok-put_funds.ensures.ok ∙ ap (λ (r : _). g.S.RowSource.book r.source) c.in_ok-write.ensures.ok

@@ -2,7 +2,7 @@ use Rattle.std.proofs.Common.{refl, sym, ap, ◌∙◌}
 use Rattle.rows.specs.declared.row_key.RowKey.TheVariants as key
 use Rattle.rows.specs.RequestTable as table
 use Rattle.rows.specs.Typed as typed
-use Rattle.rules.proofs.FollowingLaws.{unread, looked_as, follows_as, follows_needs}
+use Rattle.rules.proofs.FollowingLaws.{unread, looked_as, follows_as, follows_needs, kinds_more}
 use Rattle.rules.proofs.request.decide_fresh.Goals as goal
 
 pub ask-requires : goal.ask-requires
@@ -38,3 +38,6 @@ decline-requires-in-Err g c =
           c.in_ok-ask.ensures.logged c.in_ok-ask.ensures.writes refl
           (ap (table.on_card r) (sym (c.card_in.ensures ∙ ap typed.card_in c.latest.ensures) ∙ c.in-Some-card_in.is) ∙ ap (table.on_usable r c.in-Some-card_in.card) c.in-Err.ensures.err);
     }
+
+pub decide_on_account-requires-clause-kinds : goal.decide_on_account-requires-clause-kinds
+decide_on_account-requires-clause-kinds g c = kinds_more _ _ _ _ _ c.requires.kinds c.in_ok-ask.ensures.logged

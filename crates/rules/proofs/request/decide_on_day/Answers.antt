@@ -2,7 +2,7 @@ use Rattle.std.proofs.Common.{refl, sym, ap, ◌∙◌}
 use Rattle.rows.specs.declared.row_key.RowKey.TheVariants as key
 use Rattle.rows.specs.RequestTable as table
 use Rattle.rows.specs.Typed as typed
-use Rattle.rules.proofs.FollowingLaws.{unread, looked_as, follows_needs}
+use Rattle.rules.proofs.FollowingLaws.{unread, looked_as, follows_needs, kinds_more}
 use Rattle.rules.proofs.request.decide_on_day.Goals as goal
 
 pub ask-requires : goal.ask-requires
@@ -16,3 +16,6 @@ decide_on_limits-requires-clause-follows g c =
     let r = c.args.request.now in
     looked_as _ _ _ _ _ _ _ _ _ _ c.requires.follows c.in_ok-ask.ensures.logged c.in_ok-ask.ensures.writes (λ i. key.Velocity r.transaction.pan (c.day.ensures i))
     (ap (λ day. table.on_day r c.args.card.now c.args.id.now c.args.account.now day) (sym (c.spent_in-day.ensures ∙ ap typed.spent_in (c.velocity_in.ensures ∙ ap typed.velocity_in c.latest.ensures))))
+
+pub decide_on_limits-requires-clause-kinds : goal.decide_on_limits-requires-clause-kinds
+decide_on_limits-requires-clause-kinds g c = kinds_more _ _ _ _ _ c.requires.kinds c.in_ok-ask.ensures.logged

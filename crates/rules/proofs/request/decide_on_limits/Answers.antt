@@ -2,7 +2,7 @@ use Rattle.std.proofs.Common.{refl, sym, ap, ◌∙◌}
 use Rattle.rows.specs.declared.row_key.RowKey.TheVariants as key
 use Rattle.rows.specs.RequestTable as table
 use Rattle.rows.specs.Typed as typed
-use Rattle.rules.proofs.FollowingLaws.{unread, looked_as, follows_as, follows_needs}
+use Rattle.rules.proofs.FollowingLaws.{unread, looked_as, follows_as, follows_needs, stops_kept}
 use Rattle.rules.proofs.request.decide_on_limits.Goals as goal
 
 pub ask-requires : goal.ask-requires
@@ -36,3 +36,15 @@ decline-requires-in-Err g c =
           (ap (table.on_funds r c.args.card.now c.args.day.now)
           (ap (table.request_funds r.transaction c.args.id.now c.args.account.now) (sym (c.budget_in-budget.ensures ∙ ap typed.budget_in c.latest.ensures)) ∙ sym c.request_funds.ensures.funds ∙ c.in-Err.is));
     }
+
+pub returns-in-Ok-clause-stops : goal.returns-in-Ok-clause-stops
+returns-in-Ok-clause-stops g c = stops_kept _ _ _ c.in_ok-ask.ensures.book c.approve.ensures.stops
+
+pub returns-in-Err-clause-stops : goal.returns-in-Err-clause-stops
+returns-in-Err-clause-stops g c = stops_kept _ _ _ c.in_ok-ask.ensures.book c.decline-in-Err.ensures.stops
+
+pub returns-in-Ok-clause-book : goal.returns-in-Ok-clause-book
+returns-in-Ok-clause-book g c = c.approve.ensures.book ∙ c.in_ok-ask.ensures.book
+
+pub returns-in-Err-clause-book : goal.returns-in-Err-clause-book
+returns-in-Err-clause-book g c = c.decline-in-Err.ensures.book ∙ c.in_ok-ask.ensures.book

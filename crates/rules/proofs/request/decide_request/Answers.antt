@@ -2,7 +2,7 @@ use Rattle.std.proofs.Common.{refl, sym, ap, ◌∙◌}
 use Rattle.rows.specs.declared.row_key.RowKey.TheVariants as key
 use Rattle.rows.specs.RequestTable as table
 use Rattle.rows.specs.Typed as typed
-use Rattle.rules.proofs.FollowingLaws.{unread, looked_as}
+use Rattle.rules.proofs.FollowingLaws.{unread, looked_as, kinds_more}
 use Rattle.rules.proofs.request.decide_request.Goals as goal
 
 pub ask-requires : goal.ask-requires
@@ -16,3 +16,6 @@ pub decide_fresh-requires-clause-follows : goal.decide_fresh-requires-clause-fol
 decide_fresh-requires-clause-follows g c =
     looked_as _ _ _ _ _ _ _ _ _ _ c.requires.follows c.in_ok-ask.ensures.logged c.in_ok-ask.ensures.writes (λ i. key.Original (c.identity.ensures i))
     (ap (λ row. table.on_original c.args.request.now (typed.original_in row)) (sym c.latest.ensures ∙ c.in-None.is))
+
+pub decide_fresh-requires-clause-kinds : goal.decide_fresh-requires-clause-kinds
+decide_fresh-requires-clause-kinds g c = kinds_more _ _ _ _ _ c.requires.kinds c.in_ok-ask.ensures.logged

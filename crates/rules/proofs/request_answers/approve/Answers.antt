@@ -55,21 +55,39 @@ pub returns-clause-done : goal.returns-clause-done
 returns-clause-done g c =
     let r = c.args.request.now in
     let paying = c.args.paying.now in
-    let approvals = c.in-Some-Some.ensures.1 in
+    let approvals = c.next_of-approvals.ensures in
     let code : c.of_count-code.result ≡ approval_code c.args.card.now = c.of_count-code.ensures ∙ ap (λ n. record { 0 = fixed_digits 6 n }) (c.number.ensures.value ∙ approvals) in
     let outcome : outcome.Approved c.of_count-code.result (record { payer = c.payer.result; settlement = None }) ≡ outcome.Approved (approval_code c.args.card.now) (paid_by paying) =
     λ i. outcome.Approved (code i) (record { payer = c.payer.ensures i; settlement = None }) in
     let kept = c.kept_of-kept.ensures ∙ ap (kept_of_request r) outcome in
-    let balance : c.in-Some-Some-2.balance ≡ balance_of paying - r.transaction.amount = c.in-Some-Some-2.ensures'.1 ∙ ap (λ n. n - r.transaction.amount) c.balance.ensures in
+    let balance : c.saturating_sub-balance.result ≡ balance_of paying - r.transaction.amount = c.saturating_sub-balance.ensures ∙ ap (λ n. n - r.transaction.amount) c.balance.ensures in
     let paid = ap (λ n. row_of_funds (with_balance paying n)) balance in
     let named = c.in_ok-write_new.ensures.ok ∙ ap (λ k. record c.args.rows.now { writes = put c.args.rows.now.writes k c.kept_of-kept.result }) c.requires.named in
     let puts = four_puts c.args.rows.now _ _ _ _ _ _ _ _ _ _ _ paying _ _ c.requires.follows.unput
     named c.in_ok-charge_card.ensures.ok c.in_ok-charge_day.ensures.ok c.in_ok-put_funds.ensures.ok refl in
     let table : c.put_funds.new.rows.writes ≡ approved_writes r c.args.card.now c.args.day.now paying =
     puts.1 ∙ (λ i. (key.Original (identity_of r.transaction), kept i) ∷ (key.Card r.transaction.pan, val.Card (record c.args.card.now { approvals = approvals i }))
-    ∷ (key.Velocity r.transaction.pan (day_of r.transaction.stamp), val.Velocity (record { count = c.in-Some-Some.ensures'.1 i; sum = c.in-Some-Some-2.ensures.1 i }))
+    ∷ (key.Velocity r.transaction.pan (day_of r.transaction.stamp), val.Velocity (record { count = c.next_of-count.ensures i; sum = c.sum_of-sum.ensures i }))
     ∷ (key_of_funds paying, paid i) ∷ []) in
     concluded _ _ _ _ _ _ _ _ c.requires.follows puts.0 table (ap (λ code. reply_to_request r (verdict.Approved code)) code)
 
 pub returns-clause-so_far : goal.returns-clause-so_far
 returns-clause-so_far g c = concluded_needs _ _ _ _ (returns-clause-done g c)
+
+-- neither the reads nor the source change where a row is put
+pub returns-in_err-charge_card-clause-book : goal.returns-in_err-charge_card-clause-book
+returns-in_err-charge_card-clause-book g c = ap (λ (r : _). g.S.RowSource.book r.source) c.in_err-charge_card.ensures.err ∙ ap (λ (r : _). g.S.RowSource.book r.source) c.in_ok-write_new.ensures.ok
+
+pub returns-in_err-charge_day-clause-book : goal.returns-in_err-charge_day-clause-book
+returns-in_err-charge_day-clause-book g c =
+    ap (λ (r : _). g.S.RowSource.book r.source) c.in_err-charge_day.ensures.err ∙ ap (λ (r : _). g.S.RowSource.book r.source) c.in_ok-charge_card.ensures.ok ∙ ap (λ (r : _). g.S.RowSource.book r.source) c.in_ok-write_new.ensures.ok
+
+pub returns-in_err-put_funds-clause-book : goal.returns-in_err-put_funds-clause-book
+returns-in_err-put_funds-clause-book g c =
+    ap (λ (r : _). g.S.RowSource.book r.source) c.in_err-put_funds.ensures.err ∙ ap (λ (r : _). g.S.RowSource.book r.source) c.in_ok-charge_day.ensures.ok
+    ∙ ap (λ (r : _). g.S.RowSource.book r.source) c.in_ok-charge_card.ensures.ok ∙ ap (λ (r : _). g.S.RowSource.book r.source) c.in_ok-write_new.ensures.ok
+
+pub returns-clause-book : goal.returns-clause-book
+returns-clause-book g c =
+    ap (λ (r : _). g.S.RowSource.book r.source) c.in_ok-put_funds.ensures.ok ∙ ap (λ (r : _). g.S.RowSource.book r.source) c.in_ok-charge_day.ensures.ok
+    ∙ ap (λ (r : _). g.S.RowSource.book r.source) c.in_ok-charge_card.ensures.ok ∙ ap (λ (r : _). g.S.RowSource.book r.source) c.in_ok-write_new.ensures.ok

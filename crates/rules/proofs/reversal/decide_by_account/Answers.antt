@@ -1,8 +1,9 @@
-use Rattle.std.proofs.Common.{refl, sym, ap, ◌∙◌, option_map}
+use Rattle.std.proofs.Common.{refl, sym, ap, ◌∙◌, option_map, not, ◌==◌}
 use Rattle.rows.specs.ReversalTable as table
 use Rattle.rows.specs.declared.row_key.RowKey.TheVariants as key
 use Rattle.rows.specs.Typed as typed
-use Rattle.rules.proofs.FollowingLaws.{unread, looked_as, follows_needs}
+use Rattle.std.specs.List.{list_all}
+use Rattle.rules.proofs.FollowingLaws.{unread, looked_as, follows_needs, kinds_more, stops_kept}
 use Rattle.rules.proofs.reversal.decide_by_account.Goals as goal
 
 pub ask-requires : goal.ask-requires
@@ -15,3 +16,12 @@ pub decide_on_paid-requires-clause-follows : goal.decide_on_paid-requires-clause
 decide_on_paid-requires-clause-follows g c =
     looked_as _ _ _ _ _ _ _ _ _ _ c.requires.follows c.in_ok-ask.ensures.logged c.in_ok-ask.ensures.writes refl
     (ap (table.on_paid c.args.reversal.now c.args.kept.now) (ap (option_map _) (sym (c.account_in.ensures ∙ ap typed.account_in c.latest.ensures)) ∙ sym c.account_funds-paid.ensures))
+
+pub decide_on_paid-requires-clause-days : goal.decide_on_paid-requires-clause-days
+decide_on_paid-requires-clause-days g c = ap (λ kinds. list_all (λ kind. not (1 == kind)) kinds) (kinds_more _ _ _ _ _ c.requires.kinds c.in_ok-ask.ensures.logged)
+
+pub returns-clause-stops : goal.returns-clause-stops
+returns-clause-stops g c = stops_kept _ _ _ c.in_ok-ask.ensures.book c.decide_on_paid.ensures.stops
+
+pub returns-clause-book : goal.returns-clause-book
+returns-clause-book g c = c.decide_on_paid.ensures.book ∙ c.in_ok-ask.ensures.book

@@ -1,10 +1,11 @@
-use Rattle.std.proofs.Common.{refl, sym, ap, ◌∙◌, option_map}
+use Rattle.std.proofs.Common.{refl, sym, ap, ◌∙◌, option_map, not, ◌==◌}
 use Rattle.rows.specs.ReversalTable as table
 use Rattle.rows.specs.declared.row_key.RowKey.TheVariants as key
 use Rattle.rows.specs.Facts.{prefix_of}
 use Rattle.rows.specs.declared.funds.Funds.TheVariants as funds
 use Rattle.rows.specs.Typed as typed
-use Rattle.rules.proofs.FollowingLaws.{unread, looked_as, follows_needs}
+use Rattle.std.specs.List.{list_all}
+use Rattle.rules.proofs.FollowingLaws.{unread, looked_as, follows_needs, kinds_more, stops_kept}
 use Rattle.rules.proofs.reversal.decide_by_budget.Goals as goal
 
 pub ask-requires : goal.ask-requires
@@ -19,3 +20,12 @@ decide_on_paid-requires-clause-follows g c =
     let row_prefix = c.prefix-2.ensures ∙ ap prefix_of c.card-2.ensures.card in
     looked_as _ _ _ _ _ _ _ _ _ _ c.requires.follows c.in_ok-ask.ensures.logged c.in_ok-ask.ensures.writes (λ i. key.Budget (key_prefix i))
     (ap (table.on_paid c.args.reversal.now c.args.kept.now) (sym (c.budget_funds-paid.ensures ∙ (λ i. option_map (funds.Budget (row_prefix i)) ((c.budget_in.ensures ∙ ap typed.budget_in c.latest.ensures) i)))))
+
+pub decide_on_paid-requires-clause-days : goal.decide_on_paid-requires-clause-days
+decide_on_paid-requires-clause-days g c = ap (λ kinds. list_all (λ kind. not (1 == kind)) kinds) (kinds_more _ _ _ _ _ c.requires.kinds c.in_ok-ask.ensures.logged)
+
+pub returns-clause-stops : goal.returns-clause-stops
+returns-clause-stops g c = stops_kept _ _ _ c.in_ok-ask.ensures.book c.decide_on_paid.ensures.stops
+
+pub returns-clause-book : goal.returns-clause-book
+returns-clause-book g c = c.decide_on_paid.ensures.book ∙ c.in_ok-ask.ensures.book

@@ -2,7 +2,7 @@ use Rattle.std.proofs.Common.{refl, sym, ap, ◌∙◌}
 use Rattle.rows.specs.ReversalTable as table
 use Rattle.rows.specs.declared.row_key.RowKey.TheVariants as key
 use Rattle.rows.specs.Typed as typed
-use Rattle.rules.proofs.FollowingLaws.{unread, looked_as, follows_needs, concluded_with_none, concluded_needs}
+use Rattle.rules.proofs.FollowingLaws.{unread, looked_as, follows_needs, concluded_with_none, concluded_needs, stops_kept}
 use Rattle.rules.proofs.reversal.decide_on_day.Goals as goal
 
 pub ask-requires : goal.ask-requires
@@ -27,3 +27,9 @@ returns-in-None-clause-done g c =
 
 pub returns-in-None-clause-so_far : goal.returns-in-None-clause-so_far
 returns-in-None-clause-so_far g c = concluded_needs _ _ _ _ (returns-in-None-clause-done g c)
+
+pub returns-in-Some-clause-stops : goal.returns-in-Some-clause-stops
+returns-in-Some-clause-stops g c = stops_kept _ _ _ c.in_ok-ask.ensures.book c.reverse_request.ensures.stops
+
+pub returns-in-Some-clause-book : goal.returns-in-Some-clause-book
+returns-in-Some-clause-book g c = c.reverse_request.ensures.book ∙ c.in_ok-ask.ensures.book

@@ -2,7 +2,7 @@ use Rattle.std.proofs.Common.{refl, sym, ap, ◌∙◌}
 use Rattle.rows.specs.ReversalTable as table
 use Rattle.rows.specs.declared.row_key.RowKey.TheVariants as key
 use Rattle.rows.specs.Typed as typed
-use Rattle.rules.proofs.FollowingLaws.{unread, looked_as}
+use Rattle.rules.proofs.FollowingLaws.{unread, looked_as, kinds_more}
 use Rattle.rules.proofs.reversal.decide_reversal.Goals as goal
 
 pub ask-requires : goal.ask-requires
@@ -17,3 +17,6 @@ mark_ahead-requires g c = record {
   follows =
       looked_as _ _ _ _ _ _ _ _ _ _ c.requires.follows c.in_ok-ask.ensures.logged c.in_ok-ask.ensures.writes refl (ap (table.on_reversed c.args.reversal.now) (sym (c.original_in.ensures ∙ ap typed.original_in c.latest.ensures) ∙ c.in-None.is));
 }
+
+pub decide_on_row-requires-clause-kinds : goal.decide_on_row-requires-clause-kinds
+decide_on_row-requires-clause-kinds g c = kinds_more _ _ _ _ _ c.requires.kinds c.in_ok-ask.ensures.logged

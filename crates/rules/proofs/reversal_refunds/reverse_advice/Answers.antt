@@ -46,3 +46,9 @@ returns-clause-done g c =
 
 pub returns-clause-so_far : goal.returns-clause-so_far
 returns-clause-so_far g c = concluded_needs _ _ _ _ (returns-clause-done g c)
+
+pub returns-in_err-put_funds-clause-book : goal.returns-in_err-put_funds-clause-book
+returns-in_err-put_funds-clause-book g c = ap (λ (r : _). g.S.RowSource.book r.source) c.in_err-put_funds.ensures.err ∙ ap (λ (r : _). g.S.RowSource.book r.source) c.in_ok-write.ensures.ok
+
+pub returns-clause-book : goal.returns-clause-book
+returns-clause-book g c = ap (λ (r : _). g.S.RowSource.book r.source) c.in_ok-put_funds.ensures.ok ∙ ap (λ (r : _). g.S.RowSource.book r.source) c.in_ok-write.ensures.ok

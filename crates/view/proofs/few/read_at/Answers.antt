@@ -1,25 +1,27 @@
-use Rattle.std.proofs.Common.{◌≡◌, ◌+◌, take, set, None, Option, Ok, IfSome, sym, ap, subst}
+use Rattle.std.proofs.Common.{◌≡◌, ◌+◌, take, set, None, Option, OnOk, IfSome, sym, ap, subst}
 use Rattle.std.specs.FinMap as map
 use Rattle.rows.specs.Fold.{Rows}
 use Rattle.rows.specs.RowVal.{IsOfKind}
 use Rattle.rows.specs.declared.row_val.RowVal.{RowVal}
+use Rattle.view.specs.Recording.{answer_of}
 use Rattle.view.specs.RowSets.{latest}
+use Rattle.view.proofs.ListLaws.{on_ok}
 use Rattle.view.proofs.LogLaws.{latest_set}
 use Rattle.view.proofs.few.read_at.Goals as goal
 
 -- what was read last is what the source wrote
-written : (g : _) (c : goal.In_ok-read_into g) → c.read_into.new.row ≡ latest (take (c.args.place + 1) (set c.args.rows.now c.args.place (c.args.key.now, c.read_into.new.row)))
+written : (g : _) (c : goal.After-read_into g) → c.read_into.new.row ≡ latest (take (c.args.place + 1) (set c.args.rows.now c.args.place (c.args.key.now, c.read_into.new.row)))
 written g c = sym (latest_set None c.args.rows.now c.args.place (c.args.key.now, c.read_into.new.row) c.requires)
 
 pub returns-clause-ok : goal.returns-clause-ok
-returns-clause-ok g c = ap (λ (row : Option RowVal). set c.args.rows.now c.args.place (c.args.key.now, row)) (written g c)
+returns-clause-ok g c = on_ok c.read_into.result (ap (λ (row : Option RowVal). set c.args.rows.now c.args.place (c.args.key.now, row)) (written g c))
 
 pub returns-clause-answers : goal.returns-clause-answers
-returns-clause-answers g c = subst (λ (row : Option RowVal). g.S.RowSource.answers c.args.source.now c.args.key.now (Ok row) c.read_into.new.self) (written g c) c.in_ok-read_into.ensures.answers
+returns-clause-answers g c = subst (λ (row : Option RowVal). g.S.RowSource.answers c.args.source.now c.args.key.now (answer_of c.read_into.result row) c.read_into.new.self) (written g c) c.read_into.ensures.answers
 
 pub returns-clause-kind : goal.returns-clause-kind
-returns-clause-kind g c = subst (λ (row : Option RowVal). IfSome row (IsOfKind c.args.key.now)) (written g c) c.in_ok-read_into.ensures.kind
+returns-clause-kind g c = subst (λ (row : Option RowVal). OnOk c.read_into.result (IfSome row (IsOfKind c.args.key.now))) (written g c) c.read_into.ensures.kind
 
 pub returns-clause-known : goal.returns-clause-known
 returns-clause-known g c =
-    subst (λ (row : Option RowVal). IfSome (g.S.RowSource.book c.args.source.now) (λ (rows : Rows). row ≡ map.get rows c.args.key.now)) (written g c) c.in_ok-read_into.ensures.known
+    subst (λ (row : Option RowVal). OnOk c.read_into.result (IfSome (g.S.RowSource.book c.args.source.now) (λ (rows : Rows). row ≡ map.get rows c.args.key.now))) (written g c) c.read_into.ensures.known
