@@ -22,3 +22,21 @@ returns-in_err-closing-clause-gives c =
 pub returns-clause-gives : goal.returns-clause-gives
 returns-clause-gives c =
     body_read c.args.bitmap c.args.mti c.args.bytes.now c.in_ok-opening.opening c.in_ok-codes.codes c.in_ok-closing.closing c.in_ok-opening.ensures.gives c.in_ok-codes.ensures.gives c.in_ok-closing.ensures.gives
+
+pub returns-clause-texts : goal.returns-clause-texts
+returns-clause-texts c =
+    let opening = c.in_ok-opening.ensures.texts in
+    let codes = c.in_ok-codes.ensures.texts in
+    let closing = c.in_ok-closing.ensures.texts in
+    record {
+      function = opening.function;
+      original_amount = opening.original_amount;
+      acquirer = opening.acquirer;
+      retrieval = codes.retrieval;
+      approval = codes.approval;
+      action = codes.action;
+      terminal = closing.terminal;
+      currency = closing.currency;
+      original = closing.original;
+      account = closing.account;
+    }
