@@ -2,7 +2,7 @@ use crate::version::Version;
 use rows::RowVal;
 
 /// What a message sees of a row (Block-STM): what the nearest message before it put.
-#[derive(Clone, Copy, Debug)]
+#[derive(Clone, Copy)]
 pub enum Seen {
     /// No message before it has an entry: the opening book.
     Base,

@@ -1,4 +1,4 @@
-use Rattle.std.proofs.Common.{◌≡◌, ◌<◌, ℕ, Some, slice_get, sym, ap, ◌∙◌, subst, inl, inr, arith}
+use Rattle.std.proofs.Common.{◌≡◌, ◌<◌, slice_get, sym, ap, ◌∙◌, subst, inl, inr, arith}
 use Rattle.std.proofs.lemmas.Bool.{cases_lt}
 use Rattle.std.proofs.lemmas.Option.{slice_get_within, same_Some}
 use Rattle.rows.specs.declared.row_key.RowKey.{RowKey}
@@ -34,3 +34,9 @@ returns-clause-room c row written =
     let many = c.len-place-end.ensures.len in
     let end = c.loop-place-test.false in
     c.loop-place.invariant.room there.0 (row, value.0) (omega arith) there.1
+
+pub returns-in_err-number-clause-numbers : goal.returns-in_err-number-clause-numbers
+returns-in_err-number-clause-numbers c n r at = c.in_err-number.ensures.numbers n r (c.loop-place.invariant.numbers n r at)
+
+pub returns-in_err-push-clause-numbers : goal.returns-in_err-push-clause-numbers
+returns-in_err-push-clause-numbers c n r at = c.in_ok-number.ensures.numbers n r (c.loop-place.invariant.numbers n r at)

@@ -1,4 +1,4 @@
-use Rattle.std.proofs.Common.{◌≡◌, ap, subst}
+use Rattle.std.proofs.Common.{ap, subst}
 use Rattle.rows.specs.Fold.{Rows}
 use Rattle.mvmem.proofs.Laid.{laid_entries}
 use Rattle.mvmem.specs.Memory.{Memory}
