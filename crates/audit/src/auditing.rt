@@ -24,8 +24,17 @@ pub fn audit(
     requires { length frames.now ≤ 65536 }
     ensures { IfOk result (Finds replies.now after.now (replies_to book.now frames.now) (rows_after book.now frames.now)) }
 {
-    let right = decide_all(alloc, Prefix::new(alloc, book.copy()?), frames)?;
+    let right = decided(alloc, book, frames)?;
     compared(alloc, replies, after, &right)
+}
+
+/// The bodies decided one after another on a copy of the book.
+fn decided(alloc: Global, book: &Book, frames: &[Frame]) -> Result<Prefix, AllocError>
+    requires { length frames.now ≤ 65536 }
+    ensures book { IfOk result (λ right. right.book ≡ rows_after book.now frames.now) }
+    ensures replies { IfOk result (λ right. right.replies.items ≡ replies_to book.now frames.now) }
+{
+    decide_all(alloc, Prefix::new(alloc, book.copy()?), frames)
 }
 
 /// What differs first between these replies and this book and the right ones.

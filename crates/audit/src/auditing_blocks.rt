@@ -1,10 +1,12 @@
 //! Auditing blocks of bodies, which are decided one after another.
 
-ghost use Rattle.std.specs.Prelude.{◌≡◌, ◌≤◌, ◌↔◌, List, length, map, IfOk, IsTrue};
+ghost use Rattle.std.specs.Prelude.{◌≡◌, ◌≤◌, ◌↔◌, List, length, map, IfOk, IfSome, IfNone, IsTrue};
 ghost use Rattle.std.specs.List.{All};
 ghost use Rattle.batch_laws.specs.Blocks.{replies_to_blocks, rows_after_blocks};
+ghost use Rattle.rows.specs.Fold.{rows_after, replies_to};
 ghost use Rattle.rows.specs.declared.reply_body.ReplyBody.{ReplyBody};
 ghost use Rattle.audit.specs.Blocks.{FindsInBlocks, counts};
+ghost use Rattle.audit.specs.Difference.{IsFirstDifference};
 
 use crate::block_audit::BlockAudit;
 use crate::comparing::{first_differing_reply, least_differing_row};
@@ -32,14 +34,32 @@ pub fn audit_blocks(
     }
     let mut right = book.copy()?;
     for block in 0..blocks.len() {
-        let prefix = decide_all(alloc, Prefix::new(alloc, right), &blocks[block])?;
-        if let Some(index) = first_differing_reply(&replies[block], &prefix.replies) {
+        let (decided, differing) = decided_block(alloc, right, &blocks[block], &replies[block])?;
+        if let Some(index) = differing {
             let block = block as u32;
             return Ok(BlockAudit::ReplyDiffers { block, index });
         }
-        right = prefix.book;
+        right = decided;
     }
     compared_after(alloc, after, &right)
+}
+
+/// The book after a block that is decided on this one, and the place of the first reply that isn't the right one.
+fn decided_block(
+    alloc: Global,
+    book: Book,
+    frames: &[Frame],
+    replies: &[ReplyBody],
+) -> Result<(Book, Option<u32>), AllocError>
+    requires few { length frames.now ≤ 65536 }
+    requires count { length replies.now ≡ length frames.now }
+    ensures book { IfOk result (λ found. found.0 ≡ rows_after book frames.now) }
+    ensures some { IfOk result (λ found. IfSome found.1 (IsFirstDifference replies.now (replies_to book frames.now))) }
+    ensures none { IfOk result (λ found. IfNone found.1 (replies.now ≡ replies_to book frames.now)) }
+{
+    let prefix = decide_all(alloc, Prefix::new(alloc, book), frames)?;
+    let differing = first_differing_reply(replies, &prefix.replies);
+    Ok((prefix.book, differing))
 }
 
 /// What differs first where all replies are the right ones: the least key of a row, if any.

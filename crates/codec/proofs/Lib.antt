@@ -1,4 +1,5 @@
 pub mod Amounts
+pub mod Bodies
 pub mod Cuts
 pub mod Found
 pub mod Masks

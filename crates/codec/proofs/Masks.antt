@@ -1,13 +1,14 @@
 -- The least element of some bits, and what the bits of a type say of a bitmap.
-use Rattle.std.proofs.Common.{◌≡◌, ℕ, suc, ◌+◌, ◌-◌, ◌*◌, ◌^◌, ◌<◌, ◌≤◌, min, Bool, eqb, Option, Some, None, Err, refl, sym, ap, ◌∙◌, arith, inl, inr}
+use Rattle.std.proofs.Common.{◌≡◌, ℕ, suc, ◌+◌, ◌-◌, ◌*◌, ◌^◌, ◌<◌, ◌≤◌, min, lit<, Bool, eqb, Option, Some, None, Err, refl, sym, ap, ◌∙◌, arith, inl, inr}
 use Rattle.std.specs.Prelude.{not, ◌&&◌, bit_and}
 use Rattle.std.specs.Int.{w128, bit_at, bit_not, leading_zeros}
 use Rattle.std.proofs.lemmas.Bool.{cases_lt}
-use Rattle.std.proofs.lemmas.Nat.{leading_top}
+use Rattle.std.proofs.lemmas.Nat.{and_le_l, leading_top}
 use Rattle.std.proofs.lemmas.Nat.Bits.{bit_at-lt, bit_at-zero, bit_at_above, bit_at_and, bit_at_not}
 use Rattle.std.proofs.Math.Nat.{pow-suc}
 use Rattle.iso8583.specs.declared.codec_fault.CodecFault.TheVariants.{Unexpected}
 use Rattle.codec_laws.specs.declared.mti.Mti.{Mti}
+use Rattle.codec_laws.specs.declared.mti.Mti.TheVariants as mti
 use Rattle.codec_laws.specs.Spelling.{is_set}
 use Rattle.codec_laws.specs.Types.{parts_of, may_have, must_have}
 use Rattle.codec_laws.specs.Reading.{least, is_unexpected, is_missing, first_wrong, presence_at}
@@ -46,6 +47,21 @@ least_bit bits some fits =
     })
 
 -- ---- the bits of a type
+
+-- bits that both have fit where those of one do
+pub and_fits : (a b : ℕ) → a < 2 ^ 127 → bit_and a b < 2 ^ 127
+and_fits a b fits = let less = and_le_l a b in omega arith
+
+pub must_fits : (t : Mti) → must_have t < 2 ^ 127
+must_fits mti.Request = lit< tt
+must_fits mti.RequestRepeat = lit< tt
+must_fits mti.RequestReply = lit< tt
+must_fits mti.Advice = lit< tt
+must_fits mti.AdviceRepeat = lit< tt
+must_fits mti.AdviceReply = lit< tt
+must_fits mti.Reversal = lit< tt
+must_fits mti.ReversalRepeat = lit< tt
+must_fits mti.ReversalReply = lit< tt
 
 both_bits : (p q : ℕ) → p < 2 → q < 2 → eqb (min p (1 - q)) 1 ≡ (eqb p 1 && not (eqb q 1))
 both_bits p q h k =

@@ -2,6 +2,9 @@
 use Rattle.std.specs.Prelude.{◌≡◌, ℕ, false, not, List, [], ◌∷◌, None, IfSome, IsSome, is_some, option_map, Result, Ok, Err, if◌then◌else◌}
 use Rattle.codec.specs.declared.front.Front.{Front}
 use Rattle.codec.specs.declared.body.Body.{Body}
+use Rattle.codec.specs.declared.opening.Opening.{Opening}
+use Rattle.codec.specs.declared.codes.Codes.{Codes}
+use Rattle.codec.specs.declared.closing.Closing.{Closing}
 use Rattle.iso8583.specs.declared.codec_fault.CodecFault.{CodecFault}
 use Rattle.iso8583.specs.declared.codec_fault.CodecFault.TheVariants.{BadCharacter, BadValue}
 use Rattle.codec_laws.specs.declared.element.Element.{Element}
@@ -98,6 +101,67 @@ body_parts t =
     (false, element.Function, function_rule t) ∷ optional element.OriginalAmount
     ∷ required element.Acquirer ∷ optional element.Retrieval ∷ optional element.Approval ∷ (false, element.Action, action_rule t)
     ∷ required element.Terminal ∷ required element.Currency ∷ optional element.Original ∷ optional element.Account ∷ []
+
+-- ---- the same reader, a few elements at a time
+
+-- elements 24, 30 and 32
+abbrev pub opening_parts : Mti → List Part
+opening_parts t = (false, element.Function, function_rule t) ∷ optional element.OriginalAmount ∷ required element.Acquirer ∷ []
+
+-- elements 37, 38 and 39
+abbrev pub codes_parts : Mti → List Part
+codes_parts t = optional element.Retrieval ∷ optional element.Approval ∷ (false, element.Action, action_rule t) ∷ []
+
+-- elements 41, 49, 56 and 102
+abbrev pub closing_parts : List Part
+closing_parts = required element.Terminal ∷ required element.Currency ∷ optional element.Original ∷ optional element.Account ∷ []
+
+abbrev pub opening_fields : Opening → List Field
+opening_fields x =
+    with_field element.Function (option_map (λ t. t.now) x.function) (with_field element.OriginalAmount (option_map (λ t. t.now) x.original_amount)
+    ((element.Acquirer, x.acquirer.now) ∷ []))
+
+abbrev pub codes_fields : Codes → List Field
+codes_fields x =
+    with_field element.Retrieval (option_map (λ t. t.now) x.retrieval) (with_field element.Approval (option_map (λ t. t.now) x.approval)
+    (with_field element.Action (option_map (λ t. t.now) x.action) []))
+
+abbrev pub closing_fields : Closing → List Field
+closing_fields x =
+    (element.Terminal, x.terminal.now) ∷ (element.Currency, x.currency.now)
+    ∷ with_field element.Original (option_map (λ t. t.now) x.original) (with_field element.Account (option_map (λ t. t.now) x.account) [])
+
+-- each text that is there is one that its element can have
+pub record HasOpeningTexts (x : Opening) : Type 0 where
+  pub function : IfSome x.function (λ t. IsText element.Function t.now)
+  pub original_amount : IfSome x.original_amount (λ t. IsText element.OriginalAmount t.now)
+  pub acquirer : IsText element.Acquirer x.acquirer.now
+
+pub record HasCodesTexts (x : Codes) : Type 0 where
+  pub retrieval : IfSome x.retrieval (λ t. IsText element.Retrieval t.now)
+  pub approval : IfSome x.approval (λ t. IsText element.Approval t.now)
+  pub action : IfSome x.action (λ t. IsText element.Action t.now)
+
+pub record HasClosingTexts (x : Closing) : Type 0 where
+  pub terminal : IsText element.Terminal x.terminal.now
+  pub currency : IsText element.Currency x.currency.now
+  pub original : IfSome x.original (λ t. IsText element.Original t.now)
+  pub account : IfSome x.account (λ t. IsText element.Account t.now)
+
+-- what is there is what the bitmap says, and the rules of elements 24 and 39 find no fault
+pub record IsOpeningThere (t : Mti) (bitmap : ℕ) (x : Opening) : Type 0 where
+  pub function : is_some x.function ≡ is_set bitmap 24
+  pub original_amount : is_some x.original_amount ≡ is_set bitmap 30
+  pub scope : rule_at (function_rule t) bitmap (option_map (λ t. t.now) x.function) ≡ Ok tt
+
+pub record AreCodesThere (t : Mti) (bitmap : ℕ) (x : Codes) : Type 0 where
+  pub approval : is_some x.approval ≡ is_set bitmap 38
+  pub action : is_some x.action ≡ is_set bitmap 39
+  pub verdict : rule_at (action_rule t) bitmap (option_map (λ t. t.now) x.action) ≡ Ok tt
+
+pub record IsClosingThere (bitmap : ℕ) (x : Closing) : Type 0 where
+  pub original : is_some x.original ≡ is_set bitmap 56
+  pub account : is_some x.account ≡ is_set bitmap 102
 
 -- elements 24, 30, 38, 39, 56 and 102 are there exactly where the bitmap says so, and the rules of 24 and 39 find no fault
 pub record IsThere (t : Mti) (bitmap : ℕ) (x : Body) : Type 0 where

@@ -16,8 +16,10 @@ fn message_at(bytes: &[u8]) -> Result<Message, CodecFault>
     ensures gives { Gives (λ m. (mti_of m, fields_of m)) result (reading taken_in bytes.now) }
     ensures values { IfOk result IsMessage }
 {
-    let (mti, texts) = texts_at(Side::TakenIn, bytes)?;
-    Ok(message_of(mti, &texts))
+    match texts_at(Side::TakenIn, bytes) {
+        Ok((mti, texts)) => Ok(message_of(mti, &texts)),
+        Err(fault) => Err(fault),
+    }
 }
 
 /// The message that the bytes spell, all of the bytes (ISO 8583:1993: 1100, 1101, 1120, 1121, 1420 and 1421),
@@ -38,8 +40,10 @@ fn reply_at(bytes: &[u8]) -> Result<Reply, CodecFault>
     ensures gives { Gives (λ r. (reply_mti r, reply_fields r)) result (reading given_out bytes.now) }
     ensures values { IfOk result IsReply }
 {
-    let (mti, texts) = texts_at(Side::GivenOut, bytes)?;
-    Ok(reply_of(mti, &texts))
+    match texts_at(Side::GivenOut, bytes) {
+        Ok((mti, texts)) => Ok(reply_of(mti, &texts)),
+        Err(fault) => Err(fault),
+    }
 }
 
 /// The reply that the bytes spell, all of the bytes (ISO 8583:1993: 1110, 1130 and 1430), else the first

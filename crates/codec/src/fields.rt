@@ -8,7 +8,7 @@ ghost use Rattle.codec_laws.specs.Spelling.{is_set};
 ghost use Rattle.codec_laws.specs.Reading.{Gives, bytes_at, is_length, shaped_at, element_at, optional_at, scope_at, verdict_at, rule_at};
 
 use crate::bitmap::is_set;
-use crate::value_test::{has_value, is_of_class};
+use crate::value_test::{has_value, is_of_class, is_text};
 use codec_laws::{Element, Rule, Shape};
 use iso8583::{CodecFault, is_digits, number_of};
 
@@ -155,13 +155,13 @@ pub(crate) fn optional_at(
 fn scope_at(amount: bool, text: &[u8]) -> Result<(), CodecFault>
     ensures { Gives (λ _. tt) result (scope_at amount text.now) }
 {
-    if text == b"400".as_slice() {
+    if is_text(text, b"400") {
         if amount {
             return Err(CodecFault::Unexpected(30));
         }
         return Ok(());
     }
-    if text != b"401".as_slice() {
+    if !is_text(text, b"401") {
         return Err(CodecFault::BadValue(24));
     }
     if amount {
@@ -176,7 +176,7 @@ fn scope_at(amount: bool, text: &[u8]) -> Result<(), CodecFault>
 fn verdict_at(approval: bool, text: &[u8]) -> Result<(), CodecFault>
     ensures { Gives (λ _. tt) result (verdict_at approval text.now) }
 {
-    if text == b"000".as_slice() {
+    if is_text(text, b"000") {
         if approval {
             return Ok(());
         }

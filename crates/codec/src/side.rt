@@ -1,5 +1,5 @@
 /// Which messages are read: those that are taken in, or the replies that are given out.
-#[derive(Clone, Copy, PartialEq, Eq)]
+#[derive(Clone, Copy)]
 pub(crate) enum Side {
     /// 1100, 1101, 1120, 1121, 1420 and 1421.
     TakenIn,

@@ -6,6 +6,7 @@ ghost use Rattle.codec_laws.specs.Types.{taken_in, given_out, is_among};
 ghost use Rattle.codec_laws.specs.Reading.{Gives, mti_at};
 
 use crate::side::Side;
+use crate::value_test::is_text;
 use codec_laws::Mti;
 use iso8583::CodecFault;
 
@@ -15,17 +16,17 @@ fn taken_in(text: &[u8]) -> Result<Mti, CodecFault>
     ensures gives { Gives (λ t. t) result (mti_at taken_in text.now) }
     ensures among { IfOk result (λ t. IsTrue (is_among taken_in t)) }
 {
-    if text == b"1100".as_slice() {
+    if is_text(text, b"1100") {
         Ok(Mti::Request)
-    } else if text == b"1101".as_slice() {
+    } else if is_text(text, b"1101") {
         Ok(Mti::RequestRepeat)
-    } else if text == b"1120".as_slice() {
+    } else if is_text(text, b"1120") {
         Ok(Mti::Advice)
-    } else if text == b"1121".as_slice() {
+    } else if is_text(text, b"1121") {
         Ok(Mti::AdviceRepeat)
-    } else if text == b"1420".as_slice() {
+    } else if is_text(text, b"1420") {
         Ok(Mti::Reversal)
-    } else if text == b"1421".as_slice() {
+    } else if is_text(text, b"1421") {
         Ok(Mti::ReversalRepeat)
     } else {
         Err(CodecFault::BadMti)
@@ -38,11 +39,11 @@ fn given_out(text: &[u8]) -> Result<Mti, CodecFault>
     ensures gives { Gives (λ t. t) result (mti_at given_out text.now) }
     ensures among { IfOk result (λ t. IsTrue (is_among given_out t)) }
 {
-    if text == b"1110".as_slice() {
+    if is_text(text, b"1110") {
         Ok(Mti::RequestReply)
-    } else if text == b"1130".as_slice() {
+    } else if is_text(text, b"1130") {
         Ok(Mti::AdviceReply)
-    } else if text == b"1430".as_slice() {
+    } else if is_text(text, b"1430") {
         Ok(Mti::ReversalReply)
     } else {
         Err(CodecFault::BadMti)

@@ -1,11 +1,19 @@
 //! Classes of characters and value tests of the elements.
 
 ghost use Rattle.std.specs.Prelude.{◌≡◌, ℕ, ◌≤◌, length, IsTrue};
+ghost use Rattle.std.specs.Str.{bytes_eq};
 ghost use Rattle.iso8583.specs.Class.{IsDigits};
 ghost use Rattle.codec_laws.specs.Elements.{shape_of, class_of, is_of_class, is_original_amount, is_original_type, is_original, has_value, HasShape};
 
 use codec_laws::{Class, Element};
 use iso8583::{is_alphanumeric, is_digits, is_local_stamp, is_printable, number_of};
+
+/// Whether the text is this one.
+pub(crate) fn is_text(text: &[u8], other: &[u8]) -> bool
+    ensures { result ≡ bytes_eq text.now other.now }
+{
+    text == other
+}
 
 /// Whether the text is of this class alone.
 pub(crate) fn is_of_class(class: Class, text: &[u8]) -> bool
@@ -25,7 +33,7 @@ fn is_original_amount(text: &[u8]) -> bool
     ensures { result ≡ is_original_amount text.now }
 {
     let (_, zeros) = text.split_at(12);
-    zeros == b"000000000000".as_slice()
+    is_text(zeros, b"000000000000")
 }
 
 /// Whether the text is the type of a request or of an advice.
@@ -33,10 +41,10 @@ fn is_original_amount(text: &[u8]) -> bool
 fn is_original_type(text: &[u8]) -> bool
     ensures { result ≡ is_original_type text.now }
 {
-    text == b"1100".as_slice()
-        || text == b"1101".as_slice()
-        || text == b"1120".as_slice()
-        || text == b"1121".as_slice()
+    is_text(text, b"1100")
+        || is_text(text, b"1101")
+        || is_text(text, b"1120")
+        || is_text(text, b"1121")
 }
 
 /// Whether the parts of element 56 are such: its type, its date and time, and its inner length.

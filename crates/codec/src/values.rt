@@ -5,6 +5,7 @@ ghost use Rattle.iso8583.specs.Number.{fixed_digits};
 ghost use Rattle.codec_laws.specs.Elements.{IsText, original_type, is_original_type, original_text, twelve_zeros};
 ghost use Rattle.codec_laws.specs.Messages.{IsOriginal, IsAccount, account_text};
 
+use crate::value_test::is_text;
 use codec_laws::Element;
 use iso8583::{
     AccountId, Acquirer, Action, Alphanumeric, Amount, Approval, Currency, Digits, DigitsUpTo,
@@ -147,11 +148,11 @@ fn original_type(text: &[u8]) -> (OriginalKind, bool)
     requires { IsTrue (is_original_type text.now) }
     ensures { original_type result.0 result.1 ≡ text.now }
 {
-    if text == b"1100".as_slice() {
+    if is_text(text, b"1100") {
         (OriginalKind::Request, false)
-    } else if text == b"1101".as_slice() {
+    } else if is_text(text, b"1101") {
         (OriginalKind::Request, true)
-    } else if text == b"1120".as_slice() {
+    } else if is_text(text, b"1120") {
         (OriginalKind::Advice, false)
     } else {
         (OriginalKind::Advice, true)

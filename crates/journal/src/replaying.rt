@@ -17,7 +17,7 @@ use rules::decide;
 use speccore::Core;
 use speccore_laws::{CoreFault, Seat};
 use std::alloc::{AllocError, Global};
-use view::{Execution, Recorder, Stop};
+use view::{Execution, Recorder};
 
 /// Plays a journal again, on a core of this book and these bodies without limits but those of the numbers. A finish is decided anew,
 /// by the decision table on the rows that the core logged. An entry whose decision needs a row that wasn't logged is
@@ -34,10 +34,12 @@ pub fn replay(
     ensures exact { (n : ℕ) → IsFirstUnlogged (opening_play book.now frames.now greatest) entries.now n → (result ≡ Err (ReplayFault.Unlogged n)) ⊎ (result ≡ Err ReplayFault.OutOfMemory) }
     ensures lines { (n : ℕ) → ¬ (result ≡ Err (ReplayFault.Line n)) }
 {
-    let mut core = Core::new(alloc, book, frames)?;
-    match play_all(alloc, &mut core, frames, entries) {
-        Ok(()) => Ok(core),
-        Err(fault) => Err(fault),
+    match Core::new(alloc, book, frames) {
+        Ok(mut core) => match play_all(alloc, &mut core, frames, entries) {
+            Ok(()) => Ok(core),
+            Err(fault) => Err(fault),
+        },
+        Err(_) => Err(ReplayFault::OutOfMemory),
     }
 }
 
@@ -123,10 +125,9 @@ fn decide_on_log(
     ensures keys { IfOk result (λ x. keys_read x.reads ≡ (decision (log_rows (slot core.now.state version.index).log) frame.now).needs) }
 {
     let mut recorder = Recorder::new(alloc, LoggedRows::new(core, version));
-    let reply = match decide(frame, &mut recorder) {
-        Ok(reply) => reply,
-        Err(Stop::OutOfMemory) => return Err(AllocError),
-        Err(Stop::Blocked(_) | Stop::Lost) => unreachable!(),
+    // The rows are known, so nothing but want of memory stops a decision.
+    let Ok(reply) = decide(frame, &mut recorder) else {
+        return Err(AllocError);
     };
     let (_, reads, writes) = recorder.into_parts();
     Ok(Execution::new(*frame, reads, writes, reply))

@@ -80,18 +80,22 @@ rows_there (x ∷ es) zero e at = ap Some (ap (λ (y : RowKey × Chain). y.0) (s
 rows_there (x ∷ es) (suc k) e at = rows_there es k e at
 
 -- all rows are done
-pub laid_all : (chains : Chains) (index : ℕ) (book laid : Rows) (number : ℕ) (entries : Entries) → Laying chains index book laid number → length chains ≤ number → IsOnceEach chains → finite.from_entries (placed chains) ≡ entries → IsLaidOver (held entries) index book laid
-laid_all chains index book laid number entries so_far all once same row seen is =
-    let here = seen_alike (held entries row) (stands chains row) index seen (λ i. sym (ap (λ (es : Entries). held es row i) same) ∙ held_placed chains row i once) is in
+pub laid_all : (chains : Chains) (index : ℕ) (book laid : Rows) (number : ℕ) → Laying chains index book laid number → length chains ≤ number → IsLaidOver (stands chains) index book laid
+laid_all chains index book laid number so_far all row seen is =
     elim (so_far.each row) [
-      | inr under ↦ under seen here
+      | inr under ↦ under seen is
       | inl kept ↦ elim (value_in chains row) as (λ o. value_in chains row ≡ o → finite.get laid row ≡ row_under (finite.get book row) seen) [
-        | None ↦ λ none. kept ∙ sym (nothing_seen chains row index seen (finite.get book row) none here)
+        | None ↦ λ none. kept ∙ sym (nothing_seen chains row index seen (finite.get book row) none is)
         | Some chain ↦ λ some.
             let there = standing chains row chain some in
-            so_far.done there.0 row (let l = slice_get_within chains there.0 (row, chain) there.1 in omega arith) (rows_there chains there.0 (row, chain) there.1) seen here
+            so_far.done there.0 row (let l = slice_get_within chains there.0 (row, chain) there.1 in omega arith) (rows_there chains there.0 (row, chain) there.1) seen is
       ] refl
     ]
+
+-- the same, by the entries that the chains hold
+pub laid_entries : (chains : Chains) (index : ℕ) (book laid : Rows) (entries : Entries) → IsOnceEach chains → finite.from_entries (placed chains) ≡ entries → IsLaidOver (stands chains) index book laid → IsLaidOver (held entries) index book laid
+laid_entries chains index book laid entries once same over row seen is =
+    over row seen (seen_alike (held entries row) (stands chains row) index seen (λ i. sym (ap (λ (es : Entries). held es row i) same) ∙ held_placed chains row i once) is)
 
 -- what isn't a value leaves the row
 pub no_value : (seen : Seen) (was : Option RowVal) → ((v : Version) (x : RowVal) → seen ≡ Value v x → ⊥) → row_under was seen ≡ was

@@ -51,6 +51,12 @@ rest_once : (e : RowKey × Chain) (es : Chains) → IsOnceEach (e ∷ es) → Is
 unfolding IsDistinct
 rest_once e es once = once.1
 
+-- a row that has a number has one of those that there are
+pub row_within : (es : Chains) (n : ℕ) (row : RowKey) → row_at es n ≡ Some row → n < length es
+row_within [] n row at = absurd (none-some row at)
+row_within (e ∷ es) zero row at = omega arith
+row_within (e ∷ es) (suc n) row at = let rest = row_within es n row at in omega arith
+
 pub rows-set : (es : Chains) (n : ℕ) (chain : Chain) → rows_of (set_value_at es n chain) ≡ rows_of es
 rows-set [] n chain = refl
 rows-set (e ∷ es) zero chain = refl

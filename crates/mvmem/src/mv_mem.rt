@@ -140,16 +140,26 @@ impl MvMem {
         ensures { IfOk result (λ laid. IsLaidOver (held self.now.entries) index book.now laid) }
     {
         let mut laid = book.copy()?;
-        laid.reserve(self.chains.len())?;
-        for number in 0..self.chains.len() {
-            let row = self.chains.row(number);
-            let seen = seen_of(self.chains.nearest_at(number, index));
-            if let Seen::Value(_, value) = seen {
-                laid.put_copy(row, &value)?;
-            }
+        match lay_over(&self.chains, index, &mut laid) {
+            Ok(()) => Ok(laid),
+            Err(fault) => Err(fault),
         }
-        Ok(laid)
     }
+}
+
+// Puts each row as the message at this index sees it into the book, where it sees a value.
+fn lay_over(chains: &Chains, index: u32, book: &mut Book) -> Result<(), AllocError>
+    ensures { OnOk result (IsLaidOver (stands chains.now) index book.old book.new) }
+{
+    book.reserve(chains.len())?;
+    for number in 0..chains.len() {
+        let row = chains.row(number);
+        let seen = seen_of(chains.nearest_at(number, index));
+        if let Seen::Value(_, value) = seen {
+            book.put_copy(row, &value)?;
+        }
+    }
+    Ok(())
 }
 
 // Makes the message's list, if it has none, and room in it for so many rows more.

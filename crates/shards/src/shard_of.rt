@@ -10,13 +10,19 @@ const LAST: usize = 4;
 pub(crate) fn shard_of(key: &RowKey) -> usize
     ensures { result < 64 }
 {
-    let (kind, text) = match key {
-        RowKey::Card(pan) => (0u32, pan.as_str()),
-        RowKey::Velocity(pan, _) => (1, pan.as_str()),
-        RowKey::Budget(prefix) => (2, prefix.as_str()),
-        RowKey::Original(identity) => (3, identity.stan.as_str()),
-        RowKey::Account(id) => (4, id.as_str()),
-    };
+    match key {
+        RowKey::Card(pan) => shard_of_text(0, pan.as_str()),
+        RowKey::Velocity(pan, _) => shard_of_text(1, pan.as_str()),
+        RowKey::Budget(prefix) => shard_of_text(2, prefix.as_str()),
+        RowKey::Original(identity) => shard_of_text(3, identity.stan.as_str()),
+        RowKey::Account(id) => shard_of_text(4, id.as_str()),
+    }
+}
+
+// The shard of a row of this kind, whose key is this text.
+fn shard_of_text(kind: u32, text: &str) -> usize
+    ensures { result < 64 }
+{
     let mut number = kind;
     for byte in text.as_bytes().iter().rev().take(LAST) {
         number = number.wrapping_mul(31).wrapping_add(u32::from(*byte));

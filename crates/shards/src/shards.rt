@@ -89,8 +89,7 @@ impl Shards {
         Ok(is_new)
     }
 
-    // Puts this value as the version's entry of the row. Answers whether its message had none. Where no message from `done` on sees the
-    // row's first entry, that one is taken out, so that a chain has few entries and its memory is used again.
+    // Puts this value as the version's entry of the row, under the lock of the row's shard.
     fn put<R: Wait>(
         &self,
         rt: &R,
@@ -103,12 +102,7 @@ impl Shards {
         requires { IsOfKind key.now value.now }
     {
         let mut chains = lock_briefly(rt, &self.shards[shard_of(key)]);
-        let number = chains.reserve(alloc, key, &[])?;
-        let (number, is_new) = chains.put(key, &[number], version, value);
-        if let Some(first) = chains.superseded(number, done) {
-            chains.take_out(number, first);
-        }
-        Ok(is_new)
+        put_in(&mut chains, alloc, version, key, value, done)
     }
 
     // Takes out the message's entries of the rows that it put before and that are not among these.
@@ -121,12 +115,10 @@ impl Shards {
         }
     }
 
-    // Takes out the message's entry of the row.
+    // Takes out the message's entry of the row, under the lock of the row's shard.
     fn take_out<R: Wait>(&self, rt: &R, key: &RowKey, index: u32) {
         let mut chains = lock_briefly(rt, &self.shards[shard_of(key)]);
-        if let Some(number) = chains.number_of(key, &[]) {
-            chains.take_out(number, index);
-        }
+        take_out_in(&mut chains, key, index);
     }
 
     /// The message's entries of these rows are estimates from now on.
@@ -134,10 +126,42 @@ impl Shards {
         for place in 0..writes.len() {
             let (key, _) = writes.row(place);
             let mut chains = lock_briefly(rt, &self.shards[shard_of(key)]);
-            if let Some(number) = chains.number_of(key, &[]) {
-                chains.to_estimate(number, index);
-            }
+            estimate_in(&mut chains, key, index);
         }
+    }
+}
+
+// Puts this value as the version's entry of the row. Answers whether its message had none. Where no message from `done` on sees the
+// row's first entry, that one is taken out, so that a chain has few entries and its memory is used again.
+fn put_in(
+    chains: &mut Chains,
+    alloc: Global,
+    version: Version,
+    key: &RowKey,
+    value: &RowVal,
+    done: u32,
+) -> Result<bool, AllocError>
+    requires { IsOfKind key.now value.now }
+{
+    let number = chains.reserve(alloc, key, &[])?;
+    let (number, is_new) = chains.put(key, &[number], version, value);
+    if let Some(first) = chains.superseded(number, done) {
+        chains.take_out(number, first);
+    }
+    Ok(is_new)
+}
+
+// Takes out the message's entry of the row.
+fn take_out_in(chains: &mut Chains, key: &RowKey, index: u32) {
+    if let Some(number) = chains.number_of(key, &[]) {
+        chains.take_out(number, index);
+    }
+}
+
+// The message's entry of the row is an estimate from now on.
+fn estimate_in(chains: &mut Chains, key: &RowKey, index: u32) {
+    if let Some(number) = chains.number_of(key, &[]) {
+        chains.to_estimate(number, index);
     }
 }
 

@@ -1,8 +1,7 @@
-use Rattle.std.proofs.Common.{rules, ◌≡◌, ◌≤◌, ◌<◌, ℕ, List, IfOk, length, map, sym, ap, subst, ◌∙◌, arith}
+use Rattle.std.proofs.Common.{◌≡◌, ◌≤◌, ◌<◌, ℕ, List, IfOk, length, map, refl, sym, ap, subst, ◌∙◌, arith}
 use Rattle.std.proofs.lemmas.Bool.{false≢true}
 use Rattle.std.proofs.lemmas.Result.{IfOk-weaker}
 use Rattle.batch_laws.specs.Blocks.{replies_to_blocks}
-use Rattle.fold.proofs.FoldLaws.{length-replies_to}
 use Rattle.rows.specs.Fold.{Rows, replies_to}
 use Rattle.rows.specs.declared.reply_body.ReplyBody.{ReplyBody}
 use Rattle.audit.specs.Blocks.{FindsInBlocks}
@@ -19,23 +18,21 @@ bounds-replies-block c =
     subst (λ (n : ℕ). c.loop-block.block < n)
     (same_lengths (λ b. b.items) (λ b. b.items) c.args.blocks.now c.args.replies.now (c.have_same_counts.ensures.0 c.if-not-have_same_counts.false)) c.loop-block-test.true
 
-pub first_differing_reply-requires-clause-count : goal.first_differing_reply-requires-clause-count
-first_differing_reply-requires-clause-count c =
+pub decided_block-requires-clause-few : goal.decided_block-requires-clause-few
+decided_block-requires-clause-few c =
+    let v = c.index-blocks-block.result in
+    let few : length v.items ≤ 65536 = subst (λ b. length b.items ≤ 65536) (sym c.index-blocks-block.is) (c.requires.frames c.loop-block.block v c.loop-block-test.true) in
+    subst (λ (n : ℕ). n ≤ 65536) (sym (ap length c.deref.ensures.value)) few
+
+pub decided_block-requires-clause-count : goal.decided_block-requires-clause-count
+decided_block-requires-clause-count c =
     let v = c.index-blocks-block.result in
     let w = c.index-replies-block.result in
     let counted = c.have_same_counts.ensures.0 c.if-not-have_same_counts.false in
     let within : c.loop-block.block < length c.args.replies.now = subst (λ (n : ℕ). c.loop-block.block < n) (same_lengths (λ b. b.items) (λ b. b.items) c.args.blocks.now c.args.replies.now counted) c.loop-block-test.true in
-    let right : c.in_ok-prefix.prefix.replies.items ≡ replies_to c.loop-block.right v.items = search rules in
     ap length c.deref-in-loop-block.ensures.value
     ∙ same_count (λ b. b.items) (λ b. b.items) c.args.blocks.now c.args.replies.now c.loop-block.block v w counted c.loop-block-test.true within c.index-blocks-block.is c.index-replies-block.is
-    ∙ sym (length-replies_to c.loop-block.right v.items) ∙ sym (ap length right) ∙ sym (ap length c.deref-in-loop-block-2.ensures.value)
-
-pub first_differing_reply-requires-clause-few : goal.first_differing_reply-requires-clause-few
-first_differing_reply-requires-clause-few c =
-    let v = c.index-blocks-block.result in
-    let right : c.in_ok-prefix.prefix.replies.items ≡ replies_to c.loop-block.right v.items = search rules in
-    let few : length v.items ≤ 65536 = subst (λ b. length b.items ≤ 65536) (sym c.index-blocks-block.is) (c.requires.frames c.loop-block.block v c.loop-block-test.true) in
-    subst (λ (n : ℕ). n ≤ 65536) (sym (ap length c.deref-in-loop-block-2.ensures.value ∙ ap length right ∙ length-replies_to c.loop-block.right v.items)) few
+    ∙ sym (ap length c.deref.ensures.value)
 
 pub returns-in-Some : goal.returns-in-Some
 returns-in-Some c =
@@ -43,12 +40,11 @@ returns-in-Some c =
     let w = c.index-replies-block.result in
     let counted = c.have_same_counts.ensures.0 c.if-not-have_same_counts.false in
     let within : c.loop-block.block < length c.args.replies.now = subst (λ (n : ℕ). c.loop-block.block < n) (same_lengths (λ b. b.items) (λ b. b.items) c.args.blocks.now c.args.replies.now counted) c.loop-block-test.true in
-    let right : c.in_ok-prefix.prefix.replies.items ≡ replies_to c.loop-block.right v.items = search rules in
-    let here : IsFirstDifference w.items c.in_ok-prefix.prefix.replies.items c.in-Some.index =
-    rw (c.deref-in-loop-block.ensures.value, c.deref-in-loop-block-2.ensures.value) at c.in-Some.ensures.some in (
+    let here : IsFirstDifference w.items (replies_to c.loop-block.right v.items) c.in-Some.index =
+    rw c.in-Some.is at (rw (c.deref.ensures.value, c.deref-in-loop-block.ensures.value) at c.in_ok-decided.ensures.some) in (
       sym counted ∙ sym (counts_of_replies c.args.book.now (map (λ b. b.items) c.args.blocks.now)),
-      differs (λ b. b.items) (λ b. b.items) c.args.blocks.now c.args.replies.now c.args.book.now c.loop-block.right c.loop-block.block v w c.in_ok-prefix.prefix.replies.items c.in-Some.index
-          c.loop-block.invariant c.loop-block-test.true within c.index-blocks-block.is c.index-replies-block.is right here,
+      differs (λ b. b.items) (λ b. b.items) c.args.blocks.now c.args.replies.now c.args.book.now c.loop-block.right c.loop-block.block v w (replies_to c.loop-block.right v.items) c.in-Some.index
+          c.loop-block.invariant c.loop-block-test.true within c.index-blocks-block.is c.index-replies-block.is refl here,
     )
 
 pub loop-block-preserved : goal.loop-block-preserved
@@ -57,11 +53,10 @@ loop-block-preserved c =
     let w = c.index-replies-block.result in
     let counted = c.have_same_counts.ensures.0 c.if-not-have_same_counts.false in
     let within : c.loop-block.block < length c.args.replies.now = subst (λ (n : ℕ). c.loop-block.block < n) (same_lengths (λ b. b.items) (λ b. b.items) c.args.blocks.now c.args.replies.now counted) c.loop-block-test.true in
-    let right : c.in_ok-prefix.prefix.replies.items ≡ replies_to c.loop-block.right v.items = search rules in
     let same : w.items ≡ replies_to c.loop-block.right v.items =
-    (rw (c.deref-in-loop-block.ensures.value, c.deref-in-loop-block-2.ensures.value) at c.in_default.ensures.none) ∙ right in
-    goes_on (λ b. b.items) (λ b. b.items) c.args.blocks.now c.args.replies.now c.args.book.now c.loop-block.right c.in_ok-prefix.prefix.book c.loop-block.block v w
-    c.loop-block.invariant c.loop-block-test.true within c.index-blocks-block.is c.index-replies-block.is same (search rules)
+    rw c.in_default.is at (rw (c.deref.ensures.value, c.deref-in-loop-block.ensures.value) at c.in_ok-decided.ensures.none) in
+    goes_on (λ b. b.items) (λ b. b.items) c.args.blocks.now c.args.replies.now c.args.book.now c.loop-block.right c.in_ok-decided.decided c.loop-block.block v w
+    c.loop-block.invariant c.loop-block-test.true within c.index-blocks-block.is c.index-replies-block.is same (rw c.deref.ensures.value at c.in_ok-decided.ensures.book)
 
 pub returns : goal.returns
 returns c =

@@ -27,5 +27,11 @@ returns-clause-gives c =
     is_whole c.args.bitmap front_parts (tail_parts c.args.mti) c.args.bytes.now (front_fields c.in_ok-front.front) (body_fields c.in_ok-body.body) c.in_ok-front.front.rest.now c.in_ok-body.body.rest.now (c.in_ok-front.ensures.gives c.args.bitmap)
     (sym (tail_is c.args.mti c.args.bitmap c.in_ok-front.front.rest.now c.requires) ∙ c.in_ok-body.ensures.gives) (sym c.is_empty.ensures ∙ c.if-not-is_empty.false)
 
+pub returns-clause-front : goal.returns-clause-front
+returns-clause-front c = c.in_ok-front.ensures.texts
+
+pub returns-clause-body : goal.returns-clause-body
+returns-clause-body c = c.in_ok-body.ensures.texts
+
 pub returns-clause-form : goal.returns-clause-form
 returns-clause-form c = is_body_of c.args.mti c.args.bitmap c.in_ok-body.body c.requires c.in_ok-body.ensures.there

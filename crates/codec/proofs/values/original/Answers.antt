@@ -8,6 +8,9 @@ original_type-kind-requires c = (original_cut c.args.text.now c.requires).0
 pub acquirer-requires : goal.acquirer-requires
 acquirer-requires c = rw (take_rest c.args.text.now 24) (original_cut c.args.text.now c.requires).3
 
+pub stan-requires : goal.stan-requires
+stan-requires c = (original_cut c.args.text.now c.requires).1
+
 pub stamp-requires : goal.stamp-requires
 stamp-requires c = (original_cut c.args.text.now c.requires).2
 

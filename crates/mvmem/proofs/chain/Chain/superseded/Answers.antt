@@ -1,4 +1,4 @@
-use Rattle.std.proofs.Common.{◌<◌, ℕ, IsSome, length, ap, subst, arith}
+use Rattle.std.proofs.Common.{IsSome, subst, arith}
 use Rattle.mvmem.proofs.ChainLaws.{first_two}
 use Rattle.mvmem.specs.Chains.{Chain, found}
 use Rattle.mvmem.proofs.chain.Chain.superseded.Goals as goal

@@ -1,8 +1,8 @@
-use Rattle.std.proofs.Common.{◌≡◌, Option, Some, length, ap, sym, subst, ◌∙◌}
+use Rattle.std.proofs.Common.{◌≡◌, Option, Some, ap, sym, subst, ◌∙◌}
 use Rattle.mvmem.proofs.RowLaws.{chain_here, seen_of_kind}
 use Rattle.std.specs.Option.{option_copied}
-use Rattle.mvmem.specs.Chains.{Chain, Chains, found, links_in, row_at, seen_of, stands, AreInOrder}
-use Rattle.mvmem.specs.Resolves.{IsNearestBelow, IsWithinDigitsOf, Resolves}
+use Rattle.mvmem.specs.Chains.{Chain, Chains, found, links_in, row_at, seen_of, stands}
+use Rattle.mvmem.specs.Resolves.{IsNearestBelow, Resolves}
 use Rattle.rows.specs.declared.row_key.RowKey.{RowKey}
 use Rattle.view.specs.RowSets.{value_in}
 use Rattle.mvmem.proofs.chains.Chains.nearest_at.Goals as goal

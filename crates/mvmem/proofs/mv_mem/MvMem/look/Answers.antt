@@ -1,11 +1,15 @@
 use Rattle.std.proofs.Common.{Option, ap, sym, ◌∙◌}
 use Rattle.mvmem.proofs.Placed.{held_placed}
+use Rattle.mvmem.proofs.RowLaws.{row_within}
 use Rattle.mvmem.proofs.SeenLaws.{seen_alike}
 use Rattle.std.specs.Option.{option_copied}
 use Rattle.mvmem.specs.Chains.{Chain, found, links_in, seen_of, stands}
 use Rattle.mvmem.specs.Entries.{held}
 use Rattle.mvmem.specs.Memory.{Memory}
 use Rattle.mvmem.proofs.mv_mem.MvMem.look.Goals as goal
+
+pub nearest_at-requires : goal.nearest_at-requires
+nearest_at-requires c = row_within _ _ _ c.in-Some.ensures.found
 
 pub returns-in-Some-clause-seen : goal.returns-in-Some-clause-seen
 returns-in-Some-clause-seen c =
