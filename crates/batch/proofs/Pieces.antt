@@ -12,6 +12,9 @@ Progress old new out text = (front : List ℕ) × (new ≡ old ++ front) × (fro
 pub begins : (old out text : List ℕ) → out ≡ text → Progress old old out text
 begins old out text same = ([], sym (append-nil old), same)
 
+pub nothing_put : (old text : List ℕ) → AppendsPart old old text
+nothing_put old text = ([], text, sym (append-nil old), refl)
+
 pub adds : (old new out text out' text' more : List ℕ) → out' ≡ out ++ more → text' ≡ text ++ more → Progress old new out text → Progress old new out' text'
 adds old new out text out' text' more e f p =
     (p.0, p.1, rw (e, f, ← p.2) (sym (append_assoc p.0 out more)))

@@ -1,5 +1,5 @@
 -- One more call that put a part of the rest.
-use Rattle.std.proofs.Common.{◌≡◌, ◌≢◌, ℕ, zero, suc, ◌-◌, ◌≤◌, List, [], ◌++◌, length, take, drop, Ok, true, refl, sym, ap, ◌∙◌, append_assoc, arith}
+use Rattle.std.proofs.Common.{◌≡◌, ◌≢◌, ℕ, zero, suc, ◌-◌, List, [], ◌++◌, length, take, drop, Ok, true, refl, sym, ap, ◌∙◌, append_assoc, arith}
 use Rattle.std.proofs.lemmas.List.{append-nil, length-drop, take-append-drop, take_all, nil_from_length}
 use Rattle.std.specs.Bool.{◌==◌}
 use Rattle.batch.specs.Devices.{failures_after_put}

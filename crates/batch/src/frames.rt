@@ -62,7 +62,6 @@ impl Window {
         Ok(frames)
     }
 
-    #[tactic(auto, unfolding(batch_laws::specs::Reading::bodies_of))]
     fn read_file<R: Source>(
         &mut self,
         alloc: Global,

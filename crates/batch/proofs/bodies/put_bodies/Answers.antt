@@ -6,7 +6,7 @@ use Rattle.batch_laws.specs.Files.{framed, head_text, batch_text}
 use Rattle.batch_laws.specs.Reading.{batch_magic}
 use Rattle.batch.specs.Bodies.{bytes_of}
 use Rattle.batch.proofs.Lengths.{text_of_vecs}
-use Rattle.batch.proofs.Pieces.{so_many, adds, moves, stops, halts, ends, one_more_at, the_rest, all_of_them}
+use Rattle.batch.proofs.Pieces.{so_many, nothing_put, adds, moves, stops, halts, ends, one_more_at, the_rest, all_of_them}
 use Rattle.batch.proofs.bodies.put_bodies.Goals as goal
 
 pub returns-in_err-add_framed-clause-err : goal.returns-in_err-add_framed-clause-err
@@ -69,3 +69,21 @@ returns-clause-ok g c = on_ok_weaker c.put_all.result (λ all known.
     let put : g.W.Sink.written c.put_all.new.sink ≡ g.W.Sink.written c.loop-body.sink ++ c.loop-body.out.items = rw c.deref-2.ensures.value at (all (c.loop-body.invariant.known known)) in
     ends (g.W.Sink.written c.args.sink.now) (g.W.Sink.written c.loop-body.sink) (g.W.Sink.written c.put_all.new.sink) c.loop-body.out.items (so_many text head bodies i) put (c.loop-body.invariant.bytes known)
     ∙ ap (λ x. g.W.Sink.written c.args.sink.now ++ x) (all_of_them text head bodies i c.loop-body-test.false ∙ sym (text_of_vecs bodies))) c.put_all.ensures.ok
+
+pub returns-in_err-add_head-clause-known : goal.returns-in_err-add_head-clause-known
+returns-in_err-add_head-clause-known g c = λ known. known
+
+pub returns-in_err-add_head-clause-err : goal.returns-in_err-add_head-clause-err
+returns-in_err-add_head-clause-err g c =
+    let p = err_from_is_err_and c.from_residual.result c.from_residual.ensures.1 in
+    let bodies = c.args.bodies.now in
+    rw p.1 (λ known. nothing_put (g.W.Sink.written c.args.sink.now) (batch_text (bytes_of bodies)))
+
+pub returns-in_err-add_framed-clause-known : goal.returns-in_err-add_framed-clause-known
+returns-in_err-add_framed-clause-known g c = c.loop-body.invariant.known
+
+pub returns-in_err-put_piece-clause-known : goal.returns-in_err-put_piece-clause-known
+returns-in_err-put_piece-clause-known g c = λ known. c.put_piece.ensures.known (c.loop-body.invariant.known known)
+
+pub returns-clause-known : goal.returns-clause-known
+returns-clause-known g c = λ known. c.put_all.ensures.known (c.loop-body.invariant.known known)

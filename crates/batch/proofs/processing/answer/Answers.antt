@@ -1,4 +1,4 @@
-use Rattle.std.proofs.Common.{◌≡◌, ◌≤◌, length, ap, ◌∙◌, inr}
+use Rattle.std.proofs.Common.{◌≡◌, ◌≤◌, length, ap, ◌∙◌, inl, inr, refl}
 use Rattle.std.proofs.lemmas.Result.{err_from_is_err_and}
 use Rattle.batch.proofs.Folds.{as_many, no_fault}
 use Rattle.batch.proofs.processing.answer.Goals as goal
@@ -22,3 +22,17 @@ returns-in_err-write_replies-clause-begun g c =
       c.in_ok-outcome.ensures,
       λ known. rw c.deref.ensures.value at (c.in_err-write_replies.ensures.err known),
     ))
+
+pub returns-in_err-outcome-clause-known : goal.returns-in_err-outcome-clause-known
+returns-in_err-outcome-clause-known g c = λ known. known
+
+pub returns-in_err-write_replies-clause-known : goal.returns-in_err-write_replies-clause-known
+returns-in_err-write_replies-clause-known g c = c.write_replies.ensures.known
+
+pub returns-clause-known : goal.returns-clause-known
+returns-clause-known g c = c.write_replies.ensures.known
+
+pub returns-in_err-outcome-clause-begun : goal.returns-in_err-outcome-clause-begun
+returns-in_err-outcome-clause-begun g c =
+    let p = err_from_is_err_and c.from_residual.result c.from_residual.ensures.1 in
+    rw p.1 (inl refl)

@@ -4,7 +4,7 @@ use Rattle.std.proofs.lemmas.Result.{err_from_is_err_and, on_err_weaker, on_ok_w
 use Rattle.rows.specs.declared.reply_body.ReplyBody.{ReplyBody}
 use Rattle.batch_laws.specs.Files.{framed, reply_text, head_text, replies_text}
 use Rattle.batch_laws.specs.Reading.{replies_magic}
-use Rattle.batch.proofs.Pieces.{so_many, adds, moves, stops, halts, ends, one_more_at, the_rest, all_of_them}
+use Rattle.batch.proofs.Pieces.{so_many, nothing_put, adds, moves, stops, halts, ends, one_more_at, the_rest, all_of_them}
 use Rattle.batch.proofs.replies.put_replies.Goals as goal
 
 pub returns-in_err-add_reply-clause-err : goal.returns-in_err-add_reply-clause-err
@@ -67,3 +67,21 @@ returns-clause-ok g c = on_ok_weaker c.put_all.result (λ all known.
     let put : g.W.Sink.written c.put_all.new.sink ≡ g.W.Sink.written c.loop-reply.sink ++ c.loop-reply.out.items = rw c.deref.ensures.value at (all (c.loop-reply.invariant.known known)) in
     ends (g.W.Sink.written c.args.sink.now) (g.W.Sink.written c.loop-reply.sink) (g.W.Sink.written c.put_all.new.sink) c.loop-reply.out.items (so_many text head replies i) put (c.loop-reply.invariant.bytes known)
     ∙ ap (λ x. g.W.Sink.written c.args.sink.now ++ x) (all_of_them text head replies i c.loop-reply-test.false)) c.put_all.ensures.ok
+
+pub returns-in_err-add_head-clause-known : goal.returns-in_err-add_head-clause-known
+returns-in_err-add_head-clause-known g c = λ known. known
+
+pub returns-in_err-add_head-clause-err : goal.returns-in_err-add_head-clause-err
+returns-in_err-add_head-clause-err g c =
+    let p = err_from_is_err_and c.from_residual.result c.from_residual.ensures.1 in
+    let replies = c.args.replies.now in
+    rw p.1 (λ known. nothing_put (g.W.Sink.written c.args.sink.now) (replies_text replies))
+
+pub returns-in_err-add_reply-clause-known : goal.returns-in_err-add_reply-clause-known
+returns-in_err-add_reply-clause-known g c = c.loop-reply.invariant.known
+
+pub returns-in_err-put_piece-clause-known : goal.returns-in_err-put_piece-clause-known
+returns-in_err-put_piece-clause-known g c = λ known. c.put_piece.ensures.known (c.loop-reply.invariant.known known)
+
+pub returns-clause-known : goal.returns-clause-known
+returns-clause-known g c = λ known. c.put_all.ensures.known (c.loop-reply.invariant.known known)

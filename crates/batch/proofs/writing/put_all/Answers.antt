@@ -16,3 +16,12 @@ loop-rest-preserved g c =
 pub returns-clause-ok : goal.returns-clause-ok
 returns-clause-ok g c = λ known.
     all_put (g.W.Sink.written c.args.sink.now) (g.W.Sink.written c.loop-rest.sink) c.args.bytes.now c.loop-rest.rest.now (c.loop-rest.invariant.bytes known) c.loop-rest-test.ensures
+
+pub returns-in-Ok-eq0-clause-known : goal.returns-in-Ok-eq0-clause-known
+returns-in-Ok-eq0-clause-known g c = λ known. c.put.ensures.known (c.loop-rest.invariant.known known)
+
+pub returns-in-Err-clause-known : goal.returns-in-Err-clause-known
+returns-in-Err-clause-known g c = λ known. c.put.ensures.known (c.loop-rest.invariant.known known)
+
+pub returns-clause-known : goal.returns-clause-known
+returns-clause-known g c = c.loop-rest.invariant.known

@@ -32,3 +32,15 @@ loop-preserved g c =
           (g.W.Sink.is_known c.args.sink.now) (g.W.Sink.is_known c.loop.sink) (g.W.Sink.written c.args.sink.now) (g.W.Sink.written c.loop.sink) (g.W.Sink.written c.step.new.sink)
           before.so_far c.in_ok-step.ensures.ok before.read_known before.put_known;
     }
+
+pub returns-in_err-step-clause-read_known : goal.returns-in_err-step-clause-read_known
+returns-in_err-step-clause-read_known g c = λ known. c.step.ensures.read_known (c.loop.invariant.read_known known)
+
+pub returns-in_err-step-clause-put_known : goal.returns-in_err-step-clause-put_known
+returns-in_err-step-clause-put_known g c = λ known. c.step.ensures.put_known (c.loop.invariant.put_known known)
+
+pub returns-clause-read_known : goal.returns-clause-read_known
+returns-clause-read_known g c = c.loop.invariant.read_known
+
+pub returns-clause-put_known : goal.returns-clause-put_known
+returns-clause-put_known g c = c.loop.invariant.put_known

@@ -1,4 +1,4 @@
-use Rattle.std.proofs.Common.{ℕ, ◌≡◌, ◌+◌, ◌++◌, refl, ap, ◌∙◌, inr}
+use Rattle.std.proofs.Common.{ℕ, ◌≡◌, ◌+◌, ◌++◌, refl, ap, ◌∙◌, inl, inr}
 use Rattle.std.proofs.lemmas.Result.{err_from_is_err_and}
 use Rattle.batch_laws.specs.Blocks.{block_replies_magic}
 use Rattle.batch_laws.specs.Files.{head_text}
@@ -75,3 +75,31 @@ returns-clause-ok g c =
     c.in_ok-decide_blocks.ensures.ok (λ known. c.in_ok-count.ensures.known known) (λ known. c.in_ok-write_head.ensures.known known) (λ known. c.in_ok-write_head.ensures.ok known))
     c.in_ok-decide_blocks.ensures.all (λ known. rw c.in_ok-window.ensures at (c.in_ok-count.ensures.gives known))
     (λ known. c.in_ok-read_end.ensures.gives (c.in_ok-decide_blocks.ensures.read_known (c.in_ok-count.ensures.known known))) (λ known. refl)
+
+pub returns-in_err-window-clause-known : goal.returns-in_err-window-clause-known
+returns-in_err-window-clause-known g c = λ known. known
+
+pub returns-in_err-count-clause-known : goal.returns-in_err-count-clause-known
+returns-in_err-count-clause-known g c = λ known. known
+
+pub returns-in_err-write_head-clause-known : goal.returns-in_err-write_head-clause-known
+returns-in_err-write_head-clause-known g c = c.write_head.ensures.known
+
+pub returns-in_err-decide_blocks-clause-known : goal.returns-in_err-decide_blocks-clause-known
+returns-in_err-decide_blocks-clause-known g c = λ known. c.decide_blocks.ensures.put_known (c.write_head.ensures.known known)
+
+pub returns-in_err-read_end-clause-known : goal.returns-in_err-read_end-clause-known
+returns-in_err-read_end-clause-known g c = λ known. c.decide_blocks.ensures.put_known (c.write_head.ensures.known known)
+
+pub returns-clause-known : goal.returns-clause-known
+returns-clause-known g c = λ known. c.decide_blocks.ensures.put_known (c.write_head.ensures.known known)
+
+pub returns-in_err-window-clause-err : goal.returns-in_err-window-clause-err
+returns-in_err-window-clause-err g c =
+    let p = err_from_is_err_and c.from_residual.result c.from_residual.ensures.1 in
+    rw (p.1, p.2) (inl (c.requires.none.0, refl, refl, λ known of_bytes. absurd cc))
+
+pub returns-in_err-count-clause-err : goal.returns-in_err-count-clause-err
+returns-in_err-count-clause-err g c =
+    let p = err_from_is_err_and c.from_residual-in_err-count.result c.from_residual-in_err-count.ensures.1 in
+    rw (p.1, p.2) (inl (c.requires.none.0, refl, refl, λ known of_bytes. rw c.in_ok-window.ensures at (c.in_err-count.ensures.gives known of_bytes)))

@@ -28,3 +28,15 @@ returns-clause-gives g c = λ known.
     let given = c.in_ok-blocks.ensures.gives in_head in
     is_file (ahead c.args.self.now (g.R.Source.remaining c.args.source.now)) behind left c.in_ok-count.count c.in_ok-blocks.blocks.items
     (c.in_ok-count.ensures.gives known) given.0 given.1 (c.in_ok-read_end.ensures.gives in_blocks)
+
+pub returns-in_err-count-clause-known : goal.returns-in_err-count-clause-known
+returns-in_err-count-clause-known g c = c.read_block_head.ensures.known
+
+pub returns-in_err-blocks-clause-known : goal.returns-in_err-blocks-clause-known
+returns-in_err-blocks-clause-known g c = λ known. c.read_blocks_of.ensures.known (c.read_block_head.ensures.known known)
+
+pub returns-in_err-read_end-clause-known : goal.returns-in_err-read_end-clause-known
+returns-in_err-read_end-clause-known g c = λ known. c.read_end.ensures.known (c.read_blocks_of.ensures.known (c.read_block_head.ensures.known known))
+
+pub returns-clause-known : goal.returns-clause-known
+returns-clause-known g c = λ known. c.read_end.ensures.known (c.read_blocks_of.ensures.known (c.read_block_head.ensures.known known))

@@ -1,5 +1,4 @@
-use Rattle.std.proofs.Common.{ap, ◌∙◌, arith, length}
-use Rattle.std.specs.Global.{Vec}
+use Rattle.std.proofs.Common.{◌∙◌, arith}
 use Rattle.batch.specs.Window.{part, ahead}
 use Rattle.batch.proofs.Parts.{moved_on, is_field}
 use Rattle.batch.proofs.window.Window.read_field.Goals as goal
@@ -27,3 +26,12 @@ returns-clause-gives g c = λ known.
     let self = c.loop-self.self in
     is_field c.args.size (ahead c.args.self.now (g.R.Source.remaining c.args.source.now)) self.field.items (ahead self (g.R.Source.remaining c.loop-self.source))
     (c.loop-self.invariant.bytes known) (omega (arith, c.loop-self.invariant.within, c.loop-self-test.false, c.len.ensures, self.field.ok.0))
+
+pub returns-in_err-make_ready-clause-known : goal.returns-in_err-make_ready-clause-known
+returns-in_err-make_ready-clause-known g c = λ known. c.make_ready.ensures.known (c.loop-self.invariant.known known)
+
+pub returns-in_err-move_on-clause-known : goal.returns-in_err-move_on-clause-known
+returns-in_err-move_on-clause-known g c = λ known. c.make_ready.ensures.known (c.loop-self.invariant.known known)
+
+pub returns-clause-known : goal.returns-clause-known
+returns-clause-known g c = c.loop-self.invariant.known

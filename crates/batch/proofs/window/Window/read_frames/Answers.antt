@@ -44,3 +44,12 @@ returns-clause-gives g c = λ known.
     (ahead c.loop.self (g.R.Source.remaining c.loop.source))
     (bodies_at c.args.count (ahead c.args.self.now (g.R.Source.remaining c.args.source.now)))
     c.loop-test.false (c.loop.invariant.frames known)
+
+pub returns-in_err-read_body-clause-known : goal.returns-in_err-read_body-clause-known
+returns-in_err-read_body-clause-known g c = λ known. c.read_body.ensures.known (c.loop.invariant.known known)
+
+pub returns-in_err-push-clause-known : goal.returns-in_err-push-clause-known
+returns-in_err-push-clause-known g c = λ known. c.read_body.ensures.known (c.loop.invariant.known known)
+
+pub returns-clause-known : goal.returns-clause-known
+returns-clause-known g c = c.loop.invariant.known

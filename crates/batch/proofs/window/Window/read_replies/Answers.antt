@@ -46,3 +46,15 @@ pub returns-clause-gives : goal.returns-clause-gives
 returns-clause-gives g c = λ known.
     is_done c.loop-index.index c.args.count (ahead c.args.self.now (g.R.Source.remaining c.args.source.now)) c.loop-index.replies.items
     (ahead c.loop-index.self (g.R.Source.remaining c.loop-index.source)) (omega (arith, c.loop-index-test.false, c.loop-index.invariant.within)) (c.loop-index.invariant.replies known)
+
+pub returns-in_err-read_body-clause-known : goal.returns-in_err-read_body-clause-known
+returns-in_err-read_body-clause-known g c = λ known. c.read_body.ensures.known (c.loop-index.invariant.known known)
+
+pub returns-in_default-clause-known : goal.returns-in_default-clause-known
+returns-in_default-clause-known g c = λ known. c.read_body.ensures.known (c.loop-index.invariant.known known)
+
+pub returns-in_err-push-clause-known : goal.returns-in_err-push-clause-known
+returns-in_err-push-clause-known g c = λ known. c.read_body.ensures.known (c.loop-index.invariant.known known)
+
+pub returns-clause-known : goal.returns-clause-known
+returns-clause-known g c = c.loop-index.invariant.known

@@ -44,3 +44,12 @@ loop-preserved g c =
 
 pub returns-clause-gives : goal.returns-clause-gives
 returns-clause-gives g c = λ known. (c.loop.invariant.blocks known, omega (arith, c.loop-test.false, c.loop.invariant.within, c.loop.invariant.count))
+
+pub returns-in_err-block-clause-known : goal.returns-in_err-block-clause-known
+returns-in_err-block-clause-known g c = λ known. c.read_reply_block.ensures.known (c.loop.invariant.known known)
+
+pub returns-in_err-push-clause-known : goal.returns-in_err-push-clause-known
+returns-in_err-push-clause-known g c = λ known. c.read_reply_block.ensures.known (c.loop.invariant.known known)
+
+pub returns-clause-known : goal.returns-clause-known
+returns-clause-known g c = c.loop.invariant.known

@@ -28,3 +28,15 @@ returns-clause-gives g c = λ known.
     let given = c.in_ok-replies.ensures.gives in_head in
     let end = c.in_ok-read_end.ensures.gives (c.in_ok-replies.ensures.known in_head) in
     (given.0, is_whole replies_magic bytes c.in_ok-count.count behind given.0 left (c.in_ok-count.ensures.gives known) given.1 end, given.2)
+
+pub returns-in_err-count-clause-known : goal.returns-in_err-count-clause-known
+returns-in_err-count-clause-known g c = c.read_head.ensures.known
+
+pub returns-in_err-replies-clause-known : goal.returns-in_err-replies-clause-known
+returns-in_err-replies-clause-known g c = λ known. c.read_replies.ensures.known (c.read_head.ensures.known known)
+
+pub returns-in_err-read_end-clause-known : goal.returns-in_err-read_end-clause-known
+returns-in_err-read_end-clause-known g c = λ known. c.read_end.ensures.known (c.read_replies.ensures.known (c.read_head.ensures.known known))
+
+pub returns-clause-known : goal.returns-clause-known
+returns-clause-known g c = λ known. c.read_end.ensures.known (c.read_replies.ensures.known (c.read_head.ensures.known known))
