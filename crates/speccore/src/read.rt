@@ -2,7 +2,7 @@ use rows::RowKey;
 use speccore_laws::Logged;
 
 /// A row that an incarnation asked for.
-#[derive(Clone, Copy, Debug)]
+#[derive(Clone, Copy)]
 pub(crate) struct Read {
     // The row.
     pub(crate) row: RowKey,
