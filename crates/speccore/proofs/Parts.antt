@@ -1,15 +1,16 @@
 -- A log in two parts: the first reads, found by their keys, and those behind them.
-use Rattle.std.proofs.Common.{◌≡◌, ℕ, zero, suc, ◌<◌, Bool, true, false, cond, List, [], ◌∷◌, length, get_or, Option, Some, None, IfSome, refl, sym, ap, ◌∙◌, subst, Bor, arith}
+use Rattle.std.proofs.Common.{◌≡◌, ℕ, zero, suc, ◌+◌, ◌<◌, take, Bool, true, false, cond, List, [], ◌∷◌, ◌++◌, length, get_or, Option, Some, None, IfSome, Result, Ok, Err, OnOk, OnErr, map, append_assoc, refl, sym, ap, ◌∙◌, subst, Bor, arith}
 use Rattle.std.proofs.lemmas.Option.{none-some}
 use Rattle.std.specs.Option.{option_copied}
 use Rattle.rows.specs.RowKey.{key_eq}
 use Rattle.rows.specs.RowVal.{IsOfKind}
+use Rattle.rows.specs.declared.frame.Frame.{Frame}
 use Rattle.rows.specs.declared.row_key.RowKey.{RowKey}
 use Rattle.view.proofs.KindLaws.{found_suits}
 use Rattle.view.specs.RowSets.{value_in}
-use Rattle.speccore_laws.specs.State.{Log}
+use Rattle.speccore_laws.specs.State.{Log, Slot, empty_slot}
 use Rattle.speccore_laws.specs.declared.logged.Logged.{Logged}
-use Rattle.speccore.specs.Origin.{log_of, AreOfKind}
+use Rattle.speccore.specs.Origin.{log_of, pair_of, AreOfKind}
 use Rattle.speccore.specs.declared.read.Read.{Read}
 
 -- the first read of the row is found
@@ -57,7 +58,53 @@ pub kinds_behind : (few : List Read) (more : Log) → AreOfKind (log_of few more
 kinds_behind [] more kinds = kinds
 kinds_behind (read ∷ few) more kinds = kinds_behind few more kinds.1
 
--- another second part
-pub kinds_joined : (few : List Read) (more new : Log) → AreOfKind (log_of few more) → AreOfKind new → AreOfKind (log_of few new)
-kinds_joined [] more new kinds now = now
-kinds_joined (read ∷ few) more new kinds now = (kinds.0, kinds_joined few more new kinds.1 now)
+-- one more read behind the first ones, where none stands behind them
+pub log_of_more : (few : List Read) (more : Log) (read : Read) → length more ≡ 0 → log_of (few ++ read ∷ []) more ≡ log_of few more ++ pair_of read ∷ []
+log_of_more [] [] read empty = refl
+log_of_more [] (other ∷ more) read empty = absurd (omega arith)
+log_of_more (other ∷ few) more read empty = ap (λ (log : Log). pair_of other ∷ log) (log_of_more few more read empty)
+
+kinds_more : (log : Log) (read : RowKey × Logged) → AreOfKind log → IfSome read.1.value (IsOfKind read.0) → AreOfKind (log ++ read ∷ [])
+kinds_more [] read kinds kind = (kind, tt)
+kinds_more (other ∷ log) read kinds kind = (kinds.0, kinds_more log read kinds.1 kind)
+
+module _ {T E : Type 0} where
+  -- what follows of what holds after a success, or after an error
+  pub ok_then : {P Q : Type 0} (r : Result T E) → (P → Q) → OnOk r P → OnOk r Q
+  ok_then (Ok x) f p = f p
+  ok_then (Err e) f p = tt
+
+  pub err_then : {P Q : Type 0} (r : Result T E) → (P → Q) → OnErr r P → OnErr r Q
+  err_then (Ok x) f p = tt
+  err_then (Err e) f p = f p
+
+  -- one more read after a success, and none after an error
+  pub kinds_after : (r : Result T E) (log new : Log) (read : RowKey × Logged) → OnOk r (new ≡ log ++ read ∷ []) → OnErr r (new ≡ log) → AreOfKind log → IfSome read.1.value (IsOfKind read.0) → AreOfKind new
+  kinds_after (Ok x) log new read more same kinds kind = subst AreOfKind (sym more) (kinds_more log read kinds kind)
+  kinds_after (Err e) log new read more same kinds kind = subst AreOfKind (sym same) kinds
+
+module _ {T E : Type 0} (r : Result T E) (few : List Read) (more now : Log) (viewed : log_of few more ≡ now) where
+  -- one more read among the first ones, where none stands behind them
+  pub first_more : (new : List Read) (read : Read) → length more ≡ 0 → OnOk r (new ≡ few ++ read ∷ []) → OnOk r (log_of new more ≡ now ++ pair_of read ∷ [])
+  first_more new read empty = ok_then r (λ e. ap (λ (reads : List Read). log_of reads more) e ∙ log_of_more few more read empty ∙ ap (λ (log : Log). log ++ pair_of read ∷ []) viewed)
+
+  pub first_same : (new : List Read) → OnErr r (new ≡ few) → OnErr r (log_of new more ≡ now)
+  first_same new = err_then r (λ e. ap (λ (reads : List Read). log_of reads more) e ∙ viewed)
+
+  -- one more read behind the first ones
+  pub behind_more : (new : Log) (read : RowKey × Logged) → OnOk r (new ≡ more ++ read ∷ []) → OnOk r (log_of few new ≡ now ++ read ∷ [])
+  behind_more new read = ok_then r (λ e. ap (log_of few) e ∙ sym (append_assoc (map pair_of few) more (read ∷ [])) ∙ ap (λ (log : Log). log ++ read ∷ []) viewed)
+
+  pub behind_same : (new : Log) → OnErr r (new ≡ more) → OnErr r (log_of few new ≡ now)
+  behind_same new = err_then r (λ e. ap (log_of few) e ∙ viewed)
+
+-- a slot for one more frame
+next_slot : (frames : List Frame) (i : ℕ) → i < length frames → map (λ _. empty_slot) (take i frames) ++ empty_slot ∷ [] ≡ map (λ _. empty_slot) (take (suc i) frames)
+next_slot [] i l = absurd (omega (arith, l))
+next_slot (frame ∷ frames) zero l = refl
+next_slot (frame ∷ frames) (suc i) l = ap (λ (slots : List Slot). empty_slot ∷ slots) (next_slot frames i (omega (arith, l)))
+
+pub slots_more : (frames : List Frame) (i : ℕ) (slots new : List Slot) (slot : Slot) → i < length frames → slots ≡ map (λ _. empty_slot) (take i frames) → slot ≡ empty_slot → new ≡ slots ++ slot ∷ [] → new ≡ map (λ _. empty_slot) (take (i + 1) frames)
+slots_more frames i slots new slot l made empty put =
+    let one_more : suc i ≡ i + 1 = omega arith in
+    put ∙ (λ j. made j ++ empty j ∷ []) ∙ next_slot frames i l ∙ ap (λ (n : ℕ). map (λ _. empty_slot) (take n frames)) one_more

@@ -136,19 +136,10 @@ impl Log {
         ensures err { OnErr result (self.new ≡ self.old) }
     {
         if self.more.is_empty() && self.few.len() < FEW {
-            if self.few.is_empty() {
-                self.few.reserve_exact(USUAL)?;
-            }
-            self.few.reserve(1)?;
-            push_read(&mut self.few, row, origin, value, number);
+            push_few(&mut self.few, row, origin, value, number)
         } else {
-            let logged = Logged {
-                origin,
-                value: *value,
-            };
-            self.more.insert(*row, logged)?;
+            push_more(&mut self.more, row, origin, value)
         }
-        Ok(())
     }
 
     /// Whether each of these reads was answered so.
@@ -162,6 +153,47 @@ impl Log {
             }
         }
         true
+    }
+}
+
+// Makes room in a list of first reads, and puts one last.
+fn push_few(
+    few: &mut Vec<Read>,
+    row: &RowKey,
+    origin: Option<Version>,
+    value: &Option<RowVal>,
+    number: usize,
+) -> Result<(), AllocError>
+    ensures ok { OnOk result (few.new.items ≡ few.old.items ++ (record { row = row.now; logged = record { origin = origin; value = value.now }; number = number }) ∷ []) }
+    ensures err { OnErr result (few.new.items ≡ few.old.items) }
+{
+    if few.is_empty() {
+        few.reserve_exact(USUAL)?;
+    } else {
+        few.reserve(1)?;
+    }
+    push_read(few, row, origin, value, number);
+    Ok(())
+}
+
+// Puts a read that is not there yet behind the first ones.
+fn push_more(
+    more: &mut IndexMap<RowKey, Logged>,
+    row: &RowKey,
+    origin: Option<Version>,
+    value: &Option<RowVal>,
+) -> Result<(), AllocError>
+    requires { value_in more.old.entries row.now ≡ None }
+    ensures ok { OnOk result (more.new.entries ≡ more.old.entries ++ (row.now, record { origin = origin; value = value.now }) ∷ []) }
+    ensures err { OnErr result (more.new.entries ≡ more.old.entries) }
+{
+    let logged = Logged {
+        origin,
+        value: *value,
+    };
+    match more.insert(*row, logged) {
+        Ok(_) => Ok(()),
+        Err(_) => Err(AllocError),
     }
 }
 

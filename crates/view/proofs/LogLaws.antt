@@ -1,13 +1,15 @@
 -- A row that was not read yet goes last in the log.
-use Rattle.std.proofs.Common.{◌≡◌, ◌+◌, ◌<◌, ℕ, zero, suc, [], ◌∷◌, ◌++◌, length, take, set, slice_get, slice_index_or, Option, Some, None, ap, refl, sym, arith, ◌∙◌}
+use Rattle.std.proofs.Common.{◌≡◌, ◌+◌, ◌<◌, ℕ, zero, suc, [], ◌∷◌, ◌++◌, length, take, set, slice_get, slice_index_or, Vec, Option, Some, None, ap, subst, refl, sym, arith, ◌∙◌}
+use Rattle.std.proofs.lemmas.List.{take_more_set, with_items_is}
 use Rattle.std.proofs.lemmas.Option.{same_Some}
+use Rattle.std.specs.Vec.{with_items}
 use Rattle.indexmap.specs.IndexMap.{IndexMap, insert_entry}
 use Rattle.indexmap.proofs.CallerLemmas.{insert_entry-new}
 use Rattle.rows.specs.Agreement.{Reads}
 use Rattle.rows.specs.RowKey.{key_eq}
 use Rattle.rows.specs.declared.row_key.RowKey.{RowKey}
 use Rattle.rows.specs.declared.row_val.RowVal.{RowVal}
-use Rattle.view.specs.RowSets.{value_in, latest_after, logged}
+use Rattle.view.specs.RowSets.{value_in, latest, latest_after, logged}
 
 module _ {S : Type 0} (room : IndexMap RowKey (Option RowVal) S) (reads entries : Reads) (key : RowKey) (row : Option RowVal) where
   pub logged_last : room.entries ≡ reads → value_in reads key ≡ None → entries ≡ insert_entry key_eq room.entries key row → entries ≡ logged reads key row
@@ -29,16 +31,21 @@ latest_set before rows place read within =
     let one_more : place + 1 ≡ suc place = omega arith in
     ap (λ n. latest_after before (take n (set rows place read))) one_more ∙ written_last before rows place read within
 
-written_behind : (rows : Reads) (place : ℕ) (read : RowKey × Option RowVal) → place < length rows → take (suc place) (set rows place read) ≡ take place rows ++ read ∷ []
-written_behind [] place read within = absurd (omega (arith, within))
-written_behind (row ∷ rows) zero read within = refl
-written_behind (row ∷ rows) (suc place) read within = ap (λ (rest : Reads). row ∷ rest) (written_behind rows place read (omega (arith, within)))
+-- places of a vector that were lent as a slice, and written to
+module _ {Z : Type 0} (places : Vec (RowKey × Option RowVal) Z) (written there before : Reads) (used : ℕ) (key : RowKey) (as_long : length written ≡ length there) (lent : there ≡ places.items) where
+  -- what holds of the rows as they were written
+  pub as_written : (P : Reads → Type 0) → P (take (used + 1) written) → P (take (used + 1) (with_items places written).items)
+  as_written P p = subst (λ (rows : Reads). P (take (used + 1) rows)) (sym (with_items_is places written (as_long ∙ ap (λ (rows : Reads). length rows) lent ∙ sym places.ok.0))) p
 
--- what was written at the last of the places that count goes behind the others
-pub taken : (rows : Reads) (place : ℕ) (read : RowKey × Option RowVal) → place < length rows → take (place + 1) (set rows place read) ≡ take place rows ++ read ∷ []
-taken rows place read within =
-    let one_more : place + 1 ≡ suc place = omega arith in
-    ap (λ n. take n (set rows place read)) one_more ∙ written_behind rows place read within
+  -- the row that was asked for goes behind those that were there
+  pub asked_last : used < length places.items → take used places.items ≡ before → written ≡ set there used (key, latest (take (used + 1) written))
+      → take (used + 1) (with_items places written).items ≡ logged before key (latest (take (used + 1) (with_items places written).items))
+  asked_last within kept put =
+      let last : Option RowVal = latest (take (used + 1) written) in
+      as_written (λ rows. rows ≡ logged before key (latest rows))
+      (ap (λ (rows : Reads). take (used + 1) rows) put
+      ∙ take_more_set there used (key, last) (subst (λ (rows : Reads). used < length rows) (sym lent) within)
+      ∙ ap (λ (rows : Reads). logged rows key last) (ap (λ (rows : Reads). take used rows) lent ∙ kept))
 
 -- what was read last stands at the last place
 pub last_place : (before : Option RowVal) (reads : Reads) (i : ℕ) (other : RowKey × Option RowVal) → suc i ≡ length reads → (slice_index_or reads i other).1 ≡ latest_after before reads

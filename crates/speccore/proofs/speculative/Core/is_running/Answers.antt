@@ -1,4 +1,4 @@
-use Rattle.std.proofs.Common.{subst, ◌<◌, ◌≡◌, length, ℕ}
+use Rattle.std.proofs.Common.{subst, ◌<◌, length, ℕ}
 use Rattle.speccore_laws.proofs.Reached.{Holds-reached}
 use Rattle.speccore_laws.specs.Play.{Play}
 use Rattle.speccore.proofs.speculative.Core.is_running.Goals as goal

@@ -7,8 +7,6 @@ use Rattle.speccore_laws.specs.Play.{Play, PlayStep}
 use Rattle.speccore_laws.specs.Run.{Read}
 use Rattle.speccore_laws.specs.State.{State, Slot, slot}
 use Rattle.speccore_laws.specs.declared.core_fault.CoreFault.TheVariants.{OutOfMemory}
-use Rattle.speccore_laws.specs.declared.core_fault.CoreFault.{CoreFault}
-use Rattle.speccore_laws.specs.declared.got.Got.{Got}
 use Rattle.speccore_laws.specs.declared.got.Got.TheVariants as got
 use Rattle.speccore.proofs.Steps.{at_slot, slot_there, slot_back, not_in, read_step, play, play_kept, unlogged}
 use Rattle.speccore.specs.Unread.{got_of}
