@@ -1,5 +1,5 @@
 -- Where two lists of rows part.
-use Rattle.std.specs.Prelude.{◌≡◌, ◌≢◌, ◌⊎◌, List, [], ◌∷◌, ◌++◌}
+use Rattle.std.specs.Prelude.{◌≡◌, ◌≢◌, ◌⊎◌, List, [], ◌∷◌, ◌++◌, Option, Some, None}
 use Rattle.std.specs.declared.cmp.Ordering.TheVariants.{Less}
 use Rattle.rows.specs.RowKey.{key_cmp}
 use Rattle.rows.specs.declared.row_key.RowKey.{RowKey}
@@ -16,6 +16,11 @@ abbrev pub BeginsWithLesser : List (RowKey × RowVal) → List (RowKey × RowVal
 BeginsWithLesser [] others key = ⊥
 BeginsWithLesser (row ∷ rows) [] key = key ≡ row.0
 BeginsWithLesser (row ∷ rows) (other ∷ others) key = (key ≡ row.0) × ((key_cmp row.0 other.0 ≡ Less) ⊎ ((row.0 ≡ other.0) × (row.1 ≢ other.1)))
+
+-- the key of the row, or of the other one if that is lesser, where they differ; the row's, where there is no other
+abbrev pub IsLesserKey : RowKey × RowVal → Option (RowKey × RowVal) → RowKey → Type 0
+IsLesserKey row None key = BeginsWithLesser (row ∷ []) [] key
+IsLesserKey row (Some other) key = BeginsWithLesser (row ∷ []) (other ∷ []) key ⊎ BeginsWithLesser (other ∷ []) (row ∷ []) key
 
 -- behind one front, one of the lists begins with this key, and the other doesn't begin with the same row or a lesser key
 pub record IsFirstDifferingKey (mine theirs : List (RowKey × RowVal)) (key : RowKey) : Type 0 where

@@ -1,10 +1,11 @@
 //! What of two lists of replies, or of two books, differs first.
 
-ghost use Rattle.std.specs.Prelude.{◌≡◌, ◌≤◌, length, IfOk, IfSome, IfNone};
+ghost use Rattle.std.specs.Prelude.{◌≡◌, ◌≤◌, length, Some, IfOk, IfSome, IfNone, option_map};
+ghost use Rattle.std.specs.Map.Iter.{deref_pair};
 ghost use Rattle.audit.specs.Difference.{IsFirstDifference, IsLeastDifference};
-ghost use Rattle.audit.specs.FirstKey.{IsFirstDifferingKey};
+ghost use Rattle.audit.specs.FirstKey.{IsFirstDifferingKey, IsLesserKey};
 
-use rows::{Book, BookRows, ReplyBody, RowKey};
+use rows::{Book, BookRows, ReplyBody, RowKey, RowVal};
 use std::alloc::{AllocError, Global};
 use std::cmp::Ordering;
 
@@ -52,16 +53,27 @@ fn first_differing_key(mine: BookRows<'_>, theirs: BookRows<'_>) -> Option<RowKe
 {
     let mut theirs = theirs;
     for (key, val) in mine {
-        let Some((other_key, other_val)) = theirs.next() else {
-            return Some(*key);
-        };
-        match key.cmp(other_key) {
-            Ordering::Less => return Some(*key),
-            Ordering::Greater => return Some(*other_key),
-            Ordering::Equal if val.is_same(other_val) => {}
-            Ordering::Equal => return Some(*key),
+        if let Some(lesser) = differing_key(key, val, theirs.next()) {
+            return Some(lesser);
         }
     }
     let (key, _) = theirs.next()?;
     Some(*key)
+}
+
+/// The lesser key of a row and the one that stands at its place on the other side, where they differ; a row that the other side lacks
+/// differs.
+fn differing_key(key: &RowKey, val: &RowVal, other: Option<(&RowKey, &RowVal)>) -> Option<RowKey>
+    ensures some { IfSome result (IsLesserKey (key.now, val.now) (option_map deref_pair other.entry)) }
+    ensures none { IfNone result (option_map deref_pair other.entry ≡ Some (key.now, val.now)) }
+{
+    let Some((other_key, other_val)) = other else {
+        return Some(*key);
+    };
+    match key.cmp(other_key) {
+        Ordering::Less => Some(*key),
+        Ordering::Greater => Some(*other_key),
+        Ordering::Equal if val.is_same(other_val) => None,
+        Ordering::Equal => Some(*key),
+    }
 }
