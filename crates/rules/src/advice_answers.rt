@@ -117,6 +117,7 @@ pub(crate) fn accept<S: RowSource>(
     ensures stops { IfSome (S.book rows.old.source) (λ _. IfErr result (λ stop. stop ≡ Stop.OutOfMemory)) }
     ensures book { S.book rows.new.source ≡ S.book rows.old.source }
 {
+    // What pays covers the amount.
     let balance = paying.balance().saturating_sub(advice.transaction.amount);
     let payment = Payment {
         payer: paying.payer(),

@@ -134,6 +134,7 @@ pub(crate) fn approve<S: RowSource>(
     let approvals = next_of(card.approvals);
     let count = next_of(day.count);
     let sum = sum_of(day.sum, amount);
+    // What pays covers the amount.
     let balance = paying.balance().saturating_sub(amount);
     let code = Approval::of_count(approvals.number());
     let answer_code = code;
