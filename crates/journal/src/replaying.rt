@@ -17,7 +17,7 @@ use rules::decide;
 use speccore::Core;
 use speccore_laws::{CoreFault, Seat};
 use std::alloc::{AllocError, Global};
-use view::{Execution, Recorder};
+use view::{Execution, Recorder, Stop};
 
 /// Plays a journal again, on a core of this book and these bodies without limits but those of the numbers. A finish is decided anew,
 /// by the decision table on the rows that the core logged. An entry whose decision needs a row that wasn't logged is
@@ -125,9 +125,10 @@ fn decide_on_log(
     ensures keys { IfOk result (λ x. keys_read x.reads ≡ (decision (log_rows (slot core.now.state version.index).log) frame.now).needs) }
 {
     let mut recorder = Recorder::new(alloc, LoggedRows::new(core, version));
-    // The rows are known, so nothing but want of memory stops a decision.
-    let Ok(reply) = decide(frame, &mut recorder) else {
-        return Err(AllocError);
+    let reply = match decide(frame, &mut recorder) {
+        Ok(reply) => reply,
+        Err(Stop::OutOfMemory) => return Err(AllocError),
+        Err(Stop::Blocked(_) | Stop::Lost) => unreachable!(),
     };
     let (_, reads, writes) = recorder.into_parts();
     Ok(Execution::new(*frame, reads, writes, reply))

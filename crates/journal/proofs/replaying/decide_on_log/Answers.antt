@@ -15,12 +15,6 @@ agreed c =
 same_reads : (c : goal.After-new-2) → c.new-2.result.reads ≡ c.decide.new.rows.reads
 same_reads c = ap (λ (x : Executed). x.reads) c.new-2.ensures ∙ c.into_parts-reads.ensures.reads
 
-pub new-requires-2 : goal.new-requires-2
-new-requires-2 c = rw (c.into_parts-reads.ensures.reads, c.into_parts-reads.ensures.writes) c.in-Ok.ensures.local
-
-pub returns-clause-frame : goal.returns-clause-frame
-returns-clause-frame c = ap (λ (x : Executed). x.frame) c.new-2.ensures
-
 pub returns-clause-agrees : goal.returns-clause-agrees
 returns-clause-agrees c =
     subst (λ (reads : Reads). Agrees reads (log_rows (slot c.args.core.now.state c.args.version.index).log)) (sym (same_reads c)) (agreed c)
