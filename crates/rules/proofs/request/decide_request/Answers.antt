@@ -20,12 +20,6 @@ decide_fresh-requires-clause-follows g c =
 pub decide_fresh-requires-clause-kinds : goal.decide_fresh-requires-clause-kinds
 decide_fresh-requires-clause-kinds g c = kinds_more _ _ _ _ _ c.requires.kinds c.in_ok-ask.ensures.logged
 
-pub returns-in-Some-clause-stops : goal.returns-in-Some-clause-stops
-returns-in-Some-clause-stops g c = stops_kept _ _ _ c.in_ok-ask.ensures.book c.answer_again.ensures.stops
-
-pub returns-in-Some-clause-book : goal.returns-in-Some-clause-book
-returns-in-Some-clause-book g c = c.answer_again.ensures.book ∙ c.in_ok-ask.ensures.book
-
 pub returns-in-None-clause-stops : goal.returns-in-None-clause-stops
 returns-in-None-clause-stops g c = stops_kept _ _ _ c.in_ok-ask.ensures.book c.decide_fresh.ensures.stops
 
