@@ -2,7 +2,7 @@ use Rattle.std.proofs.Common.{refl, sym, ap, ◌∙◌}
 use Rattle.rows.specs.declared.row_key.RowKey.TheVariants as key
 use Rattle.rows.specs.AdviceTable as table
 use Rattle.rows.specs.Typed as typed
-use Rattle.rules.proofs.FollowingLaws.{unread, looked_as, follows_needs}
+use Rattle.rules.proofs.FollowingLaws.{unread, looked_as, follows_needs, stops_kept}
 use Rattle.rules.proofs.advice.decide_on_funds.Goals as goal
 
 pub ask-requires : goal.ask-requires
@@ -27,3 +27,15 @@ acknowledge-requires g c =
           (ap (table.advice_on_funds a)
           (ap (table.advice_funds a.transaction c.args.id c.args.account.now) (sym (c.budget_in-budget.ensures ∙ ap typed.budget_in c.latest.ensures)) ∙ sym c.advice_funds.ensures.funds ∙ c.in-None.is));
     }
+
+pub returns-in-Some-clause-stops : goal.returns-in-Some-clause-stops
+returns-in-Some-clause-stops g c = stops_kept _ _ _ c.in_ok-ask.ensures.book c.accept.ensures.stops
+
+pub returns-in-Some-clause-book : goal.returns-in-Some-clause-book
+returns-in-Some-clause-book g c = c.accept.ensures.book ∙ c.in_ok-ask.ensures.book
+
+pub returns-in-None-clause-stops : goal.returns-in-None-clause-stops
+returns-in-None-clause-stops g c = stops_kept _ _ _ c.in_ok-ask.ensures.book c.acknowledge.ensures.stops
+
+pub returns-in-None-clause-book : goal.returns-in-None-clause-book
+returns-in-None-clause-book g c = c.acknowledge.ensures.book ∙ c.in_ok-ask.ensures.book

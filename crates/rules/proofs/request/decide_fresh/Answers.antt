@@ -2,7 +2,7 @@ use Rattle.std.proofs.Common.{refl, sym, ap, ◌∙◌}
 use Rattle.rows.specs.declared.row_key.RowKey.TheVariants as key
 use Rattle.rows.specs.RequestTable as table
 use Rattle.rows.specs.Typed as typed
-use Rattle.rules.proofs.FollowingLaws.{unread, looked_as, follows_as, follows_needs, kinds_more}
+use Rattle.rules.proofs.FollowingLaws.{unread, looked_as, follows_as, follows_needs, kinds_more, stops_kept}
 use Rattle.rules.proofs.request.decide_fresh.Goals as goal
 
 pub ask-requires : goal.ask-requires
@@ -41,3 +41,21 @@ decline-requires-in-Err g c =
 
 pub decide_on_account-requires-clause-kinds : goal.decide_on_account-requires-clause-kinds
 decide_on_account-requires-clause-kinds g c = kinds_more _ _ _ _ _ c.requires.kinds c.in_ok-ask.ensures.logged
+
+pub returns-in-Ok-clause-stops : goal.returns-in-Ok-clause-stops
+returns-in-Ok-clause-stops g c = stops_kept _ _ _ c.in_ok-ask.ensures.book c.decide_on_account.ensures.stops
+
+pub returns-in-Ok-clause-book : goal.returns-in-Ok-clause-book
+returns-in-Ok-clause-book g c = c.decide_on_account.ensures.book ∙ c.in_ok-ask.ensures.book
+
+pub returns-in-Err-clause-stops : goal.returns-in-Err-clause-stops
+returns-in-Err-clause-stops g c = stops_kept _ _ _ c.in_ok-ask.ensures.book c.decline-in-Err.ensures.stops
+
+pub returns-in-Err-clause-book : goal.returns-in-Err-clause-book
+returns-in-Err-clause-book g c = c.decline-in-Err.ensures.book ∙ c.in_ok-ask.ensures.book
+
+pub returns-in_default-card_in-clause-stops : goal.returns-in_default-card_in-clause-stops
+returns-in_default-card_in-clause-stops g c = stops_kept _ _ _ c.in_ok-ask.ensures.book c.decline-in_default-card_in.ensures.stops
+
+pub returns-in_default-card_in-clause-book : goal.returns-in_default-card_in-clause-book
+returns-in_default-card_in-clause-book g c = c.decline-in_default-card_in.ensures.book ∙ c.in_ok-ask.ensures.book

@@ -2,7 +2,7 @@ use Rattle.std.proofs.Common.{refl, sym, ap, ◌∙◌}
 use Rattle.rows.specs.declared.row_key.RowKey.TheVariants as key
 use Rattle.rows.specs.RequestTable as table
 use Rattle.rows.specs.Typed as typed
-use Rattle.rules.proofs.FollowingLaws.{unread, looked_as, follows_then, follows_else, follows_needs, not_true, not_false, kinds_more}
+use Rattle.rules.proofs.FollowingLaws.{unread, looked_as, follows_then, follows_else, follows_needs, not_true, not_false, kinds_more, stops_kept}
 use Rattle.rows.specs.Facts.{is_same_currency}
 use Rattle.rules.proofs.request.decide_on_account.Goals as goal
 
@@ -39,3 +39,21 @@ decide_on_day-requires-clause-follows g c =
 
 pub decide_on_day-requires-clause-kinds : goal.decide_on_day-requires-clause-kinds
 decide_on_day-requires-clause-kinds g c = kinds_more _ _ _ _ _ c.requires.kinds c.in_ok-ask.ensures.logged
+
+pub returns-clause-stops : goal.returns-clause-stops
+returns-clause-stops g c = stops_kept _ _ _ c.in_ok-ask.ensures.book c.decide_on_day.ensures.stops
+
+pub returns-clause-book : goal.returns-clause-book
+returns-clause-book g c = c.decide_on_day.ensures.book ∙ c.in_ok-ask.ensures.book
+
+pub returns-in_default-clause-stops : goal.returns-in_default-clause-stops
+returns-in_default-clause-stops g c = stops_kept _ _ _ c.in_ok-ask.ensures.book c.decline.ensures.stops
+
+pub returns-in_default-clause-book : goal.returns-in_default-clause-book
+returns-in_default-clause-book g c = c.decline.ensures.book ∙ c.in_ok-ask.ensures.book
+
+pub returns-then-ne-clause-stops : goal.returns-then-ne-clause-stops
+returns-then-ne-clause-stops g c = stops_kept _ _ _ c.in_ok-ask.ensures.book c.decline-then-ne.ensures.stops
+
+pub returns-then-ne-clause-book : goal.returns-then-ne-clause-book
+returns-then-ne-clause-book g c = c.decline-then-ne.ensures.book ∙ c.in_ok-ask.ensures.book

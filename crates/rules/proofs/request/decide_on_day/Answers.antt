@@ -2,7 +2,7 @@ use Rattle.std.proofs.Common.{refl, sym, ap, ◌∙◌}
 use Rattle.rows.specs.declared.row_key.RowKey.TheVariants as key
 use Rattle.rows.specs.RequestTable as table
 use Rattle.rows.specs.Typed as typed
-use Rattle.rules.proofs.FollowingLaws.{unread, looked_as, follows_needs, kinds_more}
+use Rattle.rules.proofs.FollowingLaws.{unread, looked_as, follows_needs, kinds_more, stops_kept}
 use Rattle.rules.proofs.request.decide_on_day.Goals as goal
 
 pub ask-requires : goal.ask-requires
@@ -19,3 +19,9 @@ decide_on_limits-requires-clause-follows g c =
 
 pub decide_on_limits-requires-clause-kinds : goal.decide_on_limits-requires-clause-kinds
 decide_on_limits-requires-clause-kinds g c = kinds_more _ _ _ _ _ c.requires.kinds c.in_ok-ask.ensures.logged
+
+pub returns-clause-stops : goal.returns-clause-stops
+returns-clause-stops g c = stops_kept _ _ _ c.in_ok-ask.ensures.book c.decide_on_limits.ensures.stops
+
+pub returns-clause-book : goal.returns-clause-book
+returns-clause-book g c = c.decide_on_limits.ensures.book ∙ c.in_ok-ask.ensures.book

@@ -19,3 +19,9 @@ returns-clause-done g c =
 
 pub returns-clause-so_far : goal.returns-clause-so_far
 returns-clause-so_far g c = concluded_needs _ _ _ _ (returns-clause-done g c)
+
+pub returns-in_err-write_copy-clause-book : goal.returns-in_err-write_copy-clause-book
+returns-in_err-write_copy-clause-book g c = ap (λ (r : _). g.S.RowSource.book r.source) c.in_err-write_copy.ensures.err
+
+pub returns-clause-book : goal.returns-clause-book
+returns-clause-book g c = ap (λ (r : _). g.S.RowSource.book r.source) c.in_ok-write_copy.ensures.ok

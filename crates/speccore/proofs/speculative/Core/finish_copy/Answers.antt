@@ -6,7 +6,7 @@ use Rattle.mvmem.specs.Entries.{Entries, AreReplaced, IsNewLocation}
 use Rattle.sched.specs.Board.{IsRunning}
 use Rattle.speccore_laws.proofs.Reached.{Holds-reached}
 use Rattle.speccore_laws.specs.Play.{Play, PlayStep}
-use Rattle.speccore_laws.specs.Run.{Finish}
+use Rattle.speccore_laws.specs.Run.{Finish, IsReached}
 use Rattle.speccore_laws.specs.State.{State}
 use Rattle.speccore_laws.specs.Step.{IsOfVersion}
 use Rattle.speccore_laws.specs.declared.core_fault.CoreFault.{CoreFault}
@@ -68,6 +68,12 @@ returns-in_err-reserve c =
       step = subst (λ (answer : Result Bool CoreFault). PlayStep c.args.self.now (Finish c.args.version c.args.execution.now answer) unchanged) (sym (fault.1 ∙ ap Err fault.2))
           (subst (λ (p : Play). PlayStep p (Finish c.args.version c.args.execution.now (Err OutOfMemory)) unchanged) c.self.view_is step);
     }
+
+pub invariant_of-self : goal.invariant_of-self
+invariant_of-self c =
+    let s : State = (the_view c.self.inside).state in
+    let same : record s { entries = c.reserve.new.self.entries } ≡ s = ap (λ (es : Entries). record s { entries = es }) c.in_err-reserve.ensures.entries in
+    (c.self.invariant.0, subst IsReached (sym same) c.self.invariant.1, c.self.invariant.2, c.self.invariant.3)
 
 pub index_mut-slot-requires : goal.index_mut-slot-requires
 index_mut-slot-requires c =

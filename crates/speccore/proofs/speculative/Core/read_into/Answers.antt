@@ -4,7 +4,7 @@ use Rattle.std.specs.Option.{option_copied}
 use Rattle.mvmem.specs.Chains.{seen_of}
 use Rattle.speccore_laws.specs.Log.{logged_in}
 use Rattle.speccore_laws.specs.Play.{Play, PlayStep}
-use Rattle.speccore_laws.specs.Run.{Read}
+use Rattle.speccore_laws.specs.Run.{Read, IsReached}
 use Rattle.speccore_laws.specs.State.{State, Slot, slot}
 use Rattle.speccore_laws.specs.declared.core_fault.CoreFault.TheVariants.{OutOfMemory}
 use Rattle.speccore_laws.specs.declared.got.Got.TheVariants as got
@@ -80,3 +80,9 @@ returns-in_err-log-in-Ok-clause-step c =
     ((c.is_running.ensures.running.0 c.if-not-is_running.false, ((seen_of (option_copied c.look-number.result.0)), (record { origin = c.in-Ok.origin; value = c.seen_into.new.value }), (none, c.look-number.ensures.seen), c.in-Ok.ensures.ok), back), (refl, refl)) in
     subst (λ (answer : Result (Unit {0}) Unread). PlayStep c.args.self.now (Read c.args.version c.args.row.now (got_of answer c.seen_into.new.value)) (unchanged c)) (sym (fault.1 ∙ ap Err fault.2))
     (subst (λ (p : Play). PlayStep p (Read c.args.version c.args.row.now (Err OutOfMemory)) (unchanged c)) c.self.view_is step)
+
+pub invariant_of-self : goal.invariant_of-self
+invariant_of-self c =
+    let s : State = (the_view c.self.inside).state in
+    let back : record s { slots = set s.slots c.args.version.index c.log.new.self } ≡ s = slot_back s c.args.version.index c.index_mut-slot.result.now c.log.new.self c.index_mut-slot.ensures.value c.in_err-log-in-Ok.ensures.err in
+    (c.self.invariant.0, subst IsReached (sym back) c.self.invariant.1, c.self.invariant.2, c.self.invariant.3)
