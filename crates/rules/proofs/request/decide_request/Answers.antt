@@ -2,7 +2,7 @@ use Rattle.std.proofs.Common.{refl, sym, ap, ◌∙◌}
 use Rattle.rows.specs.declared.row_key.RowKey.TheVariants as key
 use Rattle.rows.specs.RequestTable as table
 use Rattle.rows.specs.Typed as typed
-use Rattle.rules.proofs.FollowingLaws.{unread, looked_as, kinds_more, stops_kept}
+use Rattle.rules.proofs.FollowingLaws.{unread, looked_as, kinds_more}
 use Rattle.rules.proofs.request.decide_request.Goals as goal
 
 pub ask-requires : goal.ask-requires
@@ -19,9 +19,3 @@ decide_fresh-requires-clause-follows g c =
 
 pub decide_fresh-requires-clause-kinds : goal.decide_fresh-requires-clause-kinds
 decide_fresh-requires-clause-kinds g c = kinds_more _ _ _ _ _ c.requires.kinds c.in_ok-ask.ensures.logged
-
-pub returns-in-None-clause-stops : goal.returns-in-None-clause-stops
-returns-in-None-clause-stops g c = stops_kept _ _ _ c.in_ok-ask.ensures.book c.decide_fresh.ensures.stops
-
-pub returns-in-None-clause-book : goal.returns-in-None-clause-book
-returns-in-None-clause-book g c = c.decide_fresh.ensures.book ∙ c.in_ok-ask.ensures.book
