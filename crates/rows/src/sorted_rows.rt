@@ -9,6 +9,7 @@ use crate::row_key::RowKey;
 use crate::row_val::RowVal;
 use indexmap::map::Iter;
 use std::alloc::{AllocError, Global};
+use std::cmp::Ordering;
 use std::marker::Model;
 
 /// The rows of a book, sorted by their keys.
@@ -38,8 +39,8 @@ impl<'a> SortedRows<'a> {
         ensures { IfOk result (λ sorted. sorted ≡ map.entries (map.from_entries {R = key_cmp} rows.entry)) }
     {
         let mut sorted: Vec<(&'a RowKey, &'a RowVal)> = rows.collect(alloc)?;
-        // Each key is copied once, so that comparing two looks at no row.
-        sorted.sort_by_cached_key(key_of)?;
+        sorted.sort_by_cached_key(rank)?;
+        sorted.sort_by(by_key)?;
         Ok(SortedRows { rows: sorted })
     }
 
@@ -51,9 +52,33 @@ impl<'a> SortedRows<'a> {
     }
 }
 
-// The key of a row.
-fn key_of(row: &(&RowKey, &RowVal)) -> RowKey
-    ensures { result ≡ row.now.0.now }
+// How many bytes of a key's first and second text its rank goes by.
+const RANKED: [usize; 2] = [11, 6];
+
+// A number that mostly rises with the key, and always where its texts are digits and no longer than what is ranked: of rows
+// that are arranged by it few are left to be moved by the sort by keys. Any number would do.
+fn rank(row: &(&RowKey, &RowVal)) -> u64 {
+    let kind = u64::from(row.0.kind());
+    let first = with_digits(kind, row.0.first(), RANKED[0]);
+    with_digits(first, row.0.second(), RANKED[1])
+}
+
+// The number with so many further digits to the base 11, those of a text: 1 to 10, and 0 behind its end.
+fn with_digits(number: u64, text: &str, count: usize) -> u64 {
+    let mut number = number;
+    for place in 0..count {
+        let digit = match text.as_bytes().get(place) {
+            Some(byte) => u64::from(byte & 15) + 1,
+            None => 0,
+        };
+        number = number.wrapping_mul(11).wrapping_add(digit);
+    }
+    number
+}
+
+// The order of two rows by their keys.
+fn by_key(mine: &(&RowKey, &RowVal), theirs: &(&RowKey, &RowVal)) -> Ordering
+    ensures { result ≡ key_cmp mine.now.0.now theirs.now.0.now }
 {
-    *row.0
+    mine.0.cmp(theirs.0)
 }
