@@ -1,1 +1,3 @@
 pub mod Top
+pub mod Left
+pub mod Pieces

@@ -2,8 +2,12 @@
 #![tactic(auto)]
 
 mod field_writers;
+mod listed_row;
+mod parts;
+mod pieces;
 mod row_writers;
 mod tokens;
 mod writing;
 
+pub use pieces::BookPieces;
 pub use writing::write_book;

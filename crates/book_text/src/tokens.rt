@@ -37,6 +37,12 @@ pub(crate) fn key(out: &mut Writer, name: &str) -> Result<(), AllocError>
     out.key(name)
 }
 
+pub(crate) fn null(out: &mut Writer) -> Result<(), AllocError>
+    ensures { OnOk result (Adds out.old out.new (null_token ∷ [])) }
+{
+    out.null()
+}
+
 pub(crate) fn null_field(out: &mut Writer, name: &str) -> Result<(), AllocError>
     ensures { OnOk result (Adds out.old out.new (key_token name.now ∷ null_token ∷ [])) }
 {

@@ -1,60 +1,86 @@
 //! The text of a book.
 
-ghost use Rattle.std.specs.Prelude.{◌≡◌, ◌∷◌, [], Ok, OnOk, IfOk, IsTrue};
-ghost use Rattle.std.specs.List.{AllByRecursion};
-ghost use Rattle.json.specs.Token.{key as key_token};
-ghost use Rattle.rows.specs.Book.{AllOfKind};
-ghost use Rattle.rows.specs.RowVal.{IsOfKind};
+ghost use Rattle.std.specs.Prelude.{◌≡◌, ◌∷◌, [], Bool, ◌||◌, Ok, OnOk, IfOk, IsTrue, codes, decimal};
+ghost use Rattle.json.specs.Token.{key as key_token, number as number_token, begin_array as begin_array_token, end_object as end_object_token};
 ghost use Rattle.book_json_laws.specs.Parts.{list_key, is_in};
 ghost use Rattle.book_json_laws.specs.Reading.{reading};
-ghost use Rattle.book_json_laws.specs.Text.{Adds, ReadsBack, tokens_of, entry_data, list_data, rows_of, book_text};
-ghost use Rattle.book_text.specs.Top.{top_data, AreReadBack};
+ghost use Rattle.book_json_laws.specs.Text.{Adds, ReadsBack, tokens_of, entry_data, list_data, book_text};
+ghost use Rattle.book_text.specs.Left.{row_of, rows_listed, entries_tokens, ends_after};
+ghost use Rattle.book_text.specs.Top.{top_data, IsReadBack, AreReadBack};
 
+use crate::listed_row::ListedRow;
 use crate::row_writers::write_entry;
 use crate::tokens::{begin_array, begin_object, end_array, end_object, key, number_field};
 use book_json_laws::RowList;
 use json::Writer;
-use rows::{Book, RowKey, RowVal, SortedRows};
+use rows::Book;
 use std::alloc::{AllocError, Global};
 
 // Writes the entry of a row that stands in the list.
-fn write_listed(
-    out: &mut Writer,
-    list: RowList,
-    key: &RowKey,
-    val: &RowVal,
-) -> Result<(), AllocError>
-    requires kind { IsOfKind key.now val.now }
-    requires listed { IsTrue (is_in list val.now) }
-    ensures text { OnOk result (Adds out.old out.new (tokens_of (entry_data key.now val.now))) }
-    ensures back { OnOk result (ReadsBack list (key.now, val.now)) }
+fn write_listed(out: &mut Writer, list: RowList, row: &ListedRow<'_>) -> Result<(), AllocError>
+    requires { IsTrue (is_in list row.now.val.now) }
+    ensures text { OnOk result (Adds out.old out.new (tokens_of (entry_data row.now.key.now row.now.val.now))) }
+    ensures back { OnOk result (ReadsBack list (row_of row.now)) }
 {
-    write_entry(out, key, val)?;
+    write_entry(out, row.key, row.val)?;
     Ok(())
 }
 
-// Writes those of the rows that stand in the list.
-fn write_list(out: &mut Writer, list: RowList, rows: &SortedRows<'_>) -> Result<(), AllocError>
-    requires { AllOfKind rows.now }
-    ensures text { OnOk result (Adds out.old out.new (key_token (list_key list) ∷ tokens_of (list_data list rows.now))) }
-    ensures back { OnOk result (AllByRecursion (ReadsBack list) (rows_of list rows.now)) }
+/// Writes the entries of those of the rows that stand in the list. Answers whether there is one.
+pub(crate) fn write_rows(
+    out: &mut Writer,
+    list: RowList,
+    rows: &[ListedRow<'_>],
+) -> Result<bool, AllocError>
+    ensures text { OnOk result (Adds out.old out.new (entries_tokens list (rows_listed rows.now))) }
+    ensures some { IfOk result (λ some. (later : Bool) → ends_after later (entries_tokens list (rows_listed rows.now)) ≡ (some || later)) }
+    ensures back { OnOk result (IsReadBack list (rows_listed rows.now)) }
 {
-    key(out, list.key())?;
-    begin_array(out)?;
-    for (key, val) in rows.iter() {
-        if list.has(val) {
-            write_listed(out, list, key, val)?;
+    let mut has_some = false;
+    for row in rows {
+        if row.is_in(list) {
+            write_listed(out, list, row)?;
+            has_some = true;
         }
     }
+    Ok(has_some)
+}
+
+/// Begins a list.
+pub(crate) fn open_list(out: &mut Writer, list: RowList) -> Result<(), AllocError>
+    ensures { OnOk result (Adds out.old out.new (key_token (list_key list) ∷ begin_array_token ∷ [])) }
+{
+    key(out, list.key())?;
+    begin_array(out)
+}
+
+/// Writes what stands behind all lists.
+pub(crate) fn end_book(out: &mut Writer) -> Result<(), AllocError>
+    ensures { OnOk result (Adds out.old out.new (key_token (codes "version") ∷ number_token (decimal 3) ∷ end_object_token ∷ [])) }
+{
+    number_field(out, "version", 3)?;
+    end_object(out)
+}
+
+// Writes the list of those of the rows that stand in it.
+fn write_list(
+    out: &mut Writer,
+    list: RowList,
+    rows: &[ListedRow<'_>],
+) -> Result<(), AllocError>
+    ensures text { OnOk result (Adds out.old out.new (key_token (list_key list) ∷ tokens_of (list_data list (rows_listed rows.now)))) }
+    ensures back { OnOk result (IsReadBack list (rows_listed rows.now)) }
+{
+    open_list(out, list)?;
+    write_rows(out, list, rows)?;
     end_array(out)?;
     Ok(())
 }
 
 // Writes the top object of the book that has these rows.
-fn write_top(out: &mut Writer, rows: &SortedRows<'_>) -> Result<(), AllocError>
-    requires { AllOfKind rows.now }
-    ensures text { OnOk result (Adds out.old out.new (tokens_of (top_data rows.now))) }
-    ensures back { OnOk result (AreReadBack rows.now) }
+fn write_top(out: &mut Writer, rows: &[ListedRow<'_>]) -> Result<(), AllocError>
+    ensures text { OnOk result (Adds out.old out.new (tokens_of (top_data (rows_listed rows.now)))) }
+    ensures back { OnOk result (AreReadBack (rows_listed rows.now)) }
 {
     begin_object(out)?;
     write_list(out, RowList::Accounts, rows)?;
@@ -63,8 +89,7 @@ fn write_top(out: &mut Writer, rows: &SortedRows<'_>) -> Result<(), AllocError>
     write_list(out, RowList::Cards, rows)?;
     write_list(out, RowList::Days, rows)?;
     write_list(out, RowList::Originals, rows)?;
-    number_field(out, "version", 3)?;
-    end_object(out)?;
+    end_book(out)?;
     Ok(())
 }
 
@@ -86,7 +111,8 @@ pub fn write_book(alloc: Global, book: &Book) -> Result<Vec<u8>, AllocError>
     ensures text { IfOk result (λ text. text.items ≡ book_text book.now) }
     ensures back { IfOk result (λ text. reading text.items ≡ Ok book.now) }
 {
-    let rows = book.sorted_rows(alloc)?;
+    let sorted = book.sorted_rows(alloc)?;
+    let rows = ListedRow::all(alloc, &sorted)?;
     let mut out = Writer::new(room_for(alloc, book.len())?);
     write_top(&mut out, &rows)?;
     Ok(out.into_inner())

@@ -1,5 +1,6 @@
 ghost use Rattle.std.specs.Prelude.{◌≡◌, ◌≢◌, ◌⊎◌, ℕ, List, [], Err, IfOk, OnOk, OnErr};
 
+use crate::pieces::Pieces;
 use crate::read_fault::ReadFault;
 use crate::write_fault::WriteFault;
 use batch::{Sink, Source};
@@ -42,9 +43,9 @@ pub trait Files {
         ensures others { (other bytes : List ℕ) → other ≢ name.now → holds self.old other bytes → holds self.new other bytes };
 
     /// Puts a file of these bytes in the place of the one of that name, whole or, after a fault, not at all. Other files stay.
-    fn replace(&mut self, name: &str, bytes: &[u8]) -> Result<(), WriteFault>
+    fn replace<P: Pieces>(&mut self, name: &str, bytes: &mut P) -> Result<(), WriteFault>
         ensures kept { OnErr result ((held : List ℕ) → holds self.old name.now held → holds self.new name.now held) }
-        ensures replaced { OnOk result (is_known self.old → holds self.new name.now bytes.now) }
+        ensures replaced { OnOk result (is_known self.old → holds self.new name.now (P.rest bytes.old)) }
         ensures refused { result ≡ Err WriteFault.Unwritable → refuses self.old name.now }
         ensures known { is_known self.old → is_known self.new }
         ensures others { (other held : List ℕ) → other ≢ name.now → holds self.old other held → holds self.new other held };

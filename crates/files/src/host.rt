@@ -1,4 +1,5 @@
 use crate::files::Files;
+use crate::pieces::Pieces;
 use crate::read_fault::ReadFault;
 use crate::write_fault::WriteFault;
 use batch::{FromRead, IntoWrite};
@@ -21,14 +22,20 @@ impl<'a, R: rt::Files> HostFiles<'a, R> {
     }
 
     // Makes a file of this name, or empties it, and writes the bytes.
-    fn write(&self, name: &str, bytes: &[u8]) -> io::Result<R::File> {
+    fn write<P: Pieces>(&self, name: &str, bytes: &mut P) -> io::Result<R::File> {
         let mut file = fs::create(self.host, name)?;
-        file.write_all(bytes)?;
-        Ok(file)
+        for _ in 0..u64::MAX {
+            if !bytes.make_next()? {
+                return Ok(file);
+            }
+            file.write_all(bytes.piece())?;
+        }
+        // Nobody waits for so many pieces.
+        Err(io::Error::from(ErrorKind::OutOfMemory))
     }
 
     // Writes a file beside, and puts it in the place of the one of this name when it is on the disk.
-    fn write_beside(&self, name: &str, bytes: &[u8]) -> io::Result<()> {
+    fn write_beside<P: Pieces>(&self, name: &str, bytes: &mut P) -> io::Result<()> {
         let beside = format!(in self.alloc; "{name}.partial")?;
         let written = self
             .write_through(beside.as_str(), bytes)
@@ -41,7 +48,7 @@ impl<'a, R: rt::Files> HostFiles<'a, R> {
     }
 
     // Writes the bytes until they are on the disk.
-    fn write_through(&self, name: &str, bytes: &[u8]) -> io::Result<()> {
+    fn write_through<P: Pieces>(&self, name: &str, bytes: &mut P) -> io::Result<()> {
         self.write(name, bytes)?.sync_all()
     }
 
@@ -54,7 +61,7 @@ impl<'a, R: rt::Files> HostFiles<'a, R> {
         }
     }
 
-    fn replace_file(&self, name: &str, bytes: &[u8]) -> io::Result<()> {
+    fn replace_file<P: Pieces>(&self, name: &str, bytes: &mut P) -> io::Result<()> {
         if self.can_be_renamed_over(name)? {
             self.write_beside(name, bytes)
         } else {
@@ -94,7 +101,7 @@ impl<'a, R: rt::Files> Files for HostFiles<'a, R> {
     }
 
     // A name that can't be renamed over, as a device or a link, is written as it is.
-    fn replace(&mut self, name: &str, bytes: &[u8]) -> Result<(), WriteFault> {
+    fn replace<P: Pieces>(&mut self, name: &str, bytes: &mut P) -> Result<(), WriteFault> {
         match self.replace_file(name, bytes) {
             Ok(()) => Ok(()),
             Err(error) => Err(unwritten(&error)),

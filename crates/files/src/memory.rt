@@ -2,6 +2,7 @@ ghost use Rattle.std.specs.Prelude.{◌≡◌, ◌≢◌, ℕ, List, Some, OnOk,
 ghost use Rattle.files.specs.Held.{held};
 
 use crate::files::Files;
+use crate::pieces::Pieces;
 use crate::read_fault::ReadFault;
 use crate::write_fault::WriteFault;
 use batch::{FromRead, IntoWrite};
@@ -80,8 +81,23 @@ impl Files for MemoryFiles {
         Ok(self.put(name, output.into_writer())?)
     }
 
-    fn replace(&mut self, name: &str, bytes: &[u8]) -> Result<(), WriteFault> {
-        let bytes = self.copied(bytes)?;
+    fn replace<P: Pieces>(&mut self, name: &str, bytes: &mut P) -> Result<(), WriteFault> {
+        let bytes = gathered(self.alloc, bytes)?;
         Ok(self.put(name, bytes)?)
     }
+}
+
+// All pieces that are still to be made, in one.
+fn gathered<P: Pieces>(alloc: Global, pieces: &mut P) -> Result<Vec<u8>, AllocError>
+    ensures { IfOk result (λ bytes. bytes.items ≡ P.rest pieces.old) }
+{
+    let mut bytes = Vec::new(alloc);
+    for _ in 0..u64::MAX {
+        if !pieces.make_next()? {
+            return Ok(bytes);
+        }
+        bytes.extend_from_slice(pieces.piece())?;
+    }
+    // Nobody waits for so many pieces.
+    Err(AllocError)
 }

@@ -12,7 +12,7 @@ ghost use Rattle.jobs.specs.Faults.{HoldsSameOrNothing, IsBatchFault, IsDeciding
 use crate::job_fault::{JobFault, fault_of_closing};
 use crate::opening::open_book;
 use batch::process;
-use book_json::write_book;
+use book_text::BookPieces;
 use files::{BatchNames, Files};
 use fold::Outcome;
 use rows::{Book, Frame};
@@ -96,6 +96,7 @@ pub fn put_book<F: Files>(
     ensures known { F.is_known files.old → F.is_known files.new }
     ensures others { (other held : List ℕ) → other ≢ name.now → F.holds files.old other held → F.holds files.new other held }
 {
-    let text = write_book(alloc, book)?;
-    Ok(files.replace(name, &text)?)
+    let rows = book.sorted_rows(alloc)?;
+    let mut text = BookPieces::new(alloc, &rows)?;
+    Ok(files.replace(name, &mut text)?)
 }

@@ -52,15 +52,21 @@ impl<'a> SortedRows<'a> {
     }
 }
 
-// How many bytes of a key's first and second text its rank goes by.
-const RANKED: [usize; 2] = [11, 6];
-
 // A number that mostly rises with the key, and always where its texts are digits and no longer than what is ranked: of rows
 // that are arranged by it few are left to be moved by the sort by keys. Any number would do.
 fn rank(row: &(&RowKey, &RowVal)) -> u64 {
+    let (first, second) = ranked(row.0);
     let kind = u64::from(row.0.kind());
-    let first = with_digits(kind, row.0.first(), RANKED[0]);
-    with_digits(first, row.0.second(), RANKED[1])
+    with_digits(with_digits(kind, row.0.first(), first), row.0.second(), second)
+}
+
+// How many characters of a key's first and second text its rank goes by: 17 in all, as a number has room for. An acquirer has
+// at most 11 and a trace number 6; most card numbers have 16.
+fn ranked(key: &RowKey) -> (usize, usize) {
+    match key {
+        RowKey::Original(_) => (11, 6),
+        RowKey::Card(_) | RowKey::Velocity(_, _) | RowKey::Budget(_) | RowKey::Account(_) => (16, 1),
+    }
 }
 
 // The number with so many further digits to the base 11, those of a text: 1 to 10, and 0 behind its end.

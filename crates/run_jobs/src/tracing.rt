@@ -13,7 +13,7 @@ ghost use Rattle.run_jobs.specs.Journaled.{IsDecidedWithJournal, IsRunJournal};
 
 use batch::{BatchFault, Sink, Source, read_batch, write_replies};
 use engine::run_traced;
-use files::{BatchNames, Files};
+use files::{BatchNames, Files, Whole};
 use fold::Outcome;
 use jobs::{JobFault, fault_of_closing, open_book, put_book};
 use journal_text::{Entry, write_journal};
@@ -124,5 +124,5 @@ fn put_journal<F: Files>(
     ensures others { (other held : List ℕ) → other ≢ name.now → F.holds files.old other held → F.holds files.new other held }
 {
     let text = write_journal(alloc, entries)?;
-    Ok(files.replace(name, &text)?)
+    Ok(files.replace(name, &mut Whole::new(&text))?)
 }

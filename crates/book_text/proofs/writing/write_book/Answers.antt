@@ -11,6 +11,7 @@ use Rattle.rows.specs.declared.row_val.RowVal.{RowVal}
 use Rattle.book_json_laws.specs.Text.{Adds, tokens_of, book_data}
 use Rattle.book_json_laws.proofs.BookAgain.{AreReadBack as BookIsReadBack, text_again}
 use Rattle.book_json_laws.proofs.WrittenTokens.{printed}
+use Rattle.book_text.specs.Left.{rows_listed}
 use Rattle.book_text.specs.Top.{top_data, AreReadBack}
 use Rattle.book_text.proofs.writing.write_book.Goals as goal
 
@@ -32,19 +33,19 @@ back_of_book book sorted h =
 
 pub returns-clause-text : goal.returns-clause-text
 returns-clause-text c =
-    let all = of_book c.args.book.now c.in_ok-rows.ensures.rows c.in_ok-write_top.ensures.text in
+    let all = of_book c.args.book.now (ap rows_listed c.deref.ensures.value ∙ c.in_ok-rows.ensures ∙ c.in_ok-sorted.ensures.rows) c.in_ok-write_top.ensures.text in
     printed c.write_top.new.out c.into_inner.result.items (book_data c.args.book.now) c.into_inner.ensures.items
     (all.kept ∙ c.new-out.ensures.before ∙ c.in_ok-room_for.ensures)
     (all.written ∙ ap (λ (ts : List Token). ts ++ tokens_of (book_data c.args.book.now)) c.new-out.ensures.tokens)
 
 pub returns-clause-back : goal.returns-clause-back
 returns-clause-back c =
-    let all = of_book c.args.book.now c.in_ok-rows.ensures.rows c.in_ok-write_top.ensures.text in
+    let all = of_book c.args.book.now (ap rows_listed c.deref.ensures.value ∙ c.in_ok-rows.ensures ∙ c.in_ok-sorted.ensures.rows) c.in_ok-write_top.ensures.text in
     let out = c.write_top.new.out in
     let empty = all.kept ∙ c.new-out.ensures.before ∙ c.in_ok-room_for.ensures in
     let written = all.written ∙ ap (λ (ts : List Token). ts ++ tokens_of (book_data c.args.book.now)) c.new-out.ensures.tokens in
     let text = c.into_inner.ensures.items ∙ ap (λ (b : List ℕ). b ++ print out.tokens) empty in
     text_again c.args.book.now c.into_inner.result.items
-    (back_of_book c.args.book.now c.in_ok-rows.ensures.rows c.in_ok-write_top.ensures.back)
+    (back_of_book c.args.book.now (ap rows_listed c.deref.ensures.value ∙ c.in_ok-rows.ensures ∙ c.in_ok-sorted.ensures.rows) c.in_ok-write_top.ensures.back)
     (subst IsUtf8 (sym text) c.into_inner.ensures.utf8)
     (ap tokens text ∙ c.into_inner.ensures.reads_back ∙ written)

@@ -6,4 +6,4 @@ use Rattle.book_text.proofs.writing.write_listed.Goals as goal
 
 pub returns-clause-back : goal.returns-clause-back
 returns-clause-back c =
-    subst (λ (list : RowList). ReadsBack list (c.args.key.now, c.args.val.now)) (list_told c.args.list c.args.val.now c.requires.listed) c.in_ok-write_entry.ensures.back
+    subst (λ (list : RowList). ReadsBack list (c.args.row.now.key.now, c.args.row.now.val.now)) (list_told c.args.list c.args.row.now.val.now c.requires) c.in_ok-write_entry.ensures.back

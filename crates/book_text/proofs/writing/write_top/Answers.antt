@@ -5,7 +5,7 @@ pub returns-clause-text : goal.returns-clause-text
 returns-clause-text c =
     then c.in_ok-begin_object.ensures (then c.in_ok-write_list.ensures.text (then c.in_ok-write_list-2.ensures.text (then c.in_ok-write_list-3.ensures.text
     (then c.in_ok-write_list-4.ensures.text (then c.in_ok-write_list-5.ensures.text (then c.in_ok-write_list-6.ensures.text
-    (then c.in_ok-number_field.ensures c.in_ok-end_object.ensures)))))))
+    c.in_ok-end_book.ensures))))))
 
 pub returns-clause-back : goal.returns-clause-back
 returns-clause-back c = record {

@@ -1,0 +1,78 @@
+-- What is printed of tokens, part by part.
+use Rattle.std.proofs.Common.{◌≡◌, ℕ, List, [], ◌∷◌, ◌++◌, Bool, true, false, Option, Some, None, refl, ap, sym, subst, ◌∙◌, append_assoc, codes, decimal, drop}
+use Rattle.json.specs.Print.{print, print_from}
+use Rattle.json.specs.Token.{Token, null, begin_object, begin_array, end_array, end_object, key, number}
+use Rattle.json.specs.Written.{Written}
+use Rattle.json.proofs.Printed.Tokens.{print_from-append}
+use Rattle.rows.specs.declared.row_key.RowKey.{RowKey}
+use Rattle.rows.specs.declared.row_val.RowVal.{RowVal}
+use Rattle.book_json_laws.specs.Parts.{list_key}
+use Rattle.book_json_laws.specs.Text.{Adds}
+use Rattle.book_json_laws.specs.declared.row_list.RowList.{RowList}
+use Rattle.book_json_laws.specs.declared.row_list.RowList.TheVariants.{Cards, Days, Budgets, Originals, Ahead, Accounts}
+use Rattle.book_json_laws.proofs.WrittenTokens.{rest_tokens}
+use Rattle.book_text.specs.Left.{text_of_rows, text_left, tokens_left, tokens_behind, entries_tokens, ends_after}
+use Rattle.book_text.specs.Pieces.{skipped_if, next_list, between, last_tokens}
+use Rattle.book_text.proofs.Entries.{rest_split}
+
+-- the text of tokens that were written into an empty buffer
+pub text_of_written : {before after : Written} {ts : List Token} (text : List ℕ) → text ≡ after.before ++ print after.tokens → Adds before after ts
+    → before.before ≡ [] → before.tokens ≡ [] → text ≡ print ts
+text_of_written {after = after} {ts = ts} text is adds empty none =
+    is ∙ ap (λ (b : List ℕ). b ++ print after.tokens) (adds.kept ∙ empty) ∙ ap print (adds.written ∙ ap (λ (us : List Token). us ++ ts) none)
+
+-- behind `null` a comma is put as behind an entry
+null_skipped : (ts : List Token) → drop 4 (print (null ∷ ts)) ≡ print_from true ts
+unfolding print_from
+null_skipped ts = refl
+
+pub text_behind_null : (later : Bool) (text : List ℕ) (ts : List Token) → later ≡ true → text ≡ print (null ∷ ts) → drop (skipped_if later) text ≡ print_from later ts
+text_behind_null true text ts h is = ap (λ (t : List ℕ). drop 4 t) is ∙ null_skipped ts
+text_behind_null false text ts h is = absurd cc
+
+pub text_of_first : (later : Bool) (text : List ℕ) (ts : List Token) → later ≡ false → text ≡ print ts → drop (skipped_if later) text ≡ print_from later ts
+text_of_first true text ts h is = absurd cc
+text_of_first false text ts h is = is
+
+-- what is left at the beginning
+pub begun : (rows : List (RowKey × RowVal)) → text_of_rows rows ≡ print (begin_object ∷ key (list_key Accounts) ∷ begin_array ∷ []) ++ text_left false Accounts rows rows
+begun rows = print_from-append false (begin_object ∷ key (list_key Accounts) ∷ begin_array ∷ []) (tokens_left Accounts rows rows)
+
+-- what is left in a list, once some of its rows are written
+pub left_split : (later : Bool) (list : RowList) (some left rows : List (RowKey × RowVal))
+    → text_left later list (some ++ left) rows ≡ print_from later (entries_tokens list some) ++ text_left (ends_after later (entries_tokens list some)) list left rows
+left_split later list some left rows =
+    ap (λ (ts : List Token). print_from later (ts ++ tokens_behind list rows)) (rest_split list some left)
+    ∙ ap (print_from later) (append_assoc (entries_tokens list some) (rest_tokens list left) (tokens_behind list rows))
+    ∙ print_from-append later (entries_tokens list some) (tokens_left list left rows)
+
+-- no comma stands before a closing bracket
+closes : (later : Bool) (ts : List Token) → print_from later (end_array ∷ ts) ≡ print (end_array ∷ ts)
+unfolding print_from
+closes true ts = refl
+closes false ts = refl
+
+-- what is left behind the rows of a list that isn't the last one
+pub left_before : (later : Bool) (list next : RowList) (rows : List (RowKey × RowVal)) → next_list list ≡ Some next
+    → text_left later list [] rows ≡ print (between next) ++ text_left false next rows rows
+left_before later list next rows h = go list h
+  where
+    behind : (next' : RowList) → next' ≡ next → print (between next' ++ tokens_left next' rows rows) ≡ print (between next) ++ text_left false next rows rows
+    behind next' same = print_from-append false (between next') (tokens_left next' rows rows) ∙ ap (λ (n : RowList). print (between n) ++ text_left false n rows rows) same
+
+    go : (list' : RowList) → next_list list' ≡ Some next → text_left later list' [] rows ≡ print (between next) ++ text_left false next rows rows
+    go Accounts k = closes later _ ∙ behind Ahead cc
+    go Ahead k = closes later _ ∙ behind Budgets cc
+    go Budgets k = closes later _ ∙ behind Cards cc
+    go Cards k = closes later _ ∙ behind Days cc
+    go Days k = closes later _ ∙ behind Originals cc
+    go Originals k = absurd cc
+
+-- what is left behind the rows of the last list
+pub left_last : (later : Bool) (list : RowList) (rows : List (RowKey × RowVal)) → next_list list ≡ None → text_left later list [] rows ≡ print last_tokens
+left_last later Accounts rows h = absurd cc
+left_last later Ahead rows h = absurd cc
+left_last later Budgets rows h = absurd cc
+left_last later Cards rows h = absurd cc
+left_last later Days rows h = absurd cc
+left_last later Originals rows h = closes later _

@@ -1,0 +1,11 @@
+use Rattle.std.proofs.Common.{◌≡◌, ◌++◌}
+use Rattle.rows.specs.Book.{AllOfKind}
+use Rattle.book_text.specs.Left.{rows_listed}
+use Rattle.book_text.proofs.listed_row.ListedRow.all.Given as goal
+
+-- what is listed, with the rows that are left, is all rows
+abbrev pub invariant-loop-key : goal.invariant-loop-key
+invariant-loop-key l = record {
+  rows : rows_listed l.listed.items ++ l.key-iterator ≡ l.initial.key-iterator;
+  kinds : AllOfKind l.key-iterator;
+}

@@ -1,0 +1,17 @@
+use Rattle.std.proofs.Common.{◌≡◌, ◌∷◌, [], ◌++◌, List, ap, sym, subst, ◌∙◌, append-nil}
+use Rattle.json.specs.Token.{Token, key as key_token, begin_array}
+use Rattle.rows.specs.declared.row_key.RowKey.{RowKey}
+use Rattle.rows.specs.declared.row_val.RowVal.{RowVal}
+use Rattle.book_json_laws.specs.Parts.{list_key}
+use Rattle.book_json_laws.specs.Text.{Adds}
+use Rattle.book_json_laws.proofs.WrittenTokens.{rest_tokens, then}
+use Rattle.book_text.specs.Left.{rows_listed}
+use Rattle.book_text.proofs.Entries.{rest_split}
+use Rattle.book_text.proofs.writing.write_list.Goals as goal
+
+pub returns-clause-text : goal.returns-clause-text
+returns-clause-text c =
+    let rows = rows_listed c.args.rows.now in
+    let whole = sym (rest_split c.args.list rows []) ∙ ap (rest_tokens c.args.list) (append-nil rows) in
+    subst (λ (ts : List Token). Adds c.args.out.now c.end_array.new.out (key_token (list_key c.args.list) ∷ begin_array ∷ ts)) whole
+    (then c.in_ok-open_list.ensures (then c.in_ok-write_rows.ensures.text c.in_ok-end_array.ensures))

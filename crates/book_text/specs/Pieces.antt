@@ -1,0 +1,47 @@
+-- A book's text in pieces; for private clauses.
+use Rattle.std.specs.Prelude.{ℕ, List, [], ◌∷◌, Bool, true, false, Option, Some, None, codes, decimal, drop}
+use Rattle.json.specs.Token.{Token, key, number, begin_array, end_array, end_object}
+use Rattle.book_json_laws.specs.Parts.{list_key}
+use Rattle.book_json_laws.specs.declared.row_list.RowList.{RowList}
+use Rattle.book_json_laws.specs.declared.row_list.RowList.TheVariants.{Cards, Days, Budgets, Originals, Ahead, Accounts}
+use Rattle.book_text.specs.Left.{rows_listed, text_left, text_of_rows}
+use Rattle.book_text.specs.declared.listed_row.ListedRow.{ListedRow}
+use Rattle.book_text.specs.declared.pieces.Place.{Place}
+use Rattle.book_text.specs.declared.pieces.Place.TheVariants.{Start, In, End}
+use Rattle.book_text.specs.declared.pieces.BookPieces.{BookPieces}
+
+-- the list behind a list
+abbrev pub next_list : RowList → Option RowList
+next_list Accounts = Some Ahead
+next_list Ahead = Some Budgets
+next_list Budgets = Some Cards
+next_list Cards = Some Days
+next_list Days = Some Originals
+next_list Originals = None
+
+-- what stands between the entries of a list and those of the next one
+abbrev pub between : RowList → List Token
+between next = end_array ∷ key (list_key next) ∷ begin_array ∷ []
+
+-- what stands behind the entries of the last list
+abbrev pub last_tokens : List Token
+last_tokens = end_array ∷ key (codes "version") ∷ number (decimal 3) ∷ end_object ∷ []
+
+-- how much of a piece's text is no part of it, where it is known whether an entry of the list stands before it
+abbrev pub skipped_if : Bool → ℕ
+skipped_if true = 4
+skipped_if false = 0
+
+-- what is left of the text at a place, from the row at an index on
+abbrev pub rest_at : Place → Bool → ℕ → List ListedRow → List ℕ
+rest_at Start later at rows = text_of_rows (rows_listed rows)
+rest_at (In list) later at rows = text_left later list (rows_listed (drop at rows)) (rows_listed rows)
+rest_at End later at rows = []
+
+-- what is left of the text
+abbrev pub rest_of : BookPieces → List ℕ
+rest_of pieces = rest_at pieces.place pieces.later pieces.at pieces.rows.items
+
+-- the piece that was made last
+abbrev pub piece_of : BookPieces → List ℕ
+piece_of pieces = drop pieces.skipped pieces.text.items

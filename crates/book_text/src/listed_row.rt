@@ -1,0 +1,59 @@
+ghost use Rattle.std.specs.Prelude.{◌≡◌};
+ghost use Rattle.rows.specs.RowVal.{IsOfKind};
+ghost use Rattle.book_json_laws.specs.Parts.{list_of};
+
+use book_json_laws::RowList;
+use rows::{RowKey, RowVal, SortedRows};
+use std::alloc::{AllocError, Global};
+
+/// A row of a book, where it stands, and the list of the text that it stands in: so it isn't looked at for each list.
+#[derive(Drop)]
+pub(crate) struct ListedRow<'a> {
+    list: RowList,
+    pub(crate) key: &'a RowKey,
+    pub(crate) val: &'a RowVal,
+    ghost told: { list ≡ list_of val.now },
+    ghost kind: { IsOfKind key.now val.now },
+}
+
+impl<'a> ListedRow<'a> {
+    ghost use Rattle.std.specs.Prelude.{◌≡◌, IfOk};
+    ghost use Rattle.rows.specs.Book.{AllOfKind};
+    ghost use Rattle.rows.specs.RowVal.{IsOfKind};
+    ghost use Rattle.book_json_laws.specs.Parts.{is_in};
+    ghost use Rattle.book_text.specs.Left.{row_of, rows_listed};
+
+    // The row with its list.
+    fn new(key: &'a RowKey, val: &'a RowVal) -> ListedRow<'a>
+        requires { IsOfKind key.now val.now }
+        ensures { row_of result ≡ (key.now, val.now) }
+    {
+        ListedRow {
+            list: RowList::of(val),
+            key,
+            val,
+        }
+    }
+
+    /// The rows with their lists, in their order.
+    pub(crate) fn all(
+        alloc: Global,
+        rows: &'a SortedRows<'_>,
+    ) -> Result<Vec<ListedRow<'a>>, AllocError>
+        requires { AllOfKind rows.now }
+        ensures { IfOk result (λ listed. rows_listed listed.items ≡ rows.now) }
+    {
+        let mut listed = Vec::new(alloc);
+        for (key, val) in rows.iter() {
+            listed.push(ListedRow::new(key, val))?;
+        }
+        Ok(listed)
+    }
+
+    /// Whether the row stands in this list.
+    pub(crate) fn is_in(&self, list: RowList) -> bool
+        ensures { result ≡ is_in list self.now.val.now }
+    {
+        list.part().number() == self.list.part().number()
+    }
+}

@@ -1,0 +1,89 @@
+//! Parts of a book's text, each written into text that is empty.
+
+ghost use Rattle.std.specs.Prelude.{◌≡◌, ◌∷◌, [], ◌||◌, codes, decimal, drop, IfOk};
+ghost use Rattle.json.specs.Print.{print, print_from};
+ghost use Rattle.json.specs.Token.{key as key_token, number as number_token, begin_array as begin_array_token, end_array as end_array_token, end_object as end_object_token};
+ghost use Rattle.book_json_laws.specs.Parts.{list_key};
+ghost use Rattle.book_text.specs.Left.{rows_listed, entries_tokens, ends_after};
+ghost use Rattle.book_text.specs.Pieces.{skipped_if, next_list, between, last_tokens};
+
+use crate::listed_row::ListedRow;
+use crate::tokens::{end_array, null};
+use crate::writing::{end_book, open_list, write_rows};
+use book_json_laws::RowList;
+use json::Writer;
+use std::alloc::AllocError;
+use std::mem;
+
+/// The memory of a text, emptied, with none left in its place.
+pub(crate) fn emptied(text: &mut Vec<u8>) -> Vec<u8>
+    ensures { result.items ≡ [] }
+{
+    let alloc = *text.allocator();
+    let mut emptied = mem::replace(text, Vec::new(alloc));
+    emptied.clear();
+    emptied
+}
+
+/// The entries of those of the rows that stand in the list, and whether an entry of the list is written then. Where one was before,
+/// the text begins with `null`: the writer puts a comma behind a value, and that one is skipped.
+pub(crate) fn rows_piece(
+    text: Vec<u8>,
+    later: bool,
+    list: RowList,
+    rows: &[ListedRow<'_>],
+) -> Result<(Vec<u8>, bool), AllocError>
+    requires { text.items ≡ [] }
+    ensures text { IfOk result (λ piece. drop (skipped_if later) piece.0.items ≡ print_from later (entries_tokens list (rows_listed rows.now))) }
+    ensures later { IfOk result (λ piece. piece.1 ≡ ends_after later (entries_tokens list (rows_listed rows.now))) }
+{
+    let mut out = Writer::new(text);
+    if later {
+        null(&mut out)?;
+    }
+    let has_some = write_rows(&mut out, list, rows)?;
+    Ok((out.into_inner(), has_some || later))
+}
+
+/// How much of such a text is skipped.
+pub(crate) fn skipped_if(later: bool) -> usize
+    ensures { result ≡ skipped_if later }
+{
+    if later { "null".len() } else { 0 }
+}
+
+/// What stands between the last entry of a list and the first of the next one.
+pub(crate) fn piece_between(text: Vec<u8>, next: RowList) -> Result<Vec<u8>, AllocError>
+    requires { text.items ≡ [] }
+    ensures { IfOk result (λ piece. piece.items ≡ print (between next)) }
+{
+    let mut out = Writer::new(text);
+    end_array(&mut out)?;
+    open_list(&mut out, next)?;
+    Ok(out.into_inner())
+}
+
+/// What stands behind the last entry of the last list.
+pub(crate) fn last_piece(text: Vec<u8>) -> Result<Vec<u8>, AllocError>
+    requires { text.items ≡ [] }
+    ensures { IfOk result (λ piece. piece.items ≡ print last_tokens) }
+{
+    let mut out = Writer::new(text);
+    end_array(&mut out)?;
+    end_book(&mut out)?;
+    Ok(out.into_inner())
+}
+
+/// The list that stands behind this one, if there is one.
+pub(crate) fn list_behind(list: RowList) -> Option<RowList>
+    ensures { result ≡ next_list list }
+{
+    match list {
+        RowList::Accounts => Some(RowList::Ahead),
+        RowList::Ahead => Some(RowList::Budgets),
+        RowList::Budgets => Some(RowList::Cards),
+        RowList::Cards => Some(RowList::Days),
+        RowList::Days => Some(RowList::Originals),
+        RowList::Originals => None,
+    }
+}
