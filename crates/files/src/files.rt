@@ -2,7 +2,7 @@ ghost use Rattle.std.specs.Prelude.{◌≡◌, ◌≢◌, ◌⊎◌, ℕ, List, 
 
 use crate::read_fault::ReadFault;
 use crate::write_fault::WriteFault;
-use batch::{Sink, Source};
+use devices::{Sink, Source};
 
 /// Files by name. Where it is known what files hold, what is read of them and written to them is known too.
 pub trait Files {

@@ -4,7 +4,7 @@ ghost use Rattle.files.specs.Held.{held};
 use crate::files::Files;
 use crate::read_fault::ReadFault;
 use crate::write_fault::WriteFault;
-use batch::{FromRead, IntoWrite};
+use devices::{FromRead, IntoWrite};
 use std::alloc::{AllocError, Global};
 use std::collections::BTreeMap;
 use std::io::Cursor;

@@ -11,7 +11,8 @@ ghost use Rattle.rows.specs.declared.frame.Frame.{Frame};
 ghost use Rattle.jobs.specs.Faults.{HoldsSameOrNothing, IsBatchFault, IsDecidingFault, IsOfBytes, IsPuttingFault};
 ghost use Rattle.run_jobs.specs.Journaled.{IsDecidedWithJournal, IsRunJournal};
 
-use batch::{BatchFault, Sink, Source, read_batch, write_replies};
+use batch::{BatchFault, read_batch, write_replies};
+use devices::{Sink, Source};
 use engine::run_traced;
 use files::{BatchNames, Files};
 use fold::Outcome;
