@@ -10,7 +10,7 @@ use Rattle.batch_laws.specs.Files.{head_text}
 use Rattle.batch_laws.specs.Reading.{ended}
 use Rattle.batch_laws.specs.declared.batch_fault.BatchFault.{BatchFault}
 use Rattle.batch.specs.Blocks.{AreDecided, AreAllDecided, BeginsBlock, StopsBehind, StopsBefore, StopsInHead, StopsInBlocks, IsAnswered}
-use Rattle.batch.specs.Devices.{AppendsPart}
+use Rattle.batch.specs.Writing.{AppendsPart}
 use Rattle.batch.specs.declared.kept.Kept.{Kept}
 
 one_more_rows : (rows : Rows) (blocks : List (List Frame)) (block : List Frame) → rows_after_blocks rows (blocks ++ block ∷ []) ≡ rows_after (rows_after_blocks rows blocks) block

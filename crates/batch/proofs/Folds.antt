@@ -4,7 +4,7 @@ use Rattle.std.specs.Prelude.{IsTrue}
 use Rattle.batch_laws.specs.BatchFault.{is_of_bytes}
 use Rattle.batch_laws.specs.declared.batch_fault.BatchFault.{BatchFault}
 use Rattle.batch_laws.specs.declared.batch_fault.BatchFault.TheVariants.{Magic, Version, Count, Length, Ended, Trailing, Device, OutOfMemory, Body, Blocks}
-use Rattle.batch.specs.Devices.{IsWritingFault}
+use Rattle.batch.specs.Writing.{IsWritingFault}
 use Rattle.rows.specs.Fold.{Rows, rows_after_one, replies_to}
 use Rattle.rows.specs.declared.frame.Frame.{Frame}
 

@@ -3,7 +3,7 @@ use Rattle.std.proofs.Common.{◌≡◌, ℕ, ◌+◌, ◌<◌, ◌≤◌, List,
 use Rattle.std.specs.List.{flat_map}
 use Rattle.std.proofs.lemmas.List.{append-nil, take-append-drop, take_more, take_all}
 use Rattle.std.proofs.lemmas.List.Concat.{flat_map-append}
-use Rattle.batch.specs.Devices.{AppendsPart, Moves}
+use Rattle.batch.specs.Writing.{AppendsPart, Moves}
 
 -- what was put since the beginning, and what is about to be put, are the text so far
 abbrev pub Progress : List ℕ → List ℕ → List ℕ → List ℕ → Type 0

@@ -2,7 +2,7 @@
 use Rattle.std.proofs.Common.{◌≡◌, ◌≢◌, ℕ, zero, suc, ◌-◌, List, [], ◌++◌, length, take, drop, Ok, true, refl, sym, ap, ◌∙◌, append_assoc, arith}
 use Rattle.std.proofs.lemmas.List.{append-nil, length-drop, take-append-drop, take_all, nil_from_length}
 use Rattle.std.specs.Bool.{◌==◌}
-use Rattle.batch.specs.Devices.{failures_after_put}
+use Rattle.devices.specs.Devices.{failures_after_put}
 
 -- a call that put a byte didn't fail
 pub none_failed : (count failures : ℕ) → count ≢ 0 → failures_after_put (Ok count) failures ≡ failures

@@ -6,7 +6,7 @@ use Rattle.batch_laws.specs.BatchFault.{is_of_bytes}
 use Rattle.batch_laws.specs.Blocks.{IsBlock, AreBlocks, IsBlockFileOf, FailsBehind, block_replies_text, block_head_at, blocks_magic, block_replies_magic, block_text, blocks_text, rows_after_blocks, replies_to_blocks, messages_in}
 use Rattle.batch_laws.specs.Files.{head_text}
 use Rattle.batch_laws.specs.declared.batch_fault.BatchFault.{BatchFault}
-use Rattle.batch.specs.Devices.{AppendsPart}
+use Rattle.batch.specs.Writing.{AppendsPart}
 use Rattle.batch.specs.declared.kept.Kept.{Kept}
 
 -- These blocks were decided, each on the rows after those before it: so many blocks and messages, and the rows after them. Where the

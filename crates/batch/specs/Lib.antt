@@ -1,4 +1,4 @@
-pub mod Devices
+pub mod Writing
 pub mod Window
 pub mod Bodies
 pub mod Processing

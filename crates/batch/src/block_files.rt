@@ -6,9 +6,9 @@ ghost use Rattle.batch_laws.specs.BatchFault.{failures_after};
 ghost use Rattle.batch.specs.BlockFiles.{frames_of, GivesBlocks, GivesBlockFile};
 ghost use Rattle.batch.specs.Window.{ahead};
 
-use crate::source::Source;
 use crate::window::Window;
 use batch_laws::BatchFault;
+use devices::Source;
 use rows::Frame;
 use std::alloc::Global;
 

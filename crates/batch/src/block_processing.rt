@@ -4,9 +4,8 @@ ghost use Rattle.batch.specs.Blocks.{AreAllDecided, StopsBefore, StopsInHead, St
 ghost use Rattle.batch.specs.Processing.{AnswersFold};
 
 use crate::kept::Kept;
-use crate::sink::Sink;
-use crate::source::Source;
 use batch_laws::BatchFault;
+use devices::{Sink, Source};
 use fold::Outcome;
 use rows::{Book, Frame};
 use std::alloc::{AllocError, Global};

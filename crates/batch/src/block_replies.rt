@@ -7,9 +7,9 @@ ghost use Rattle.batch_laws.specs.Blocks.{block_at};
 ghost use Rattle.batch.specs.BlockFiles.{GivesReplyBlock, GivesReplyBlocks, GivesBlockReplyFile};
 ghost use Rattle.batch.specs.Window.{ahead};
 
-use crate::source::Source;
 use crate::window::Window;
 use batch_laws::BatchFault;
+use devices::Source;
 use rows::ReplyBody;
 use std::alloc::Global;
 

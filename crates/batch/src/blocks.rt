@@ -7,16 +7,15 @@ ghost use Rattle.batch_laws.specs.Files.{head_text};
 ghost use Rattle.batch_laws.specs.Reading.{Gives};
 ghost use Rattle.batch_laws.specs.Frames.{GivesFrames};
 ghost use Rattle.batch.specs.Blocks.{AreDecided, BeginsBlock, StopsBehind, StopsBefore, StopsInHead, StopsInBlocks};
-ghost use Rattle.batch.specs.Devices.{AppendsPart};
+ghost use Rattle.batch.specs.Writing.{AppendsPart};
 ghost use Rattle.batch.specs.Processing.{AnswersFold};
 ghost use Rattle.batch.specs.Window.{ahead};
 
 use crate::replies::add_reply;
-use crate::sink::Sink;
-use crate::source::Source;
 use crate::window::Window;
 use crate::writing::{add_head, add_long, put_all};
 use batch_laws::BatchFault;
+use devices::{Sink, Source};
 use fold::Outcome;
 use rows::{Book, Frame, ReplyBody};
 use std::alloc::{AllocError, Global};

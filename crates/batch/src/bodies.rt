@@ -3,11 +3,11 @@ ghost use Rattle.std.specs.List.{AllByRecursion};
 ghost use Rattle.batch_laws.specs.BatchFault.{failures_after, is_of_bytes};
 ghost use Rattle.batch_laws.specs.Files.{IsBody, AreBodies, batch_text};
 ghost use Rattle.batch.specs.Bodies.{bytes_of};
-ghost use Rattle.batch.specs.Devices.{AppendsPart};
+ghost use Rattle.batch.specs.Writing.{AppendsPart};
 
-use crate::sink::Sink;
 use crate::writing::{PIECE, add_framed, add_head, put_all, put_piece};
 use batch_laws::BatchFault;
+use devices::Sink;
 use std::alloc::Global;
 
 // Whether each body has 1 to 512 bytes.

@@ -3,10 +3,10 @@ ghost use Rattle.batch_laws.specs.BatchFault.{failures_after};
 ghost use Rattle.batch_laws.specs.Reading.{Gives, magic_at, number_at, version_at, count_at, head_at, length_at, body_at};
 ghost use Rattle.batch.specs.Window.{ahead};
 
-use crate::source::Source;
 use crate::window::Window;
 use batch_laws::BatchFault;
 use byteorder::{BigEndian, ByteOrder};
+use devices::Source;
 
 impl Window {
     // The four letters that a file begins with.

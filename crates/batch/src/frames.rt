@@ -4,10 +4,10 @@ ghost use Rattle.batch_laws.specs.Reading.{GivesWhole, bodies_at, ended};
 ghost use Rattle.batch_laws.specs.Frames.{IsFrameOf, GivesFrames, GivesBatch};
 ghost use Rattle.batch.specs.Window.{ahead};
 
-use crate::source::Source;
 use crate::window::Window;
 use batch_laws::BatchFault;
 use codec::decode;
+use devices::Source;
 use rows::{Frame, FrameFault};
 use std::alloc::Global;
 

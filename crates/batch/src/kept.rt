@@ -5,16 +5,15 @@ ghost use Rattle.batch_laws.specs.BatchFault.{failures_after, is_of_bytes};
 ghost use Rattle.batch_laws.specs.Blocks.{IsBlock, block_text, block_at, block_replies_magic};
 ghost use Rattle.batch_laws.specs.Files.{head_text};
 ghost use Rattle.batch.specs.Blocks.{AreDecided, AreAllDecided, BeginsBlock, StopsBehind, StopsBefore, StopsInHead, StopsInBlocks, IsAnswered};
-ghost use Rattle.batch.specs.Devices.{AppendsPart};
+ghost use Rattle.batch.specs.Writing.{AppendsPart};
 ghost use Rattle.batch.specs.Processing.{AnswersFold};
 ghost use Rattle.batch.specs.Window.{ahead};
 
 use crate::blocks::write_block;
-use crate::sink::Sink;
-use crate::source::Source;
 use crate::window::Window;
 use crate::writing::{add_head, put_all};
 use batch_laws::BatchFault;
+use devices::{Sink, Source};
 use fold::Outcome;
 use rows::{Book, Frame};
 use std::alloc::{AllocError, Global};

@@ -5,14 +5,13 @@ ghost use Rattle.batch_laws.specs.BatchFault.{failures_after, is_of_bytes};
 ghost use Rattle.batch_laws.specs.Reading.{bodies_of, batch_magic};
 ghost use Rattle.batch_laws.specs.Files.{replies_text};
 ghost use Rattle.batch_laws.specs.Frames.{IsBatchOf};
-ghost use Rattle.batch.specs.Devices.{AppendsPart};
+ghost use Rattle.batch.specs.Writing.{AppendsPart};
 ghost use Rattle.batch.specs.Processing.{IsFold, AnswersFold};
 
 use crate::frames::read_batch;
 use crate::replies::write_replies;
-use crate::sink::Sink;
-use crate::source::Source;
 use batch_laws::BatchFault;
+use devices::{Sink, Source};
 use fold::Outcome;
 use rows::{Book, Frame};
 use std::alloc::{AllocError, Global};

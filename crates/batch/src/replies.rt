@@ -1,12 +1,12 @@
 ghost use Rattle.std.specs.Prelude.{◌≡◌, ◌+◌, ◌<◌, ◌≤◌, ◌^◌, ◌++◌, [], length, Err, IfErr, OnOk, OnErr};
 ghost use Rattle.batch_laws.specs.BatchFault.{failures_after};
 ghost use Rattle.batch_laws.specs.Files.{reply_text, framed, replies_text};
-ghost use Rattle.batch.specs.Devices.{AppendsPart, IsWritingFault};
+ghost use Rattle.batch.specs.Writing.{AppendsPart, IsWritingFault};
 
-use crate::sink::Sink;
 use crate::writing::{PIECE, add_framed, add_head, put_all, put_piece};
 use batch_laws::BatchFault;
 use codec::encode_reply;
+use devices::Sink;
 use rows::ReplyBody;
 use std::alloc::{AllocError, Global};
 

@@ -8,10 +8,10 @@ ghost use Rattle.batch_laws.specs.BatchFault.{failures_after};
 ghost use Rattle.batch_laws.specs.Replies.{IsReplyText, GivesReplies, GivesReplyFile};
 ghost use Rattle.batch.specs.Window.{ahead};
 
-use crate::source::Source;
 use crate::window::Window;
 use batch_laws::BatchFault;
 use codec::decode_reply;
+use devices::Source;
 use iso8583::{CodecFault, is_digits, number_of};
 use rows::{FrameFault, ReplyBody};
 use std::alloc::Global;

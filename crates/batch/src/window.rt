@@ -1,7 +1,7 @@
 ghost use Rattle.std.specs.Prelude.{◌<◌, ◌≤◌, length};
 
-use crate::source::Source;
 use batch_laws::BatchFault;
+use devices::Source;
 use std::alloc::{AllocError, Global};
 
 // How many bytes are asked for at once.

@@ -2,11 +2,11 @@ ghost use Rattle.std.specs.Prelude.{◌≡◌, ◌+◌, ◌<◌, ◌^◌, ◌++�
 ghost use Rattle.byteorder.specs.Endian.{big_bytes};
 ghost use Rattle.batch_laws.specs.BatchFault.{failures_after};
 ghost use Rattle.batch_laws.specs.Files.{framed, head_text};
-ghost use Rattle.batch.specs.Devices.{AppendsPart, Moves};
+ghost use Rattle.batch.specs.Writing.{AppendsPart, Moves};
 
-use crate::sink::Sink;
 use batch_laws::BatchFault;
 use byteorder::{BigEndian, ByteOrder};
+use devices::Sink;
 use std::alloc::AllocError;
 
 /// How many bytes are put at once, at least.

@@ -5,7 +5,7 @@ use crate::parts::{emptied, last_piece, list_behind, piece_between, rows_piece, 
 use crate::tokens::begin_object;
 use crate::writing::open_list;
 use book_json_laws::RowList;
-use files::Pieces;
+use devices::Pieces;
 use json::Writer;
 use rows::SortedRows;
 use std::alloc::{AllocError, Global};

@@ -1,9 +1,8 @@
 ghost use Rattle.std.specs.Prelude.{◌≡◌, ◌≢◌, ◌⊎◌, ℕ, List, [], Err, IfOk, OnOk, OnErr};
 
-use crate::pieces::Pieces;
 use crate::read_fault::ReadFault;
 use crate::write_fault::WriteFault;
-use batch::{Sink, Source};
+use devices::{Pieces, Sink, Source};
 
 /// Files by name. Where it is known what files hold, what is read of them and written to them is known too.
 pub trait Files {

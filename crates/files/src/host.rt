@@ -1,8 +1,7 @@
 use crate::files::Files;
-use crate::pieces::Pieces;
 use crate::read_fault::ReadFault;
 use crate::write_fault::WriteFault;
-use batch::{FromRead, IntoWrite};
+use devices::{FromRead, IntoWrite, Pieces};
 use std::alloc::Global;
 use std::fs::OpenFile;
 use std::io::{ErrorKind, Write};

@@ -2,10 +2,9 @@ ghost use Rattle.std.specs.Prelude.{◌≡◌, ◌≢◌, ℕ, List, Some, OnOk,
 ghost use Rattle.files.specs.Held.{held};
 
 use crate::files::Files;
-use crate::pieces::Pieces;
 use crate::read_fault::ReadFault;
 use crate::write_fault::WriteFault;
-use batch::{FromRead, IntoWrite};
+use devices::{FromRead, IntoWrite, Pieces};
 use std::alloc::{AllocError, Global};
 use std::collections::BTreeMap;
 use std::io::Cursor;

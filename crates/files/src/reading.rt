@@ -3,7 +3,7 @@ ghost use Rattle.files.specs.Failing.{HasFailed};
 
 use crate::files::Files;
 use crate::read_fault::ReadFault;
-use batch::Source;
+use devices::Source;
 use std::alloc::{AllocError, Global};
 
 // How many bytes are asked for at once.

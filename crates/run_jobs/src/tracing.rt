@@ -11,9 +11,10 @@ ghost use Rattle.rows.specs.declared.frame.Frame.{Frame};
 ghost use Rattle.jobs.specs.Faults.{HoldsSameOrNothing, IsBatchFault, IsDecidingFault, IsOfBytes, IsPuttingFault};
 ghost use Rattle.run_jobs.specs.Journaled.{IsDecidedWithJournal, IsRunJournal};
 
-use batch::{BatchFault, Sink, Source, read_batch, write_replies};
+use batch::{BatchFault, read_batch, write_replies};
+use devices::{Sink, Source, Whole};
 use engine::run_traced;
-use files::{BatchNames, Files, Whole};
+use files::{BatchNames, Files};
 use fold::Outcome;
 use jobs::{JobFault, fault_of_closing, open_book, put_book};
 use journal_text::{Entry, write_journal};

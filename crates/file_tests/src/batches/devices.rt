@@ -2,7 +2,8 @@
 
 use crate::batches::serial::process_serially;
 use crate::batches::texts::{BATCH, REPLIES};
-use batch::{BatchFault, FailingSink, FailingSource, read_batch};
+use batch::{BatchFault, read_batch};
+use devices::{FailingSink, FailingSource};
 use fixtures::first_book_with;
 use rows::{Book, Frame};
 use std::alloc::Global;

@@ -1,7 +1,8 @@
 //! Files that are refused, each with its first fault.
 
 use crate::batches::texts::{BAD_BATCHES, BAD_REPLIES, BATCH};
-use batch::{BatchFault, IntoWrite, read_batch, read_replies, write_batch};
+use batch::{BatchFault, read_batch, read_replies, write_batch};
+use devices::IntoWrite;
 use std::alloc::{AllocError, Global};
 
 fn batch_fault(alloc: Global, bytes: &[u8]) -> Option<BatchFault> {

@@ -3,7 +3,8 @@
 ghost use Rattle.std.specs.Prelude.{◌+◌, ◌<◌, ◌≤◌, ◌^◌, length};
 ghost use Rattle.batch.specs.Processing.{AnswersFold};
 
-use batch::{BatchFault, Sink, Source, process};
+use batch::{BatchFault, process};
+use devices::{Sink, Source};
 use fold::{Outcome, Prefix};
 use rows::{Book, Frame};
 use rules::decide_all;

@@ -2,8 +2,9 @@
 
 use crate::batches::serial::process_serially;
 use crate::batches::texts::{BATCH, EMPTY, EMPTY_REPLIES, REPLIES, SHORT, SHORT_REPLIES};
-use batch::{FromRead, IntoWrite, read_batch, read_replies, write_batch, write_replies};
+use batch::{read_batch, read_replies, write_batch, write_replies};
 use codec::decode_reply;
+use devices::{FromRead, IntoWrite};
 use fixtures::{first_book_with, has_row};
 use rows::{Book, Frame, ReplyBody};
 use std::alloc::{AllocError, Global};

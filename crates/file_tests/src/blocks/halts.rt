@@ -2,7 +2,8 @@
 
 use crate::blocks::serial::{Came, decided};
 use crate::blocks::texts::{CUT, TOO_MANY, TWO_REPLIES, TWO_REQUESTS};
-use batch::{BatchFault, FailingSink, FailingSource, IntoWrite};
+use batch::BatchFault;
+use devices::{FailingSink, FailingSource, IntoWrite};
 use fixtures::{first_book_with, has_row};
 use rows::Book;
 use std::alloc::Global;

@@ -1,5 +1,5 @@
 ghost use Rattle.std.specs.Prelude.{◌≡◌, ℕ, ◌+◌, ◌<◌, ◌≤◌, ◌^◌, ◌++◌, List, length, take, IfOk, OnErr, IsSome};
-ghost use Rattle.batch.specs.Devices.{known_bytes, failures_after_put};
+ghost use Rattle.devices.specs.Devices.{known_bytes, failures_after_put};
 
 use crate::broken::Broken;
 use std::io::Write;

@@ -1,19 +1,7 @@
--- What calls of sources and sinks do.
-use Rattle.std.specs.Prelude.{◌≡◌, ℕ, zero, suc, ◌+◌, ◌<◌, List, [], ◌++◌, Option, Some, None, Result, Ok, Err}
-use Rattle.batch.specs.declared.broken.Broken.{Broken}
+-- What is written to a sink, and why not all of it.
+use Rattle.std.specs.Prelude.{◌≡◌, ℕ, ◌<◌, List, ◌++◌}
 use Rattle.batch_laws.specs.declared.batch_fault.BatchFault.{BatchFault}
 use Rattle.batch_laws.specs.declared.batch_fault.BatchFault.TheVariants.{Magic, Version, Count, Length, Ended, Trailing, Device, OutOfMemory, Body, Blocks}
-
--- the bytes, where they are known
-abbrev pub known_bytes : Option (List ℕ) → List ℕ
-known_bytes (Some bytes) = bytes
-known_bytes None = []
-
--- how often puts failed after one more: one that fails, or puts no byte, is a failure
-abbrev pub failures_after_put : Result ℕ Broken → ℕ → ℕ
-failures_after_put (Ok zero) failures = failures + 1
-failures_after_put (Ok (suc n)) failures = failures
-failures_after_put (Err broken) failures = failures + 1
 
 -- a beginning of the text was appended
 abbrev pub AppendsPart : List ℕ → List ℕ → List ℕ → Type 0

@@ -1,5 +1,5 @@
 ghost use Rattle.std.specs.Prelude.{◌≡◌, ℕ, ◌+◌, ◌<◌, ◌≤◌, ◌^◌, ◌++◌, List, [], length, take, drop, IfOk, OnOk, OnErr, IsSome};
-ghost use Rattle.batch.specs.Devices.{known_bytes};
+ghost use Rattle.devices.specs.Devices.{known_bytes};
 
 use crate::broken::Broken;
 use std::io::Read;
