@@ -20,6 +20,9 @@ const LISTS: [RowList; 6] = [
     RowList::Originals,
 ];
 
+// About how many bytes the entry of a row takes: room for so many rows is made at once.
+const BYTES_OF_A_ROW: usize = 160;
+
 // Puts the rows of a list into the book, of which there are at most so many. Answers whether the list was found.
 fn add_rows(
     text: &mut WrittenText<'_>,
@@ -55,6 +58,7 @@ fn book_of_lists(alloc: Global, bytes: &[u8]) -> Result<Option<Book>, AllocError
         return Ok(None);
     }
     let mut book = Book::new(alloc);
+    book.reserve(bytes.len() / BYTES_OF_A_ROW)?;
     for list in LISTS {
         // An entry takes more than one byte.
         if !add_rows(&mut text, list, bytes.len(), &mut book)? {

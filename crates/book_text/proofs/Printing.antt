@@ -1,7 +1,7 @@
 -- What is printed of tokens, part by part.
-use Rattle.std.proofs.Common.{◌≡◌, ℕ, List, [], ◌∷◌, ◌++◌, Bool, true, false, Option, Some, None, refl, ap, sym, subst, ◌∙◌, append_assoc, codes, decimal, drop}
+use Rattle.std.proofs.Common.{◌≡◌, ℕ, List, [], ◌∷◌, ◌++◌, Bool, true, false, Some, None, refl, ap, ◌∙◌, append_assoc, drop}
 use Rattle.json.specs.Print.{print, print_from}
-use Rattle.json.specs.Token.{Token, null, begin_object, begin_array, end_array, end_object, key, number}
+use Rattle.json.specs.Token.{Token, null, begin_object, begin_array, end_array, key}
 use Rattle.json.specs.Written.{Written}
 use Rattle.json.proofs.Printed.Tokens.{print_from-append}
 use Rattle.rows.specs.declared.row_key.RowKey.{RowKey}

@@ -1,7 +1,7 @@
 -- What of a book's text is left to be written, over its sorted rows; for private clauses.
-use Rattle.std.specs.Prelude.{ℕ, List, [], ◌∷◌, ◌++◌, Bool, true, false, ◌||◌, codes, map, flat_map, fold}
+use Rattle.std.specs.Prelude.{ℕ, List, ◌++◌, Bool, codes, map, flat_map, fold}
 use Rattle.json.specs.Print.{print, print_from, ends}
-use Rattle.json.specs.Token.{Token, key as key_token, begin_array}
+use Rattle.json.specs.Token.{Token}
 use Rattle.json.specs.Tree.{items_tokens, members_tokens}
 use Rattle.rows.specs.declared.row_key.RowKey.{RowKey}
 use Rattle.rows.specs.declared.row_val.RowVal.{RowVal}

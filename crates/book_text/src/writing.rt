@@ -63,11 +63,7 @@ pub(crate) fn end_book(out: &mut Writer) -> Result<(), AllocError>
 }
 
 // Writes the list of those of the rows that stand in it.
-fn write_list(
-    out: &mut Writer,
-    list: RowList,
-    rows: &[ListedRow<'_>],
-) -> Result<(), AllocError>
+fn write_list(out: &mut Writer, list: RowList, rows: &[ListedRow<'_>]) -> Result<(), AllocError>
     ensures text { OnOk result (Adds out.old out.new (key_token (list_key list) ∷ tokens_of (list_data list (rows_listed rows.now)))) }
     ensures back { OnOk result (IsReadBack list (rows_listed rows.now)) }
 {

@@ -18,4 +18,3 @@ pub trait Pieces {
     fn piece(&self) -> &[u8]
         ensures { result.now ≡ made self.now };
 }
-

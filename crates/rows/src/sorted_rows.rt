@@ -57,7 +57,11 @@ impl<'a> SortedRows<'a> {
 fn rank(row: &(&RowKey, &RowVal)) -> u64 {
     let (first, second) = ranked(row.0);
     let kind = u64::from(row.0.kind());
-    with_digits(with_digits(kind, row.0.first(), first), row.0.second(), second)
+    with_digits(
+        with_digits(kind, row.0.first(), first),
+        row.0.second(),
+        second,
+    )
 }
 
 // How many characters of a key's first and second text its rank goes by: 17 in all, as a number has room for. An acquirer has
@@ -65,7 +69,9 @@ fn rank(row: &(&RowKey, &RowVal)) -> u64 {
 fn ranked(key: &RowKey) -> (usize, usize) {
     match key {
         RowKey::Original(_) => (11, 6),
-        RowKey::Card(_) | RowKey::Velocity(_, _) | RowKey::Budget(_) | RowKey::Account(_) => (16, 1),
+        RowKey::Card(_) | RowKey::Velocity(_, _) | RowKey::Budget(_) | RowKey::Account(_) => (
+            16, 1,
+        ),
     }
 }
 

@@ -1,7 +1,5 @@
-use Rattle.std.proofs.Common.{◌≡◌, ◌∷◌, [], ◌++◌, List, ap, sym, subst, ◌∙◌, append-nil}
+use Rattle.std.proofs.Common.{◌∷◌, [], List, ap, sym, subst, ◌∙◌, append-nil}
 use Rattle.json.specs.Token.{Token, key as key_token, begin_array}
-use Rattle.rows.specs.declared.row_key.RowKey.{RowKey}
-use Rattle.rows.specs.declared.row_val.RowVal.{RowVal}
 use Rattle.book_json_laws.specs.Parts.{list_key}
 use Rattle.book_json_laws.specs.Text.{Adds}
 use Rattle.book_json_laws.proofs.WrittenTokens.{rest_tokens, then}

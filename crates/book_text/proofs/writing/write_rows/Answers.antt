@@ -22,36 +22,36 @@ loop-row-preserved c =
     let more : drop c.loop-row.row-index c.args.rows.now ≡ row ∷ left
     = drop_more c.args.rows.now c.loop-row.row-index row c.loop-row-test.true ∙ ap (λ (r : ListedRow). r ∷ left) (sym c.row-item.is) in
     elim c.if-is_in.branch [
-      then-is_in+in_ok-write_listed w ↦
-        let put = w.in_ok-write_listed.ensures in
-        let rows : rows_of list (rows_listed (drop c.loop-row.row-index c.args.rows.now)) ≡ row_of row ∷ rows_of list (rows_listed left)
-        = ap (λ (l : List ListedRow). rows_of list (rows_listed l)) more ∙ rows_in list (row_of row) (rows_listed left) (sym c.is_in.ensures ∙ w.if-is_in.true) in
-        record {
-          kept = ap (λ (o : Written). o.before) w.out-is ∙ put.text.kept ∙ old.kept;
-          text = ap (λ (o : Written). o.tokens ++ entries_tokens list (rows_listed left)) w.out-is
-              ∙ ap (λ (ts : List Token). ts ++ entries_tokens list (rows_listed left)) put.text.written
-              ∙ append_assoc c.loop-row.out.tokens _ _
-              ∙ ap (λ (rs : List (RowKey × RowVal)). c.loop-row.out.tokens ++ tokens_of_entries rs) (sym rows)
-              ∙ old.text;
-          some = λ later. ap (λ (b : Bool). ends_after (b || later) (entries_tokens list (rows_listed left))) w.has_some-is
-              ∙ sym (entry_ends (c.loop-row.has_some || later) (entry_data row.key.now row.val.now) (entries_tokens list (rows_listed left)))
-              ∙ ap (λ (rs : List (RowKey × RowVal)). ends_after (c.loop-row.has_some || later) (tokens_of_entries rs)) (sym rows)
-              ∙ old.some later;
-          back = λ h. old.back (subst (AllByRecursion (ReadsBack list)) (sym rows) (put.back, h));
-        }
-    | else-is_in w ↦
-        let rows : rows_of list (rows_listed (drop c.loop-row.row-index c.args.rows.now)) ≡ rows_of list (rows_listed left)
-        = ap (λ (l : List ListedRow). rows_of list (rows_listed l)) more ∙ rows_out list (row_of row) (rows_listed left) (sym c.is_in.ensures ∙ w.if-is_in.false) in
-        record {
-          kept = ap (λ (o : Written). o.before) w.out-is ∙ old.kept;
-          text = ap (λ (o : Written). o.tokens ++ entries_tokens list (rows_listed left)) w.out-is
-              ∙ ap (λ (rs : List (RowKey × RowVal)). c.loop-row.out.tokens ++ tokens_of_entries rs) (sym rows)
-              ∙ old.text;
-          some = λ later. ap (λ (b : Bool). ends_after (b || later) (entries_tokens list (rows_listed left))) w.has_some-is
-              ∙ ap (λ (rs : List (RowKey × RowVal)). ends_after (c.loop-row.has_some || later) (tokens_of_entries rs)) (sym rows)
-              ∙ old.some later;
-          back = λ h. old.back (subst (AllByRecursion (ReadsBack list)) (sym rows) h);
-        }
+      | then-is_in+in_ok-write_listed w ↦
+          let put = w.in_ok-write_listed.ensures in
+          let rows : rows_of list (rows_listed (drop c.loop-row.row-index c.args.rows.now)) ≡ row_of row ∷ rows_of list (rows_listed left)
+          = ap (λ (l : List ListedRow). rows_of list (rows_listed l)) more ∙ rows_in list (row_of row) (rows_listed left) (sym c.is_in.ensures ∙ w.if-is_in.true) in
+          record {
+            kept = ap (λ (o : Written). o.before) w.out-is ∙ put.text.kept ∙ old.kept;
+            text = ap (λ (o : Written). o.tokens ++ entries_tokens list (rows_listed left)) w.out-is
+                ∙ ap (λ (ts : List Token). ts ++ entries_tokens list (rows_listed left)) put.text.written
+                ∙ append_assoc c.loop-row.out.tokens _ _
+                ∙ ap (λ (rs : List (RowKey × RowVal)). c.loop-row.out.tokens ++ tokens_of_entries rs) (sym rows)
+                ∙ old.text;
+            some = λ later. ap (λ (b : Bool). ends_after (b || later) (entries_tokens list (rows_listed left))) w.has_some-is
+                ∙ sym (entry_ends (c.loop-row.has_some || later) (entry_data row.key.now row.val.now) (entries_tokens list (rows_listed left)))
+                ∙ ap (λ (rs : List (RowKey × RowVal)). ends_after (c.loop-row.has_some || later) (tokens_of_entries rs)) (sym rows)
+                ∙ old.some later;
+            back = λ h. old.back (subst (AllByRecursion (ReadsBack list)) (sym rows) (put.back, h));
+          }
+      | else-is_in w ↦
+          let rows : rows_of list (rows_listed (drop c.loop-row.row-index c.args.rows.now)) ≡ rows_of list (rows_listed left)
+          = ap (λ (l : List ListedRow). rows_of list (rows_listed l)) more ∙ rows_out list (row_of row) (rows_listed left) (sym c.is_in.ensures ∙ w.if-is_in.false) in
+          record {
+            kept = ap (λ (o : Written). o.before) w.out-is ∙ old.kept;
+            text = ap (λ (o : Written). o.tokens ++ entries_tokens list (rows_listed left)) w.out-is
+                ∙ ap (λ (rs : List (RowKey × RowVal)). c.loop-row.out.tokens ++ tokens_of_entries rs) (sym rows)
+                ∙ old.text;
+            some = λ later. ap (λ (b : Bool). ends_after (b || later) (entries_tokens list (rows_listed left))) w.has_some-is
+                ∙ ap (λ (rs : List (RowKey × RowVal)). ends_after (c.loop-row.has_some || later) (tokens_of_entries rs)) (sym rows)
+                ∙ old.some later;
+            back = λ h. old.back (subst (AllByRecursion (ReadsBack list)) (sym rows) h);
+          }
     ]
 
 pub returns-clause-text : goal.returns-clause-text

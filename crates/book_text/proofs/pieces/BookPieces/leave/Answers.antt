@@ -1,4 +1,4 @@
-use Rattle.std.proofs.Common.{◌≡◌, ℕ, [], ◌++◌, List, false, ap, sym, ◌∙◌, append-nil}
+use Rattle.std.proofs.Common.{ℕ, ◌++◌, List, false, ap, sym, ◌∙◌, append-nil}
 use Rattle.book_text.specs.Left.{rows_listed, text_left}
 use Rattle.book_text.specs.Pieces.{rest_at}
 use Rattle.book_text.specs.declared.pieces.Place.{Place}

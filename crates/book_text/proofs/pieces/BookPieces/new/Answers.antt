@@ -1,6 +1,4 @@
-use Rattle.std.proofs.Common.{◌≡◌, List, ap, ◌∙◌}
-use Rattle.rows.specs.declared.row_key.RowKey.{RowKey}
-use Rattle.rows.specs.declared.row_val.RowVal.{RowVal}
+use Rattle.std.proofs.Common.{ap, ◌∙◌}
 use Rattle.serde_json.proofs.Texts.{print-outline}
 use Rattle.book_json_laws.specs.Text.{book_data}
 use Rattle.book_text.specs.Left.{text_of_rows}

@@ -1,4 +1,4 @@
-use Rattle.std.proofs.Common.{◌≡◌, ℕ, ◌++◌, List, false, ap, sym, ◌∙◌}
+use Rattle.std.proofs.Common.{ℕ, ◌++◌, List, false, ap, sym, ◌∙◌}
 use Rattle.book_json_laws.specs.declared.row_list.RowList.TheVariants.{Accounts}
 use Rattle.book_json_laws.proofs.WrittenTokens.{then}
 use Rattle.book_text.specs.Left.{rows_listed, text_left}
@@ -11,7 +11,7 @@ pub returns : goal.returns
 returns c =
     let s = c.args.self.now in
     let piece = text_of_written c.into_inner.result.items c.into_inner.ensures.items (then c.in_ok-begin_object.ensures c.in_ok-open_list.ensures)
-        (c.new-out.ensures.before ∙ c.emptied.ensures) c.new-out.ensures.tokens in
+    (c.new-out.ensures.before ∙ c.emptied.ensures) c.new-out.ensures.tokens in
     ap (λ (p : Place). rest_at p s.later s.at s.rows.items) c.requires
     ∙ begun (rows_listed s.rows.items)
     ∙ ap (λ (text : List ℕ). text ++ text_left false Accounts (rows_listed s.rows.items) (rows_listed s.rows.items)) (sym piece)

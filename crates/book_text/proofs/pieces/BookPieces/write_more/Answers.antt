@@ -23,13 +23,13 @@ returns c =
     let entries = entries_tokens list (rows_listed some) in
     let piece : drop c.skipped_if-self.result text ≡ print_from s.later entries
     = ap (λ (n : ℕ). drop n text) c.skipped_if-self.ensures ∙ c.in_ok-text.ensures.text
-        ∙ ap (λ (rows : List ListedRow). print_from s.later (entries_tokens list (rows_listed (slice_range rows s.at end)))) c.deref.ensures.value in
+    ∙ ap (λ (rows : List ListedRow). print_from s.later (entries_tokens list (rows_listed (slice_range rows s.at end)))) c.deref.ensures.value in
     let later : c.in_ok-text.later ≡ ends_after s.later entries
     = c.in_ok-text.ensures.later
-        ∙ ap (λ (rows : List ListedRow). ends_after s.later (entries_tokens list (rows_listed (slice_range rows s.at end)))) c.deref.ensures.value in
+    ∙ ap (λ (rows : List ListedRow). ends_after s.later (entries_tokens list (rows_listed (slice_range rows s.at end)))) c.deref.ensures.value in
     ap (λ (p : Place). rest_at p s.later s.at s.rows.items) c.requires
     ∙ ap (λ (rows : List ListedRow). text_left s.later list (rows_listed rows) all)
-        (drop_split s.rows.items s.at end (omega (arith, c.min-end.ensures, c.saturating_add.ensures, c.len.ensures, s.within)))
+    (drop_split s.rows.items s.at end (omega (arith, c.min-end.ensures, c.saturating_add.ensures, c.len.ensures, s.within)))
     ∙ ap (λ (rows : List (RowKey × RowVal)). text_left s.later list rows all) (map-append row_of some left)
     ∙ left_split s.later list (rows_listed some) (rows_listed left) all
     ∙ ap (λ (t : List ℕ). t ++ text_left (ends_after s.later entries) list (rows_listed left) all) (sym piece)
