@@ -103,6 +103,7 @@ impl<'a, R: Wait, C: SharedCore, F: Decide, G: Gate> Worker<'a, R, C, F, G> {
     }
 
     // Decides a version on the rows that it sees, over the memory of these sets.
+    #[inline(always)]
     fn decide(
         &self,
         seat: Seat,
@@ -116,6 +117,7 @@ impl<'a, R: Wait, C: SharedCore, F: Decide, G: Gate> Worker<'a, R, C, F, G> {
     }
 
     // Hands an execution in, and keeps its sets for their memory. Then the next task.
+    #[inline(always)]
     fn hand_in(
         &self,
         seat: Seat,
