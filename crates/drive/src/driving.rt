@@ -1,5 +1,6 @@
-ghost use Rattle.std.specs.Prelude.{◌≡◌, ◌≤◌, IfOk, length};
-ghost use Rattle.drive.specs.Drives.{IsDrive};
+ghost use Rattle.std.specs.Prelude.{◌≡◌, ◌≤◌, [], IfOk, OnOk, length};
+ghost use Rattle.drive.specs.Drives.{Hands, IsDrive, IsDriven, empty_hands};
+ghost use Rattle.speccore_laws.specs.Run.{IsReached};
 
 use crate::hands::empty_hands;
 use crate::turns::take_turn;
@@ -19,13 +20,31 @@ pub fn drive(
     requires { length frames.now ≤ 65536 }
     ensures { IfOk result (λ traced. IsDrive book.now frames.now seats.now traced.entries traced.core) }
 {
-    let mut hands = empty_hands(alloc)?;
     let mut traced = Traced::new(alloc, book, frames)?;
+    match take_turns(alloc, frames, seats, &mut traced) {
+        Ok(()) => Ok(traced),
+        Err(fault) => Err(fault),
+    }
+}
+
+// Takes the turns on this core, with empty hands at first.
+fn take_turns(
+    alloc: Global,
+    frames: &[Frame],
+    seats: &[Seat],
+    traced: &mut Traced,
+) -> Result<(), AllocError>
+    requires entries { traced.old.entries ≡ [] }
+    requires frames { traced.old.core.state.frames ≡ frames.now }
+    requires reached { IsReached traced.old.core.state }
+    ensures { OnOk result ((after : Hands) × IsDriven traced.old.core empty_hands seats.now traced.new.entries traced.new.core after) }
+{
+    let mut hands = empty_hands(alloc)?;
     for index in 0..seats.len() {
         let seat = seats[index];
         let place = seat.number() as usize;
-        let next = take_turn(alloc, frames, &mut traced, seat, hands[place])?;
+        let next = take_turn(alloc, frames, traced, seat, hands[place])?;
         hands[place] = next;
     }
-    Ok(traced)
+    Ok(())
 }

@@ -1,4 +1,4 @@
-ghost use Rattle.std.specs.Prelude.{◌≡◌, ◌≤◌, IfOk, IsTrue, length};
+ghost use Rattle.std.specs.Prelude.{◌≡◌, ◌≤◌, IfOk, OnOk, IsTrue, length};
 ghost use Rattle.journal.specs.Finished.{IsFinished};
 
 use crate::checking::{check, is_worn};
@@ -26,9 +26,26 @@ pub(crate) fn played_alone<R: Wait>(
     ensures { IfOk result (λ traced. IsFinished traced.core traced.entries) }
 {
     let mut traced = Traced::with_limits(alloc, book, frames, limits)?;
+    match take_turns(rt, alloc, frames, &mut traced) {
+        Ok(()) => Ok(traced),
+        Err(fault) => Err(fault),
+    }
+}
+
+// A worker's turns on this core, until all is committed or no incarnation or epoch is left.
+fn take_turns<R: Wait>(
+    rt: &R,
+    alloc: Global,
+    frames: &[Frame],
+    traced: &mut Traced,
+) -> Result<(), AllocError>
+    ensures { OnOk result (IsFinished traced.new.core traced.new.entries) }
+{
     for _ in rt.forever() {
-        if take_turn(rt, alloc, frames, &mut traced)? {
-            return Ok(traced);
+        match take_turn(rt, alloc, frames, traced) {
+            Ok(true) => return Ok(()),
+            Ok(false) => {}
+            Err(fault) => return Err(fault),
         }
     }
     unreachable!()

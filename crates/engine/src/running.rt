@@ -122,11 +122,33 @@ fn finished_core<R: Wait>(
     if has_committed_all(shared.core(), book, frames, limits) {
         return Ok(shared.into_core());
     }
-    let (core, _) = played_anew(rt, alloc, book, frames, limits)?.into_parts();
-    Ok(core)
+    core_anew(rt, alloc, book, frames, limits)
 }
 
-// The same with its journal.
+// The core of a new journaled one, which the caller plays alone.
+fn core_anew<R: Wait>(
+    rt: &R,
+    alloc: Global,
+    book: &Book,
+    frames: &[Frame],
+    limits: Limits,
+) -> Result<Core, AllocError>
+    requires { length frames.now ≤ 65536 }
+    ensures opening { IfOk result (λ core. core.state.opening ≡ book.now) }
+    ensures frames { IfOk result (λ core. core.state.frames ≡ frames.now) }
+    ensures limits { IfOk result (λ core. core.state.limits ≡ bounded limits) }
+    ensures finished { IfOk result IsSomeEnd }
+{
+    match played_anew(rt, alloc, book, frames, limits) {
+        Ok(traced) => {
+            let (core, _) = traced.into_parts();
+            Ok(core)
+        }
+        Err(fault) => Err(fault),
+    }
+}
+
+// The workers' core with its journal, if it is that of this run and has committed all; else a new one, which the caller plays alone.
 #[tactic(auto, using(crate::proofs::Finished::finished_all))]
 fn finished<R: Wait>(
     rt: &R,

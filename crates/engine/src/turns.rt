@@ -33,23 +33,47 @@ impl<'a, R: Wait, C: SharedCore, F: Decide, G: Gate> Worker<'a, R, C, F, G> {
     pub(crate) fn work(&self, seat: Seat) {
         let mut sets = (ReadSet::new(self.alloc), WriteSet::new(self.alloc));
         let mut pace = Pace::of(seat == Seat::first());
-        let mut turn = self.claim(seat);
-        for _ in self.rt.forever() {
-            turn = match turn {
-                Ok(Task::Done) => break,
-                Ok(Task::Idle) => {
-                    pace.rest(self.rt, self.bed);
-                    self.claim(seat)
-                }
-                Ok(Task::Execute(version)) => self.execute(seat, version, &mut sets, &mut pace),
-                Ok(Task::Validate(version)) => self.check(seat, version),
-                Err(_) => {
-                    lock(self.rt, self.core).stop();
-                    break;
-                }
-            };
+        if self.take_turns(seat, &mut sets, &mut pace).is_err() {
+            lock(self.rt, self.core).stop();
         }
         self.bed.notify_all();
+    }
+
+    // Turns at this seat, until nothing is to be done any more.
+    fn take_turns(
+        &self,
+        seat: Seat,
+        sets: &mut (ReadSet, WriteSet),
+        pace: &mut Pace,
+    ) -> Result<(), Leave> {
+        let mut turn = self.claim(seat);
+        for _ in self.rt.forever() {
+            match turn {
+                Ok(Task::Done) => return Ok(()),
+                Ok(task) => turn = self.turn(seat, task, sets, pace),
+                Err(leave) => return Err(leave),
+            }
+        }
+        unreachable!()
+    }
+
+    // Does what was claimed. Then the next task.
+    fn turn(
+        &self,
+        seat: Seat,
+        task: Task,
+        sets: &mut (ReadSet, WriteSet),
+        pace: &mut Pace,
+    ) -> Result<Task, Leave> {
+        match task {
+            Task::Done => Ok(Task::Done),
+            Task::Idle => {
+                pace.rest(self.rt, self.bed);
+                self.claim(seat)
+            }
+            Task::Execute(version) => self.execute(seat, version, sets, pace),
+            Task::Validate(version) => self.check(seat, version),
+        }
     }
 
     // What is to be done next; nothing any more where the stop mark is set.
@@ -70,20 +94,45 @@ impl<'a, R: Wait, C: SharedCore, F: Decide, G: Gate> Worker<'a, R, C, F, G> {
             return Err(Leave::Lost);
         };
         self.gate.before_decide(version.index, version.incarnation);
-        let rows = CoreRows::new(self.rt, self.core, seat, version);
-        let unused = (ReadSet::new(self.alloc), WriteSet::new(self.alloc));
-        match execute_over(frame, rows, mem::replace(sets, unused), self.decision) {
-            Ok(execution) => {
-                let next = self.finish(seat, version, &execution, pace)?;
-                self.gate.after_record(version.index, version.incarnation);
-                let (_, reads, writes, _) = execution.into_parts();
-                *sets = (reads, writes);
-                Ok(next)
-            }
+        match self.decide(seat, version, frame, sets) {
+            Ok(execution) => self.hand_in(seat, version, execution, sets, pace),
             Err(Stop::Blocked(on)) => self.block(seat, version, on, pace),
             Err(Stop::OutOfMemory) => Err(Leave::OutOfMemory),
             Err(Stop::Lost) => Err(Leave::Lost),
         }
+    }
+
+    // Decides a version on the rows that it sees, over the memory of these sets.
+    #[inline(always)]
+    fn decide(
+        &self,
+        seat: Seat,
+        version: Version,
+        frame: &Frame,
+        sets: &mut (ReadSet, WriteSet),
+    ) -> Result<Execution, Stop> {
+        let rows = CoreRows::new(self.rt, self.core, seat, version);
+        let unused = (ReadSet::new(self.alloc), WriteSet::new(self.alloc));
+        execute_over(frame, rows, mem::replace(sets, unused), self.decision)
+    }
+
+    // Hands an execution in, and keeps its sets for their memory. Then the next task.
+    #[inline(always)]
+    fn hand_in(
+        &self,
+        seat: Seat,
+        version: Version,
+        execution: Execution,
+        sets: &mut (ReadSet, WriteSet),
+        pace: &mut Pace,
+    ) -> Result<Task, Leave> {
+        let next = self.finish(seat, version, &execution, pace);
+        if next.is_ok() {
+            self.gate.after_record(version.index, version.incarnation);
+        }
+        let (_, reads, writes, _) = execution.into_parts();
+        *sets = (reads, writes);
+        next
     }
 
     // Hands an execution in, and checks the version where it is handed out for that, while the lock is held. Then the next task; none
@@ -143,9 +192,12 @@ fn execute_over<S: RowSource, F: Decide>(
 ) -> Result<Execution, Stop> {
     let (reads, writes) = sets;
     let mut recorder = Recorder::over(source, reads, writes);
-    let reply = decision.decide(frame, &mut recorder)?;
+    let decided = decision.decide(frame, &mut recorder);
     let (_, reads, writes) = recorder.into_parts();
-    Ok(Execution::new(*frame, reads, writes, reply))
+    match decided {
+        Ok(reply) => Ok(Execution::new(*frame, reads, writes, reply)),
+        Err(stop) => Err(stop),
+    }
 }
 
 // Checks a version and commits what can be.

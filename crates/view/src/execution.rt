@@ -1,4 +1,4 @@
-ghost use Rattle.std.specs.Prelude.{◌≡◌, ◌⊎◌, IfOk, IfErr, IfSome};
+ghost use Rattle.std.specs.Prelude.{◌≡◌, ◌⊎◌, Err, IfOk, IfErr, IfSome};
 ghost use Rattle.rows.specs.Agreement.{IsLocal, IsTrueExecution};
 ghost use Rattle.rows.specs.Fold.{reply_of, writes_of};
 ghost use Rattle.view.specs.Recording.{AgreesWithBook, IsStopOf};
@@ -112,25 +112,31 @@ pub fn execute<S: RowSource, F: Decide>(
     ensures stops { IfSome (S.book source) (λ _. IfErr result (λ stop. stop ≡ Stop.OutOfMemory)) }
 {
     let mut recorder = Recorder::new(alloc, source);
-    match decision.decide(frame, &mut recorder) {
-        Ok(reply) => Ok(executed(frame, recorder, reply)),
-        Err(stop) => Err(stop),
-    }
+    let decided = decision.decide(frame, &mut recorder);
+    executed(frame, recorder, decided)
 }
 
-// The execution of a decision that came to this reply.
-fn executed<S: RowSource>(frame: &Frame, recorder: Recorder<S>, reply: ReplyBody) -> Execution
-    requires { IsLocal frame.now recorder.reads recorder.writes reply }
-    ensures done { result ≡ record { frame = frame.now; reads = recorder.reads; writes = recorder.writes; reply = reply } }
-    ensures agrees { AgreesWithBook (S.book recorder.source) recorder.reads }
-    ensures reply { IfSome (S.book recorder.source) (λ rows. reply ≡ reply_of rows frame.now) }
-    ensures writes { IfSome (S.book recorder.source) (λ rows. recorder.writes ≡ writes_of rows frame.now) }
+// What a decision that ended so comes to.
+fn executed<S: RowSource>(
+    frame: &Frame,
+    recorder: Recorder<S>,
+    decided: Result<ReplyBody, Stop>,
+) -> Result<Execution, Stop>
+    requires { IfOk decided (λ reply. IsLocal frame.now recorder.reads recorder.writes reply) }
+    ensures frame { IfOk result (λ e. e.frame ≡ frame.now) }
+    ensures agrees { IfOk result (λ e. AgreesWithBook (S.book recorder.source) e.reads) }
+    ensures reply { IfOk result (λ e. IfSome (S.book recorder.source) (λ rows. e.reply ≡ reply_of rows frame.now)) }
+    ensures writes { IfOk result (λ e. IfSome (S.book recorder.source) (λ rows. e.writes ≡ writes_of rows frame.now)) }
+    ensures stop { IfErr result (λ stop. decided ≡ Err stop) }
 {
     let (_, reads, writes) = recorder.into_parts();
-    Execution {
-        frame: *frame,
-        reads,
-        writes,
-        reply,
+    match decided {
+        Ok(reply) => Ok(Execution {
+            frame: *frame,
+            reads,
+            writes,
+            reply,
+        }),
+        Err(stop) => Err(stop),
     }
 }

@@ -1,15 +1,13 @@
 use Rattle.std.proofs.Common.{◌≡◌, length, take}
-use Rattle.journal_laws.specs.Logged.{greatest}
-use Rattle.speccore_laws.specs.Play.{opening_play}
 use Rattle.speccore_laws.specs.Run.{IsReached}
 use Rattle.speccore_laws.specs.State.{seats}
 use Rattle.drive.proofs.Drives.{AreOfMessages}
-use Rattle.drive.proofs.driving.drive.Given as goal
+use Rattle.drive.proofs.driving.take_turns.Given as goal
 use Rattle.drive.specs.Drives.{IsDriven, empty_hands}
 
 abbrev pub invariant-loop-index : goal.invariant-loop-index
 invariant-loop-index l = record {
-  driven : IsDriven (opening_play l.book l.frames greatest) empty_hands (take l.index l.seats) l.traced.entries l.traced.core l.hands.items;
+  driven : IsDriven l.fn.traced.core empty_hands (take l.index l.seats) l.traced.entries l.traced.core l.hands.items;
   hands : length l.hands.items ≡ seats;
   bodies : l.traced.core.state.frames ≡ l.frames;
   reached : IsReached l.traced.core.state;
