@@ -8,6 +8,14 @@ use Rattle.rows.specs.declared.frame.Frame.{Frame}
 use Rattle.rows.specs.declared.reply_body.ReplyBody.{ReplyBody}
 use Rattle.jobs.specs.Decided.{Holding, IsBookOf}
 
+-- Replies and new book, as the files hold them, are compared with what deciding these blocks on these rows, one after another, comes to.
+pub record AreAnswersAudited (old : Holding) (replies new_book : List ℕ) (rows : Rows) (blocks : List (List Frame)) (found : BlockAudit) : Type 0 where
+  pub answers : List (List ReplyBody)
+  pub rows_after_them : Rows
+  pub answered : (bytes : List ℕ) → old replies bytes → IsBlockReplyFileOf bytes answers
+  pub after : IsBookOf old new_book rows_after_them
+  pub finds : FindsInBlocks answers rows_after_them (replies_to_blocks rows blocks) (rows_after_blocks rows blocks) found
+
 -- Replies and new book, as the files hold them, are compared with what deciding the blocks on the book, one after another, comes to.
 pub record AreBlocksAudited (old : Holding) (book batch replies new_book : List ℕ) (found : BlockAudit) : Type 0 where
   pub rows : Rows

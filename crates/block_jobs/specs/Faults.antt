@@ -59,12 +59,18 @@ IsBlockRepliesFault old name read_failed (Text line) = ⊥
 abbrev pub IsSomeBlockReplies : Holding → List ℕ → Type 0
 IsSomeBlockReplies old name = (answers : List (List ReplyBody)) × ((bytes : List ℕ) → old name bytes → IsBlockReplyFileOf bytes answers)
 
+-- Why an audit of blocks finds nothing behind a sound book and block file: the first fault of the replies or of the new book; or a call on
+-- a file failed; or memory ran out.
+abbrev pub IsBlockAnswersFault : Holding → List ℕ → List ℕ → Type 0 → JobFault → Type 0
+IsBlockAnswersFault old replies new_book read_failed fault =
+    IsBlockRepliesFault old replies read_failed fault
+    ⊎ (IsSomeBlockReplies old replies × (IsBookFault old new_book read_failed fault
+    ⊎ (IsSomeBook old new_book × (fault ≡ OutOfMemory))))
+
 -- Why an audit of blocks finds nothing: the first fault of the book, of the block file, of the replies or of the new book, where those
 -- before it in this order have none; or a call on a file failed; or memory ran out.
 abbrev pub IsBlockAuditingFault : Holding → List ℕ → List ℕ → List ℕ → List ℕ → Type 0 → JobFault → Type 0
 IsBlockAuditingFault old book batch replies new_book read_failed fault =
     IsBookFault old book read_failed fault
     ⊎ (IsSomeBook old book × (IsBlockFileFault old batch read_failed ⊥ ⊥ fault
-    ⊎ (IsSomeBlockFile old batch × (IsBlockRepliesFault old replies read_failed fault
-    ⊎ (IsSomeBlockReplies old replies × (IsBookFault old new_book read_failed fault
-    ⊎ (IsSomeBook old new_book × (fault ≡ OutOfMemory))))))))
+    ⊎ (IsSomeBlockFile old batch × IsBlockAnswersFault old replies new_book read_failed fault)))

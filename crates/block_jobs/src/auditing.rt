@@ -3,14 +3,14 @@ ghost use Rattle.std.specs.List.{All};
 ghost use Rattle.batch.specs.BlockFiles.{frames_of, replies_of};
 ghost use Rattle.batch_laws.specs.Blocks.{IsBlockFileOf, IsBlockReplyFileOf};
 ghost use Rattle.files.specs.Failing.{HasFailed};
-ghost use Rattle.block_jobs.specs.Audited.{AreBlocksAudited};
-ghost use Rattle.block_jobs.specs.Faults.{IsBlockAuditingFault, IsBlockFileFault, IsBlockRepliesFault};
+ghost use Rattle.block_jobs.specs.Audited.{AreAnswersAudited, AreBlocksAudited};
+ghost use Rattle.block_jobs.specs.Faults.{IsBlockAnswersFault, IsBlockAuditingFault, IsBlockFileFault, IsBlockRepliesFault};
 
 use audit::{BlockAudit, audit_blocks};
 use batch::{BatchFault, read_block_replies, read_blocks};
 use files::{BatchNames, Files};
 use jobs::{JobFault, open_book};
-use rows::{Frame, ReplyBody};
+use rows::{Book, Frame, ReplyBody};
 use std::alloc::Global;
 
 /// Whether the files of replies and of the new book hold what deciding the blocks of a block file on the book comes to; else what
@@ -27,9 +27,25 @@ pub fn audit_block_files<F: Files>(
 {
     let book = open_book(alloc, files, names.book.as_str())?;
     let blocks = open_blocks(alloc, files, names.batch.as_str())?;
+    audit_answers(alloc, files, names, &book, &blocks)
+}
+
+// Whether the files of replies and of the new book hold what deciding these blocks on this book comes to. They are read in this order.
+fn audit_answers<F: Files>(
+    alloc: Global,
+    files: &F,
+    names: &BatchNames,
+    book: &Book,
+    blocks: &[Vec<Frame>],
+) -> Result<BlockAudit, JobFault>
+    requires count { length blocks.now ≤ 1000 }
+    requires each { All (λ block. length block.items ≤ 65536) blocks.now }
+    ensures audited { IfOk result (AreAnswersAudited (F.holds files.now) (string_bytes names.now.replies) (string_bytes names.now.new_book) book.now (frames_of blocks.now)) }
+    ensures fault { IfErr result (IsBlockAnswersFault (F.holds files.now) (string_bytes names.now.replies) (string_bytes names.now.new_book) (HasFailed F.Input.failures)) }
+{
     let replies = open_block_replies(alloc, files, names.replies.as_str())?;
     let after = open_book(alloc, files, names.new_book.as_str())?;
-    Ok(audit_blocks(alloc, &book, &blocks, &replies, &after)?)
+    Ok(audit_blocks(alloc, book, blocks, &replies, &after)?)
 }
 
 // The blocks of the block file of this name.

@@ -5,6 +5,7 @@ ghost use Rattle.book_json_laws.specs.Text.{book_text};
 ghost use Rattle.files.specs.Failing.{HasFailed, HasRefused};
 ghost use Rattle.block_jobs.specs.Decided.{AreBlocksDecided, AreBlocksKept, AreBlocksAnswered, AreFirstAnswered};
 ghost use Rattle.block_jobs.specs.Faults.{IsBlockFileFault, IsBlocksFault};
+ghost use Rattle.jobs.specs.Faults.{IsPuttingFault};
 
 use crate::block_count::BlockCount;
 use crate::halt::Halt;
@@ -46,13 +47,7 @@ pub fn decide_blocks<F: Files, E: Fn(&Book, &[Frame]) -> Result<Outcome, AllocEr
 {
     let book = open_book(alloc, files, names.book.as_str())?;
     match answer_blocks(alloc, files, names, book, decide)? {
-        Ok(outcome) => {
-            put_book(alloc, files, names.new_book.as_str(), &outcome.book)?;
-            Ok(BlockCount {
-                blocks: outcome.blocks,
-                messages: outcome.messages,
-            })
-        }
+        Ok(outcome) => put_outcome(alloc, files, names.new_book.as_str(), &outcome),
         Err(halted) => Err(keep_blocks(alloc, files, names.new_book.as_str(), &halted)),
     }
 }
@@ -90,6 +85,27 @@ fn answer_blocks<F: Files, E: Fn(&Book, &[Frame]) -> Result<Outcome, AllocError>
             Err(halted) => Err(JobFault::Batch(halted.fault)),
         },
     }
+}
+
+// Puts the book after all blocks into the file of this name. The answer is how many there were.
+fn put_outcome<F: Files>(
+    alloc: Global,
+    files: &mut F,
+    name: &str,
+    outcome: &BlocksOutcome,
+) -> Result<BlockCount, Halt>
+    ensures put { IfOk result (λ count. (count.blocks ≡ outcome.now.blocks) × (count.messages ≡ outcome.now.messages)
+        × (F.is_known files.old → F.holds files.new name.now (book_text outcome.now.book))) }
+    ensures fault { IfErr result (λ halt. (halt.kept ≡ None) × IsPuttingFault (HasRefused F.refuses) halt.fault) }
+    ensures same { OnErr result ((held : List ℕ) → F.holds files.old name.now held → F.holds files.new name.now held) }
+    ensures known { F.is_known files.old → F.is_known files.new }
+    ensures others { (other held : List ℕ) → other ≢ name.now → F.holds files.old other held → F.holds files.new other held }
+{
+    put_book(alloc, files, name, &outcome.book)?;
+    Ok(BlockCount {
+        blocks: outcome.blocks,
+        messages: outcome.messages,
+    })
 }
 
 // Puts the book after the kept blocks into the file of this name.

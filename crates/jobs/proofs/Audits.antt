@@ -3,10 +3,25 @@ use Rattle.std.proofs.Common.{ℕ, List, inl, inr}
 use Rattle.rows.specs.Fold.{Rows}
 use Rattle.rows.specs.declared.frame.Frame.{Frame}
 use Rattle.rows.specs.declared.reply_body.ReplyBody.{ReplyBody}
-use Rattle.jobs.specs.Audited.{AreHeld}
+use Rattle.jobs.specs.Audited.{AreDecided, AreHeld}
 use Rattle.jobs.specs.Decided.{Holding}
-use Rattle.jobs.specs.Faults.{IsFaultInOrder}
+use Rattle.jobs.specs.Faults.{IsAnswersFault, IsOpeningFault, IsFaultInOrder}
 use Rattle.jobs.specs.declared.job_fault.JobFault.{JobFault}
+
+-- a fault of the first two of the four files
+pub of_first_two : (old : Holding) (book batch replies new_book : List ℕ) (read_failed behind : Type 0) (fault : JobFault)
+    → IsOpeningFault old book batch read_failed fault → IsFaultInOrder old book batch replies new_book read_failed behind fault
+of_first_two old book batch replies new_book read_failed behind fault (inl a) = inl a
+of_first_two old book batch replies new_book read_failed behind fault (inr (b, c)) = inr (b, inl c)
+
+-- a fault of the last two
+pub of_last_two : (old : Holding) (book batch replies new_book : List ℕ) (rows : Rows) (frames : List Frame) (read_failed behind : Type 0) (fault : JobFault)
+    → AreDecided old book batch rows frames → IsAnswersFault old replies new_book read_failed fault
+    → IsFaultInOrder old book batch replies new_book read_failed behind fault
+of_last_two old book batch replies new_book rows frames read_failed behind fault held (inl a) =
+    inr ((rows, held.opening), inr ((frames, held.messages), inl a))
+of_last_two old book batch replies new_book rows frames read_failed behind fault held (inr (b, c)) =
+    inr ((rows, held.opening), inr ((frames, held.messages), inr (b, inl c)))
 
 -- a fault of one of the four files, whatever may come behind them
 pub of_four : (old : Holding) (book batch replies new_book : List ℕ) (read_failed behind : Type 0) (fault : JobFault)

@@ -9,6 +9,16 @@ use Rattle.rows.specs.declared.frame.Frame.{Frame}
 use Rattle.rows.specs.declared.reply_body.ReplyBody.{ReplyBody}
 use Rattle.jobs.specs.Decided.{Holding, IsBookOf}
 
+-- The files, as far as it is known what they hold, hold this book and this batch.
+pub record AreDecided (old : Holding) (book batch : List ℕ) (rows : Rows) (frames : List Frame) : Type 0 where
+  pub opening : IsBookOf old book rows
+  pub messages : (bytes : List ℕ) → old batch bytes → IsBatchOf bytes frames
+
+-- They hold these replies, and this book after them.
+pub record AreAnswers (old : Holding) (replies new_book : List ℕ) (answers : List ReplyBody) (rows_after_it : Rows) : Type 0 where
+  pub answered : (bytes : List ℕ) → old replies bytes → IsReplyFileOf bytes answers
+  pub after : IsBookOf old new_book rows_after_it
+
 -- The files, as far as it is known what they hold, hold this book, this batch, these replies, and this book after it.
 pub record AreHeld (old : Holding) (book batch replies new_book : List ℕ) (rows : Rows) (frames : List Frame) (answers : List ReplyBody) (rows_after_it : Rows) : Type 0 where
   pub opening : IsBookOf old book rows

@@ -87,6 +87,16 @@ IsReplyFileFault old name read_failed (Book fault) = ⊥
 IsReplyFileFault old name read_failed (Journal fault) = ⊥
 IsReplyFileFault old name read_failed (Text line) = ⊥
 
+-- why a book or the batch that was decided on it is not opened: the first fault in this order
+abbrev pub IsOpeningFault : Holding → List ℕ → List ℕ → Type 0 → JobFault → Type 0
+IsOpeningFault old book batch read_failed fault =
+    IsBookFault old book read_failed fault ⊎ (IsSomeBook old book × IsBatchFault old batch read_failed ⊥ ⊥ fault)
+
+-- why replies or the book after them are not opened: the first fault in this order
+abbrev pub IsAnswersFault : Holding → List ℕ → List ℕ → Type 0 → JobFault → Type 0
+IsAnswersFault old replies new_book read_failed fault =
+    IsReplyFileFault old replies read_failed fault ⊎ (IsSomeReplyFile old replies × IsBookFault old new_book read_failed fault)
+
 -- Why an audit finds nothing: the first fault of the book, of the batch, of the replies or of the new book, where those before it in this
 -- order have none, or a call on a file that failed; or, behind all four, another.
 abbrev pub IsFaultInOrder : Holding → List ℕ → List ℕ → List ℕ → List ℕ → Type 0 → Type 0 → JobFault → Type 0

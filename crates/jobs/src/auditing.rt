@@ -1,7 +1,7 @@
 ghost use Rattle.std.specs.Prelude.{◌≤◌, IfOk, IfErr, length, string_bytes};
 ghost use Rattle.files.specs.Failing.{HasFailed};
-ghost use Rattle.jobs.specs.Audited.{AreHeld, IsAudited};
-ghost use Rattle.jobs.specs.Faults.{IsAuditingFault, IsFaultInOrder};
+ghost use Rattle.jobs.specs.Audited.{AreAnswers, AreDecided, AreHeld, IsAudited};
+ghost use Rattle.jobs.specs.Faults.{IsAnswersFault, IsAuditingFault, IsOpeningFault, IsFaultInOrder};
 ghost use Rattle.jobs.specs.JournalFaults.{IsJournalAuditingFault};
 ghost use Rattle.jobs.specs.Journaled.{IsAuditedWithJournal};
 
@@ -73,14 +73,41 @@ fn open_run<F: Files>(alloc: Global, files: &F, names: &BatchNames) -> Result<Au
     ensures fault { IfErr result (IsFaultInOrder (F.holds files.now)
         (string_bytes names.now.book) (string_bytes names.now.batch) (string_bytes names.now.replies) (string_bytes names.now.new_book) (HasFailed F.Input.failures) ⊥) }
 {
-    let book = open_book(alloc, files, names.book.as_str())?;
-    let frames = open_batch(alloc, files, names.batch.as_str())?;
-    let replies = open_replies(alloc, files, names.replies.as_str())?;
-    let after = open_book(alloc, files, names.new_book.as_str())?;
+    let (book, frames) = open_decided(alloc, files, names)?;
+    let (replies, after) = open_answers(alloc, files, names)?;
     Ok(AuditedRun {
         book,
         frames,
         replies,
         after,
     })
+}
+
+// The book, and the messages of the batch that was decided on it.
+fn open_decided<F: Files>(
+    alloc: Global,
+    files: &F,
+    names: &BatchNames,
+) -> Result<(Book, Vec<Frame>), JobFault>
+    ensures held { IfOk result (λ decided. AreDecided (F.holds files.now) (string_bytes names.now.book) (string_bytes names.now.batch) decided.0 decided.1.items) }
+    ensures count { IfOk result (λ decided. length decided.1.items ≤ 65536) }
+    ensures fault { IfErr result (IsOpeningFault (F.holds files.now) (string_bytes names.now.book) (string_bytes names.now.batch) (HasFailed F.Input.failures)) }
+{
+    let book = open_book(alloc, files, names.book.as_str())?;
+    let frames = open_batch(alloc, files, names.batch.as_str())?;
+    Ok((book, frames))
+}
+
+// The replies, and the book after them.
+fn open_answers<F: Files>(
+    alloc: Global,
+    files: &F,
+    names: &BatchNames,
+) -> Result<(Vec<ReplyBody>, Book), JobFault>
+    ensures held { IfOk result (λ answers. AreAnswers (F.holds files.now) (string_bytes names.now.replies) (string_bytes names.now.new_book) answers.0.items answers.1) }
+    ensures fault { IfErr result (IsAnswersFault (F.holds files.now) (string_bytes names.now.replies) (string_bytes names.now.new_book) (HasFailed F.Input.failures)) }
+{
+    let replies = open_replies(alloc, files, names.replies.as_str())?;
+    let after = open_book(alloc, files, names.new_book.as_str())?;
+    Ok((replies, after))
 }

@@ -1,6 +1,9 @@
-ghost use Rattle.std.specs.Prelude.{◌≡◌, ◌≢◌, ℕ, List, IfOk, IfErr};
+ghost use Rattle.std.specs.Prelude.{◌≡◌, ◌≢◌, ℕ, List, Ok, IfOk, IfErr, OnOk};
+ghost use Rattle.batch.specs.Bodies.{bytes_of};
+ghost use Rattle.batch_laws.specs.Files.{AreBodies, batch_text};
 ghost use Rattle.files.specs.Failing.{HasFailed, HasRefused};
-ghost use Rattle.jobs.specs.Packed.{IsPacked, IsPackingFault};
+ghost use Rattle.listing.specs.Bodies.{bodies_of};
+ghost use Rattle.jobs.specs.Packed.{IsPacked, IsPackingFault, IsTextFault, IsUnwritten};
 
 use crate::job_fault::{JobFault, fault_of_closing};
 use batch::write_batch;
@@ -20,13 +23,39 @@ pub fn pack_batch<F: Files>(
     // Other files stay as they were.
     ensures others { (other held : List ℕ) → other ≢ batch.now → F.holds files.old other held → F.holds files.new other held }
 {
-    let lines = read_file(alloc, files, text)?;
+    let bodies = open_text(alloc, files, text)?;
+    put_batch(alloc, files, batch, &bodies)?;
+    Ok(bodies.len())
+}
+
+// The bodies of the text of this name.
+fn open_text<F: Files>(alloc: Global, files: &F, name: &str) -> Result<Vec<Vec<u8>>, JobFault>
+    ensures fit { IfOk result (λ bodies. AreBodies (bytes_of bodies.items)) }
+    ensures fault { IfErr result (IsTextFault (F.holds files.now) name.now (HasFailed F.Input.failures)) }
+    ensures bodies { IfOk result (λ bodies. (bytes : List ℕ) → F.holds files.now name.now bytes → bodies_of bytes ≡ Ok (bytes_of bodies.items)) }
+{
+    let lines = read_file(alloc, files, name)?;
     let bodies = read_bodies(alloc, &lines)?;
-    let mut output = files.create(batch)?;
-    let written = write_batch(alloc, &bodies, &mut output);
-    let closed = files.close(batch, output);
+    Ok(bodies)
+}
+
+// Puts these bodies into the batch of this name.
+fn put_batch<F: Files>(
+    alloc: Global,
+    files: &mut F,
+    name: &str,
+    bodies: &[Vec<u8>],
+) -> Result<(), JobFault>
+    requires { AreBodies (bytes_of bodies.now) }
+    ensures put { OnOk result (F.is_known files.old → F.holds files.new name.now (batch_text (bytes_of bodies.now))) }
+    ensures fault { IfErr result (IsUnwritten (HasFailed F.Output.failures) (HasRefused F.refuses)) }
+    ensures others { (other held : List ℕ) → other ≢ name.now → F.holds files.old other held → F.holds files.new other held }
+{
+    let mut output = files.create(name)?;
+    let written = write_batch(alloc, bodies, &mut output);
+    let closed = files.close(name, output);
     match (written, closed) {
-        (Ok(()), Ok(())) => Ok(bodies.len()),
+        (Ok(()), Ok(())) => Ok(()),
         (Ok(()), Err(fault)) => Err(fault_of_closing(fault)),
         (Err(fault), _) => Err(JobFault::Batch(fault)),
     }

@@ -1,20 +1,20 @@
 use Rattle.std.proofs.Common.{inl, inr}
-use Rattle.std.proofs.lemmas.Result.{err_from_is_err_and}
-use Rattle.batch.specs.BlockFiles.{frames_of, replies_of}
+use Rattle.std.proofs.lemmas.Result.{IfErr-weaker, IfOk-weaker, err_from_is_err_and}
+use Rattle.batch.specs.BlockFiles.{frames_of}
 use Rattle.block_jobs.proofs.auditing.audit_block_files.Goals as goal
 
 pub returns-clause-audited : goal.returns-clause-audited
-returns-clause-audited g c = record {
+returns-clause-audited g c = IfOk-weaker c.audit_answers.result _ _ (λ found h. record {
   rows = c.in_ok-book.book;
   blocks = frames_of c.in_ok-blocks.blocks.items;
-  answers = replies_of c.in_ok-replies.replies.items;
-  rows_after_them = c.in_ok-after.after;
-  opening = λ bytes h. c.in_ok-book.ensures.book bytes (rw c.as_str.ensures.value h);
-  read = λ bytes h. c.in_ok-blocks.ensures.blocks bytes (rw c.as_str-2.ensures.value h);
-  answered = λ bytes h. c.in_ok-replies.ensures.replies bytes (rw c.as_str-3.ensures.value h);
-  after = λ bytes h. c.in_ok-after.ensures.book bytes (rw c.as_str-4.ensures.value h);
-  finds = rw (c.deref.ensures.value, c.deref-2.ensures.value) at c.in_ok-audit_blocks.ensures;
-}
+  answers = h.answers;
+  rows_after_them = h.rows_after_them;
+  opening = λ bytes o. c.in_ok-book.ensures.book bytes (rw c.as_str.ensures.value o);
+  read = λ bytes o. c.in_ok-blocks.ensures.blocks bytes (rw c.as_str-2.ensures.value o);
+  answered = h.answered;
+  after = h.after;
+  finds = h.finds;
+}) (rw c.deref.ensures.value at c.audit_answers.ensures.audited)
 
 pub returns-in_err-blocks-clause-fault : goal.returns-in_err-blocks-clause-fault
 returns-in_err-blocks-clause-fault g c =
@@ -22,32 +22,8 @@ returns-in_err-blocks-clause-fault g c =
     let book = rw c.as_str.ensures.value at c.in_ok-book.ensures.book in
     rw (p.1, p.2) (inr ((c.in_ok-book.book, book), inl (rw c.as_str-2.ensures.value at c.in_err-blocks.ensures.fault)))
 
-pub returns-in_err-replies-clause-fault : goal.returns-in_err-replies-clause-fault
-returns-in_err-replies-clause-fault g c =
-    let p = err_from_is_err_and c.from_residual-in_err-replies.result c.from_residual-in_err-replies.ensures.1 in
+pub returns-clause-fault : goal.returns-clause-fault
+returns-clause-fault g c =
     let book = rw c.as_str.ensures.value at c.in_ok-book.ensures.book in
     let blocks = rw c.as_str-2.ensures.value at c.in_ok-blocks.ensures.blocks in
-    rw (p.1, p.2) (inr (
-      (c.in_ok-book.book, book),
-      inr (
-        (frames_of c.in_ok-blocks.blocks.items, blocks),
-        inl (rw c.as_str-3.ensures.value at c.in_err-replies.ensures.fault),
-      ),
-    ))
-
-pub returns-in_err-after-clause-fault : goal.returns-in_err-after-clause-fault
-returns-in_err-after-clause-fault g c =
-    let p = err_from_is_err_and c.from_residual-in_err-after.result c.from_residual-in_err-after.ensures.1 in
-    let book = rw c.as_str.ensures.value at c.in_ok-book.ensures.book in
-    let blocks = rw c.as_str-2.ensures.value at c.in_ok-blocks.ensures.blocks in
-    let replies = rw c.as_str-3.ensures.value at c.in_ok-replies.ensures.replies in
-    rw (p.1, p.2) (inr (
-      (c.in_ok-book.book, book),
-      inr (
-        (frames_of c.in_ok-blocks.blocks.items, blocks),
-        inr (
-          (replies_of c.in_ok-replies.replies.items, replies),
-          inl (rw c.as_str-4.ensures.value at c.in_err-after.ensures.fault),
-        ),
-      ),
-    ))
+    IfErr-weaker c.audit_answers.result _ _ (λ fault h. inr ((c.in_ok-book.book, book), inr ((frames_of c.in_ok-blocks.blocks.items, blocks), h))) c.audit_answers.ensures.fault
