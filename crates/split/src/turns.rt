@@ -11,7 +11,7 @@ use slots::{Attempt, GivenUp, Slot};
 use std::alloc::{AllocError, Global};
 use std::sync::Wait;
 use std::thread;
-use view::{Decide, Execution, ReadSet, Recorder, Stop, WriteSet};
+use view::{Decide, Execution, Recorder, Stop};
 use workers::Gate;
 
 /// What a worker works with: the board, the opening book, the bodies, the decision and the gate. Whatever it does or leaves undone, the
@@ -110,22 +110,18 @@ impl<B: Room, R: Wait, F: Decide, G: Gate> Worker<'_, B, R, F, G> {
         let Some(attempt) = slot.attempt() else {
             return Ok(false);
         };
-        match desk.commit(self.board.cursors(), &attempt.execution) {
-            Ok(Verdict::Committed) => self.keep_committed(place, slot),
-            Ok(Verdict::Stale) => match self.give_up(place, index, slot) {
-                Ok(()) => Ok(false),
-                Err(leave) => Err(leave),
-            },
-            Err(_) => Err(Leave::OutOfMemory),
+        match desk.commit(self.board.cursors(), &attempt.execution)? {
+            Verdict::Committed => {
+                if let Some(done) = slot.commit() {
+                    place.keep(self.rt, self.board, done)?;
+                }
+                Ok(true)
+            }
+            Verdict::Stale => {
+                self.give_up(place, index, slot)?;
+                Ok(false)
+            }
         }
-    }
-
-    // The message of this slot is committed, and its execution is kept for its memory.
-    fn keep_committed(&self, place: &mut Place<B>, slot: &mut Slot) -> Result<bool, Leave> {
-        if let Some(done) = slot.commit() {
-            place.keep(self.rt, self.board, done)?;
-        }
-        Ok(true)
     }
 
     // Looks again for the rows that an executed message read, and gives it up where it sees others. Answers whether the message stood
@@ -195,7 +191,13 @@ impl<B: Room, R: Wait, F: Decide, G: Gate> Worker<'_, B, R, F, G> {
     fn attempt(&self, place: &mut Place<B>, frame: &Frame, index: u32) -> Result<Attempt, Stop> {
         let (reads, writes, log) = place.sets(self.rt, self.board)?;
         let rows = ShardRows::new(self.rt, self.board.shards(), self.book, index, log);
-        attempt_over(frame, rows, reads, writes, self.decision)
+        let mut recorder = Recorder::over(rows, reads, writes);
+        let reply = self.decision.decide(frame, &mut recorder)?;
+        let (rows, reads, writes) = recorder.into_parts();
+        Ok(Attempt {
+            execution: Execution::new(*frame, reads, writes, reply),
+            log: rows.into_log(),
+        })
     }
 
     // Records what a message put and hands its execution in. Where it put a row that it had no entry of, those from it on are validated
@@ -222,30 +224,15 @@ impl<B: Room, R: Wait, F: Decide, G: Gate> Worker<'_, B, R, F, G> {
     // whether it put a row that its message had no entry of.
     fn hand_in(&self, version: Version, attempt: Attempt, done: u32) -> Result<bool, AllocError> {
         let attempt = Box::new(self.alloc, attempt)?;
-        match self.board.slot(self.rt, version.index) {
-            Some(mut slot) => self.put_in(version, attempt, done, &mut slot),
-            None => Ok(false),
-        }
-    }
-
-    // The same with this slot of the message.
-    fn put_in(
-        &self,
-        version: Version,
-        attempt: Box<Attempt>,
-        done: u32,
-        slot: &mut Slot,
-    ) -> Result<bool, AllocError> {
+        let Some(mut slot) = self.board.slot(self.rt, version.index) else {
+            return Ok(false);
+        };
+        let former = slot.former().map(|former| former.execution.writes());
         let writes = attempt.execution.writes();
-        let former = writes_of(slot.former());
         let shards = self.board.shards();
-        match shards.record(self.rt, self.alloc, version, writes, former, done) {
-            Ok(is_new) => {
-                slot.put(attempt);
-                Ok(is_new)
-            }
-            Err(fault) => Err(fault),
-        }
+        let is_new = shards.record(self.rt, self.alloc, version, writes, former, done)?;
+        slot.put(attempt);
+        Ok(is_new)
     }
 
     // Gives a message up that met an estimate, to be executed again, and lets the one run that it waits for.
@@ -264,34 +251,5 @@ impl<B: Room, R: Wait, F: Decide, G: Gate> Worker<'_, B, R, F, G> {
             Some(mut slot) => slot.give_up(),
             None => GivenUp::Kept,
         }
-    }
-}
-
-// Decides a body on these rows, over the memory of sets that are not used any more, and logs whose the rows are.
-#[inline(always)]
-fn attempt_over<R: Wait, F: Decide>(
-    frame: &Frame,
-    rows: ShardRows<'_, R>,
-    reads: ReadSet,
-    writes: WriteSet,
-    decision: &F,
-) -> Result<Attempt, Stop> {
-    let mut recorder = Recorder::over(rows, reads, writes);
-    let decided = decision.decide(frame, &mut recorder);
-    let (rows, reads, writes) = recorder.into_parts();
-    match decided {
-        Ok(reply) => Ok(Attempt {
-            execution: Execution::new(*frame, reads, writes, reply),
-            log: rows.into_log(),
-        }),
-        Err(stop) => Err(stop),
-    }
-}
-
-// What an execution put, where there is one.
-fn writes_of(attempt: Option<&Attempt>) -> Option<&WriteSet> {
-    match attempt {
-        Some(attempt) => Some(attempt.execution.writes()),
-        None => None,
     }
 }
