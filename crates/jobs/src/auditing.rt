@@ -1,5 +1,7 @@
-ghost use Rattle.std.specs.Prelude.{◌≤◌, IfOk, IfErr, length, string_bytes};
+ghost use Rattle.std.specs.Prelude.{◌≡◌, ◌≤◌, IfOk, IfErr, length, string_bytes};
+ghost use Rattle.audit.specs.Finding.{Finds};
 ghost use Rattle.files.specs.Failing.{HasFailed};
+ghost use Rattle.rows.specs.Fold.{replies_to, rows_after};
 ghost use Rattle.jobs.specs.Audited.{AreAnswers, AreDecided, AreHeld, IsAudited};
 ghost use Rattle.jobs.specs.Faults.{IsAnswersFault, IsAuditingFault, IsOpeningFault, IsFaultInOrder};
 ghost use Rattle.jobs.specs.JournalFaults.{IsJournalAuditingFault};
@@ -24,6 +26,15 @@ pub fn audit_batch<F: Files>(
         (string_bytes names.now.book) (string_bytes names.now.batch) (string_bytes names.now.replies) (string_bytes names.now.new_book) (HasFailed F.Input.failures)) }
 {
     let run = open_run(alloc, files, names)?;
+    audit_run(alloc, &run)
+}
+
+// Whether replies and the book after them are what deciding the batch on the book comes to; else what differs first.
+fn audit_run(alloc: Global, run: &AuditedRun) -> Result<Audit, JobFault>
+    requires { length run.now.frames.items ≤ 65536 }
+    ensures finds { IfOk result (Finds run.now.replies.items run.now.after (replies_to run.now.book run.now.frames.items) (rows_after run.now.book run.now.frames.items)) }
+    ensures fault { IfErr result (λ fault. fault ≡ JobFault.OutOfMemory) }
+{
     Ok(audit(alloc, &run.book, &run.frames, &run.replies, &run.after)?)
 }
 

@@ -4,6 +4,7 @@ use Rattle.batch_laws.specs.Files.{replies_text}
 use Rattle.batch_laws.specs.Frames.{IsBatchOf}
 use Rattle.book_json_laws.specs.Text.{book_text}
 use Rattle.engine.specs.Journals.{IsJournalOf}
+use Rattle.fold.specs.declared.outcome.Outcome.{Outcome}
 use Rattle.journal_laws.specs.Logged.{greatest}
 use Rattle.journal_text.specs.Journal.{AreEntries, journal_text}
 use Rattle.journal_text.specs.declared.entry.Entry.{Entry}
@@ -15,6 +16,14 @@ use Rattle.jobs.specs.Decided.{Holding, IsBookOf}
 -- the entries are the journal of a run of these frames on these rows, which committed so many of them
 abbrev pub IsRunJournal : Rows → List Frame → List Entry → ℕ → Type 0
 IsRunJournal rows frames entries committed = IsJournalOf (opening_play rows frames greatest) entries committed (replies_to rows frames)
+
+-- The entries are a journal's, and the run decided so many messages. Where it is known what files hold, the file of the new book
+-- holds the text of the run's book, and that of the journal, where it is another, the entries' text.
+pub record IsRunPut (known : Type 0) (new : Holding) (new_book journal : List ℕ) (outcome : Outcome) (entries : List Entry) (count : ℕ) : Type 0 where
+  pub counted : count ≡ length outcome.replies.items
+  pub are : AreEntries entries
+  pub after : known → new new_book (book_text outcome.book)
+  pub logged : known → journal ≢ new_book → new journal (journal_text entries)
 
 -- The book and the batch that the files held were decided, so many messages, and the entries are the journal of that run. Where it is
 -- known what files hold, the file of the new book holds the text of the book after the batch, that of the journal, where it is

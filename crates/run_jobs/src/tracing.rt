@@ -9,7 +9,7 @@ ghost use Rattle.journal_text.specs.Journal.{AreEntries, journal_text};
 ghost use Rattle.rows.specs.Fold.{replies_to};
 ghost use Rattle.rows.specs.declared.frame.Frame.{Frame};
 ghost use Rattle.jobs.specs.Faults.{HoldsSameOrNothing, IsBatchFault, IsDecidingFault, IsOfBytes, IsPuttingFault};
-ghost use Rattle.run_jobs.specs.Journaled.{IsDecidedWithJournal, IsRunJournal};
+ghost use Rattle.run_jobs.specs.Journaled.{IsDecidedWithJournal, IsRunJournal, IsRunPut};
 
 use batch::{BatchFault, read_batch, write_replies};
 use devices::{Sink, Source, Whole};
@@ -49,10 +49,15 @@ pub fn run_batch_with_journal<R: Threads + Wait + Sync, F: Files>(
     ensures known { F.is_known files.old → F.is_known files.new }
 {
     let book = open_book(alloc, files, names.book.as_str())?;
-    let (outcome, entries) = answer_traced(rt, alloc, files, names, &book, workers)?;
-    put_journal(alloc, files, journal, &entries)?;
-    put_book(alloc, files, names.new_book.as_str(), &outcome.book)?;
-    Ok(outcome.replies.len())
+    let traced = answer_traced(rt, alloc, files, names, &book, workers)?;
+    put_run(alloc, files, names, journal, &traced)
+}
+
+// What a batch came to, and the journal of the run.
+#[derive(Drop)]
+struct TracedRun {
+    outcome: Outcome,
+    entries: Vec<Entry>,
 }
 
 // Decides the batch on a book, and puts the replies into their file; with the journal of the run.
@@ -63,8 +68,8 @@ fn answer_traced<R: Threads + Wait + Sync, F: Files>(
     names: &BatchNames,
     book: &Book,
     workers: Workers,
-) -> Result<(Outcome, Vec<Entry>), JobFault>
-    ensures ok { IfOk result (λ run. (frames : List Frame) × IsFold book.now frames run.0 × IsRunJournal book.now frames run.1.items run.0.committed
+) -> Result<TracedRun, JobFault>
+    ensures ok { IfOk result (λ run. (frames : List Frame) × IsFold book.now frames run.outcome × IsRunJournal book.now frames run.entries.items run.outcome.committed
         × ((bytes : List ℕ) → F.holds files.old (string_bytes names.now.batch) bytes → IsBatchOf bytes frames)
         × (F.is_known files.old → F.holds files.new (string_bytes names.now.replies) (replies_text (replies_to book.now frames)))) }
     ensures fault { IfErr result (IsBatchFault (F.holds files.old) (string_bytes names.now.batch)
@@ -78,10 +83,13 @@ fn answer_traced<R: Threads + Wait + Sync, F: Files>(
     let mut replies = files.create(names.replies.as_str())?;
     let traced = trace_batch(rt, alloc, book, &mut batch, &mut replies, workers);
     let closed = files.close(names.replies.as_str(), replies);
-    match (traced, closed) {
-        (Ok(run), Ok(())) => Ok(run),
-        (Ok(_), Err(fault)) => Err(fault_of_closing(fault)),
-        (Err(fault), _) => Err(JobFault::Batch(fault)),
+    let run = match traced {
+        Ok(run) => run,
+        Err(fault) => return Err(JobFault::Batch(fault)),
+    };
+    match closed {
+        Ok(()) => Ok(run),
+        Err(fault) => Err(fault_of_closing(fault)),
     }
 }
 
@@ -94,12 +102,12 @@ fn trace_batch<R: Threads + Wait + Sync, S: Source, W: Sink>(
     source: &mut S,
     sink: &mut W,
     workers: Workers,
-) -> Result<(Outcome, Vec<Entry>), BatchFault>
+) -> Result<TracedRun, BatchFault>
     requires source { S.failures source.old + 1 < 2 ^ 64 }
     requires sink { W.failures sink.old + 1 < 2 ^ 64 }
     ensures failures { S.failures source.new + W.failures sink.new ≡ failures_after result (S.failures source.old + W.failures sink.old) }
     ensures known { W.is_known sink.old → W.is_known sink.new }
-    ensures ok { IfOk result (λ run. (frames : List Frame) × IsFold book.now frames run.0 × IsRunJournal book.now frames run.1.items run.0.committed
+    ensures ok { IfOk result (λ run. (frames : List Frame) × IsFold book.now frames run.outcome × IsRunJournal book.now frames run.entries.items run.outcome.committed
         × (S.is_known source.old → IsBatchOf (S.remaining source.old) frames)
         × (W.is_known sink.old → W.written sink.new ≡ W.written sink.old ++ replies_text (replies_to book.now frames))) }
     ensures fault { IfErr result (λ e. IsTrue (is_of_bytes e) → S.is_known source.old → bodies_of batch_magic (S.remaining source.old) ≡ Err e) }
@@ -107,8 +115,30 @@ fn trace_batch<R: Threads + Wait + Sync, S: Source, W: Sink>(
 {
     let frames = read_batch(alloc, source)?;
     let (outcome, entries) = run_traced(rt, alloc, book, &frames, workers, &Shipped, &OpenGate)?;
-    write_replies(alloc, &outcome.replies, sink)?;
-    Ok((outcome, entries))
+    let run = TracedRun { outcome, entries };
+    write_replies(alloc, &run.outcome.replies, sink)?;
+    Ok(run)
+}
+
+// Puts the journal of a run into its file, and then the book after it. The answer is how many messages were decided.
+fn put_run<F: Files>(
+    alloc: Global,
+    files: &mut F,
+    names: &BatchNames,
+    journal: &str,
+    run: &TracedRun,
+) -> Result<usize, JobFault>
+    ensures put { IfOk result (IsRunPut (F.is_known files.old) (F.holds files.new) (string_bytes names.now.new_book) journal.now run.now.outcome run.now.entries.items) }
+    ensures fault { IfErr result (IsPuttingFault (HasRefused F.refuses)) }
+    ensures kept { OnErr result (string_bytes names.now.new_book ≢ journal.now → (held : List ℕ)
+        → F.holds files.old (string_bytes names.now.new_book) held → F.holds files.new (string_bytes names.now.new_book) held) }
+    ensures known { F.is_known files.old → F.is_known files.new }
+    ensures others { (other held : List ℕ) → other ≢ string_bytes names.now.new_book → other ≢ journal.now
+        → F.holds files.old other held → F.holds files.new other held }
+{
+    put_journal(alloc, files, journal, &run.entries)?;
+    put_book(alloc, files, names.new_book.as_str(), &run.outcome.book)?;
+    Ok(run.outcome.replies.len())
 }
 
 // Puts the text of a journal into the file of this name.

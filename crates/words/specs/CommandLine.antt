@@ -59,11 +59,14 @@ show_line = with_rule (new_app (codes "show")) (operand (codes "FILE"))
 abbrev pub pack_line : App
 pack_line = with_rule (with_rule (new_app (codes "pack")) (operand (codes "TEXT"))) (operand (codes "BATCH"))
 
--- the command line: it has a version, and one of the subcommands has to be there
+-- the program's own line: it has a version, and one of the subcommands has to be there
+abbrev pub program_line : App
+program_line = on_top (λ s. record s { has_version = true; subcommand_required = true; arg_required_else_help = true }) (new_app (codes "switch"))
+
+-- the command line
 abbrev pub command_line : App
 command_line =
-    let top = on_top (λ s. record s { has_version = true; subcommand_required = true; arg_required_else_help = true }) (new_app (codes "switch")) in
-    let deciding = with_subcommand (with_subcommand (with_subcommand (with_subcommand top one_line.top) run_line.top) serial_line.top) blocks_line.top in
+    let deciding = with_subcommand (with_subcommand (with_subcommand (with_subcommand program_line one_line.top) run_line.top) serial_line.top) blocks_line.top in
     with_subcommand (with_subcommand (with_subcommand (with_subcommand deciding audit_line.top) audit_blocks_line.top) show_line.top) pack_line.top
 
 -- the word has this rule, in its own subcommand alone

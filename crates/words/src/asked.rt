@@ -41,14 +41,28 @@ fn command_of(alloc: Global, matches: &ArgMatches<'_>) -> Result<Option<Command>
     ensures { IfOk result (λ command. option_map asked_of command ≡ option_and_then asked (subcommand_rows_of matches.now)) }
 {
     match matches.subcommand() {
-        Some(("one", one)) => one_of(alloc, one),
-        Some(("run", run)) => run_of(alloc, run),
-        Some(("serial", serial)) => serial_of(alloc, serial),
-        Some(("blocks", blocks)) => blocks_of(alloc, blocks),
-        Some(("audit", audit)) => audit_of(alloc, audit),
-        Some(("audit-blocks", audit)) => audit_blocks_of(alloc, audit),
-        Some(("show", show)) => show_of(alloc, show),
-        Some(("pack", pack)) => pack_of(alloc, pack),
+        Some((name, words)) => command_named(alloc, name, words),
+        None => Ok(None),
+    }
+}
+
+// The command that a subcommand of this name asks for.
+fn command_named(
+    alloc: Global,
+    name: &str,
+    words: &ArgMatches<'_>,
+) -> Result<Option<Command>, AllocError>
+    ensures { IfOk result (λ command. option_map asked_of command ≡ asked (name.now, rows_of (found_of words.now))) }
+{
+    match name {
+        "one" => one_of(alloc, words),
+        "run" => run_of(alloc, words),
+        "serial" => serial_of(alloc, words),
+        "blocks" => blocks_of(alloc, words),
+        "audit" => audit_of(alloc, words),
+        "audit-blocks" => audit_blocks_of(alloc, words),
+        "show" => show_of(alloc, words),
+        "pack" => pack_of(alloc, words),
         _ => Ok(None),
     }
 }

@@ -2,7 +2,7 @@ use files::BatchNames;
 use workers::{Engine, Workers};
 
 /// What the words ask for.
-#[derive(Debug, Drop)]
+#[derive(Drop)]
 pub enum Command {
     /// Print this help.
     Help(String),

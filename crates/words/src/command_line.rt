@@ -1,6 +1,6 @@
 ghost use Rattle.std.specs.Prelude.{◌≡◌, IfOk, codes};
 ghost use Rattle.clap.specs.Simple.{app_of, with_subcommand};
-ghost use Rattle.words.specs.CommandLine.{IsLine, IsWord, audit_blocks_line, audit_line, blocks_line, command_line, files_line, one_line, operand, pack_line, run_line, serial_line, setting, setting_or, show_line, with_engine};
+ghost use Rattle.words.specs.CommandLine.{IsLine, IsWord, audit_blocks_line, audit_line, blocks_line, command_line, files_line, one_line, operand, pack_line, program_line, run_line, serial_line, setting, setting_or, show_line, with_engine};
 
 use clap::{Arg, Command};
 use std::alloc::{AllocError, Global};
@@ -26,30 +26,36 @@ written.";
 pub(crate) fn command_line<'a>(alloc: Global) -> Result<Command<'a>, AllocError>
     ensures { IfOk result (λ command. app_of command ≡ command_line) }
 {
-    let top = Command::new(alloc, "switch")
+    let one = with_line(Ok(program_line(alloc)), one_line(alloc));
+    let run = with_line(one, run_line(alloc));
+    let serial = with_line(run, serial_line(alloc));
+    let blocks = with_line(serial, blocks_line(alloc));
+    let audit = with_line(blocks, audit_line(alloc));
+    let audit_blocks = with_line(audit, audit_blocks_line(alloc));
+    let show = with_line(audit_blocks, show_line(alloc));
+    with_line(show, pack_line(alloc))
+}
+
+// The program's own line, without its subcommands.
+fn program_line<'a>(alloc: Global) -> Command<'a>
+    ensures { IsLine program_line result }
+{
+    Command::new(alloc, "switch")
         .about("Decides ISO 8583:1993 card messages for an issuer")
         .version("0.1.0")
         .after_help(AFTER_HELP)
         .subcommand_required(true)
-        .arg_required_else_help(true);
-    let one = with_line(top, one_line(alloc))?;
-    let run = with_line(one, run_line(alloc))?;
-    let serial = with_line(run, serial_line(alloc))?;
-    let blocks = with_line(serial, blocks_line(alloc))?;
-    let audit = with_line(blocks, audit_line(alloc))?;
-    let audit_blocks = with_line(audit, audit_blocks_line(alloc))?;
-    let show = with_line(audit_blocks, show_line(alloc))?;
-    with_line(show, pack_line(alloc))
+        .arg_required_else_help(true)
 }
 
-// The line with one more subcommand, where memory didn't run out while that was made.
+// The line with one more subcommand, where memory didn't run out while either was made.
 fn with_line<'a>(
-    line: Command<'a>,
+    line: Result<Command<'a>, AllocError>,
     subcommand: Result<Command<'a>, AllocError>,
 ) -> Result<Command<'a>, AllocError>
-    ensures { (app sub_app : _) → IsLine app line.entry → IfOk subcommand.entry (IsLine sub_app) → IfOk result (IsLine (with_subcommand app sub_app.top)) }
+    ensures { (app sub_app : _) → IfOk line.entry (IsLine app) → IfOk subcommand.entry (IsLine sub_app) → IfOk result (IsLine (with_subcommand app sub_app.top)) }
 {
-    line.subcommand(subcommand?)
+    line?.subcommand(subcommand?)
 }
 
 // `one FRAME`.
@@ -206,13 +212,13 @@ fn with_engine<'a>(alloc: Global, line: Command<'a>) -> Result<Command<'a>, Allo
     ensures { (app : _) → IsLine app line.entry → IfOk result (IsLine (with_engine app)) }
 {
     let workers = setting(alloc, "workers", "N", "How many threads decide: 1 to 64");
+    let counted = line.arg(workers.default_value("4"))?;
     let engine = setting(
         alloc,
         "engine",
         "ENGINE",
         "How they share their work: locked, all of it under one lock; split, each row, message and commit under a lock of its own",
     );
-    let counted = line.arg(workers.default_value("4"))?;
     counted.arg(engine.default_value("locked"))
 }
 

@@ -1,7 +1,7 @@
 use Rattle.std.proofs.Common.{string_bytes}
-use Rattle.std.proofs.lemmas.Result.{err_from_is_err_and}
+use Rattle.std.proofs.lemmas.Result.{IfErr-weaker, IfOk-weaker, err_from_is_err_and}
 use Rattle.files.specs.Failing.{HasFailed}
-use Rattle.jobs.proofs.Audits.{of_four}
+use Rattle.jobs.proofs.Audits.{behind_four, of_four}
 use Rattle.jobs.proofs.auditing.audit_batch.Goals as goal
 
 pub returns-in_err-run-clause-fault : goal.returns-in_err-run-clause-fault
@@ -11,7 +11,7 @@ returns-in_err-run-clause-fault g c =
     (HasFailed g.F.Input.Source.failures) _ c.in_err-run.field-0.0 c.in_err-run.ensures.fault)
 
 pub returns-clause-audited : goal.returns-clause-audited
-returns-clause-audited g c = record {
+returns-clause-audited g c = IfOk-weaker c.audit_run.result _ _ (λ found finds. record {
   rows = c.in_ok-run.run'.book;
   frames = c.in_ok-run.run'.frames.items;
   answers = c.in_ok-run.run'.replies.items;
@@ -20,5 +20,11 @@ returns-clause-audited g c = record {
   messages = c.in_ok-run.ensures.held.messages;
   answered = c.in_ok-run.ensures.held.answered;
   after = c.in_ok-run.ensures.held.after;
-  finds = rw (c.deref.ensures.value, c.deref-2.ensures.value) at c.in_ok-audit.ensures;
-}
+  finds = finds;
+}) c.audit_run.ensures.finds
+
+pub returns-clause-fault : goal.returns-clause-fault
+returns-clause-fault g c =
+    let run = c.in_ok-run.run' in
+    IfErr-weaker c.audit_run.result _ _ (λ fault none. behind_four (g.F.Files.holds c.args.files.now) (string_bytes c.args.names.now.book) (string_bytes c.args.names.now.batch) (string_bytes c.args.names.now.replies) (string_bytes c.args.names.now.new_book)
+    run.book run.frames.items run.replies.items run.after (HasFailed g.F.Input.Source.failures) _ fault c.in_ok-run.ensures.held none) c.audit_run.ensures.fault

@@ -1,22 +1,20 @@
-use Rattle.std.proofs.Common.{inl, inr, string_bytes}
+use Rattle.std.proofs.Common.{inl, inr, refl, string_bytes}
 use Rattle.files.specs.Failing.{HasFailed, HasRefused}
 use Rattle.jobs.proofs.Faults.{one_failed, unclosed}
 use Rattle.run_jobs.proofs.tracing.answer_traced.Goals as goal
 
-pub returns-in-Ok-Err-clause-fault : goal.returns-in-Ok-Err-clause-fault
-returns-in-Ok-Err-clause-fault g c =
-    rw c.fault_of_closing.ensures (unclosed (g.F.Files.holds c.args.files.now) (string_bytes c.args.names.now.batch)
-    (HasFailed g.F.Input.Source.failures) (HasFailed g.F.Output.Sink.failures) (HasRefused g.F.Files.refuses) c.in-Ok-Err.fault
-    (λ d. (_, _, c.close-closed.ensures.refused (rw d at c.in-Ok-Err.is-1))))
+pub returns-in-Err-clause-fault : goal.returns-in-Err-clause-fault
+returns-in-Err-clause-fault g c = (
+  (λ bytes h t.
+      let opened = c.in_ok-batch.ensures.bytes bytes (rw c.as_str.ensures.value h) in
+      rw (← opened.1) (c.in-Err.ensures.fault t opened.0)),
+  (λ d.
+      let once = rw (d, c.in_ok-batch.ensures.failures, c.in_ok-replies.ensures.failures) at c.in-Err.ensures.failures in
+      elim (one_failed g.F.Input.Source.failures g.F.Output.Sink.failures c.trace_batch-traced.new.source c.trace_batch-traced.new.sink once) [ inl x ↦ inl x | inr y ↦ inr (inl y) ]),
+)
 
 pub returns-clause-fault : goal.returns-clause-fault
 returns-clause-fault g c =
-    let fault = rw c.in-Err-default.is-0 at c.trace_batch-traced.ensures.fault in
-    let failures = rw c.in-Err-default.is-0 at c.trace_batch-traced.ensures.failures in (
-      (λ bytes h t.
-          let opened = c.in_ok-batch.ensures.bytes bytes (rw c.as_str.ensures.value h) in
-          rw (← opened.1) (fault t opened.0)),
-      (λ d.
-          let once = rw (d, c.in_ok-batch.ensures.failures, c.in_ok-replies.ensures.failures) at failures in
-          elim (one_failed g.F.Input.Source.failures g.F.Output.Sink.failures c.trace_batch-traced.new.source c.trace_batch-traced.new.sink once) [ inl x ↦ inl x | inr y ↦ inr (inl y) ]),
-    )
+    rw c.fault_of_closing.ensures (unclosed (g.F.Files.holds c.args.files.now) (string_bytes c.args.names.now.batch)
+    (HasFailed g.F.Input.Source.failures) (HasFailed g.F.Output.Sink.failures) (HasRefused g.F.Files.refuses) c.in-Err-closed.fault
+    (λ d. (_, _, c.in-Err-closed.ensures.refused (rw d refl))))
