@@ -5,6 +5,7 @@ ghost use Rattle.rows.specs.RowVal.{IsOfKind};
 ghost use Rattle.serde_json.specs.View.{view};
 ghost use Rattle.book_json_laws.specs.Fields.{has_keys};
 ghost use Rattle.book_json_laws.specs.Originals.{original_keys, paying_account_at, original_entry_of, original_of};
+ghost use Rattle.book_entries.specs.OriginalFronts.{original_from};
 
 use crate::fields::{
     acquirer_at, action_at, amount_at, has_keys, pan_at, processing_at, stamp_at, stan_at,
@@ -12,7 +13,7 @@ use crate::fields::{
 use crate::null_fields::{optional_account_id_at, optional_approval_at, optional_identity_at};
 use crate::word_fields::{kind_at, paid_at};
 use book_json_laws::{BookVersion, OriginalEntry, Part, TextFault};
-use iso8583::{AccountId, Identity};
+use iso8583::{AccountId, Acquirer, Action, Amount, Approval, Identity, OriginalKind};
 use rows::{RowKey, RowVal};
 use serde_json::Value;
 
@@ -65,23 +66,48 @@ fn paying_account_at(version: BookVersion, entry: &Value) -> Result<Option<Accou
     }
 }
 
-/// An identity, and what is said of its original.
+/// What stands first in the entry of an original.
+#[derive(Clone, Copy)]
+pub(crate) struct OriginalFront {
+    /// The account that paid, if one is named.
+    pub(crate) account: Option<AccountId>,
+    /// The acquirer, of its identity.
+    pub(crate) acquirer: Acquirer,
+    /// The action that it was answered.
+    pub(crate) action: Action,
+    /// Its amount.
+    pub(crate) amount: Amount,
+    /// Its approval code, if it has one.
+    pub(crate) approval: Option<Approval>,
+    /// Its kind.
+    pub(crate) kind: OriginalKind,
+}
+
 #[tactic(auto, unfolding(book_json_laws::specs::Originals::original_entry_of))]
+fn original_front_of(version: BookVersion, entry: &Value) -> Result<OriginalFront, TextFault>
+    ensures { original_entry_of version (view entry.now) ≡ original_from version result (view entry.now) }
+{
+    if !has_original_keys(version, entry) {
+        return Err(TextFault::Shape(Part::Originals));
+    }
+    Ok(OriginalFront {
+        account: paying_account_at(version, entry)?,
+        acquirer: acquirer_at(Part::Originals, entry, "acquirer")?,
+        action: action_at(Part::Originals, entry, "action")?,
+        amount: amount_at(Part::Originals, entry, "amount")?,
+        approval: optional_approval_at(Part::Originals, entry, "approval")?,
+        kind: kind_at(Part::Originals, entry, "kind")?,
+    })
+}
+
+/// An identity, and what is said of its original.
 fn original_entry_of(
     version: BookVersion,
     entry: &Value,
 ) -> Result<(Identity, OriginalEntry), TextFault>
     ensures { result ≡ original_entry_of version (view entry.now) }
 {
-    if !has_original_keys(version, entry) {
-        return Err(TextFault::Shape(Part::Originals));
-    }
-    let account = paying_account_at(version, entry)?;
-    let acquirer = acquirer_at(Part::Originals, entry, "acquirer")?;
-    let action = action_at(Part::Originals, entry, "action")?;
-    let amount = amount_at(Part::Originals, entry, "amount")?;
-    let approval = optional_approval_at(Part::Originals, entry, "approval")?;
-    let kind = kind_at(Part::Originals, entry, "kind")?;
+    let front = original_front_of(version, entry)?;
     let paid = paid_at(version, Part::Originals, entry, "paid")?;
     let pan = pan_at(Part::Originals, entry, "pan")?;
     let processing = processing_at(Part::Originals, entry, "processing")?;
@@ -90,16 +116,16 @@ fn original_entry_of(
     let stay = amount_at(Part::Originals, entry, "stay")?;
     let stan = stan_at(Part::Originals, entry, "trace")?;
     let identity = Identity {
-        acquirer,
+        acquirer: front.acquirer,
         stan,
         stamp,
     };
     let original = OriginalEntry {
-        account,
-        action,
-        amount,
-        approval,
-        kind,
+        account: front.account,
+        action: front.action,
+        amount: front.amount,
+        approval: front.approval,
+        kind: front.kind,
         paid,
         pan,
         processing,

@@ -3,6 +3,7 @@
 ghost use Rattle.std.specs.Prelude.{IfSome};
 ghost use Rattle.rows.specs.RowVal.{IsOfKind};
 
+use crate::originals::OriginalFront;
 use crate::word_fields::{account_paid_of, kind_of, mode_of, status_of};
 use crate::written_text::WrittenText;
 use book_json_laws::{OriginalEntry, RowList};
@@ -146,17 +147,6 @@ fn next_action(text: &mut WrittenText<'_>) -> Option<Action> {
     Some(Action::from_digits(&digits))
 }
 
-// What stands first in the entry of an original.
-#[derive(Clone, Copy)]
-struct OriginalFront {
-    account: Option<AccountId>,
-    acquirer: Acquirer,
-    action: Action,
-    amount: Amount,
-    approval: Option<Approval>,
-    kind: OriginalKind,
-}
-
 fn next_original_front(text: &mut WrittenText<'_>) -> Option<OriginalFront> {
     Some(OriginalFront {
         account: next_optional_account_id(text, "account")?,
@@ -168,6 +158,24 @@ fn next_original_front(text: &mut WrittenText<'_>) -> Option<OriginalFront> {
     })
 }
 
+// What stands last in the entry of an original.
+#[derive(Clone, Copy)]
+struct OriginalEnd {
+    reversed: Option<Identity>,
+    stamp: LocalStamp,
+    stay: Amount,
+    stan: Stan,
+}
+
+fn next_original_end(text: &mut WrittenText<'_>) -> Option<OriginalEnd> {
+    Some(OriginalEnd {
+        reversed: next_optional_identity(text, "reversed")?,
+        stamp: next_stamp(text)?,
+        stay: next_amount(text, "stay")?,
+        stan: next_stan(text)?,
+    })
+}
+
 fn next_original(text: &mut WrittenText<'_>) -> Option<(RowKey, RowVal)>
     ensures { IfSome result (λ row. IsOfKind row.0 row.1) }
 {
@@ -175,10 +183,7 @@ fn next_original(text: &mut WrittenText<'_>) -> Option<(RowKey, RowVal)>
     let paid = account_paid_of(text.text("paid")?)?;
     let pan = next_pan(text)?;
     let processing = Processing::new(text.text("processing")?.as_bytes())?;
-    let reversed = next_optional_identity(text, "reversed")?;
-    let stamp = next_stamp(text)?;
-    let stay = next_amount(text, "stay")?;
-    let stan = next_stan(text)?;
+    let end = next_original_end(text)?;
     let entry = OriginalEntry {
         account: front.account,
         action: front.action,
@@ -188,13 +193,13 @@ fn next_original(text: &mut WrittenText<'_>) -> Option<(RowKey, RowVal)>
         paid,
         pan,
         processing,
-        reversed,
-        stay,
+        reversed: end.reversed,
+        stay: end.stay,
     };
     let identity = Identity {
         acquirer: front.acquirer,
-        stan,
-        stamp,
+        stan: end.stan,
+        stamp: end.stamp,
     };
     Some((RowKey::Original(identity), RowVal::Kept(entry.kept()?)))
 }
@@ -226,13 +231,13 @@ pub fn row_of(text: &mut WrittenText<'_>, list: RowList) -> Option<(RowKey, RowV
     ensures { IfSome result (λ row. IsOfKind row.0 row.1) }
 {
     let row = match list {
-        RowList::Cards => next_card(text)?,
-        RowList::Days => next_day(text)?,
-        RowList::Budgets => next_budget(text)?,
-        RowList::Originals => next_original(text)?,
-        RowList::Ahead => next_mark(text)?,
-        RowList::Accounts => next_account(text)?,
-    };
+        RowList::Cards => next_card(text),
+        RowList::Days => next_day(text),
+        RowList::Budgets => next_budget(text),
+        RowList::Originals => next_original(text),
+        RowList::Ahead => next_mark(text),
+        RowList::Accounts => next_account(text),
+    }?;
     text.end_object()?;
     Some(row)
 }
