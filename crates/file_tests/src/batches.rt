@@ -1,6 +1,6 @@
 //! Tests of batch files and reply files, over sources and sinks that fail.
 
-mod devices;
+mod failing_devices;
 mod faults;
 mod serial;
 mod texts;
