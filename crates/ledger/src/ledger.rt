@@ -1,4 +1,4 @@
-ghost use Rattle.std.specs.Prelude.{◌≡◌, ◌≢◌, ◌≤◌, ◌↔◌, Ok, IfOk, IsTrue, length};
+ghost use Rattle.std.specs.Prelude.{◌≡◌, ◌≢◌, ◌≤◌, ◌↔◌, [], Ok, IfOk, IsTrue, length};
 ghost use Rattle.ledger.specs.Progress.{opened, further, book_of, replies_of, IsNext};
 ghost use Rattle.ledger.specs.declared.verdict.Verdict.TheVariants.{Committed, Stale};
 
@@ -42,12 +42,12 @@ impl Ledger {
         requires { length frames.now ≤ 65536 }
         ensures { IfOk result (λ ledger. ledger ≡ opened opening.now frames.now) }
     {
-        let mut prefix = Prefix::new(alloc, opening.copy()?);
-        prefix.book.reserve(frames.len())?;
-        prefix.replies.reserve(frames.len())?;
+        let copied = opening.copy()?;
+        let frames = frames.to_vec(alloc)?;
+        let prefix = empty_prefix(alloc, opening, frames.len())?;
         Ok(Ledger {
-            opening: opening.copy()?,
-            frames: frames.to_vec(alloc)?,
+            opening: copied,
+            frames,
             prefix,
         })
     }
@@ -106,4 +106,17 @@ impl Ledger {
         } = self;
         prefix
     }
+}
+
+// A prefix of no message on a copy of this book, with room for a row and a reply of so many.
+fn empty_prefix(alloc: Global, opening: &Book, messages: usize) -> Result<Prefix, AllocError>
+    ensures count { IfOk result (λ prefix. prefix.count ≡ 0) }
+    ensures book { IfOk result (λ prefix. prefix.book ≡ opening.now) }
+    ensures replies { IfOk result (λ prefix. prefix.replies.items ≡ []) }
+{
+    let mut book = opening.copy()?;
+    book.reserve(messages)?;
+    let mut prefix = Prefix::new(alloc, book);
+    prefix.replies.reserve(messages)?;
+    Ok(prefix)
 }
