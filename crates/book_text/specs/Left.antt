@@ -1,4 +1,4 @@
--- What of a book's text is left to be written, over its sorted rows; for private clauses.
+-- What of a book's text is left to be written, over its sorted rows.
 use Rattle.std.specs.Prelude.{ℕ, List, ◌++◌, Bool, codes, map, flat_map, fold}
 use Rattle.json.specs.Print.{print, print_from, ends}
 use Rattle.json.specs.Token.{Token}

@@ -1,5 +1,5 @@
--- A book's text in pieces; for private clauses.
-use Rattle.std.specs.Prelude.{ℕ, List, [], ◌∷◌, Bool, true, false, Option, Some, None, codes, decimal, drop}
+-- A book's text in pieces: what is left of it, and what was made last.
+use Rattle.std.specs.Prelude.{ℕ, ◌+◌, ◌*◌, ◌-◌, List, [], ◌∷◌, length, Bool, true, false, Option, Some, None, codes, decimal, drop}
 use Rattle.json.specs.Token.{Token, key, number, begin_array, end_array, end_object}
 use Rattle.book_json_laws.specs.Parts.{list_key}
 use Rattle.book_json_laws.specs.declared.row_list.RowList.{RowList}
@@ -45,3 +45,23 @@ rest_of pieces = rest_at pieces.place pieces.later pieces.at pieces.rows.items
 -- the piece that was made last
 abbrev pub piece_of : BookPieces → List ℕ
 piece_of pieces = drop pieces.skipped pieces.text.items
+
+-- how many lists stand behind a list
+abbrev pub lists_behind : RowList → ℕ
+lists_behind Accounts = 5
+lists_behind Ahead = 4
+lists_behind Budgets = 3
+lists_behind Cards = 2
+lists_behind Days = 1
+lists_behind Originals = 0
+
+-- how many pieces are left at a place at most, from the row at an index on, of so many rows: of each list one for each row, and one
+-- behind them; and the first
+abbrev pub left_at : Place → ℕ → ℕ → ℕ
+left_at Start at rows = 6 * (rows + 1) + 1
+left_at (In list) at rows = lists_behind list * (rows + 1) + (rows - at) + 1
+left_at End at rows = 0
+
+-- how many pieces are left at most
+abbrev pub pieces_left : BookPieces → ℕ
+pieces_left pieces = left_at pieces.place pieces.at (length pieces.rows.items)

@@ -40,12 +40,12 @@ pub struct BookPieces<'a> {
 }
 
 impl<'a> BookPieces<'a> {
-    ghost use Rattle.std.specs.Prelude.{◌≡◌, ◌++◌, [], true, false, Ok, IfOk, OnOk, drop};
+    ghost use Rattle.std.specs.Prelude.{◌≡◌, ◌<◌, ◌++◌, [], true, false, Ok, IfOk, OnOk, drop};
     ghost use Rattle.rows.specs.Book.{AllOfKind};
     ghost use Rattle.book_json_laws.specs.Text.{book_text};
     ghost use Rattle.rows.specs.Fold.{Rows};
     ghost use Rattle.std.specs.FinMap as map;
-    ghost use Rattle.book_text.specs.Pieces.{rest_of, piece_of};
+    ghost use Rattle.book_text.specs.Pieces.{rest_of, piece_of, pieces_left};
     ghost use Rattle.book_text.specs.declared.pieces.Place.TheVariants as place;
 
     /// The text of the book that has these sorted rows. No piece is made yet.
@@ -66,7 +66,8 @@ impl<'a> BookPieces<'a> {
     // Begins the text and its first list.
     fn start(&mut self) -> Result<(), AllocError>
         requires { self.old.place ≡ place.Start }
-        ensures { OnOk result (rest_of self.old ≡ piece_of self.new ++ rest_of self.new) }
+        ensures rest { OnOk result (rest_of self.old ≡ piece_of self.new ++ rest_of self.new) }
+        ensures fewer { OnOk result (pieces_left self.new < pieces_left self.old) }
     {
         let mut out = Writer::new(emptied(&mut self.text));
         begin_object(&mut out)?;
@@ -82,7 +83,8 @@ impl<'a> BookPieces<'a> {
     // Writes the next rows of the list, or what stands behind its last one.
     fn go_on(&mut self, list: RowList) -> Result<(), AllocError>
         requires { self.old.place ≡ place.In list }
-        ensures { OnOk result (rest_of self.old ≡ piece_of self.new ++ rest_of self.new) }
+        ensures rest { OnOk result (rest_of self.old ≡ piece_of self.new ++ rest_of self.new) }
+        ensures fewer { OnOk result (pieces_left self.new < pieces_left self.old) }
     {
         if self.at < self.rows.len() {
             return self.write_more(list);
@@ -92,8 +94,10 @@ impl<'a> BookPieces<'a> {
 
     // Writes the entries of the next rows that stand in the list.
     fn write_more(&mut self, list: RowList) -> Result<(), AllocError>
-        requires { self.old.place ≡ place.In list }
-        ensures { OnOk result (rest_of self.old ≡ piece_of self.new ++ rest_of self.new) }
+        requires place { self.old.place ≡ place.In list }
+        requires some { self.old.at < length self.old.rows.items }
+        ensures rest { OnOk result (rest_of self.old ≡ piece_of self.new ++ rest_of self.new) }
+        ensures fewer { OnOk result (pieces_left self.new < pieces_left self.old) }
     {
         let text = emptied(&mut self.text);
         let end = self.at.saturating_add(ROWS).min(self.rows.len());
@@ -109,7 +113,8 @@ impl<'a> BookPieces<'a> {
     fn leave(&mut self, list: RowList) -> Result<(), AllocError>
         requires place { self.old.place ≡ place.In list }
         requires rows { drop self.old.at self.old.rows.items ≡ [] }
-        ensures { OnOk result (rest_of self.old ≡ piece_of self.new ++ rest_of self.new) }
+        ensures rest { OnOk result (rest_of self.old ≡ piece_of self.new ++ rest_of self.new) }
+        ensures fewer { OnOk result (pieces_left self.new < pieces_left self.old) }
     {
         let text = emptied(&mut self.text);
         self.skipped = 0;
@@ -130,11 +135,13 @@ impl<'a> BookPieces<'a> {
 }
 
 impl Pieces for BookPieces<'_> {
-    ghost use Rattle.book_text.specs.Pieces.{rest_of, piece_of};
+    ghost use Rattle.book_text.specs.Pieces.{rest_of, piece_of, pieces_left};
 
     ghost rest = { rest_of };
 
     ghost made = { piece_of };
+
+    ghost left = { pieces_left };
 
     fn make_next(&mut self) -> Result<bool, AllocError> {
         match self.place {

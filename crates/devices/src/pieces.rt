@@ -1,4 +1,4 @@
-ghost use Rattle.std.specs.Prelude.{◌≡◌, ◌++◌, ℕ, List, [], true, false, Ok, IfOk};
+ghost use Rattle.std.specs.Prelude.{◌≡◌, ◌<◌, ◌++◌, ℕ, List, [], true, false, Ok, IfOk};
 
 use std::alloc::{AllocError, Global};
 
@@ -8,10 +8,13 @@ pub trait Pieces {
     ghost rest: { Self → List ℕ };
     // The piece that was made last.
     ghost made: { Self → List ℕ };
+    // How many pieces are still to be made, at most.
+    ghost left: { Self → ℕ };
 
     /// Makes the next piece, which may be empty. Answers false at the end, where none is left.
     fn make_next(&mut self) -> Result<bool, AllocError>
         ensures some { result ≡ Ok true → rest self.old ≡ made self.new ++ rest self.new }
+        ensures fewer { result ≡ Ok true → left self.new < left self.old }
         ensures end { result ≡ Ok false → rest self.old ≡ [] };
 
     /// The piece that was made last.

@@ -28,6 +28,8 @@ impl Pieces for Whole<'_> {
 
     ghost made = { λ whole. whole.bytes.now };
 
+    ghost left = { λ whole. cond whole.is_given 0 1 };
+
     fn make_next(&mut self) -> Result<bool, AllocError> {
         if self.is_given {
             return Ok(false);

@@ -14,13 +14,13 @@ use view::Execution;
 /// The messages of a batch that are committed, in the order of their arrival, with the book that the batch was opened with. Their
 /// replies and the book after them are those of deciding them one after another. Contracts see how far it has come.
 #[derive(Drop)]
-pub struct Ledger {
-    opening: Book,
-    frames: Vec<Frame>,
+pub struct Ledger<'a> {
+    opening: &'a Book,
+    frames: &'a [Frame],
     prefix: Prefix,
 }
 
-impl Model for Ledger {
+impl<'a> Model for Ledger<'a> {
     ghost use Rattle.std.specs.FinMap as map;
     ghost use Rattle.rows.specs.contracts.frame.Frame.{the_row as frame_row};
     ghost use Rattle.rows.specs.contracts.row_key.RowKey.{the_row as key_row};
@@ -31,24 +31,25 @@ impl Model for Ledger {
 
     ghost coded = { progress_code (map.code key_row.coded val_row.coded) frame_row.coded };
 
-    ghost view = { λ l. record { opening = l.opening; frames = l.frames.items; count = l.prefix.count } };
+    ghost view = { λ l. record { opening = l.opening.now; frames = l.frames.now; count = l.prefix.count } };
 
-    ghost invariant = { λ l. IsFold (record { opening = l.opening; frames = l.frames.items; count = l.prefix.count }) l.prefix.replies.items l.prefix.book };
+    ghost invariant = { λ l. IsFold (record { opening = l.opening.now; frames = l.frames.now; count = l.prefix.count }) l.prefix.replies.items l.prefix.book };
 }
 
-impl Ledger {
+impl<'a> Ledger<'a> {
     /// A ledger of this batch, at most 65,536 bodies, in which no message is committed. Room for a row and a reply of each is made at once.
-    pub fn new(alloc: Global, opening: &Book, frames: &[Frame]) -> Result<Ledger, AllocError>
+    pub fn new(
+        alloc: Global,
+        opening: &'a Book,
+        frames: &'a [Frame],
+    ) -> Result<Ledger<'a>, AllocError>
         requires { length frames.now ≤ 65536 }
         ensures { IfOk result (λ ledger. ledger ≡ opened opening.now frames.now) }
     {
-        let copied = opening.copy()?;
-        let frames = frames.to_vec(alloc)?;
-        let prefix = empty_prefix(alloc, opening, frames.len())?;
         Ok(Ledger {
-            opening: copied,
+            opening,
             frames,
-            prefix,
+            prefix: empty_prefix(alloc, opening, frames.len())?,
         })
     }
 
@@ -64,7 +65,7 @@ impl Ledger {
     pub fn opened_with(&self, opening: &Book, frames: &[Frame]) -> bool
         ensures { IsTrue result ↔ ((self.now.opening ≡ opening.now) × (self.now.frames ≡ frames.now)) }
     {
-        self.opening.is_same(opening) && are_same(&self.frames, frames)
+        self.opening.is_same(opening) && are_same(self.frames, frames)
     }
 
     /// Commits the execution, where it is that of the next message and the book after those before it has each row as it was read.
@@ -88,16 +89,16 @@ impl Ledger {
     fn is_next(&self, execution: &Execution, places: &mut Places) -> bool
         ensures { IsTrue result ↔ IsNext self.now execution.now }
     {
-        is_at(&self.frames, self.prefix.count, execution.frame())
+        is_at(self.frames, self.prefix.count, execution.frame())
             && agrees(&self.prefix.book, execution.reads(), places)
     }
 
     /// The committed messages: the book and the replies after them are those of deciding them one after another on the opening book.
     pub fn into_prefix(self) -> Prefix
-        ensures count { result.count ≡ self.count }
-        ensures within { result.count ≤ length self.frames }
-        ensures book { result.book ≡ book_of self }
-        ensures replies { result.replies.items ≡ replies_of self }
+        ensures count { result.count ≡ self.entry.count }
+        ensures within { result.count ≤ length self.entry.frames }
+        ensures book { result.book ≡ book_of self.entry }
+        ensures replies { result.replies.items ≡ replies_of self.entry }
     {
         let Ledger {
             opening: _,

@@ -13,31 +13,35 @@ use view::Execution;
 /// A ledger with the one seat that may raise how many messages are done, and whether the workers are to stop. What the seat raised done
 /// to is never more than is committed.
 #[derive(Drop)]
-pub struct Published {
-    ledger: Ledger,
+pub struct Published<'a> {
+    ledger: Ledger<'a>,
     seat: CursorSeat,
     stopped: bool,
 }
 
-impl Model for Published {
+impl<'a> Model for Published<'a> {
     ghost use Rattle.atomic_table.specs.Seated.{TableId, table_id_coded};
+    ghost use Rattle.std.specs.FinMap as map;
+    ghost use Rattle.rows.specs.contracts.frame.Frame.{the_row as frame_row};
+    ghost use Rattle.rows.specs.contracts.row_key.RowKey.{the_row as key_row};
+    ghost use Rattle.rows.specs.contracts.row_val.RowVal.{the_row as val_row};
+    ghost use Rattle.ledger.specs.Progress.{progress_code};
     ghost use Rattle.published.specs.Standing.{Standing, IsPublisher, standing_code};
-    ghost use Rattle.ledger.specs.contracts.ledger.Ledger.{the_row as ledger_row};
 
     ghost Value = { Standing };
 
-    ghost coded = { standing_code ledger_row.coded table_id_coded };
+    ghost coded = { standing_code (progress_code (map.code key_row.coded val_row.coded) frame_row.coded) table_id_coded };
 
     ghost view = { λ p. record { ledger = p.ledger; table = p.seat.table_id; published = p.seat.me.0.seen; stopped = p.stopped } };
 
     ghost invariant = { λ p. IsPublisher p.ledger p.seat.me.0 };
 }
 
-impl Published {
+impl<'a> Published<'a> {
     /// A ledger with the seat that may raise done, before its first step, of cursors for as many messages as the ledger has.
-    pub fn new(ledger: Ledger, seat: CursorSeat) -> Published
+    pub fn new(ledger: Ledger<'a>, seat: CursorSeat) -> Published<'a>
         requires { seat.me ≡ (publisher (length ledger.frames), []) }
-        ensures { result ≡ record { ledger = ledger; table = seat.table_id; published = 0; stopped = false } }
+        ensures { result ≡ record { ledger = ledger.entry; table = seat.table_id; published = 0; stopped = false } }
     {
         Published {
             ledger,
@@ -88,11 +92,11 @@ impl Published {
 
     /// The ledger, and the last value of done, once no thread has the cursors any more: it is what was published, and no more than is
     /// committed.
-    pub fn close(self, cursors: Cursors) -> (Ledger, u64)
+    pub fn close(self, cursors: Cursors) -> (Ledger<'a>, u64)
         requires { self.table ≡ cursors }
-        ensures ledger { result.0 ≡ self.ledger }
-        ensures published { result.1 ≡ self.published }
-        ensures behind { result.1 ≤ self.ledger.count }
+        ensures ledger { result.0 ≡ self.entry.ledger }
+        ensures published { result.1 ≡ self.entry.published }
+        ensures behind { result.1 ≤ self.entry.ledger.count }
     {
         let Published {
             ledger,
@@ -104,8 +108,8 @@ impl Published {
     }
 
     /// The ledger.
-    pub fn into_ledger(self) -> Ledger
-        ensures { result ≡ self.ledger }
+    pub fn into_ledger(self) -> Ledger<'a>
+        ensures { result ≡ self.entry.ledger }
     {
         let Published {
             ledger,

@@ -2,12 +2,14 @@
 #![tactic(auto)]
 
 mod brief_lock;
+mod look;
 mod shard_of;
 mod shard_rows;
 mod shards;
 mod sight;
 
 pub use brief_lock::lock_briefly;
+pub use look::Look;
 pub use shard_rows::ShardRows;
 pub use shards::Shards;
 pub use sight::Sight;

@@ -5,6 +5,7 @@ ghost use Rattle.rows.specs.RowVal.{IsOfKind};
 ghost use Rattle.shards.specs.declared.sight.Sight.TheVariants as sights;
 ghost use Rattle.view.specs.declared.stop.Stop.TheVariants as stop;
 
+use crate::look::Look;
 use crate::shards::Shards;
 use crate::sight::Sight;
 use rows::{Book, RowKey, RowVal};
@@ -19,7 +20,7 @@ pub struct ShardRows<'a, R: Wait> {
     shards: &'a Shards,
     opening: &'a Book,
     index: u32,
-    log: Vec<Sight>,
+    log: Vec<Look>,
 }
 
 impl<'a, R: Wait> ShardRows<'a, R> {
@@ -29,7 +30,7 @@ impl<'a, R: Wait> ShardRows<'a, R> {
         shards: &'a Shards,
         opening: &'a Book,
         index: u32,
-        mut log: Vec<Sight>,
+        mut log: Vec<Look>,
     ) -> ShardRows<'a, R>
         ensures { result.index ≡ index }
     {
@@ -44,7 +45,7 @@ impl<'a, R: Wait> ShardRows<'a, R> {
     }
 
     /// Whose rows were seen, in the order of asking.
-    pub fn into_log(self) -> Vec<Sight> {
+    pub fn into_log(self) -> Vec<Look> {
         let ShardRows { log, .. } = self;
         log
     }
@@ -65,9 +66,9 @@ impl<R: Wait> RowSource for ShardRows<'_, R> {
 
     #[tactic(auto, using(crate::proofs::Sights::put_of_kind))]
     fn read_into(&mut self, key: &RowKey, row: &mut Option<RowVal>) -> Result<(), Stop> {
-        let sight = self.shards.look(self.rt, key, self.index, row);
-        self.log.push(sight)?;
-        see(self.opening, key, sight, row)
+        let look = self.shards.look(self.rt, key, self.index, row);
+        self.log.push(look)?;
+        see(self.opening, key, look.sight, row)
     }
 }
 

@@ -1,19 +1,26 @@
 ghost use Rattle.std.specs.Prelude.{◌≡◌, length, IfOk};
+ghost use Rattle.std.specs.Option.{option_copied};
 ghost use Rattle.rows.specs.RowVal.{IsOfKind};
+ghost use Rattle.mvmem.specs.Chains.{seen_of};
+ghost use Rattle.mvmem.specs.Resolves.{IsSeenOfKind};
 ghost use Rattle.shards.specs.Sighted.{IsSeenSo};
 
 use crate::brief_lock::lock_briefly;
+use crate::look::Look;
 use crate::shard_of::shard_of;
 use crate::sight::{Sight, copy_value, sight_of};
 use crossbeam_utils::CachePadded;
-use mvmem::{Chains, Version};
+use mvmem::{Chains, Link, Version};
 use rows::{RowKey, RowVal};
 use std::alloc::{AllocError, Global};
 use std::sync::{Mutex, Wait};
-use view::{ReadSet, WriteSet};
+use view::{Execution, ReadSet, WriteSet};
 
 // How many shards there are.
 const SHARDS: usize = 64;
+
+// Among so many rows that were read, one that is put is looked for.
+const FEW: usize = 8;
 
 /// The rows that executions put, in 64 shards: a chain of entries for each row, each shard under a lock of its own. A lock is held
 /// while one row is looked for, or while one entry is put.
@@ -34,54 +41,56 @@ impl Shards {
     /// Whose row the message at this index sees. What was put is written to a place of the caller's, which stays as it was where nothing
     /// was.
     #[tactic(auto, using(crate::proofs::Sights::seen_so))]
-    pub fn look<R: Wait>(&self, rt: &R, key: &RowKey, index: u32, row: &mut Option<RowVal>) -> Sight
-        ensures { IsSeenSo key.now result row.old row.new }
+    pub fn look<R: Wait>(&self, rt: &R, key: &RowKey, index: u32, row: &mut Option<RowVal>) -> Look
+        ensures { IsSeenSo key.now result.sight row.old row.new }
     {
         let chains = lock_briefly(rt, &self.shards[shard_of(key)]);
-        let link = chains.nearest_below(key, &[], index);
+        let number = chains.number_of(key, &[]);
+        let link = nearest_by(&chains, key, number, index);
         copy_value(link, row);
-        sight_of(link)
+        Look {
+            sight: sight_of(link),
+            number,
+        }
     }
 
     /// Whether the message at this index sees each row that it read as it was logged, in the order of reading.
-    pub fn is_as_logged<R: Wait>(
-        &self,
-        rt: &R,
-        index: u32,
-        reads: &ReadSet,
-        log: &[Sight],
-    ) -> bool {
+    pub fn is_as_logged<R: Wait>(&self, rt: &R, index: u32, reads: &ReadSet, log: &[Look]) -> bool {
         for place in 0..reads.len() {
             let (key, _) = reads.row(place);
-            if log.get(place).copied() != Some(self.sight(rt, key, index)) {
-                return false;
+            match log.get(place) {
+                Some(look) if look.sight == self.sight(rt, key, look.number, index) => {}
+                _ => return false,
             }
         }
         true
     }
 
-    // Whose row the message at this index sees.
-    fn sight<R: Wait>(&self, rt: &R, key: &RowKey, index: u32) -> Sight {
+    // Whose row the message at this index sees. Its chain is looked for by this number first.
+    fn sight<R: Wait>(&self, rt: &R, key: &RowKey, number: Option<usize>, index: u32) -> Sight {
         let chains = lock_briefly(rt, &self.shards[shard_of(key)]);
-        let link = chains.nearest_below(key, &[], index);
-        sight_of(link)
+        sight_of(nearest_by(&chains, key, number, index))
     }
 
-    /// Puts what this version wrote, in place of what its message put before. Answers whether a row was put that had no entry of the
-    /// message. The first `done` messages are committed: entries that no message behind these sees are taken out.
+    /// Puts what this version wrote, in place of what its message put before. A row that it read is found by its log. Answers whether a
+    /// row was put that had no entry of the message. The first `done` messages are committed: entries that no message behind these sees are
+    /// taken out.
     pub fn record<R: Wait>(
         &self,
         rt: &R,
         alloc: Global,
         version: Version,
-        writes: &WriteSet,
+        execution: &Execution,
+        log: &[Look],
         former: Option<&WriteSet>,
         done: u32,
     ) -> Result<bool, AllocError> {
+        let writes = execution.writes();
         let mut is_new = false;
         for place in 0..writes.len() {
             let (key, value) = writes.row(place);
-            is_new = self.put(rt, alloc, version, key, value, done)? || is_new;
+            let number = number_in(execution.reads(), log, key);
+            is_new = self.put(rt, alloc, version, key, value, number, done)? || is_new;
         }
         if let Some(former) = former {
             self.take_out_others(rt, version.index, former, writes);
@@ -97,12 +106,13 @@ impl Shards {
         version: Version,
         key: &RowKey,
         value: &RowVal,
+        number: Option<usize>,
         done: u32,
     ) -> Result<bool, AllocError>
         requires { IsOfKind key.now value.now }
     {
         let mut chains = lock_briefly(rt, &self.shards[shard_of(key)]);
-        put_in(&mut chains, alloc, version, key, value, done)
+        put_in(&mut chains, alloc, version, key, value, number, done)
     }
 
     // Takes out the message's entries of the rows that it put before and that are not among these.
@@ -131,19 +141,50 @@ impl Shards {
     }
 }
 
-// Puts this value as the version's entry of the row. Answers whether its message had none. Where no message from `done` on sees the
-// row's first entry, that one is taken out, so that a chain has few entries and its memory is used again.
+// The row's nearest entry below the index, if there is one. Its chain is looked for by this number first.
+fn nearest_by<'a>(
+    chains: &'a Chains,
+    key: &RowKey,
+    number: Option<usize>,
+    index: u32,
+) -> Option<&'a Link>
+    ensures seen { IsSeenOfKind key.now (seen_of (option_copied result)) }
+{
+    match number {
+        Some(number) => chains.nearest_below(key, &[number], index),
+        None => chains.nearest_below(key, &[], index),
+    }
+}
+
+// The number of the row's chain, where it is among the first rows that were read, and had one then.
+fn number_in(reads: &ReadSet, log: &[Look], key: &RowKey) -> Option<usize> {
+    for place in 0..reads.len().min(FEW) {
+        let (read, _) = reads.row(place);
+        if *read == *key {
+            return log.get(place)?.number;
+        }
+    }
+    None
+}
+
+// Puts this value as the version's entry of the row. Answers whether its message had none. The row's chain is looked for by this number
+// first. Where no message from `done` on sees the row's first entry, that one is taken out, so that a chain has few entries and its memory
+// is used again.
 fn put_in(
     chains: &mut Chains,
     alloc: Global,
     version: Version,
     key: &RowKey,
     value: &RowVal,
+    number: Option<usize>,
     done: u32,
 ) -> Result<bool, AllocError>
     requires { IsOfKind key.now value.now }
 {
-    let number = chains.reserve(alloc, key, &[])?;
+    let number = match number {
+        Some(number) => chains.reserve(alloc, key, &[number])?,
+        None => chains.reserve(alloc, key, &[])?,
+    };
     let (number, is_new) = chains.put(key, &[number], version, value);
     if let Some(first) = chains.superseded(number, done) {
         chains.take_out(number, first);

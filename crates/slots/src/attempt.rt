@@ -1,4 +1,4 @@
-use shards::Sight;
+use shards::Look;
 use view::Execution;
 
 /// An execution of a message, with whose rows it saw.
@@ -7,5 +7,5 @@ pub struct Attempt {
     /// What was decided. It is true by its type.
     pub execution: Execution,
     /// Whose rows it saw, in the order of reading.
-    pub log: Vec<Sight>,
+    pub log: Vec<Look>,
 }

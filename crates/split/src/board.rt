@@ -17,9 +17,9 @@ use std::sync::{Mutex, MutexGuard, Wait};
 /// lock of its own; and executions that are done with, for their memory. A thread that holds a shard or these takes no other lock, and one
 /// that holds a slot takes no other slot.
 #[derive(Drop)]
-pub(crate) struct Board<B: Room> {
+pub(crate) struct Board<'a, B: Room> {
     cursors: Cursors,
-    desk: CachePadded<Mutex<Desk<B>>>,
+    desk: CachePadded<Mutex<Desk<'a, B>>>,
     slots: Vec<Mutex<Slot>>,
     shards: Shards,
     spares: CachePadded<Mutex<Vec<Box<Attempt>>>>,
@@ -44,19 +44,20 @@ impl Storage {
     }
 }
 
-impl<B: Room> Board<B> {
+impl<'a, B: Room> Board<'a, B> {
     // A board for the ledger's batch, and the place of the first worker.
     pub(crate) fn new(
         alloc: Global,
         cursors: Cursors,
         mut seat: CursorSeat,
-        ledger: Ledger,
+        ledger: Ledger<'a>,
         storage: Storage,
-    ) -> (Board<B>, Place<B>)
+    ) -> (Board<'a, B>, Place<B>)
+        requires batch { (ledger.opening ≡ B.opening) × (ledger.frames ≡ B.frames) }
         requires table { (cursors ≡ B.table) × (seat.table_id ≡ B.table) }
         requires first { seat.me ≡ (publisher (length ledger.frames), []) }
         requires slots { length storage.slots.items ≡ length ledger.frames }
-        ensures slots { length result.0.slots.items ≡ length ledger.frames }
+        ensures slots { length result.0.slots.items ≡ length ledger.entry.frames }
     {
         let place = Place::new(alloc, cursors.another(&mut seat));
         let desk = Desk::new(Published::new(ledger, seat));
@@ -94,7 +95,7 @@ impl<B: Room> Board<B> {
     }
 
     // The ledger, where no other worker holds it.
-    pub(crate) fn free_desk(&self) -> Option<MutexGuard<'_, Desk<B>>> {
+    pub(crate) fn free_desk(&self) -> Option<MutexGuard<'_, Desk<'a, B>>> {
         self.desk.try_lock()
     }
 
@@ -104,7 +105,10 @@ impl<B: Room> Board<B> {
     }
 
     // The ledger, once no worker has the board any more.
-    pub(crate) fn into_ledger(self) -> Ledger {
+    pub(crate) fn into_ledger(self) -> Ledger<'a>
+        ensures opening { result.opening ≡ B.opening }
+        ensures frames { result.frames ≡ B.frames }
+    {
         let Board { desk, .. } = self;
         desk.into_inner().into_inner().into_ledger()
     }

@@ -2,6 +2,8 @@ ghost use Rattle.std.specs.Prelude.{◌≡◌, ◌≢◌, ◌↔◌, Ok, IfOk};
 ghost use Rattle.ledger.specs.Progress.{IsNext};
 ghost use Rattle.ledger.specs.declared.verdict.Verdict.TheVariants.{Committed, Stale};
 ghost use Rattle.published.specs.Standing.{advanced, told, stopping};
+ghost use Rattle.std.specs.Coded.{Coded-set};
+ghost use Rattle.split.specs.Tables.{rows_coded};
 
 use crate::room::Room;
 use cursors::Cursors;
@@ -13,17 +15,21 @@ use view::Execution;
 
 /// What lies under the ledger's lock: the ledger with the seat that publishes, and the stop mark.
 #[derive(Drop)]
-pub(crate) struct Desk<B: Room> {
-    published: Published,
+pub(crate) struct Desk<'a, B: Room> {
+    published: Published<'a>,
     of: PhantomData<B>,
     ghost at: { published.table ≡ B.table },
+    ghost opening: { published.ledger.opening ≡ B.opening } by { Coded-set rows_coded published.ledger.opening B.opening },
+    ghost frames: { published.ledger.frames ≡ B.frames },
 }
 
-impl<B: Room> Desk<B> {
-    // A desk with this ledger, whose seat is at the room's cursors.
-    pub(crate) fn new(published: Published) -> Desk<B>
-        requires { published.table ≡ B.table }
-        ensures { result.published ≡ published }
+impl<'a, B: Room> Desk<'a, B> {
+    // A desk with this ledger, which is of the room's batch, and whose seat is at the room's cursors.
+    pub(crate) fn new(published: Published<'a>) -> Desk<'a, B>
+        requires table { published.table ≡ B.table }
+        requires opening { published.ledger.opening ≡ B.opening }
+        requires frames { published.ledger.frames ≡ B.frames }
+        ensures { result.published ≡ published.entry }
     {
         Desk {
             published,
@@ -73,8 +79,10 @@ impl<B: Room> Desk<B> {
     }
 
     // The ledger, once no thread has the cursors any more.
-    pub(crate) fn into_ledger(self) -> Ledger
-        ensures { result ≡ self.published.ledger }
+    pub(crate) fn into_ledger(self) -> Ledger<'a>
+        ensures ledger { result ≡ self.entry.published.ledger }
+        ensures opening { result.opening ≡ B.opening }
+        ensures frames { result.frames ≡ B.frames }
     {
         let Desk { published, of: _ } = self;
         published.into_ledger()

@@ -3,7 +3,7 @@ ghost use Rattle.std.specs.Prelude.{◌≡◌};
 use crate::board::Board;
 use crate::room::Room;
 use cursors::CursorSeat;
-use shards::Sight;
+use shards::Look;
 use slots::Attempt;
 use std::alloc::{AllocError, Global};
 use std::marker::PhantomData;
@@ -35,7 +35,7 @@ impl<B: Room> Place<B> {
     }
 
     // A place for another worker.
-    pub(crate) fn another(&mut self, board: &Board<B>) -> Place<B> {
+    pub(crate) fn another(&mut self, board: &Board<'_, B>) -> Place<B> {
         Place {
             seat: board.cursors().another(&mut self.seat),
             spares: Vec::new(*self.spares.allocator()),
@@ -44,29 +44,29 @@ impl<B: Room> Place<B> {
     }
 
     // How many messages are committed, as far as the worker can see.
-    pub(crate) fn done(&mut self, board: &Board<B>) -> u64 {
+    pub(crate) fn done(&mut self, board: &Board<'_, B>) -> u64 {
         board.cursors().done(&mut self.seat)
     }
 
     // Draws the message to execute next.
-    pub(crate) fn draw_execute(&mut self, board: &Board<B>) -> u64 {
+    pub(crate) fn draw_execute(&mut self, board: &Board<'_, B>) -> u64 {
         board.cursors().draw_execute(&mut self.seat)
     }
 
     // Draws the message to validate next.
-    pub(crate) fn draw_validate(&mut self, board: &Board<B>) -> u64 {
+    pub(crate) fn draw_validate(&mut self, board: &Board<'_, B>) -> u64 {
         board.cursors().draw_validate(&mut self.seat)
     }
 
     // Has execution go on at this message, where it is already behind it.
-    pub(crate) fn lower_execute(&mut self, board: &Board<B>, index: u32) {
+    pub(crate) fn lower_execute(&mut self, board: &Board<'_, B>, index: u32) {
         board
             .cursors()
             .lower_execute(&mut self.seat, u64::from(index));
     }
 
     // Has validation go on at this message, where it is already behind it.
-    pub(crate) fn lower_validate(&mut self, board: &Board<B>, index: u32) {
+    pub(crate) fn lower_validate(&mut self, board: &Board<'_, B>, index: u32) {
         board
             .cursors()
             .lower_validate(&mut self.seat, u64::from(index));
@@ -76,7 +76,7 @@ impl<B: Room> Place<B> {
     pub(crate) fn keep<R: Wait>(
         &mut self,
         rt: &R,
-        board: &Board<B>,
+        board: &Board<'_, B>,
         attempt: Box<Attempt>,
     ) -> Result<(), AllocError> {
         self.spares.push(attempt)?;
@@ -90,8 +90,8 @@ impl<B: Room> Place<B> {
     pub(crate) fn sets<R: Wait>(
         &mut self,
         rt: &R,
-        board: &Board<B>,
-    ) -> Result<(ReadSet, WriteSet, Vec<Sight>), AllocError> {
+        board: &Board<'_, B>,
+    ) -> Result<(ReadSet, WriteSet, Vec<Look>), AllocError> {
         if self.spares.is_empty() {
             self.fetch(rt, board)?;
         }
@@ -105,13 +105,13 @@ impl<B: Room> Place<B> {
     }
 
     // Fetches executions that are done with from the board.
-    fn fetch<R: Wait>(&mut self, rt: &R, board: &Board<B>) -> Result<(), AllocError> {
+    fn fetch<R: Wait>(&mut self, rt: &R, board: &Board<'_, B>) -> Result<(), AllocError> {
         move_some(&mut board.spares(rt), &mut self.spares, SPARES / 2)
     }
 }
 
 // The sets and the log of an execution that is done with.
-fn sets_of(spare: Box<Attempt>) -> (ReadSet, WriteSet, Vec<Sight>) {
+fn sets_of(spare: Box<Attempt>) -> (ReadSet, WriteSet, Vec<Look>) {
     let Attempt { execution, log } = Box::into_inner(spare);
     let (_, reads, writes, _) = execution.into_parts();
     (reads, writes, log)

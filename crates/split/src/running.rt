@@ -46,30 +46,32 @@ pub fn run_split<R: Threads + Wait + Sync, F: Decide + Sync, G: Gate>(
     let (ledger, started) = ledger_of::<Brand, R, F, G>(
         rt, alloc, book, frames, workers, decision, gate, cursors, seat, ledger, storage,
     );
-    let prefix = prefix_of(alloc, ledger, book, frames)?;
-    outcome_of(alloc, prefix, book, frames, started)
+    outcome_of(alloc, ledger.into_prefix(), book, frames, started)
 }
 
 // The ledger as the workers leave it, and how many threads took part.
-fn ledger_of<B: Room + Send + Sync, R: Threads + Wait + Sync, F: Decide + Sync, G: Gate>(
+fn ledger_of<'a, B: Room + Send + Sync, R: Threads + Wait + Sync, F: Decide + Sync, G: Gate>(
     rt: &R,
     alloc: Global,
-    book: &Book,
-    frames: &[Frame],
+    book: &'a Book,
+    frames: &'a [Frame],
     workers: Workers,
     decision: &F,
     gate: &G,
     cursors: Cursors,
     seat: CursorSeat,
-    ledger: Ledger,
+    ledger: Ledger<'a>,
     storage: Storage,
-) -> (Ledger, u32)
+) -> (Ledger<'a>, u32)
+    requires batch { (ledger.opening ≡ B.opening) × (ledger.frames ≡ B.frames) }
     requires table { (cursors ≡ B.table) × (seat.table_id ≡ B.table) }
     requires first { seat.me ≡ (publisher (length ledger.frames), []) }
     requires slots { length storage.slots.items ≡ length ledger.frames }
-    ensures { IsStarted result.1 workers }
+    ensures opening { result.0.opening ≡ B.opening }
+    ensures frames { result.0.frames ≡ B.frames }
+    ensures started { IsStarted result.1 workers }
 {
-    let (board, place): (Board<B>, _) = Board::new(alloc, cursors, seat, ledger, storage);
+    let (board, place): (Board<'a, B>, _) = Board::new(alloc, cursors, seat, ledger, storage);
     let worker = Worker {
         rt,
         alloc,
@@ -85,7 +87,7 @@ fn ledger_of<B: Room + Send + Sync, R: Threads + Wait + Sync, F: Decide + Sync, 
 
 // Starts the other workers and works as the first; the answer is how many took part.
 fn work_together<B: Room + Send + Sync, R: Threads + Wait + Sync, F: Decide + Sync, G: Gate>(
-    worker: &Worker<'_, B, R, F, G>,
+    worker: &Worker<'_, '_, B, R, F, G>,
     mut place: Place<B>,
     workers: Workers,
 ) -> u32
@@ -110,24 +112,6 @@ fn work_together<B: Room + Send + Sync, R: Threads + Wait + Sync, F: Decide + Sy
             started
         },
     )
-}
-
-// What the workers committed, if the ledger is of this run; else nothing.
-fn prefix_of(
-    alloc: Global,
-    ledger: Ledger,
-    book: &Book,
-    frames: &[Frame],
-) -> Result<Prefix, AllocError>
-    ensures kept { (ledger.opening ≡ book.now) × (ledger.frames ≡ frames.now) → IfOk result (λ prefix. prefix.count ≡ ledger.count) }
-    ensures count { IfOk result (λ prefix. prefix.count ≤ length frames.now) }
-    ensures book { IfOk result (λ prefix. prefix.book ≡ rows_after book.now (take prefix.count frames.now)) }
-    ensures replies { IfOk result (λ prefix. prefix.replies.items ≡ replies_to book.now (take prefix.count frames.now)) }
-{
-    if ledger.opened_with(book, frames) {
-        return Ok(ledger.into_prefix());
-    }
-    Ok(Prefix::new(alloc, book.copy()?))
 }
 
 // What the workers committed, then what they left, decided one after another.

@@ -17,17 +17,17 @@ use workers::Gate;
 /// What a worker works with: the board, the opening book, the bodies, the decision and the gate. Whatever it does or leaves undone, the
 /// ledger's type keeps what is committed right.
 #[derive(Drop)]
-pub(crate) struct Worker<'a, B: Room, R: Wait, F: Decide, G: Gate> {
-    pub(crate) rt: &'a R,
+pub(crate) struct Worker<'w, 'a, B: Room, R: Wait, F: Decide, G: Gate> {
+    pub(crate) rt: &'w R,
     pub(crate) alloc: Global,
-    pub(crate) board: &'a Board<B>,
-    pub(crate) book: &'a Book,
-    pub(crate) frames: &'a [Frame],
-    pub(crate) decision: &'a F,
-    pub(crate) gate: &'a G,
+    pub(crate) board: &'w Board<'a, B>,
+    pub(crate) book: &'w Book,
+    pub(crate) frames: &'w [Frame],
+    pub(crate) decision: &'w F,
+    pub(crate) gate: &'w G,
 }
 
-impl<B: Room, R: Wait, F: Decide, G: Gate> Worker<'_, B, R, F, G> {
+impl<B: Room, R: Wait, F: Decide, G: Gate> Worker<'_, '_, B, R, F, G> {
     /// Turns from this place, until all is committed or the stop mark is set. A turn that has to leave sets it.
     pub(crate) fn work(&self, mut place: Place<B>) {
         for _ in self.rt.forever() {
@@ -77,7 +77,7 @@ impl<B: Room, R: Wait, F: Decide, G: Gate> Worker<'_, B, R, F, G> {
     }
 
     // Commits messages in their order, as many as can be, at the desk that the worker holds.
-    fn commit_at(&self, place: &mut Place<B>, desk: &mut Desk<B>) -> Result<(), Leave> {
+    fn commit_at(&self, place: &mut Place<B>, desk: &mut Desk<'_, B>) -> Result<(), Leave> {
         if desk.stopped() {
             return Err(Leave::Stopped);
         }
@@ -90,7 +90,7 @@ impl<B: Room, R: Wait, F: Decide, G: Gate> Worker<'_, B, R, F, G> {
     }
 
     // Commits the next message, where it can be. Answers whether it is committed.
-    fn commit_next(&self, place: &mut Place<B>, desk: &mut Desk<B>) -> Result<bool, Leave> {
+    fn commit_next(&self, place: &mut Place<B>, desk: &mut Desk<'_, B>) -> Result<bool, Leave> {
         let index = desk.count();
         let Some(mut slot) = self.board.slot(self.rt, index) else {
             return Ok(false);
@@ -103,7 +103,7 @@ impl<B: Room, R: Wait, F: Decide, G: Gate> Worker<'_, B, R, F, G> {
     fn commit_in(
         &self,
         place: &mut Place<B>,
-        desk: &mut Desk<B>,
+        desk: &mut Desk<'_, B>,
         index: u32,
         slot: &mut Slot,
     ) -> Result<bool, Leave> {
@@ -127,6 +127,10 @@ impl<B: Room, R: Wait, F: Decide, G: Gate> Worker<'_, B, R, F, G> {
     // Looks again for the rows that an executed message read, and gives it up where it sees others. Answers whether the message stood
     // executed.
     fn validate(&self, place: &mut Place<B>, index: u32) -> Result<bool, Leave> {
+        if u64::from(index) <= place.done(self.board) {
+            // It is committed, or it is the next one: whoever commits it asks the book.
+            return Ok(false);
+        }
         let Some(mut slot) = self.board.slot(self.rt, index) else {
             return Ok(false);
         };
@@ -228,9 +232,9 @@ impl<B: Room, R: Wait, F: Decide, G: Gate> Worker<'_, B, R, F, G> {
             return Ok(false);
         };
         let former = slot.former().map(|former| former.execution.writes());
-        let writes = attempt.execution.writes();
+        let Attempt { execution, log } = &*attempt;
         let shards = self.board.shards();
-        let is_new = shards.record(self.rt, self.alloc, version, writes, former, done)?;
+        let is_new = shards.record(self.rt, self.alloc, version, execution, log, former, done)?;
         slot.put(attempt);
         Ok(is_new)
     }

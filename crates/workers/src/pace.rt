@@ -2,8 +2,8 @@ use std::sync::{Condvar, Wait};
 use std::thread;
 use std::time::Duration;
 
-// The longest rest.
-const LONGEST: u32 = 4096;
+// The longest rest: an eighth of a second.
+const LONGEST: u32 = 131_072;
 
 // The longest rest in which turns are given to other threads; in a longer one the worker sleeps, as many microseconds.
 const AWAKE: u32 = 16;

@@ -6,8 +6,8 @@ use Rattle.book_text.specs.declared.listed_row.ListedRow.{ListedRow}
 use Rattle.book_text.proofs.Printing.{left_before, left_last}
 use Rattle.book_text.proofs.pieces.BookPieces.leave.Goals as goal
 
-pub returns-in_ok-self-in-Some : goal.returns-in_ok-self-in-Some
-returns-in_ok-self-in-Some c =
+pub returns-in_ok-self-in-Some-clause-rest : goal.returns-in_ok-self-in-Some-clause-rest
+returns-in_ok-self-in-Some-clause-rest c =
     let s = c.args.self.now in
     let next = c.in-Some.next in
     ap (λ (p : Place). rest_at p s.later s.at s.rows.items) c.requires.place
@@ -15,8 +15,8 @@ returns-in_ok-self-in-Some c =
     ∙ left_before s.later c.args.list next (rows_listed s.rows.items) (sym c.list_behind.ensures ∙ c.in-Some.is)
     ∙ ap (λ (text : List ℕ). text ++ text_left false next (rows_listed s.rows.items) (rows_listed s.rows.items)) (sym c.in_ok-self-in-Some.ensures)
 
-pub returns-in_ok-self-in-None : goal.returns-in_ok-self-in-None
-returns-in_ok-self-in-None c =
+pub returns-in_ok-self-in-None-clause-rest : goal.returns-in_ok-self-in-None-clause-rest
+returns-in_ok-self-in-None-clause-rest c =
     let s = c.args.self.now in
     ap (λ (p : Place). rest_at p s.later s.at s.rows.items) c.requires.place
     ∙ ap (λ (left : List ListedRow). text_left s.later c.args.list (rows_listed left) (rows_listed s.rows.items)) c.requires.rows
