@@ -15,11 +15,13 @@ use fold::Outcome;
 use jobs::{JobFault, fault_of_closing, open_book, put_book};
 use rows::{Book, Frame};
 use std::alloc::{AllocError, Global};
+use std::thread::Threads;
 
 /// Decides the blocks of one file on the book of another, each on the book after those before it, and puts the replies and the new
 /// book into files. `decide` has to answer the fold. Where a block can't be read, decided or answered, the blocks before it are
 /// kept: the new book is the one after them. After any other fault the file of the new book is as it was.
-pub fn decide_blocks<F: Files, E: Fn(&Book, &[Frame]) -> Result<Outcome, AllocError>>(
+pub fn decide_blocks<R: Threads, F: Files, E: Fn(&Book, &[Frame]) -> Result<Outcome, AllocError>>(
+    rt: &R,
     alloc: Global,
     files: &mut F,
     names: &BatchNames,
@@ -47,8 +49,8 @@ pub fn decide_blocks<F: Files, E: Fn(&Book, &[Frame]) -> Result<Outcome, AllocEr
 {
     let book = open_book(alloc, files, names.book.as_str())?;
     match answer_blocks(alloc, files, names, book, decide)? {
-        Ok(outcome) => put_outcome(alloc, files, names.new_book.as_str(), &outcome),
-        Err(halted) => Err(keep_blocks(alloc, files, names.new_book.as_str(), &halted)),
+        Ok(outcome) => put_outcome(rt, alloc, files, names.new_book.as_str(), &outcome),
+        Err(halted) => Err(keep_blocks(rt, alloc, files, names.new_book.as_str(), &halted)),
     }
 }
 
@@ -88,7 +90,8 @@ fn answer_blocks<F: Files, E: Fn(&Book, &[Frame]) -> Result<Outcome, AllocError>
 }
 
 // Puts the book after all blocks into the file of this name. The answer is how many there were.
-fn put_outcome<F: Files>(
+fn put_outcome<R: Threads, F: Files>(
+    rt: &R,
     alloc: Global,
     files: &mut F,
     name: &str,
@@ -101,7 +104,7 @@ fn put_outcome<F: Files>(
     ensures known { F.is_known files.old → F.is_known files.new }
     ensures others { (other held : List ℕ) → other ≢ name.now → F.holds files.old other held → F.holds files.new other held }
 {
-    put_book(alloc, files, name, &outcome.book)?;
+    put_book(rt, alloc, files, name, &outcome.book)?;
     Ok(BlockCount {
         blocks: outcome.blocks,
         messages: outcome.messages,
@@ -109,14 +112,20 @@ fn put_outcome<F: Files>(
 }
 
 // Puts the book after the kept blocks into the file of this name.
-fn keep_blocks<F: Files>(alloc: Global, files: &mut F, name: &str, halted: &Halted) -> Halt
+fn keep_blocks<R: Threads, F: Files>(
+    rt: &R,
+    alloc: Global,
+    files: &mut F,
+    name: &str,
+    halted: &Halted,
+) -> Halt
     ensures fault { result.fault ≡ JobFault.Batch halted.now.fault }
     ensures kept { (count : ℕ) → result.kept ≡ Some count → (count ≡ halted.now.blocks) × (F.is_known files.old → F.holds files.new name.now (book_text halted.now.book)) }
     ensures same { result.kept ≡ None → (held : List ℕ) → F.holds files.old name.now held → F.holds files.new name.now held }
     ensures known { F.is_known files.old → F.is_known files.new }
     ensures others { (other held : List ℕ) → other ≢ name.now → F.holds files.old other held → F.holds files.new other held }
 {
-    let kept = match put_book(alloc, files, name, &halted.book) {
+    let kept = match put_book(rt, alloc, files, name, &halted.book) {
         Ok(()) => Some(halted.blocks),
         Err(_) => None,
     };

@@ -1,5 +1,5 @@
 -- What of a book's text is left to be written, over its sorted rows.
-use Rattle.std.specs.Prelude.{ℕ, List, ◌++◌, Bool, codes, map, flat_map, fold}
+use Rattle.std.specs.Prelude.{ℕ, List, ◌++◌, Bool, true, false, codes, map, flat_map, fold}
 use Rattle.json.specs.Print.{print, print_from, ends}
 use Rattle.json.specs.Token.{Token}
 use Rattle.json.specs.Tree.{items_tokens, members_tokens}
@@ -33,6 +33,11 @@ entries_tokens list rows = tokens_of_entries (rows_of list rows)
 -- whether a value just ended behind these tokens, where it is known whether one ended before them
 abbrev pub ends_after : Bool → List Token → Bool
 ends_after later tokens = fold (λ _ token. ends token) later tokens
+
+-- how much of a piece's text is no part of it, where it is known whether an entry of the list stands before it
+abbrev pub skipped_if : Bool → ℕ
+skipped_if true = 4
+skipped_if false = 0
 
 -- ---- the members of the top object behind each list
 

@@ -1,5 +1,5 @@
 -- A book's text in pieces: what is left of it, and what was made last.
-use Rattle.std.specs.Prelude.{ℕ, ◌+◌, ◌*◌, ◌-◌, List, [], ◌∷◌, length, Bool, true, false, Option, Some, None, codes, decimal, drop}
+use Rattle.std.specs.Prelude.{ℕ, ◌+◌, ◌*◌, ◌-◌, List, [], ◌∷◌, length, Bool, Option, Some, None, codes, decimal, drop}
 use Rattle.json.specs.Token.{Token, key, number, begin_array, end_array, end_object}
 use Rattle.book_json_laws.specs.Parts.{list_key}
 use Rattle.book_json_laws.specs.declared.row_list.RowList.{RowList}
@@ -27,11 +27,6 @@ between next = end_array ∷ key (list_key next) ∷ begin_array ∷ []
 abbrev pub last_tokens : List Token
 last_tokens = end_array ∷ key (codes "version") ∷ number (decimal 3) ∷ end_object ∷ []
 
--- how much of a piece's text is no part of it, where it is known whether an entry of the list stands before it
-abbrev pub skipped_if : Bool → ℕ
-skipped_if true = 4
-skipped_if false = 0
-
 -- what is left of the text at a place, from the row at an index on
 abbrev pub rest_at : Place → Bool → ℕ → List ListedRow → List ℕ
 rest_at Start later at rows = text_of_rows (rows_listed rows)
@@ -39,11 +34,11 @@ rest_at (In list) later at rows = text_left later list (rows_listed (drop at row
 rest_at End later at rows = []
 
 -- what is left of the text
-abbrev pub rest_of : BookPieces → List ℕ
+abbrev pub rest_of : {R : Type 0} → BookPieces R → List ℕ
 rest_of pieces = rest_at pieces.place pieces.later pieces.at pieces.rows.items
 
 -- the piece that was made last
-abbrev pub piece_of : BookPieces → List ℕ
+abbrev pub piece_of : {R : Type 0} → BookPieces R → List ℕ
 piece_of pieces = drop pieces.skipped pieces.text.items
 
 -- how many lists stand behind a list
@@ -63,5 +58,5 @@ left_at (In list) at rows = lists_behind list * (rows + 1) + (rows - at) + 1
 left_at End at rows = 0
 
 -- how many pieces are left at most
-abbrev pub pieces_left : BookPieces → ℕ
+abbrev pub pieces_left : {R : Type 0} → BookPieces R → ℕ
 pieces_left pieces = left_at pieces.place pieces.at (length pieces.rows.items)

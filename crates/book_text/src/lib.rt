@@ -6,6 +6,8 @@ mod listed_row;
 mod parts;
 mod pieces;
 mod row_writers;
+mod sheet;
+mod sheets;
 mod tokens;
 mod writing;
 

@@ -4,8 +4,8 @@ ghost use Rattle.std.specs.Prelude.{◌≡◌, ◌∷◌, [], ◌||◌, codes, d
 ghost use Rattle.json.specs.Print.{print, print_from};
 ghost use Rattle.json.specs.Token.{key as key_token, number as number_token, begin_array as begin_array_token, end_array as end_array_token, end_object as end_object_token};
 ghost use Rattle.book_json_laws.specs.Parts.{list_key};
-ghost use Rattle.book_text.specs.Left.{rows_listed, entries_tokens, ends_after};
-ghost use Rattle.book_text.specs.Pieces.{skipped_if, next_list, between, last_tokens};
+ghost use Rattle.book_text.specs.Left.{rows_listed, entries_tokens, ends_after, skipped_if};
+ghost use Rattle.book_text.specs.Pieces.{next_list, between, last_tokens};
 
 use crate::listed_row::ListedRow;
 use crate::tokens::{end_array, null};

@@ -1,7 +1,9 @@
 ghost use Rattle.std.specs.Prelude.{◌≤◌, length};
+ghost use Rattle.book_text.specs.Sheets.{AreSheetsOf};
 
 use crate::listed_row::ListedRow;
 use crate::parts::{emptied, last_piece, list_behind, piece_between, rows_piece, skipped_if};
+use crate::sheets::{ROWS, Sheets};
 use crate::tokens::begin_object;
 use crate::writing::open_list;
 use book_json_laws::RowList;
@@ -9,9 +11,7 @@ use devices::Pieces;
 use json::Writer;
 use rows::SortedRows;
 use std::alloc::{AllocError, Global};
-
-// How many rows are looked at for a piece.
-const ROWS: usize = 1024;
+use std::thread::Threads;
 
 /// Where the text of a book is written next.
 #[derive(Clone, Copy)]
@@ -24,10 +24,11 @@ pub(crate) enum Place {
     End,
 }
 
-/// The text of a book, made piece by piece: JSON of version 3, as [`write_book`](crate::write_book) makes it at once. A piece's
-/// memory is used again by the next one.
+/// The text of a book, made piece by piece: JSON of version 3, as [`write_book`](crate::write_book) makes it at once. Several
+/// threads make pieces ahead, and their memory is used again by later ones.
 #[derive(Drop)]
-pub struct BookPieces<'a> {
+pub struct BookPieces<'a, R: Threads> {
+    rt: &'a R,
     rows: Vec<ListedRow<'a>>,
     place: Place,
     // The row that is looked at next, and whether an entry of its list is written.
@@ -36,30 +37,40 @@ pub struct BookPieces<'a> {
     text: Vec<u8>,
     // How much of the text's beginning is no part of the piece.
     skipped: usize,
+    // Texts of the next rows, as far as they are made ahead.
+    sheets: Sheets,
     ghost within: { at ≤ length rows.items },
+    ghost made: { AreSheetsOf rows.items sheets },
 }
 
-impl<'a> BookPieces<'a> {
+impl<'a, R: Threads> BookPieces<'a, R> {
     ghost use Rattle.std.specs.Prelude.{◌≡◌, ◌<◌, ◌++◌, [], true, false, Ok, IfOk, OnOk, drop};
     ghost use Rattle.rows.specs.Book.{AllOfKind};
     ghost use Rattle.book_json_laws.specs.Text.{book_text};
     ghost use Rattle.rows.specs.Fold.{Rows};
     ghost use Rattle.std.specs.FinMap as map;
     ghost use Rattle.book_text.specs.Pieces.{rest_of, piece_of, pieces_left};
+    ghost use Rattle.book_text.specs.Sheets.{HasSheet};
     ghost use Rattle.book_text.specs.declared.pieces.Place.TheVariants as place;
 
     /// The text of the book that has these sorted rows. No piece is made yet.
-    pub fn new(alloc: Global, rows: &'a SortedRows<'_>) -> Result<BookPieces<'a>, AllocError>
+    pub fn new(
+        rt: &'a R,
+        alloc: Global,
+        rows: &'a SortedRows<'_>,
+    ) -> Result<BookPieces<'a, R>, AllocError>
         requires { AllOfKind rows.now }
         ensures { IfOk result (λ pieces. (book : Rows) → rows.now ≡ map.entries book → rest_of pieces ≡ book_text book) }
     {
         Ok(BookPieces {
+            rt,
             rows: ListedRow::all(alloc, rows)?,
             place: Place::Start,
             at: 0,
             later: false,
             text: Vec::new(alloc),
             skipped: 0,
+            sheets: Sheets::new(alloc),
         })
     }
 
@@ -86,10 +97,29 @@ impl<'a> BookPieces<'a> {
         ensures rest { OnOk result (rest_of self.old ≡ piece_of self.new ++ rest_of self.new) }
         ensures fewer { OnOk result (pieces_left self.new < pieces_left self.old) }
     {
-        if self.at < self.rows.len() {
-            return self.write_more(list);
+        if self.at >= self.rows.len() {
+            return self.leave(list);
         }
-        self.leave(list)
+        self.sheets
+            .prepare(self.rt, &self.rows, list, self.at, self.later);
+        if self.sheets.has(list, self.at, self.later) {
+            self.take_sheet(list);
+            return Ok(());
+        }
+        self.write_more(list)
+    }
+
+    // Takes the next rows' text from the sheet on which it is written.
+    fn take_sheet(&mut self, list: RowList)
+        requires place { self.old.place ≡ place.In list }
+        requires sheet { HasSheet list self.old.at self.old.later self.old.sheets }
+        ensures rest { rest_of self.old ≡ piece_of self.new ++ rest_of self.new }
+        ensures fewer { pieces_left self.new < pieces_left self.old }
+    {
+        self.skipped = skipped_if(self.later);
+        let (end, goes_on) = self.sheets.take(&mut self.text);
+        self.at = end;
+        self.later = goes_on;
     }
 
     // Writes the entries of the next rows that stand in the list.
@@ -134,7 +164,7 @@ impl<'a> BookPieces<'a> {
     }
 }
 
-impl Pieces for BookPieces<'_> {
+impl<R: Threads> Pieces for BookPieces<'_, R> {
     ghost use Rattle.book_text.specs.Pieces.{rest_of, piece_of, pieces_left};
 
     ghost rest = { rest_of };

@@ -32,7 +32,7 @@ pub(crate) fn done<R: Threads + Wait + Sync, F: Files>(
         Command::Help(text) => Ok(Report::Help(text)),
         Command::Version => Ok(Report::Version),
         Command::One(body) => Ok(Report::Answer(decide_one(rt, alloc, &body)?)),
-        Command::Serial(names) => serial(alloc, files, &names),
+        Command::Serial(names) => serial(rt, alloc, files, &names),
         Command::Run {
             names,
             workers,
@@ -59,13 +59,18 @@ pub(crate) fn done<R: Threads + Wait + Sync, F: Files>(
 }
 
 // A batch is decided one message after another.
-fn serial<F: Files>(alloc: Global, files: &mut F, names: &BatchNames) -> Result<Report, Fault>
+fn serial<R: Threads, F: Files>(
+    rt: &R,
+    alloc: Global,
+    files: &mut F,
+    names: &BatchNames,
+) -> Result<Report, Fault>
     ensures done { MatchResult result
         (IsDoneAs (F.is_known files.old) (F.holds files.old) (F.holds files.new) (serial (names_of names.now)))
         (IsFaultIn (F.is_known files.old) (F.holds files.old) (F.holds files.new) (failing F.Input.failures F.Output.failures F.refuses) (serial (names_of names.now))) }
     ensures others { (other held : List ℕ) → Spares (serial (names_of names.now)) other → F.holds files.old other held → F.holds files.new other held }
 {
-    let count = serial_batch(alloc, files, names)?;
+    let count = serial_batch(rt, alloc, files, names)?;
     Ok(Report::Decided(count))
 }
 

@@ -31,22 +31,6 @@ each_snoc n owner done views w h mine j u e =
 off : false ≡ true → ⊥
 off e = true≢false (sym e)
 
-pub begins : (n : ℕ) → IsKeptAt n (0 ∷ 0 ∷ 0 ∷ []) (publisher n ∷ [])
-begins n =
-    record {
-      execute = 0;
-      validate = 0;
-      done = 0;
-      owner = 0;
-      are = refl;
-      within = omega arith;
-      each = one;
-    }
-  where
-    one : Each n 0 0 (publisher n ∷ [])
-    one zero v e = subst (IsSeated n 0 0 0) (some-injective _ _ e) (record { messages = refl; below = le_refl 0; owns = λ _. (refl, refl) })
-    one (suc j) v e = absurd (some-ne-none v (sym e))
-
 module _ {S : Type 0} where
   -- the words execute and validate may become anything
   pub draws_execute : (n slots id : ℕ) (me : Me S SeatView) (k : ℕ) (f : ℕ → ℕ) → Allows (IsKept n) slots id me 0 f (IsDrawn 0 k me)

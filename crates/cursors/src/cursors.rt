@@ -36,12 +36,12 @@ impl Model for Cursors {
 }
 
 impl Cursors {
-    /// Cursors for a batch of so many messages, all at 0, and the one seat that may raise done.
+    /// Cursors for a batch of so many messages, none of which is executed, done, or to be validated, and the one seat that may raise done.
     pub fn new(alloc: Global, messages: u64) -> Result<(Cursors, CursorSeat), AllocError>
         ensures seat { IfOk result (λ made. made.1.table_id ≡ made.0) }
         ensures publisher { IfOk result (λ made. made.1.me ≡ (publisher messages, [])) }
     {
-        let (table, seat) = Table::of_words(alloc, &[0, 0, 0], &messages)?;
+        let (table, seat) = Table::of_words(alloc, &[0, messages, 0], &messages)?;
         Ok((Cursors { table }, seat))
     }
 
@@ -108,6 +108,26 @@ impl Cursors {
         ensures { (seat.new.table_id ≡ self.now) × ((found : ℕ) × (seat.new.me ≡ (stepped seat.old.me.0.seen seat.old.me.0 VALIDATE index found, seat.old.me.1))) }
     {
         self.table.shared.fetch_min::<Draws>(seat, VALIDATE, index);
+    }
+
+    /// The message that is executed next, as far as can be seen now. No answer rests on it.
+    pub fn next_to_execute(&self) -> u64 {
+        self.table.shared.peek(EXECUTE)
+    }
+
+    /// The message that is validated next, as far as can be seen now; where none is to be, a number that names none. No answer rests on it.
+    pub fn next_to_validate(&self) -> u64 {
+        self.table.shared.peek(VALIDATE)
+    }
+
+    /// No message is to be validated until validation is lowered again: validate is raised to this number of messages.
+    pub fn end_validation(&self, seat: &mut CursorSeat, messages: u64)
+        requires { seat.old.table_id ≡ self.now }
+        ensures { (seat.new.table_id ≡ self.now) × ((found : ℕ) × (seat.new.me ≡ (stepped seat.old.me.0.seen seat.old.me.0 VALIDATE messages found, seat.old.me.1))) }
+    {
+        self.table
+            .shared
+            .fetch_max::<Draws>(seat, VALIDATE, messages);
     }
 
     /// How many messages are done: no fewer than the seat saw before.

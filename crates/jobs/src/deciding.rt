@@ -17,11 +17,13 @@ use files::{BatchNames, Files};
 use fold::Outcome;
 use rows::{Book, Frame};
 use std::alloc::{AllocError, Global};
+use std::thread::Threads;
 
 /// Decides the batch of one file on the book of another, and puts the replies and the new book into files. `decide` has to
 /// answer the fold. The answer is how many messages were decided. Until the batch is decided nothing is written but an empty file
 /// for the replies, and after a fault the file of the new book is as it was.
-pub fn decide_batch<F: Files, E: Fn(&Book, &[Frame]) -> Result<Outcome, AllocError>>(
+pub fn decide_batch<R: Threads, F: Files, E: Fn(&Book, &[Frame]) -> Result<Outcome, AllocError>>(
+    rt: &R,
     alloc: Global,
     files: &mut F,
     names: &BatchNames,
@@ -48,7 +50,7 @@ pub fn decide_batch<F: Files, E: Fn(&Book, &[Frame]) -> Result<Outcome, AllocErr
 {
     let book = open_book(alloc, files, names.book.as_str())?;
     let outcome = answer_batch(alloc, files, names, &book, decide)?;
-    put_book(alloc, files, names.new_book.as_str(), &outcome.book)?;
+    put_book(rt, alloc, files, names.new_book.as_str(), &outcome.book)?;
     Ok(outcome.replies.len())
 }
 
@@ -84,7 +86,8 @@ fn answer_batch<F: Files, E: Fn(&Book, &[Frame]) -> Result<Outcome, AllocError>>
 }
 
 /// Puts the text of a book into the file of this name.
-pub fn put_book<F: Files>(
+pub fn put_book<R: Threads, F: Files>(
+    rt: &R,
     alloc: Global,
     files: &mut F,
     name: &str,
@@ -97,6 +100,6 @@ pub fn put_book<F: Files>(
     ensures others { (other held : List ℕ) → other ≢ name.now → F.holds files.old other held → F.holds files.new other held }
 {
     let rows = book.sorted_rows(alloc)?;
-    let mut text = BookPieces::new(alloc, &rows)?;
+    let mut text = BookPieces::new(rt, alloc, &rows)?;
     Ok(files.replace(name, &mut text)?)
 }

@@ -11,9 +11,11 @@ use fold::{Outcome, Prefix};
 use rows::{Book, Frame};
 use rules::decide_all;
 use std::alloc::{AllocError, Global};
+use std::thread::Threads;
 
 /// Decides a batch one message after another, files to files.
-pub fn serial_batch<F: Files>(
+pub fn serial_batch<R: Threads, F: Files>(
+    rt: &R,
     alloc: Global,
     files: &mut F,
     names: &BatchNames,
@@ -34,7 +36,7 @@ pub fn serial_batch<F: Files>(
         requires { length frames.now ≤ 65536 }
         ensures { AnswersFold book.entry.now frames.entry.now result }
     { decide_serially(alloc, book, frames) };
-    decide_batch(alloc, files, names, &decide)
+    decide_batch(rt, alloc, files, names, &decide)
 }
 
 // Decides a batch one message after another on a copy of the book.

@@ -42,7 +42,7 @@ pub fn run_batch<R: Threads + Wait + Sync, F: Files>(
         requires { length frames.now ≤ 65536 }
         ensures { AnswersFold book.entry.now frames.entry.now result }
     { decide_by(rt, alloc, book, frames, workers, engine) };
-    decide_batch(alloc, files, names, &decide)
+    decide_batch(rt, alloc, files, names, &decide)
 }
 
 /// Decides a batch on a book by so many workers of an engine.

@@ -43,5 +43,5 @@ pub fn run_blocks<R: Threads + Wait + Sync, F: Files>(
         requires { length frames.now ≤ 65536 }
         ensures { AnswersFold book.entry.now frames.entry.now result }
     { decide_by(rt, alloc, book, frames, workers, engine) };
-    decide_blocks(alloc, files, names, &decide)
+    decide_blocks(rt, alloc, files, names, &decide)
 }

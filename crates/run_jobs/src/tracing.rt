@@ -50,7 +50,7 @@ pub fn run_batch_with_journal<R: Threads + Wait + Sync, F: Files>(
 {
     let book = open_book(alloc, files, names.book.as_str())?;
     let traced = answer_traced(rt, alloc, files, names, &book, workers)?;
-    put_run(alloc, files, names, journal, &traced)
+    put_run(rt, alloc, files, names, journal, &traced)
 }
 
 // What a batch came to, and the journal of the run.
@@ -121,7 +121,8 @@ fn trace_batch<R: Threads + Wait + Sync, S: Source, W: Sink>(
 }
 
 // Puts the journal of a run into its file, and then the book after it. The answer is how many messages were decided.
-fn put_run<F: Files>(
+fn put_run<R: Threads, F: Files>(
+    rt: &R,
     alloc: Global,
     files: &mut F,
     names: &BatchNames,
@@ -137,7 +138,7 @@ fn put_run<F: Files>(
         → F.holds files.old other held → F.holds files.new other held }
 {
     put_journal(alloc, files, journal, &run.entries)?;
-    put_book(alloc, files, names.new_book.as_str(), &run.outcome.book)?;
+    put_book(rt, alloc, files, names.new_book.as_str(), &run.outcome.book)?;
     Ok(run.outcome.replies.len())
 }
 

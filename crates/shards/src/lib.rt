@@ -1,14 +1,12 @@
 //! The rows that the executions of a batch put, in shards with a lock each, as the messages see them.
 #![tactic(auto)]
 
-mod brief_lock;
 mod look;
 mod shard_of;
 mod shard_rows;
 mod shards;
 mod sight;
 
-pub use brief_lock::lock_briefly;
 pub use look::Look;
 pub use shard_rows::ShardRows;
 pub use shards::Shards;

@@ -5,7 +5,6 @@ ghost use Rattle.mvmem.specs.Chains.{seen_of};
 ghost use Rattle.mvmem.specs.Resolves.{IsSeenOfKind};
 ghost use Rattle.shards.specs.Sighted.{IsSeenSo};
 
-use crate::brief_lock::lock_briefly;
 use crate::look::Look;
 use crate::shard_of::shard_of;
 use crate::sight::{Sight, copy_value, sight_of};
@@ -15,6 +14,7 @@ use rows::{RowKey, RowVal};
 use std::alloc::{AllocError, Global};
 use std::sync::{Mutex, Wait};
 use view::{Execution, ReadSet, WriteSet};
+use workers::lock;
 
 // How many shards there are.
 const SHARDS: usize = 64;
@@ -44,7 +44,7 @@ impl Shards {
     pub fn look<R: Wait>(&self, rt: &R, key: &RowKey, index: u32, row: &mut Option<RowVal>) -> Look
         ensures { IsSeenSo key.now result.sight row.old row.new }
     {
-        let chains = lock_briefly(rt, &self.shards[shard_of(key)]);
+        let chains = lock(rt, &self.shards[shard_of(key)]);
         let number = chains.number_of(key, &[]);
         let link = nearest_by(&chains, key, number, index);
         copy_value(link, row);
@@ -68,13 +68,13 @@ impl Shards {
 
     // Whose row the message at this index sees. Its chain is looked for by this number first.
     fn sight<R: Wait>(&self, rt: &R, key: &RowKey, number: Option<usize>, index: u32) -> Sight {
-        let chains = lock_briefly(rt, &self.shards[shard_of(key)]);
+        let chains = lock(rt, &self.shards[shard_of(key)]);
         sight_of(nearest_by(&chains, key, number, index))
     }
 
     /// Puts what this version wrote, in place of what its message put before. A row that it read is found by its log. Answers whether a
-    /// row was put that had no entry of the message. The first `done` messages are committed: entries that no message behind these sees are
-    /// taken out.
+    /// later message has put one of these rows already, and may have missed what this one puts. The first `done` messages are committed:
+    /// entries that no message behind these sees are taken out.
     pub fn record<R: Wait>(
         &self,
         rt: &R,
@@ -86,16 +86,16 @@ impl Shards {
         done: u32,
     ) -> Result<bool, AllocError> {
         let writes = execution.writes();
-        let mut is_new = false;
+        let mut is_overtaken = false;
         for place in 0..writes.len() {
             let (key, value) = writes.row(place);
             let number = number_in(execution.reads(), log, key);
-            is_new = self.put(rt, alloc, version, key, value, number, done)? || is_new;
+            is_overtaken = self.put(rt, alloc, version, key, value, number, done)? || is_overtaken;
         }
         if let Some(former) = former {
             self.take_out_others(rt, version.index, former, writes);
         }
-        Ok(is_new)
+        Ok(is_overtaken)
     }
 
     // Puts this value as the version's entry of the row, under the lock of the row's shard.
@@ -111,7 +111,7 @@ impl Shards {
     ) -> Result<bool, AllocError>
         requires { IsOfKind key.now value.now }
     {
-        let mut chains = lock_briefly(rt, &self.shards[shard_of(key)]);
+        let mut chains = lock(rt, &self.shards[shard_of(key)]);
         put_in(&mut chains, alloc, version, key, value, number, done)
     }
 
@@ -127,7 +127,7 @@ impl Shards {
 
     // Takes out the message's entry of the row, under the lock of the row's shard.
     fn take_out<R: Wait>(&self, rt: &R, key: &RowKey, index: u32) {
-        let mut chains = lock_briefly(rt, &self.shards[shard_of(key)]);
+        let mut chains = lock(rt, &self.shards[shard_of(key)]);
         take_out_in(&mut chains, key, index);
     }
 
@@ -135,7 +135,7 @@ impl Shards {
     pub fn to_estimates<R: Wait>(&self, rt: &R, index: u32, writes: &WriteSet) {
         for place in 0..writes.len() {
             let (key, _) = writes.row(place);
-            let mut chains = lock_briefly(rt, &self.shards[shard_of(key)]);
+            let mut chains = lock(rt, &self.shards[shard_of(key)]);
             estimate_in(&mut chains, key, index);
         }
     }
@@ -167,9 +167,9 @@ fn number_in(reads: &ReadSet, log: &[Look], key: &RowKey) -> Option<usize> {
     None
 }
 
-// Puts this value as the version's entry of the row. Answers whether its message had none. The row's chain is looked for by this number
-// first. Where no message from `done` on sees the row's first entry, that one is taken out, so that a chain has few entries and its memory
-// is used again.
+// Puts this value as the version's entry of the row. Answers whether a later message has one. The row's chain is looked for by this
+// number first. Where no message from `done` on sees the row's first entry, that one is taken out, so that a chain has few entries and
+// its memory is used again.
 fn put_in(
     chains: &mut Chains,
     alloc: Global,
@@ -185,11 +185,14 @@ fn put_in(
         Some(number) => chains.reserve(alloc, key, &[number])?,
         None => chains.reserve(alloc, key, &[])?,
     };
-    let (number, is_new) = chains.put(key, &[number], version, value);
+    let (number, _) = chains.put(key, &[number], version, value);
     if let Some(first) = chains.superseded(number, done) {
         chains.take_out(number, first);
     }
-    Ok(is_new)
+    match chains.nearest_below(key, &[number], u32::MAX) {
+        Some(last) => Ok(last.index > version.index),
+        None => Ok(false),
+    }
 }
 
 // Takes out the message's entry of the row.

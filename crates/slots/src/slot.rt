@@ -47,6 +47,13 @@ impl Slot {
         self.stage
     }
 
+    /// How often the message was given up.
+    pub fn incarnation(&self) -> u32
+        ensures { result ≡ self.now.incarnation }
+    {
+        self.incarnation
+    }
+
     /// The last execution, where there is one that was neither given up nor committed.
     pub fn attempt(&self) -> Option<&Attempt>
         ensures { option_map (λ attempt. attempt.now) result ≡ self.now.attempt }

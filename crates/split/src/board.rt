@@ -8,10 +8,11 @@ use crossbeam_utils::CachePadded;
 use cursors::{CursorSeat, Cursors};
 use ledger::Ledger;
 use published::Published;
-use shards::{Shards, lock_briefly};
+use shards::Shards;
 use slots::{Attempt, Slot};
 use std::alloc::{AllocError, Global};
-use std::sync::{Mutex, MutexGuard, Wait};
+use std::sync::{Condvar, Mutex, MutexGuard, Wait};
+use workers::lock;
 
 /// What the workers of a batch share: the cursors without a lock; the ledger, each message's slot and each shard of the rows under a
 /// lock of its own; and executions that are done with, for their memory. A thread that holds a shard or these takes no other lock, and one
@@ -19,10 +20,13 @@ use std::sync::{Mutex, MutexGuard, Wait};
 #[derive(Drop)]
 pub(crate) struct Board<'a, B: Room> {
     cursors: Cursors,
-    desk: CachePadded<Mutex<Desk<'a, B>>>,
+    // The desk isn't on the line of its lock, at which other workers look.
+    desk: CachePadded<Mutex<CachePadded<Desk<'a, B>>>>,
     slots: Vec<Mutex<Slot>>,
     shards: Shards,
     spares: CachePadded<Mutex<Vec<Box<Attempt>>>>,
+    // Where workers rest. They are woken when one leaves.
+    bed: Condvar,
     ghost at: { cursors ≡ B.table },
 }
 
@@ -64,10 +68,11 @@ impl<'a, B: Room> Board<'a, B> {
         let Storage { slots, shards } = storage;
         let board = Board {
             cursors,
-            desk: CachePadded::new(Mutex::new(desk)),
+            desk: CachePadded::new(Mutex::new(CachePadded::new(desk))),
             slots,
             shards,
             spares: CachePadded::new(Mutex::new(Vec::new(alloc))),
+            bed: Condvar::new(),
         };
         (board, place)
     }
@@ -86,16 +91,26 @@ impl<'a, B: Room> Board<'a, B> {
 
     // Executions that are done with, whose memory is used again.
     pub(crate) fn spares<R: Wait>(&self, rt: &R) -> MutexGuard<'_, Vec<Box<Attempt>>> {
-        lock_briefly(rt, &self.spares)
+        lock(rt, &self.spares)
+    }
+
+    // Where workers rest.
+    pub(crate) fn bed(&self) -> &Condvar {
+        &self.bed
     }
 
     // The slot of the message at this index, where there is one.
     pub(crate) fn slot<R: Wait>(&self, rt: &R, index: u32) -> Option<MutexGuard<'_, Slot>> {
-        Some(lock_briefly(rt, self.slots.get(index as usize)?))
+        Some(lock(rt, self.slots.get(index as usize)?))
+    }
+
+    // The same, where no other worker holds it.
+    pub(crate) fn free_slot(&self, index: u32) -> Option<MutexGuard<'_, Slot>> {
+        self.slots.get(index as usize)?.try_lock()
     }
 
     // The ledger, where no other worker holds it.
-    pub(crate) fn free_desk(&self) -> Option<MutexGuard<'_, Desk<'a, B>>> {
+    pub(crate) fn free_desk(&self) -> Option<MutexGuard<'_, CachePadded<Desk<'a, B>>>> {
         self.desk.try_lock()
     }
 
@@ -110,7 +125,7 @@ impl<'a, B: Room> Board<'a, B> {
         ensures frames { result.frames ≡ B.frames }
     {
         let Board { desk, .. } = self;
-        desk.into_inner().into_inner().into_ledger()
+        desk.into_inner().into_inner().into_inner().into_ledger()
     }
 }
 

@@ -3,7 +3,7 @@ ghost use Rattle.ledger.specs.Progress.{IsNext};
 ghost use Rattle.ledger.specs.declared.verdict.Verdict.TheVariants.{Committed, Stale};
 ghost use Rattle.published.specs.Standing.{advanced, told, stopping};
 ghost use Rattle.std.specs.Coded.{Coded-set};
-ghost use Rattle.split.specs.Tables.{rows_coded};
+ghost use Rattle.split.specs.Rooms.{rows_coded};
 
 use crate::room::Room;
 use cursors::Cursors;
@@ -37,24 +37,22 @@ impl<'a, B: Room> Desk<'a, B> {
         }
     }
 
-    // Commits the execution, where it is that of the next message and the book agrees with what it read, and publishes how many
-    // messages are committed then.
-    pub(crate) fn commit(
-        &mut self,
-        cursors: &Cursors,
-        execution: &Execution,
-    ) -> Result<Verdict, AllocError>
-        requires { cursors.now ≡ B.table }
+    // Commits the execution, where it is that of the next message and the book agrees with what it read.
+    pub(crate) fn commit(&mut self, execution: &Execution) -> Result<Verdict, AllocError>
         ensures when { IfOk result (λ verdict. (verdict ≡ Committed) ↔ IsNext self.old.published.ledger execution.now) }
         ensures stale { ¬ IsNext self.old.published.ledger execution.now → result ≡ Ok Stale }
-        ensures committed { result ≡ Ok Committed → self.new.published ≡ told (advanced self.old.published) }
+        ensures committed { result ≡ Ok Committed → self.new.published ≡ advanced self.old.published }
         ensures otherwise { result ≢ Ok Committed → self.new.published ≡ self.old.published }
     {
-        let verdict = self.published.try_commit(execution)?;
-        if verdict == Verdict::Committed {
-            self.published.publish(cursors);
-        }
-        Ok(verdict)
+        self.published.try_commit(execution)
+    }
+
+    // Tells the workers how many messages are committed.
+    pub(crate) fn publish(&mut self, cursors: &Cursors)
+        requires { cursors.now ≡ B.table }
+        ensures { self.new.published ≡ told self.old.published }
+    {
+        self.published.publish(cursors);
     }
 
     // How many messages are committed.

@@ -3,12 +3,14 @@ ghost use Rattle.std.specs.Prelude.{◌≡◌};
 use crate::board::Board;
 use crate::room::Room;
 use cursors::CursorSeat;
+use mvmem::Version;
 use shards::Look;
 use slots::Attempt;
 use std::alloc::{AllocError, Global};
 use std::marker::PhantomData;
 use std::sync::Wait;
 use view::{ReadSet, WriteSet};
+use workers::Pace;
 
 // So many executions are not kept by one worker: half of them go to the board, where one that has none finds them.
 const SPARES: usize = 16;
@@ -18,6 +20,10 @@ const SPARES: usize = 16;
 pub(crate) struct Place<B: Room> {
     seat: CursorSeat,
     spares: Vec<Box<Attempt>>,
+    // How long the worker rests, and the version that it executed by which that is told next.
+    is_first: bool,
+    pace: Pace,
+    watched: Option<Version>,
     of: PhantomData<B>,
     ghost at: { seat.table_id ≡ B.table },
 }
@@ -30,6 +36,9 @@ impl<B: Room> Place<B> {
         Place {
             seat,
             spares: Vec::new(alloc),
+            is_first: true,
+            pace: Pace::of(true),
+            watched: None,
             of: PhantomData,
         }
     }
@@ -39,6 +48,9 @@ impl<B: Room> Place<B> {
         Place {
             seat: board.cursors().another(&mut self.seat),
             spares: Vec::new(*self.spares.allocator()),
+            is_first: false,
+            pace: Pace::of(false),
+            watched: None,
             of: PhantomData,
         }
     }
@@ -46,6 +58,51 @@ impl<B: Room> Place<B> {
     // How many messages are committed, as far as the worker can see.
     pub(crate) fn done(&mut self, board: &Board<'_, B>) -> u64 {
         board.cursors().done(&mut self.seat)
+    }
+
+    // Whether it is the place of the first worker.
+    pub(crate) fn is_first(&self) -> bool {
+        self.is_first
+    }
+
+    // Notes that this version was executed. One that isn't its message's first tells that executions are given up.
+    pub(crate) fn watch(&mut self, version: Version) {
+        if version.incarnation > 0 {
+            self.hold_up();
+        } else if !self.is_first && self.watched.is_none() {
+            self.watched = Some(version);
+        }
+    }
+
+    // Notes that the worker was held up, as by an estimate.
+    pub(crate) fn hold_up(&mut self) {
+        self.pace = self.pace.after(true);
+    }
+
+    // No message is to be validated.
+    pub(crate) fn end_validation(&mut self, board: &Board<'_, B>, messages: u64) {
+        board.cursors().end_validation(&mut self.seat, messages);
+    }
+
+    // Once the version that is watched can't be executed any more: whether it is the one that was committed tells how long the worker rests.
+    pub(crate) fn look_back<R: Wait>(&mut self, rt: &R, board: &Board<'_, B>, done: u64) {
+        let Some(Version { index, incarnation }) = self.watched else {
+            return;
+        };
+        if done <= u64::from(index) {
+            return;
+        }
+        self.watched = None;
+        if let Some(slot) = board.slot(rt, index) {
+            self.pace = self.pace.after(slot.incarnation() != incarnation);
+        }
+    }
+
+    // Rests, where the worker's executions were given up.
+    pub(crate) fn rest<R: Wait>(&self, rt: &R, board: &Board<'_, B>) {
+        if self.pace.rests() {
+            self.pace.rest(rt, board.bed());
+        }
     }
 
     // Draws the message to execute next.

@@ -19,7 +19,7 @@ pub trait Room {
 // A run picks its batch and its cursors' table in its proof.
 impl Room for Brand {
     ghost use Rattle.std.specs.Prelude.{[]};
-    ghost use Rattle.split.specs.Tables.{no_table, no_rows};
+    ghost use Rattle.split.specs.Rooms.{no_table, no_rows};
 
     ghost table = { no_table };
 

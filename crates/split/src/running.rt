@@ -46,7 +46,7 @@ pub fn run_split<R: Threads + Wait + Sync, F: Decide + Sync, G: Gate>(
     let (ledger, started) = ledger_of::<Brand, R, F, G>(
         rt, alloc, book, frames, workers, decision, gate, cursors, seat, ledger, storage,
     );
-    outcome_of(alloc, ledger.into_prefix(), book, frames, started)
+    outcome_of(alloc, ledger, frames, started)
 }
 
 // The ledger as the workers leave it, and how many threads took part.
@@ -114,25 +114,23 @@ fn work_together<B: Room + Send + Sync, R: Threads + Wait + Sync, F: Decide + Sy
     )
 }
 
-// What the workers committed, then what they left, decided one after another.
+// What the ledger has, which the workers committed, then what they left, decided one after another.
 #[tactic(auto, using(crate::proofs::Rest::rows_of_both, crate::proofs::Rest::replies_of_both))]
 fn outcome_of(
     alloc: Global,
-    prefix: Prefix,
-    book: &Book,
+    ledger: Ledger<'_>,
     frames: &[Frame],
     started: u32,
 ) -> Result<Outcome, AllocError>
     requires few { length frames.now ≤ 65536 }
-    requires count { prefix.count ≤ length frames.now }
-    requires book { prefix.book ≡ rows_after book.now (take prefix.count frames.now) }
-    requires replies { prefix.replies.items ≡ replies_to book.now (take prefix.count frames.now) }
-    ensures replies { IfOk result (λ outcome. outcome.replies.items ≡ replies_to book.now frames.now) }
-    ensures book { IfOk result (λ outcome. outcome.book ≡ rows_after book.now frames.now) }
+    requires frames { ledger.frames ≡ frames.now }
+    ensures replies { IfOk result (λ outcome. outcome.replies.items ≡ replies_to ledger.entry.opening frames.now) }
+    ensures book { IfOk result (λ outcome. outcome.book ≡ rows_after ledger.entry.opening frames.now) }
     ensures started { IfOk result (λ outcome. outcome.started ≡ started) }
-    ensures kept { IfOk result (λ outcome. outcome.committed ≡ prefix.count) }
+    ensures kept { IfOk result (λ outcome. outcome.committed ≡ ledger.entry.count) }
     ensures committed { IfOk result (λ outcome. outcome.committed ≤ length frames.now) }
 {
+    let prefix = ledger.into_prefix();
     let committed = prefix.count;
     let Prefix { book, replies, .. } = decide_all(alloc, prefix, frames)?;
     Ok(Outcome {

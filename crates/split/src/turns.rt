@@ -14,6 +14,12 @@ use std::thread;
 use view::{Decide, Execution, Recorder, Stop};
 use workers::Gate;
 
+// So far behind the committed messages others are executed: further on too much of what they read would be old.
+const AHEAD: u64 = 64;
+
+// So many messages are committed before the workers are told of them.
+const AT_ONCE: u32 = 16;
+
 /// What a worker works with: the board, the opening book, the bodies, the decision and the gate. Whatever it does or leaves undone, the
 /// ledger's type keeps what is committed right.
 #[derive(Drop)]
@@ -33,31 +39,62 @@ impl<B: Room, R: Wait, F: Decide, G: Gate> Worker<'_, '_, B, R, F, G> {
         for _ in self.rt.forever() {
             match self.turn(&mut place) {
                 Ok(()) => {}
-                Err(Leave::Done | Leave::Stopped) => return,
+                Err(Leave::Done | Leave::Stopped) => break,
                 Err(Leave::OutOfMemory | Leave::Worn | Leave::Lost) => {
                     self.board.stop(self.rt);
-                    return;
+                    break;
                 }
             }
         }
+        self.board.bed().notify_all();
     }
 
-    // Commits what can be, then validates a message, or else executes one.
+    // Validates a message where one is to be, or else executes one that is near. The first worker commits ahead of that, so that the book
+    // stays with one processor; others do where they find nothing else to do.
     fn turn(&self, place: &mut Place<B>) -> Result<(), Leave> {
-        if place.done(self.board) == self.frames.len() as u64 {
+        let done = place.done(self.board);
+        if done == self.frames.len() as u64 {
             return Err(Leave::Done);
         }
-        self.commit(place)?;
-        if let Some(index) = self.message(place.draw_validate(self.board)) {
-            if self.validate(place, index)? {
-                return Ok(());
+        place.look_back(self.rt, self.board, done);
+        place.rest(self.rt, self.board);
+        if place.is_first() {
+            self.commit(place)?;
+        }
+        if self.validate_next(place, done)? {
+            return Ok(());
+        }
+        if self.is_near(done) {
+            if let Some(index) = self.message(place.draw_execute(self.board)) {
+                return self.execute(place, index);
             }
         }
-        if let Some(index) = self.message(place.draw_execute(self.board)) {
-            return self.execute(place, index);
-        }
+        self.commit(place)?;
         thread::yield_now();
         Ok(())
+    }
+
+    // Validates the next message that is to be, where it stands executed. Behind those that may be executed none is to be.
+    fn validate_next(&self, place: &mut Place<B>, done: u64) -> Result<bool, Leave> {
+        let messages = self.frames.len() as u64;
+        if self.board.cursors().next_to_validate() >= messages {
+            return Ok(false);
+        }
+        let drawn = place.draw_validate(self.board);
+        if drawn >= done.saturating_add(AHEAD) {
+            place.end_validation(self.board, messages);
+            return Ok(false);
+        }
+        match self.message(drawn) {
+            Some(index) => self.validate(place, index),
+            None => Ok(false),
+        }
+    }
+
+    // Whether a message is to be executed that is near those that are committed.
+    fn is_near(&self, done: u64) -> bool {
+        let next = self.board.cursors().next_to_execute();
+        next < done.saturating_add(AHEAD) && next < self.frames.len() as u64
     }
 
     // The message that was drawn, where the number names one.
@@ -73,26 +110,33 @@ impl<B: Room, R: Wait, F: Decide, G: Gate> Worker<'_, '_, B, R, F, G> {
         let Some(mut desk) = self.board.free_desk() else {
             return Ok(());
         };
-        self.commit_at(place, &mut desk)
-    }
-
-    // Commits messages in their order, as many as can be, at the desk that the worker holds.
-    fn commit_at(&self, place: &mut Place<B>, desk: &mut Desk<'_, B>) -> Result<(), Leave> {
         if desk.stopped() {
             return Err(Leave::Stopped);
         }
         for _ in self.rt.forever() {
-            if !self.commit_next(place, desk)? {
+            let may_be_more = self.commit_some(place, &mut **desk);
+            desk.publish(self.board.cursors());
+            if !may_be_more? {
                 return Ok(());
             }
         }
         unreachable!()
     }
 
+    // Commits messages in their order, some at most, at the desk that the worker holds. Answers whether there may be more.
+    fn commit_some(&self, place: &mut Place<B>, desk: &mut Desk<'_, B>) -> Result<bool, Leave> {
+        for _ in 0..AT_ONCE {
+            if !self.commit_next(place, desk)? {
+                return Ok(false);
+            }
+        }
+        Ok(true)
+    }
+
     // Commits the next message, where it can be. Answers whether it is committed.
     fn commit_next(&self, place: &mut Place<B>, desk: &mut Desk<'_, B>) -> Result<bool, Leave> {
         let index = desk.count();
-        let Some(mut slot) = self.board.slot(self.rt, index) else {
+        let Some(mut slot) = self.board.free_slot(index) else {
             return Ok(false);
         };
         self.commit_in(place, desk, index, &mut slot)
@@ -110,7 +154,7 @@ impl<B: Room, R: Wait, F: Decide, G: Gate> Worker<'_, '_, B, R, F, G> {
         let Some(attempt) = slot.attempt() else {
             return Ok(false);
         };
-        match desk.commit(self.board.cursors(), &attempt.execution)? {
+        match desk.commit(&attempt.execution)? {
             Verdict::Committed => {
                 if let Some(done) = slot.commit() {
                     place.keep(self.rt, self.board, done)?;
@@ -131,7 +175,7 @@ impl<B: Room, R: Wait, F: Decide, G: Gate> Worker<'_, '_, B, R, F, G> {
             // It is committed, or it is the next one: whoever commits it asks the book.
             return Ok(false);
         }
-        let Some(mut slot) = self.board.slot(self.rt, index) else {
+        let Some(mut slot) = self.board.free_slot(index) else {
             return Ok(false);
         };
         self.validate_in(place, index, &mut slot)
@@ -204,8 +248,8 @@ impl<B: Room, R: Wait, F: Decide, G: Gate> Worker<'_, '_, B, R, F, G> {
         })
     }
 
-    // Records what a message put and hands its execution in. Where it put a row that it had no entry of, those from it on are validated
-    // again; else it alone is, at once.
+    // Records what a message put and hands its execution in. It is validated at once, as other messages may have put rows meanwhile; and
+    // where a later one had put one of its rows before, all behind it are validated again.
     fn record(
         &self,
         place: &mut Place<B>,
@@ -213,19 +257,19 @@ impl<B: Room, R: Wait, F: Decide, G: Gate> Worker<'_, '_, B, R, F, G> {
         attempt: Attempt,
     ) -> Result<(), Leave> {
         let done = u32::try_from(place.done(self.board)).unwrap_or(0);
-        let is_new = self.hand_in(version, attempt, done)?;
+        let is_overtaken = self.hand_in(version, attempt, done)?;
+        place.watch(version);
         let Version { index, incarnation } = version;
         self.gate.after_record(index, incarnation);
-        if is_new {
-            place.lower_validate(self.board, index);
-            return Ok(());
+        if is_overtaken {
+            place.lower_validate(self.board, index.saturating_add(1));
         }
         self.validate(place, index)?;
         Ok(())
     }
 
     // Puts what an execution wrote into the shards, in place of what the former one did, and itself into its message's slot. Answers
-    // whether it put a row that its message had no entry of.
+    // whether a later message had put one of its rows before.
     fn hand_in(&self, version: Version, attempt: Attempt, done: u32) -> Result<bool, AllocError> {
         let attempt = Box::new(self.alloc, attempt)?;
         let Some(mut slot) = self.board.slot(self.rt, version.index) else {
@@ -234,9 +278,11 @@ impl<B: Room, R: Wait, F: Decide, G: Gate> Worker<'_, '_, B, R, F, G> {
         let former = slot.former().map(|former| former.execution.writes());
         let Attempt { execution, log } = &*attempt;
         let shards = self.board.shards();
-        let is_new = shards.record(self.rt, self.alloc, version, execution, log, former, done)?;
+        let is_overtaken = shards.record(
+            self.rt, self.alloc, version, execution, log, former, done,
+        )?;
         slot.put(attempt);
-        Ok(is_new)
+        Ok(is_overtaken)
     }
 
     // Gives a message up that met an estimate, to be executed again, and lets the one run that it waits for.
@@ -245,6 +291,7 @@ impl<B: Room, R: Wait, F: Decide, G: Gate> Worker<'_, '_, B, R, F, G> {
             return Err(Leave::Worn);
         }
         place.lower_execute(self.board, index);
+        place.hold_up();
         thread::yield_now();
         Ok(())
     }

@@ -7,7 +7,7 @@ use Rattle.book_text.proofs.Printing.{left_before, left_last}
 use Rattle.book_text.proofs.pieces.BookPieces.leave.Goals as goal
 
 pub returns-in_ok-self-in-Some-clause-rest : goal.returns-in_ok-self-in-Some-clause-rest
-returns-in_ok-self-in-Some-clause-rest c =
+returns-in_ok-self-in-Some-clause-rest g c =
     let s = c.args.self.now in
     let next = c.in-Some.next in
     ap (λ (p : Place). rest_at p s.later s.at s.rows.items) c.requires.place
@@ -16,7 +16,7 @@ returns-in_ok-self-in-Some-clause-rest c =
     ∙ ap (λ (text : List ℕ). text ++ text_left false next (rows_listed s.rows.items) (rows_listed s.rows.items)) (sym c.in_ok-self-in-Some.ensures)
 
 pub returns-in_ok-self-in-None-clause-rest : goal.returns-in_ok-self-in-None-clause-rest
-returns-in_ok-self-in-None-clause-rest c =
+returns-in_ok-self-in-None-clause-rest g c =
     let s = c.args.self.now in
     ap (λ (p : Place). rest_at p s.later s.at s.rows.items) c.requires.place
     ∙ ap (λ (left : List ListedRow). text_left s.later c.args.list (rows_listed left) (rows_listed s.rows.items)) c.requires.rows

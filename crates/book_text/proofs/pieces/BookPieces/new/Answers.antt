@@ -5,4 +5,4 @@ use Rattle.book_text.specs.Left.{text_of_rows}
 use Rattle.book_text.proofs.pieces.BookPieces.new.Goals as goal
 
 pub returns : goal.returns
-returns c book are = ap text_of_rows (c.in_ok-all.ensures ∙ are) ∙ print-outline (book_data book)
+returns g c book are = ap text_of_rows (c.in_ok-all.ensures ∙ are) ∙ print-outline (book_data book)

@@ -8,7 +8,7 @@ use Rattle.book_text.proofs.Printing.{text_of_written, begun}
 use Rattle.book_text.proofs.pieces.BookPieces.start.Goals as goal
 
 pub returns-clause-rest : goal.returns-clause-rest
-returns-clause-rest c =
+returns-clause-rest g c =
     let s = c.args.self.now in
     let piece = text_of_written c.into_inner.result.items c.into_inner.ensures.items (then c.in_ok-begin_object.ensures c.in_ok-open_list.ensures)
     (c.new-out.ensures.before ∙ c.emptied.ensures) c.new-out.ensures.tokens in
