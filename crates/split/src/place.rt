@@ -74,7 +74,7 @@ impl<B: Room> Place<B> {
         }
     }
 
-    // Notes that the worker was held up, as by an estimate.
+    // Notes that the worker was held up, by an estimate or as it found nothing to do.
     pub(crate) fn hold_up(&mut self) {
         self.pace = self.pace.after(true);
     }

@@ -70,6 +70,7 @@ impl<B: Room, R: Wait, F: Decide, G: Gate> Worker<'_, '_, B, R, F, G> {
             }
         }
         self.commit(place)?;
+        place.hold_up();
         thread::yield_now();
         Ok(())
     }
