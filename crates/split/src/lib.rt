@@ -2,6 +2,7 @@
 //! words are shared without any.
 #![tactic(auto)]
 
+mod alone;
 mod board;
 mod desk;
 mod leave;

@@ -9,19 +9,29 @@ use slots::Attempt;
 use std::alloc::{AllocError, Global};
 use std::marker::PhantomData;
 use std::sync::Wait;
+use std::thread;
+use std::time::Duration;
 use view::{ReadSet, WriteSet};
 use workers::Pace;
 
 // So many executions are not kept by one worker: half of them go to the board, where one that has none finds them.
 const SPARES: usize = 16;
 
+// In so many turns in a row that find nothing to do, a worker only gives its turn away.
+const AWAKE: u32 = 4;
+
+// So many microseconds a worker sleeps at most in each such turn after those.
+const NAP: u64 = 50;
+
 /// A worker's place at a board: its seat at the board's cursors, and executions that it committed, whose memory is used again.
 #[derive(Drop)]
 pub(crate) struct Place<B: Room> {
     seat: CursorSeat,
     spares: Vec<Box<Attempt>>,
-    // How long the worker rests, and the version that it executed by which that is told next.
     is_first: bool,
+    // How many turns in a row found nothing to do.
+    idle: u32,
+    // How long the worker rests, and the version that it executed by which that is told next.
     pace: Pace,
     watched: Option<Version>,
     of: PhantomData<B>,
@@ -37,6 +47,7 @@ impl<B: Room> Place<B> {
             seat,
             spares: Vec::new(alloc),
             is_first: true,
+            idle: 0,
             pace: Pace::of(true),
             watched: None,
             of: PhantomData,
@@ -49,6 +60,7 @@ impl<B: Room> Place<B> {
             seat: board.cursors().another(&mut self.seat),
             spares: Vec::new(*self.spares.allocator()),
             is_first: false,
+            idle: 0,
             pace: Pace::of(false),
             watched: None,
             of: PhantomData,
@@ -74,9 +86,26 @@ impl<B: Room> Place<B> {
         }
     }
 
-    // Notes that the worker was held up, by an estimate or as it found nothing to do.
+    // Notes that the worker was held up, by an estimate or as executions are given up.
     pub(crate) fn hold_up(&mut self) {
         self.pace = self.pace.after(true);
+    }
+
+    // Notes that the worker found something to do.
+    pub(crate) fn got_on(&mut self) {
+        self.idle = 0;
+    }
+
+    // Notes that the worker found nothing to do, and gives its turn away. After several such turns in a row it sleeps briefly, but for the
+    // first worker, which never does.
+    pub(crate) fn idle<R: Wait>(&mut self, rt: &R, board: &Board<'_, B>) {
+        self.idle = self.idle.saturating_add(1);
+        if self.is_first || self.idle <= AWAKE {
+            thread::yield_now();
+            return;
+        }
+        let bed = board.bed();
+        bed.sleep(rt, bed.notifications(), Duration::from_micros(NAP));
     }
 
     // No message is to be validated.

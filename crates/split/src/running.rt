@@ -4,6 +4,7 @@ ghost use Rattle.cursors.specs.CursorRule.{publisher};
 ghost use Rattle.workers.specs.Started.{IsStarted};
 ghost use Rattle.ledger.specs.Progress.{opened};
 
+use crate::alone::decide_alone;
 use crate::board::{Board, Storage};
 use crate::place::Place;
 use crate::room::Room;
@@ -24,7 +25,7 @@ use workers::{Gate, Workers};
 /// Decides a batch of at most 65,536 bodies on several threads that share no one lock (Block-STM). Whatever the number of workers,
 /// replies and book are those of deciding the messages one after another in the order of their arrival. The only fault is want of
 /// memory. `started` is how many threads took part; one that can't be started is no fault. `committed` is how many messages the workers
-/// had committed when the rest was decided one after another.
+/// had committed when the rest was decided one after another. One worker decides alone, on the book to which it commits.
 pub fn run_split<R: Threads + Wait + Sync, F: Decide + Sync, G: Gate>(
     rt: &R,
     alloc: Global,
@@ -40,6 +41,9 @@ pub fn run_split<R: Threads + Wait + Sync, F: Decide + Sync, G: Gate>(
     ensures started { IfOk result (λ outcome. IsStarted outcome.started workers) }
     ensures committed { IfOk result (λ outcome. outcome.committed ≤ length frames.now) }
 {
+    if workers.count() == 1 {
+        return decide_alone(alloc, book, frames, decision, gate);
+    }
     let storage = Storage::new(alloc, frames.len())?;
     let (cursors, seat) = Cursors::new(alloc, frames.len() as u64)?;
     let ledger = Ledger::new(alloc, book, frames)?;

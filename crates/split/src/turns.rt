@@ -14,7 +14,7 @@ use std::thread;
 use view::{Decide, Execution, Recorder, Stop};
 use workers::Gate;
 
-// So far behind the committed messages others are executed: further on too much of what they read would be old.
+// So far behind the committed messages others are executed. Other bounds were not measured.
 const AHEAD: u64 = 64;
 
 // So many messages are committed before the workers are told of them.
@@ -62,6 +62,7 @@ impl<B: Room, R: Wait, F: Decide, G: Gate> Worker<'_, '_, B, R, F, G> {
             self.commit(place)?;
         }
         if self.validate_next(place, done)? {
+            place.got_on();
             return Ok(());
         }
         if self.is_near(done) {
@@ -70,8 +71,7 @@ impl<B: Room, R: Wait, F: Decide, G: Gate> Worker<'_, '_, B, R, F, G> {
             }
         }
         self.commit(place)?;
-        place.hold_up();
-        thread::yield_now();
+        place.idle(self.rt, self.board);
         Ok(())
     }
 
@@ -259,6 +259,7 @@ impl<B: Room, R: Wait, F: Decide, G: Gate> Worker<'_, '_, B, R, F, G> {
     ) -> Result<(), Leave> {
         let done = u32::try_from(place.done(self.board)).unwrap_or(0);
         let is_overtaken = self.hand_in(version, attempt, done)?;
+        place.got_on();
         place.watch(version);
         let Version { index, incarnation } = version;
         self.gate.after_record(index, incarnation);

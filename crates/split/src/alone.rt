@@ -1,0 +1,92 @@
+ghost use Rattle.std.specs.Prelude.{◌≡◌, ◌+◌, ◌<◌, ◌≤◌, ◌^◌, [], ◌∷◌, ◌++◌, take, length, IfOk, OnOk, OnErr};
+ghost use Rattle.rows.specs.Fold.{replies_to, rows_after, reply_of, rows_after_one};
+
+use fold::{Outcome, PlainRows, Prefix};
+use rows::{Book, Frame, Places};
+use rules::decide_all;
+use std::alloc::{AllocError, Global};
+use view::{Decide, Execution, ReadSet, Recorder, Stop, WriteSet};
+use workers::Gate;
+
+/// Decides a batch by one worker, on the book to which it commits: no other worker's rows are to be seen, so none is kept beside the book.
+/// What a decision that stopped leaves is decided by the shipped decision, without the gate.
+#[tactic(auto, using(crate::proofs::Rest::rows_of_both, crate::proofs::Rest::replies_of_both))]
+pub(crate) fn decide_alone<F: Decide, G: Gate>(
+    alloc: Global,
+    book: &Book,
+    frames: &[Frame],
+    decision: &F,
+    gate: &G,
+) -> Result<Outcome, AllocError>
+    requires { length frames.now ≤ 65536 }
+    ensures replies { IfOk result (λ outcome. outcome.replies.items ≡ replies_to book.now frames.now) }
+    ensures book { IfOk result (λ outcome. outcome.book ≡ rows_after book.now frames.now) }
+    ensures started { IfOk result (λ outcome. outcome.started ≡ 1) }
+    ensures committed { IfOk result (λ outcome. outcome.committed ≤ length frames.now) }
+{
+    let prefix = decide_first(alloc, book, frames, decision, gate)?;
+    let committed = prefix.count;
+    let Prefix { book, replies, .. } = decide_all(alloc, prefix, frames)?;
+    Ok(Outcome {
+        replies,
+        book,
+        started: 1,
+        committed,
+    })
+}
+
+// Decides one message after another, until all are decided or a decision stops, and answers what was decided.
+fn decide_first<F: Decide, G: Gate>(
+    alloc: Global,
+    book: &Book,
+    frames: &[Frame],
+    decision: &F,
+    gate: &G,
+) -> Result<Prefix, AllocError>
+    requires { length frames.now ≤ 65536 }
+    ensures within { IfOk result (λ prefix. prefix.count ≤ length frames.now) }
+    ensures book { IfOk result (λ prefix. prefix.book ≡ rows_after book.now (take prefix.count frames.now)) }
+    ensures replies { IfOk result (λ prefix. prefix.replies.items ≡ replies_to book.now (take prefix.count frames.now)) }
+{
+    let mut prefix = Prefix::new(alloc, book.copy()?);
+    prefix.book.reserve(frames.len())?;
+    prefix.replies.reserve(frames.len())?;
+    let mut reads = ReadSet::new(alloc);
+    let mut writes = WriteSet::new(alloc);
+    for (index, frame) in frames.iter().enumerate() {
+        gate.before_decide(index as u32, 0);
+        let Ok(sets) = decide_next(&mut prefix, frame, decision, reads, writes) else {
+            break;
+        };
+        (reads, writes) = sets;
+        gate.after_record(index as u32, 0);
+    }
+    Ok(prefix)
+}
+
+// Decides one more body, over the memory of two sets, which are handed back. After an error nothing is changed.
+fn decide_next<F: Decide>(
+    prefix: &mut Prefix,
+    frame: &Frame,
+    decision: &F,
+    reads: ReadSet,
+    writes: WriteSet,
+) -> Result<(ReadSet, WriteSet), AllocError>
+    requires room { prefix.old.count + 1 < 2 ^ 32 }
+    ensures count { OnOk result (prefix.new.count ≡ prefix.old.count + 1) }
+    ensures book { OnOk result (prefix.new.book ≡ rows_after_one prefix.old.book frame.now) }
+    ensures replies { OnOk result (prefix.new.replies.items ≡ prefix.old.replies.items ++ reply_of prefix.old.book frame.now ∷ []) }
+    ensures kept { OnErr result ((prefix.new.count ≡ prefix.old.count) × (prefix.new.book ≡ prefix.old.book) × (prefix.new.replies.items ≡ prefix.old.replies.items)) }
+{
+    let mut recorder = Recorder::over(PlainRows::new(&prefix.book), reads, writes);
+    let reply = match decision.decide(frame, &mut recorder) {
+        Ok(reply) => reply,
+        Err(Stop::OutOfMemory) => return Err(AllocError),
+        Err(_) => unreachable!(),
+    };
+    let (_, reads, writes) = recorder.into_parts();
+    let execution = Execution::new(*frame, reads, writes, reply);
+    prefix.extend(&execution, &Places::new())?;
+    let (_, reads, writes, _) = execution.into_parts();
+    Ok((reads, writes))
+}
