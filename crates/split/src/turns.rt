@@ -287,12 +287,14 @@ impl<B: Room, R: Wait, F: Decide, G: Gate> Worker<'_, '_, B, R, F, G> {
         Ok(is_overtaken)
     }
 
-    // Gives a message up that met an estimate, to be executed again, and lets the one run that it waits for.
+    // Gives a message up that met an estimate, to be executed again, and lets the one run that it waits for. The worker that was to execute
+    // that one may have left: who commits sees whether the stop mark is set.
     fn block(&self, place: &mut Place<B>, index: u32) -> Result<(), Leave> {
         if self.give_back(index) == GivenUp::Worn {
             return Err(Leave::Worn);
         }
         place.lower_execute(self.board, index);
+        self.commit(place)?;
         place.hold_up();
         thread::yield_now();
         Ok(())
