@@ -13,11 +13,12 @@ use run_jobs::{run_batch, run_batch_with_journal, run_blocks};
 use std::alloc::Global;
 use std::sync::Wait;
 use std::thread::Threads;
+use std::time::Clock;
 use words::Command;
 use workers::{Engine, Workers};
 
 /// Does what the command asks for.
-pub(crate) fn done<R: Threads + Wait + Sync, F: Files>(
+pub(crate) fn done<R: Clock + Threads + Wait + Sync, F: Files>(
     rt: &R,
     alloc: Global,
     files: &mut F,
@@ -75,7 +76,7 @@ fn serial<R: Threads, F: Files>(
 }
 
 // A batch is decided by several workers of this engine.
-fn run<R: Threads + Wait + Sync, F: Files>(
+fn run<R: Clock + Threads + Wait + Sync, F: Files>(
     rt: &R,
     alloc: Global,
     files: &mut F,
@@ -93,7 +94,7 @@ fn run<R: Threads + Wait + Sync, F: Files>(
 }
 
 // A batch is decided by several workers under one lock, and the run's journal is kept.
-fn run_with_journal<R: Threads + Wait + Sync, F: Files>(
+fn run_with_journal<R: Clock + Threads + Wait + Sync, F: Files>(
     rt: &R,
     alloc: Global,
     files: &mut F,
@@ -111,7 +112,7 @@ fn run_with_journal<R: Threads + Wait + Sync, F: Files>(
 }
 
 // Blocks are decided, one after another, each by several workers of this engine.
-fn blocks<R: Threads + Wait + Sync, F: Files>(
+fn blocks<R: Clock + Threads + Wait + Sync, F: Files>(
     rt: &R,
     alloc: Global,
     files: &mut F,

@@ -15,12 +15,13 @@ use std::alloc::Global;
 use std::io::Write;
 use std::sync::Wait;
 use std::thread::Threads;
+use std::time::Clock;
 use words::read_words;
 
 /// Does what the words say over these files, and answers the exit status: 0 done, 1 fault, 2 words that are no command, 3 an
 /// audit that found a difference. What is asked for goes to the first printer, a fault's text to the second; what a writer
 /// doesn't take is dropped.
-pub fn act<R: Threads + Wait + Sync, F: Files, O: Write, E: Write>(
+pub fn act<R: Clock + Threads + Wait + Sync, F: Files, O: Write, E: Write>(
     rt: &R,
     alloc: Global,
     files: &mut F,
@@ -48,7 +49,7 @@ pub fn act<R: Threads + Wait + Sync, F: Files, O: Write, E: Write>(
 }
 
 // What is asked for.
-fn answer<R: Threads + Wait + Sync, F: Files>(
+fn answer<R: Clock + Threads + Wait + Sync, F: Files>(
     rt: &R,
     alloc: Global,
     files: &mut F,

@@ -7,6 +7,7 @@ use std::alloc::Global;
 use std::process::Abort;
 use std::sync::Wait;
 use std::thread::Threads;
+use std::time::Clock;
 use workers::{Engine, OpenGate};
 
 const RUNS: &[(Engine, u32)] = &[
@@ -19,7 +20,7 @@ const RUNS: &[(Engine, u32)] = &[
 ];
 
 // What is wrong with the batch, decided by so many workers of this engine, who commit every message.
-fn wrong_with<'a, R: Threads + Wait + Sync>(
+fn wrong_with<'a, R: Clock + Threads + Wait + Sync>(
     rt: &R,
     alloc: Global,
     batch: &'a str,
@@ -32,14 +33,14 @@ fn wrong_with<'a, R: Threads + Wait + Sync>(
     }
 }
 
-fn assert_batch<R: Abort + Threads + Wait + Sync>(rt: &R, alloc: Global, batch: &str) {
+fn assert_batch<R: Abort + Clock + Threads + Wait + Sync>(rt: &R, alloc: Global, batch: &str) {
     for run_by in RUNS {
         let wrong = wrong_with(rt, alloc, batch, *run_by);
         assert!(rt; wrong.is_none(), "{run_by:?}: {wrong:?} of {batch}");
     }
 }
 
-fn assert_batches<R: Abort + Threads + Wait + Sync>(rt: &R, alloc: Global, batches: &str) {
+fn assert_batches<R: Abort + Clock + Threads + Wait + Sync>(rt: &R, alloc: Global, batches: &str) {
     for batch in batches.split("\n\n") {
         assert_batch(rt, alloc, batch);
     }

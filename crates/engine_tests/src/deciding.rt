@@ -9,6 +9,7 @@ use split::run_split;
 use std::alloc::Global;
 use std::sync::Wait;
 use std::thread::Threads;
+use std::time::Clock;
 use view::Decide;
 use workers::{Engine, Gate, Workers};
 
@@ -21,7 +22,7 @@ pub(crate) struct Commits {
 }
 
 /// The bodies, decided on the book by so many workers of this engine; nothing where memory runs out.
-pub(crate) fn decided_by<R: Threads + Wait + Sync, F: Decide + Sync, G: Gate>(
+pub(crate) fn decided_by<R: Clock + Threads + Wait + Sync, F: Decide + Sync, G: Gate>(
     rt: &R,
     alloc: Global,
     run_by: (Engine, u32),
@@ -40,7 +41,7 @@ pub(crate) fn decided_by<R: Threads + Wait + Sync, F: Decide + Sync, G: Gate>(
 }
 
 // The batch on this book, with these bodies.
-fn came_on<'a, R: Threads + Wait + Sync, F: Decide + Sync, G: Gate>(
+fn came_on<'a, R: Clock + Threads + Wait + Sync, F: Decide + Sync, G: Gate>(
     rt: &R,
     alloc: Global,
     run_by: (Engine, u32),
@@ -67,7 +68,7 @@ fn came_on<'a, R: Threads + Wait + Sync, F: Decide + Sync, G: Gate>(
 }
 
 // The batch on this book.
-fn came_from<'a, R: Threads + Wait + Sync, F: Decide + Sync, G: Gate>(
+fn came_from<'a, R: Clock + Threads + Wait + Sync, F: Decide + Sync, G: Gate>(
     rt: &R,
     alloc: Global,
     run_by: (Engine, u32),
@@ -83,7 +84,7 @@ fn came_from<'a, R: Threads + Wait + Sync, F: Decide + Sync, G: Gate>(
 }
 
 /// The batch, decided by so many workers of this engine: what it comes to, or its first line that isn't so.
-pub(crate) fn came<'a, R: Threads + Wait + Sync, F: Decide + Sync, G: Gate>(
+pub(crate) fn came<'a, R: Clock + Threads + Wait + Sync, F: Decide + Sync, G: Gate>(
     rt: &R,
     alloc: Global,
     run_by: (Engine, u32),
@@ -98,7 +99,7 @@ pub(crate) fn came<'a, R: Threads + Wait + Sync, F: Decide + Sync, G: Gate>(
 }
 
 /// Whether the batch comes out as it is told, and the workers committed all of it.
-pub(crate) fn is_committed<R: Threads + Wait + Sync, F: Decide + Sync, G: Gate>(
+pub(crate) fn is_committed<R: Clock + Threads + Wait + Sync, F: Decide + Sync, G: Gate>(
     rt: &R,
     alloc: Global,
     run_by: (Engine, u32),

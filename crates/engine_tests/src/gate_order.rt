@@ -7,6 +7,7 @@ use std::alloc::{AllocFailed, Global};
 use std::sync::Wait;
 use std::sync::atomic::{AtomicU8, AtomicU64, Ordering};
 use std::thread::Threads;
+use std::time::Clock;
 use view::{Decide, Recorder, RowSource, Stop};
 use workers::{Engine, Gate};
 
@@ -129,7 +130,7 @@ after 000003\n\
 ";
 
 // Whether the batch is decided by one worker, and noted in this diary.
-fn is_noted<R: Threads + Wait + Sync>(
+fn is_noted<R: Clock + Threads + Wait + Sync>(
     rt: &R,
     alloc: Global,
     engine: Engine,
@@ -140,7 +141,7 @@ fn is_noted<R: Threads + Wait + Sync>(
     is_committed(rt, alloc, (engine, 1), BATCH, &decision, &gate) & diary.has_noted(TURNS)
 }
 
-fn notes<R: Threads + Wait + Sync>(rt: &R, alloc: Global, engine: Engine) -> bool {
+fn notes<R: Clock + Threads + Wait + Sync>(rt: &R, alloc: Global, engine: Engine) -> bool {
     match Diary::new(alloc) {
         Ok(diary) => is_noted(rt, alloc, engine, &diary),
         Err(_) => false,
@@ -243,7 +244,7 @@ impl Decide for CountingDecision<'_> {
 }
 
 // Whether the batch is decided by four workers, whose calls come in order.
-fn is_counted<R: Threads + Wait + Sync>(rt: &R, alloc: Global, engine: Engine) -> bool {
+fn is_counted<R: Clock + Threads + Wait + Sync>(rt: &R, alloc: Global, engine: Engine) -> bool {
     let tally = Tally::new();
     let gate = CountingGate { tally: &tally };
     let decision = CountingDecision { tally: &tally };
@@ -251,7 +252,7 @@ fn is_counted<R: Threads + Wait + Sync>(rt: &R, alloc: Global, engine: Engine) -
 }
 
 // What isn't so.
-fn first_wrong<R: Threads + Wait + Sync>(rt: &R, alloc: Global) -> Option<&'static str> {
+fn first_wrong<R: Clock + Threads + Wait + Sync>(rt: &R, alloc: Global) -> Option<&'static str> {
     // With one worker the messages have their turns one after another.
     if !notes(rt, alloc, Engine::Locked) {
         return Some("the locked engine's gate stands round each decision");

@@ -8,6 +8,7 @@ use std::alloc::Global;
 use std::sync::Wait;
 use std::sync::atomic::{AtomicU64, Ordering};
 use std::thread::Threads;
+use std::time::Clock;
 use view::{Decide, Recorder, RowSource, Stop};
 use workers::{Engine, Gate, OpenGate};
 
@@ -74,7 +75,7 @@ fn is_decline(frame: &Frame) -> bool {
 
 // Whether the batch, decided by one worker of this engine with this decision, comes to as many commits and to these calls of the
 // gate.
-fn comes_to<R: Threads + Wait + Sync, F: Decide + Sync>(
+fn comes_to<R: Clock + Threads + Wait + Sync, F: Decide + Sync>(
     rt: &R,
     alloc: Global,
     engine: Engine,
@@ -96,7 +97,7 @@ fn comes_to<R: Threads + Wait + Sync, F: Decide + Sync>(
 }
 
 // What isn't so, of a batch whose every message the workers commit, and of one where a decision stops.
-fn first_wrong<R: Threads + Wait + Sync>(rt: &R, alloc: Global) -> Option<&'static str> {
+fn first_wrong<R: Clock + Threads + Wait + Sync>(rt: &R, alloc: Global) -> Option<&'static str> {
     // The workers commit every message, the decline and the bad body too: the rest that is decided one after another is empty.
     let calls = 1020_1121_1222_1323;
     if !comes_to(rt, alloc, Engine::Locked, &Shipped, 4, calls) {

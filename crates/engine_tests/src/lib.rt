@@ -11,6 +11,8 @@ mod gate_order;
 #[cfg(test)]
 mod gates;
 #[cfg(test)]
+mod heavy;
+#[cfg(test)]
 mod longest;
 #[cfg(test)]
 mod overlaps;

@@ -10,6 +10,7 @@ use std::process::Abort;
 use std::sync::Wait;
 use std::test::Fail;
 use std::thread::Threads;
+use std::time::Clock;
 use workers::{Engine, OpenGate};
 
 // Whether three requests are approved, and then the day's limit is reached.
@@ -31,7 +32,7 @@ fn is_longest(alloc: Global, outcome: &Outcome) -> bool {
 }
 
 // The longest batch: the same replies with each engine and each number of workers.
-fn assert_runs_the_longest<R: Abort + Threads + Wait + Sync>(
+fn assert_runs_the_longest<R: Abort + Clock + Threads + Wait + Sync>(
     rt: &R,
     alloc: Global,
     engine: Engine,

@@ -9,6 +9,7 @@ use std::sync::Wait;
 use std::sync::atomic::{AtomicU64, Ordering};
 use std::thread;
 use std::thread::Threads;
+use std::time::Clock;
 use view::{Decide, Recorder, RowSource, Stop};
 use workers::{Engine, Gate, OpenGate};
 
@@ -77,7 +78,7 @@ impl Gate for HoldingGate {
 }
 
 // Two messages on two cards: the second one is recorded while the first one is held.
-fn two_overlap<R: Threads + Wait + Sync>(rt: &R, alloc: Global, engine: Engine) -> bool {
+fn two_overlap<R: Clock + Threads + Wait + Sync>(rt: &R, alloc: Global, engine: Engine) -> bool {
     let gate = HoldingGate::new(1);
     match came(rt, alloc, (engine, 2), TWO_CARDS, &Shipped, &gate) {
         Ok(came) => {
@@ -90,7 +91,7 @@ fn two_overlap<R: Threads + Wait + Sync>(rt: &R, alloc: Global, engine: Engine) 
 }
 
 // Two messages on one card are recorded while the one before them is held: both read old rows, and come out right.
-fn three_overlap<R: Threads + Wait + Sync>(rt: &R, alloc: Global, engine: Engine) -> bool {
+fn three_overlap<R: Clock + Threads + Wait + Sync>(rt: &R, alloc: Global, engine: Engine) -> bool {
     let gate = HoldingGate::new(2);
     is_committed(rt, alloc, (engine, 3), ONE_CARD, &Shipped, &gate)
         & (gate.was_in_time.load(Ordering::SeqCst) == 1)
@@ -131,7 +132,7 @@ fn is_first(frame: &Frame) -> bool {
 }
 
 // Whether two decisions go on at the same time.
-fn two_meet<R: Threads + Wait + Sync>(rt: &R, alloc: Global, engine: Engine) -> bool {
+fn two_meet<R: Clock + Threads + Wait + Sync>(rt: &R, alloc: Global, engine: Engine) -> bool {
     let meeting = Meeting {
         first: AtomicU64::new(0),
         second: AtomicU64::new(0),
@@ -142,7 +143,7 @@ fn two_meet<R: Threads + Wait + Sync>(rt: &R, alloc: Global, engine: Engine) -> 
 }
 
 // What isn't so.
-fn first_wrong<R: Threads + Wait + Sync>(rt: &R, alloc: Global) -> Option<&'static str> {
+fn first_wrong<R: Clock + Threads + Wait + Sync>(rt: &R, alloc: Global) -> Option<&'static str> {
     if !two_overlap(rt, alloc, Engine::Locked) {
         return Some("the locked engine records a message while one before it is held");
     }

@@ -14,11 +14,12 @@ use split::run_split;
 use std::alloc::{AllocError, Global};
 use std::sync::Wait;
 use std::thread::Threads;
+use std::time::Clock;
 use workers::{Engine, OpenGate, Workers};
 
 /// Decides a batch by so many workers of an engine, files to files. Whatever their number and the engine, the files hold what
 /// deciding one message after another comes to.
-pub fn run_batch<R: Threads + Wait + Sync, F: Files>(
+pub fn run_batch<R: Clock + Threads + Wait + Sync, F: Files>(
     rt: &R,
     alloc: Global,
     files: &mut F,
@@ -46,7 +47,7 @@ pub fn run_batch<R: Threads + Wait + Sync, F: Files>(
 }
 
 /// Decides a batch on a book by so many workers of an engine.
-pub fn decide_by<R: Threads + Wait + Sync>(
+pub fn decide_by<R: Clock + Threads + Wait + Sync>(
     rt: &R,
     alloc: Global,
     book: &Book,

@@ -14,11 +14,12 @@ use rows::{Book, Frame};
 use std::alloc::{AllocError, Global};
 use std::sync::Wait;
 use std::thread::Threads;
+use std::time::Clock;
 use workers::{Engine, Workers};
 
 /// Decides a block file by so many workers of an engine, block after block, files to files. Where a block can't be read, decided or
 /// answered, the blocks before it are kept.
-pub fn run_blocks<R: Threads + Wait + Sync, F: Files>(
+pub fn run_blocks<R: Clock + Threads + Wait + Sync, F: Files>(
     rt: &R,
     alloc: Global,
     files: &mut F,

@@ -23,11 +23,12 @@ use rules::Shipped;
 use std::alloc::Global;
 use std::sync::Wait;
 use std::thread::Threads;
+use std::time::Clock;
 use workers::{OpenGate, Workers};
 
 /// Decides a batch by so many workers, files to files, as [`run_batch`](crate::run_batch), and puts the journal of the run into a
 /// file. The journal is put before the new book, so that after any fault the file of the new book is as it was.
-pub fn run_batch_with_journal<R: Threads + Wait + Sync, F: Files>(
+pub fn run_batch_with_journal<R: Clock + Threads + Wait + Sync, F: Files>(
     rt: &R,
     alloc: Global,
     files: &mut F,
@@ -61,7 +62,7 @@ struct TracedRun {
 }
 
 // Decides the batch on a book, and puts the replies into their file; with the journal of the run.
-fn answer_traced<R: Threads + Wait + Sync, F: Files>(
+fn answer_traced<R: Clock + Threads + Wait + Sync, F: Files>(
     rt: &R,
     alloc: Global,
     files: &mut F,
@@ -95,7 +96,7 @@ fn answer_traced<R: Threads + Wait + Sync, F: Files>(
 
 // Reads a batch, decides it and writes the replies, with the journal of the run. All of the batch is read and decided before the
 // first byte is put.
-fn trace_batch<R: Threads + Wait + Sync, S: Source, W: Sink>(
+fn trace_batch<R: Clock + Threads + Wait + Sync, S: Source, W: Sink>(
     rt: &R,
     alloc: Global,
     book: &Book,

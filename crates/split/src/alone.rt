@@ -1,31 +1,45 @@
 ghost use Rattle.std.specs.Prelude.{◌≡◌, ◌+◌, ◌<◌, ◌≤◌, ◌^◌, [], ◌∷◌, ◌++◌, take, length, IfOk, OnOk, OnErr};
 ghost use Rattle.rows.specs.Fold.{replies_to, rows_after, reply_of, rows_after_one};
+ghost use Rattle.workers.specs.Started.{IsStarted};
 
+use crate::together::decide_together;
+use crate::watch::Watch;
 use fold::{Outcome, PlainRows, Prefix};
 use rows::{Book, Frame, Places};
 use rules::decide_all;
 use std::alloc::{AllocError, Global};
+use std::sync::Wait;
+use std::thread::Threads;
+use std::time::Clock;
 use view::{Decide, Execution, ReadSet, Recorder, Stop, WriteSet};
-use workers::Gate;
+use workers::{Gate, Workers};
 
 /// Decides a batch by one worker, on the book to which it commits: no other worker's rows are to be seen, so none is kept beside the book.
-/// What a decision that stopped leaves is decided by the shipped decision, without the gate.
+/// Where decisions are heavy, and there are other workers, the rest is decided together. What a decision that stopped leaves is decided
+/// by the shipped decision, without the gate.
 #[tactic(auto, using(crate::proofs::Rest::rows_of_both, crate::proofs::Rest::replies_of_both))]
-pub(crate) fn decide_alone<F: Decide, G: Gate>(
+pub(crate) fn decide_alone<R: Clock + Threads + Wait + Sync, F: Decide + Sync, G: Gate>(
+    rt: &R,
     alloc: Global,
     book: &Book,
     frames: &[Frame],
+    workers: Workers,
     decision: &F,
     gate: &G,
 ) -> Result<Outcome, AllocError>
     requires { length frames.now ≤ 65536 }
     ensures replies { IfOk result (λ outcome. outcome.replies.items ≡ replies_to book.now frames.now) }
     ensures book { IfOk result (λ outcome. outcome.book ≡ rows_after book.now frames.now) }
-    ensures started { IfOk result (λ outcome. outcome.started ≡ 1) }
+    ensures started { IfOk result (λ outcome. IsStarted outcome.started workers) }
     ensures committed { IfOk result (λ outcome. outcome.committed ≤ length frames.now) }
 {
-    let prefix = decide_first(alloc, book, frames, decision, gate)?;
+    let mut watch = Watch::new(workers);
+    let prefix = decide_first(rt, alloc, book, frames, &mut watch, decision, gate)?;
     let committed = prefix.count;
+    let (_, rest) = frames.split_at(committed as usize);
+    if watch.is_heavy() && !rest.is_empty() {
+        return share(rt, alloc, prefix, rest, workers, decision, gate);
+    }
     let Prefix { book, replies, .. } = decide_all(alloc, prefix, frames)?;
     Ok(Outcome {
         replies,
@@ -35,11 +49,44 @@ pub(crate) fn decide_alone<F: Decide, G: Gate>(
     })
 }
 
-// Decides one message after another, until all are decided or a decision stops, and answers what was decided.
-fn decide_first<F: Decide, G: Gate>(
+// Decides the bodies behind these first ones by all workers together.
+fn share<R: Threads + Wait + Sync, F: Decide + Sync, G: Gate>(
+    rt: &R,
+    alloc: Global,
+    first: Prefix,
+    rest: &[Frame],
+    workers: Workers,
+    decision: &F,
+    gate: &G,
+) -> Result<Outcome, AllocError>
+    requires few { first.count + length rest.now ≤ 65536 }
+    ensures replies { IfOk result (λ outcome. outcome.replies.items ≡ first.replies.items ++ replies_to first.book rest.now) }
+    ensures book { IfOk result (λ outcome. outcome.book ≡ rows_after first.book rest.now) }
+    ensures started { IfOk result (λ outcome. IsStarted outcome.started workers) }
+    ensures committed { IfOk result (λ outcome. outcome.committed ≤ first.count + length rest.now) }
+{
+    let Prefix {
+        count,
+        book,
+        mut replies,
+    } = first;
+    let mut shared = decide_together(rt, alloc, &book, rest, count, workers, decision, gate)?;
+    replies.append(&mut shared.replies)?;
+    Ok(Outcome {
+        replies,
+        book: shared.book,
+        started: shared.started,
+        committed: count + shared.committed,
+    })
+}
+
+// Decides one message after another, until all are decided, a decision stops, or they are found heavy, and answers what was decided.
+fn decide_first<R: Clock, F: Decide, G: Gate>(
+    clock: &R,
     alloc: Global,
     book: &Book,
     frames: &[Frame],
+    watch: &mut Watch,
     decision: &F,
     gate: &G,
 ) -> Result<Prefix, AllocError>
@@ -53,13 +100,18 @@ fn decide_first<F: Decide, G: Gate>(
     prefix.replies.reserve(frames.len())?;
     let mut reads = ReadSet::new(alloc);
     let mut writes = WriteSet::new(alloc);
+    watch.begin(clock);
     for (index, frame) in frames.iter().enumerate() {
+        if watch.is_heavy() {
+            break;
+        }
         gate.before_decide(index as u32, 0);
         let Ok(sets) = decide_next(&mut prefix, frame, decision, reads, writes) else {
             break;
         };
         (reads, writes) = sets;
         gate.after_record(index as u32, 0);
+        watch.note(clock);
     }
     Ok(prefix)
 }

@@ -9,6 +9,8 @@ mod leave;
 mod place;
 mod room;
 mod running;
+mod together;
 mod turns;
+mod watch;
 
 pub use running::run_split;

@@ -127,11 +127,13 @@ impl<B: Room> Place<B> {
         }
     }
 
-    // Rests, where the worker's executions were given up.
-    pub(crate) fn rest<R: Wait>(&self, rt: &R, board: &Board<'_, B>) {
-        if self.pace.rests() {
+    // Rests, where the worker's executions were given up. Answers whether it did.
+    pub(crate) fn rest<R: Wait>(&self, rt: &R, board: &Board<'_, B>) -> bool {
+        let rests = self.pace.rests();
+        if rests {
             self.pace.rest(rt, board.bed());
         }
+        rests
     }
 
     // Draws the message to execute next.

@@ -1,32 +1,28 @@
-ghost use Rattle.std.specs.Prelude.{◌≡◌, ◌≤◌, [], take, length, IfOk};
+ghost use Rattle.std.specs.Prelude.{◌≡◌, ◌≤◌, length, IfOk};
 ghost use Rattle.rows.specs.Fold.{replies_to, rows_after};
-ghost use Rattle.cursors.specs.CursorRule.{publisher};
 ghost use Rattle.workers.specs.Started.{IsStarted};
-ghost use Rattle.ledger.specs.Progress.{opened};
 
 use crate::alone::decide_alone;
-use crate::board::{Board, Storage};
-use crate::place::Place;
-use crate::room::Room;
-use crate::turns::Worker;
-use cursors::{CursorSeat, Cursors};
-use fold::{Outcome, Prefix};
-use ledger::Ledger;
+use crate::together::decide_together;
+use fold::Outcome;
 use rows::{Book, Frame};
-use rules::decide_all;
 use std::alloc::{AllocError, Global};
-use std::marker::Brand;
 use std::sync::Wait;
-use std::thread;
 use std::thread::Threads;
+use std::time::Clock;
 use view::Decide;
 use workers::{Gate, Workers};
+
+// So few messages are shared without a look at the clock, which tells little of them.
+const FEW: usize = 1024;
 
 /// Decides a batch of at most 65,536 bodies on several threads that share no one lock (Block-STM). Whatever the number of workers,
 /// replies and book are those of deciding the messages one after another in the order of their arrival. The only fault is want of
 /// memory. `started` is how many threads took part; one that can't be started is no fault. `committed` is how many messages the workers
-/// had committed when the rest was decided one after another. One worker decides alone, on the book to which it commits.
-pub fn run_split<R: Threads + Wait + Sync, F: Decide + Sync, G: Gate>(
+/// had committed when the rest was decided one after another. In a batch of more than 1,024 bodies, decisions so light that to share
+/// them costs more than it saves are made by the first worker alone, on the book to which it commits; and so are all where there is one
+/// worker.
+pub fn run_split<R: Clock + Threads + Wait + Sync, F: Decide + Sync, G: Gate>(
     rt: &R,
     alloc: Global,
     book: &Book,
@@ -41,106 +37,8 @@ pub fn run_split<R: Threads + Wait + Sync, F: Decide + Sync, G: Gate>(
     ensures started { IfOk result (λ outcome. IsStarted outcome.started workers) }
     ensures committed { IfOk result (λ outcome. outcome.committed ≤ length frames.now) }
 {
-    if workers.count() == 1 {
-        return decide_alone(alloc, book, frames, decision, gate);
+    if workers.count() > 1 && frames.len() <= FEW {
+        return decide_together(rt, alloc, book, frames, 0, workers, decision, gate);
     }
-    let storage = Storage::new(alloc, frames.len())?;
-    let (cursors, seat) = Cursors::new(alloc, frames.len() as u64)?;
-    let ledger = Ledger::new(alloc, book, frames)?;
-    let (ledger, started) = ledger_of::<Brand, R, F, G>(
-        rt, alloc, book, frames, workers, decision, gate, cursors, seat, ledger, storage,
-    );
-    outcome_of(alloc, ledger, frames, started)
-}
-
-// The ledger as the workers leave it, and how many threads took part.
-fn ledger_of<'a, B: Room + Send + Sync, R: Threads + Wait + Sync, F: Decide + Sync, G: Gate>(
-    rt: &R,
-    alloc: Global,
-    book: &'a Book,
-    frames: &'a [Frame],
-    workers: Workers,
-    decision: &F,
-    gate: &G,
-    cursors: Cursors,
-    seat: CursorSeat,
-    ledger: Ledger<'a>,
-    storage: Storage,
-) -> (Ledger<'a>, u32)
-    requires batch { (ledger.opening ≡ B.opening) × (ledger.frames ≡ B.frames) }
-    requires table { (cursors ≡ B.table) × (seat.table_id ≡ B.table) }
-    requires first { seat.me ≡ (publisher (length ledger.frames), []) }
-    requires slots { length storage.slots.items ≡ length ledger.frames }
-    ensures opening { result.0.opening ≡ B.opening }
-    ensures frames { result.0.frames ≡ B.frames }
-    ensures started { IsStarted result.1 workers }
-{
-    let (board, place): (Board<'a, B>, _) = Board::new(alloc, cursors, seat, ledger, storage);
-    let worker = Worker {
-        rt,
-        alloc,
-        board: &board,
-        book,
-        frames,
-        decision,
-        gate,
-    };
-    let started = work_together(&worker, place, workers);
-    (board.into_ledger(), started)
-}
-
-// Starts the other workers and works as the first; the answer is how many took part.
-fn work_together<B: Room + Send + Sync, R: Threads + Wait + Sync, F: Decide + Sync, G: Gate>(
-    worker: &Worker<'_, '_, B, R, F, G>,
-    mut place: Place<B>,
-    workers: Workers,
-) -> u32
-    ensures { IsStarted result workers }
-{
-    let count = workers.count();
-    thread::scope(
-        thread::scope_env(),
-        worker.rt,
-        move |scope| -> u32
-            requires { IsStarted count 64 }
-            ensures { IsStarted result count }
-        {
-            let mut started = 1u32;
-            for _number in 1..count {
-                let other = place.another(worker.board);
-                if scope.spawn(move || worker.work(other)).is_ok() {
-                    started += 1;
-                }
-            }
-            worker.work(place);
-            started
-        },
-    )
-}
-
-// What the ledger has, which the workers committed, then what they left, decided one after another.
-#[tactic(auto, using(crate::proofs::Rest::rows_of_both, crate::proofs::Rest::replies_of_both))]
-fn outcome_of(
-    alloc: Global,
-    ledger: Ledger<'_>,
-    frames: &[Frame],
-    started: u32,
-) -> Result<Outcome, AllocError>
-    requires few { length frames.now ≤ 65536 }
-    requires frames { ledger.frames ≡ frames.now }
-    ensures replies { IfOk result (λ outcome. outcome.replies.items ≡ replies_to ledger.entry.opening frames.now) }
-    ensures book { IfOk result (λ outcome. outcome.book ≡ rows_after ledger.entry.opening frames.now) }
-    ensures started { IfOk result (λ outcome. outcome.started ≡ started) }
-    ensures kept { IfOk result (λ outcome. outcome.committed ≡ ledger.entry.count) }
-    ensures committed { IfOk result (λ outcome. outcome.committed ≤ length frames.now) }
-{
-    let prefix = ledger.into_prefix();
-    let committed = prefix.count;
-    let Prefix { book, replies, .. } = decide_all(alloc, prefix, frames)?;
-    Ok(Outcome {
-        replies,
-        book,
-        started,
-        committed,
-    })
+    decide_alone(rt, alloc, book, frames, workers, decision, gate)
 }

@@ -20,8 +20,8 @@ const AHEAD: u64 = 64;
 // So many messages are committed before the workers are told of them.
 const AT_ONCE: u32 = 16;
 
-/// What a worker works with: the board, the opening book, the bodies, the decision and the gate. Whatever it does or leaves undone, the
-/// ledger's type keeps what is committed right.
+/// What a worker works with: the board, the opening book, the bodies, the place of the first of them in the batch, the decision and the
+/// gate. Whatever it does or leaves undone, the ledger's type keeps what is committed right.
 #[derive(Drop)]
 pub(crate) struct Worker<'w, 'a, B: Room, R: Wait, F: Decide, G: Gate> {
     pub(crate) rt: &'w R,
@@ -29,6 +29,7 @@ pub(crate) struct Worker<'w, 'a, B: Room, R: Wait, F: Decide, G: Gate> {
     pub(crate) board: &'w Board<'a, B>,
     pub(crate) book: &'w Book,
     pub(crate) frames: &'w [Frame],
+    pub(crate) first: u32,
     pub(crate) decision: &'w F,
     pub(crate) gate: &'w G,
 }
@@ -57,8 +58,7 @@ impl<B: Room, R: Wait, F: Decide, G: Gate> Worker<'_, '_, B, R, F, G> {
             return Err(Leave::Done);
         }
         place.look_back(self.rt, self.board, done);
-        place.rest(self.rt, self.board);
-        if place.is_first() {
+        if place.rest(self.rt, self.board) || place.is_first() {
             self.commit(place)?;
         }
         if self.validate_next(place, done)? {
@@ -222,7 +222,8 @@ impl<B: Room, R: Wait, F: Decide, G: Gate> Worker<'_, '_, B, R, F, G> {
         let Some(incarnation) = self.take(index) else {
             return Ok(());
         };
-        self.gate.before_decide(index, incarnation);
+        let at = self.first.saturating_add(index);
+        self.gate.before_decide(at, incarnation);
         match self.attempt(place, frame, index) {
             Ok(attempt) => self.record(place, Version { index, incarnation }, attempt),
             Err(Stop::Blocked(_)) => self.block(place, index),
@@ -262,7 +263,8 @@ impl<B: Room, R: Wait, F: Decide, G: Gate> Worker<'_, '_, B, R, F, G> {
         place.got_on();
         place.watch(version);
         let Version { index, incarnation } = version;
-        self.gate.after_record(index, incarnation);
+        let at = self.first.saturating_add(index);
+        self.gate.after_record(at, incarnation);
         if is_overtaken {
             place.lower_validate(self.board, index.saturating_add(1));
         }

@@ -10,11 +10,12 @@ use std::io;
 use std::io::{ErrorKind, Write};
 use std::sync::Wait;
 use std::thread::Threads;
+use std::time::Clock;
 use words::{Command, plain_words_are_read, read_words};
 use workers::Workers;
 
 // Whether so many workers answer that a body is too short.
-fn is_too_short<R: Threads + Wait + Sync>(
+fn is_too_short<R: Clock + Threads + Wait + Sync>(
     rt: &R,
     alloc: Global,
     body: &[u8],
@@ -62,7 +63,11 @@ impl Write for Closed {
 }
 
 // The status of these words, and whether all is taken that they print to such a writer, and to another such one as a fault.
-fn unheard<R: Threads + Wait + Sync>(rt: &R, alloc: Global, words: &[String]) -> (u8, bool, bool) {
+fn unheard<R: Clock + Threads + Wait + Sync>(
+    rt: &R,
+    alloc: Global,
+    words: &[String],
+) -> (u8, bool, bool) {
     let mut out = Printer::new(Closed);
     let mut err = Printer::new(Closed);
     let status = act(

@@ -18,6 +18,7 @@ use std::alloc::{AllocError, Global};
 use std::process::Abort;
 use std::sync::Wait;
 use std::thread::Threads;
+use std::time::Clock;
 
 // What was printed, and how much of it is told.
 #[derive(Drop)]
@@ -37,7 +38,7 @@ struct Stage {
 }
 
 /// Plays the script, each line of which has to hold.
-pub(crate) fn play<R: Abort + Threads + Wait + Sync>(rt: &R, alloc: Global, script: &str) {
+pub(crate) fn play<R: Abort + Clock + Threads + Wait + Sync>(rt: &R, alloc: Global, script: &str) {
     let mut stage = Stage {
         files: MemoryFiles::new(alloc),
         status: 0,
@@ -54,7 +55,12 @@ pub(crate) fn play<R: Abort + Threads + Wait + Sync>(rt: &R, alloc: Global, scri
 }
 
 // Whether the line holds; what it puts or asks for is done.
-fn holds<R: Threads + Wait + Sync>(rt: &R, alloc: Global, stage: &mut Stage, line: &str) -> bool {
+fn holds<R: Clock + Threads + Wait + Sync>(
+    rt: &R,
+    alloc: Global,
+    stage: &mut Stage,
+    line: &str,
+) -> bool {
     let Some((verb, rest)) = line.split_once(' ') else {
         return line.is_empty();
     };
@@ -162,7 +168,12 @@ fn known_part<'a>(files: &'a MemoryFiles, part: &'a str) -> Option<&'a [u8]> {
 }
 
 // Runs the program for the words, the first of which is its name.
-fn ends<R: Threads + Wait + Sync>(rt: &R, alloc: Global, stage: &mut Stage, line: &str) -> bool {
+fn ends<R: Clock + Threads + Wait + Sync>(
+    rt: &R,
+    alloc: Global,
+    stage: &mut Stage,
+    line: &str,
+) -> bool {
     match words_of(alloc, line) {
         Ok(words) => {
             run(rt, alloc, stage, &words);
@@ -187,7 +198,12 @@ fn word_of(alloc: Global, word: &str) -> Result<String, AllocError> {
     }
 }
 
-fn run<R: Threads + Wait + Sync>(rt: &R, alloc: Global, stage: &mut Stage, words: &[String]) {
+fn run<R: Clock + Threads + Wait + Sync>(
+    rt: &R,
+    alloc: Global,
+    stage: &mut Stage,
+    words: &[String],
+) {
     let mut out = Printer::new(Vec::new(alloc));
     let mut err = Printer::new(Vec::new(alloc));
     stage.status = act(rt, alloc, &mut stage.files, words, &mut out, &mut err);

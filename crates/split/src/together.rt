@@ -1,0 +1,142 @@
+ghost use Rattle.std.specs.Prelude.{◌≡◌, ◌≤◌, [], length, IfOk};
+ghost use Rattle.rows.specs.Fold.{replies_to, rows_after};
+ghost use Rattle.cursors.specs.CursorRule.{publisher};
+ghost use Rattle.workers.specs.Started.{IsStarted};
+
+use crate::board::{Board, Storage};
+use crate::place::Place;
+use crate::room::Room;
+use crate::turns::Worker;
+use cursors::{CursorSeat, Cursors};
+use fold::{Outcome, Prefix};
+use ledger::Ledger;
+use rows::{Book, Frame};
+use rules::decide_all;
+use std::alloc::{AllocError, Global};
+use std::marker::Brand;
+use std::sync::Wait;
+use std::thread;
+use std::thread::Threads;
+use view::Decide;
+use workers::{Gate, Workers};
+
+/// Decides bodies on several threads, through slots, shards and the ledger. The gate is told of them by their place in the batch, where
+/// the first of them has this place.
+pub(crate) fn decide_together<R: Threads + Wait + Sync, F: Decide + Sync, G: Gate>(
+    rt: &R,
+    alloc: Global,
+    book: &Book,
+    frames: &[Frame],
+    first: u32,
+    workers: Workers,
+    decision: &F,
+    gate: &G,
+) -> Result<Outcome, AllocError>
+    requires { length frames.now ≤ 65536 }
+    ensures replies { IfOk result (λ outcome. outcome.replies.items ≡ replies_to book.now frames.now) }
+    ensures book { IfOk result (λ outcome. outcome.book ≡ rows_after book.now frames.now) }
+    ensures started { IfOk result (λ outcome. IsStarted outcome.started workers) }
+    ensures committed { IfOk result (λ outcome. outcome.committed ≤ length frames.now) }
+{
+    let storage = Storage::new(alloc, frames.len())?;
+    let (cursors, seat) = Cursors::new(alloc, frames.len() as u64)?;
+    let ledger = Ledger::new(alloc, book, frames)?;
+    let (ledger, started) = ledger_of::<Brand, R, F, G>(
+        rt, alloc, book, frames, first, workers, decision, gate, cursors, seat, ledger, storage,
+    );
+    outcome_of(alloc, ledger, frames, started)
+}
+
+// The ledger as the workers leave it, and how many threads took part.
+fn ledger_of<'a, B: Room + Send + Sync, R: Threads + Wait + Sync, F: Decide + Sync, G: Gate>(
+    rt: &R,
+    alloc: Global,
+    book: &'a Book,
+    frames: &'a [Frame],
+    first: u32,
+    workers: Workers,
+    decision: &F,
+    gate: &G,
+    cursors: Cursors,
+    seat: CursorSeat,
+    ledger: Ledger<'a>,
+    storage: Storage,
+) -> (Ledger<'a>, u32)
+    requires batch { (ledger.opening ≡ B.opening) × (ledger.frames ≡ B.frames) }
+    requires table { (cursors ≡ B.table) × (seat.table_id ≡ B.table) }
+    requires first { seat.me ≡ (publisher (length ledger.frames), []) }
+    requires slots { length storage.slots.items ≡ length ledger.frames }
+    ensures opening { result.0.opening ≡ B.opening }
+    ensures frames { result.0.frames ≡ B.frames }
+    ensures started { IsStarted result.1 workers }
+{
+    let (board, place): (Board<'a, B>, _) = Board::new(alloc, cursors, seat, ledger, storage);
+    let worker = Worker {
+        rt,
+        alloc,
+        board: &board,
+        book,
+        frames,
+        first,
+        decision,
+        gate,
+    };
+    let started = work_together(&worker, place, workers);
+    (board.into_ledger(), started)
+}
+
+// Starts the other workers and works as the first; the answer is how many took part.
+fn work_together<B: Room + Send + Sync, R: Threads + Wait + Sync, F: Decide + Sync, G: Gate>(
+    worker: &Worker<'_, '_, B, R, F, G>,
+    mut place: Place<B>,
+    workers: Workers,
+) -> u32
+    ensures { IsStarted result workers }
+{
+    let count = workers.count();
+    thread::scope(
+        thread::scope_env(),
+        worker.rt,
+        move |scope| -> u32
+            requires { IsStarted count 64 }
+            ensures { IsStarted result count }
+        {
+            let mut started = 1u32;
+            for _number in 1..count {
+                let other = place.another(worker.board);
+                if scope.spawn(move || worker.work(other)).is_ok() {
+                    started += 1;
+                }
+            }
+            worker.work(place);
+            started
+        },
+    )
+}
+
+// What the ledger has, which the workers committed, then what they left, decided one after another.
+#[tactic(auto, using(crate::proofs::Rest::rows_of_both, crate::proofs::Rest::replies_of_both))]
+fn outcome_of(
+    alloc: Global,
+    ledger: Ledger<'_>,
+    frames: &[Frame],
+    started: u32,
+) -> Result<Outcome, AllocError>
+    requires few { length frames.now ≤ 65536 }
+    requires frames { ledger.frames ≡ frames.now }
+    ensures replies { IfOk result (λ outcome. outcome.replies.items ≡ replies_to ledger.entry.opening frames.now) }
+    ensures book { IfOk result (λ outcome. outcome.book ≡ rows_after ledger.entry.opening frames.now) }
+    ensures started { IfOk result (λ outcome. outcome.started ≡ started) }
+    ensures kept { IfOk result (λ outcome. outcome.committed ≡ ledger.entry.count) }
+    ensures committed { IfOk result (λ outcome. outcome.committed ≤ length frames.now) }
+{
+    let prefix = ledger.into_prefix();
+    let committed = prefix.count;
+    let Prefix { book, replies, .. } = decide_all(alloc, prefix, frames)?;
+    Ok(Outcome {
+        replies,
+        book,
+        started,
+        committed,
+    })
+}
