@@ -13,7 +13,7 @@ use std::time::Clock;
 use view::Decide;
 use workers::{Gate, Workers};
 
-// So few messages are shared without a look at the clock, which tells little of them.
+// So few messages are decided together without a look at the clock. What one worker alone would gain on them was not measured.
 const FEW: usize = 1024;
 
 /// Decides a batch of at most 65,536 bodies on several threads that share no one lock (Block-STM). Whatever the number of workers,

@@ -5,7 +5,7 @@ use workers::Workers;
 const PIECE: u32 = 32;
 
 // Where a piece takes longer, in microseconds, its decisions are heavy: more than 8 each. To hand a message to another thread and take
-// back what it put costs about 5, and more on a busy machine.
+// back what it put costs 5 to 7. Other bounds were not measured.
 const LIGHT: u64 = 256;
 
 // After so many heavy pieces in a row the decisions are heavy. One alone may be a thread that the system held up.

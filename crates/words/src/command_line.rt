@@ -211,13 +211,18 @@ fn files_line<'a>(
 fn with_engine<'a>(alloc: Global, line: Command<'a>) -> Result<Command<'a>, AllocError>
     ensures { (app : _) → IsLine app line.entry → IfOk result (IsLine (with_engine app)) }
 {
-    let workers = setting(alloc, "workers", "N", "How many threads decide: 1 to 64");
+    let workers = setting(
+        alloc,
+        "workers",
+        "N",
+        "How many threads may decide: 1 to 64",
+    );
     let counted = line.arg(workers.default_value("4"))?;
     let engine = setting(
         alloc,
         "engine",
         "ENGINE",
-        "How they share their work: locked, all of it under one lock; split, each row, message and commit under a lock of its own",
+        "How they share their work: locked, all of it under one lock; split, each row, message and commit under a lock of its own, and of a long batch only what takes long to decide",
     );
     counted.arg(engine.default_value("locked"))
 }
