@@ -1,5 +1,5 @@
 -- Reading bodies one after the other, as a loop does.
-use Rattle.std.proofs.Common.{◌≡◌, ℕ, suc, ◌-◌, ◌+◌, ◌≤◌, ◌<◌, List, [], ◌∷◌, ◌++◌, length, Result, Ok, Err, refl, sym, ap, ◌∙◌, append_assoc, arith}
+use Rattle.std.proofs.Common.{◌≡◌, ℕ, zero, suc, ◌-◌, ◌+◌, ◌≤◌, ◌<◌, List, [], ◌∷◌, ◌++◌, length, Result, Ok, Err, refl, sym, ap, ◌∙◌, append_assoc, arith}
 use Rattle.std.specs.Prelude.{IsTrue}
 use Rattle.std.proofs.lemmas.List.{append-nil}
 use Rattle.rows.specs.declared.frame.Frame.{Frame}
@@ -90,3 +90,64 @@ pub end_fails : (magic bytes : List ℕ) (count : ℕ) (behind : List ℕ) (bodi
     → ended left ≡ Err e → bodies_of magic bytes ≡ Err e
 unfolding bodies_of
 end_fails magic bytes count behind bodies left e head read end = rw (head, read, end) refl
+
+-- one more body in front of those that were read
+abbrev before_them : List ℕ → Bodies × List ℕ → Read
+before_them body x = Ok (body ∷ x.0, x.1)
+
+-- so many more bodies behind those that were read
+abbrev behind_them : ℕ → Bodies × List ℕ → Read
+behind_them m x = with_front x.0 (bodies_at m x.1)
+
+consed : (body : List ℕ) (front : Bodies) (read : Read) → (with_front front read >>= before_them body) ≡ with_front (body ∷ front) read
+consed body front (Ok x) = refl
+consed body front (Err e) = refl
+
+consed_both : (body : List ℕ) (m : ℕ) (read : Read) → ((read >>= behind_them m) >>= before_them body) ≡ ((read >>= before_them body) >>= behind_them m)
+consed_both body m (Ok x) = consed body x.0 (bodies_at m x.1)
+consed_both body m (Err e) = refl
+
+-- a body and those behind it
+abbrev one_and : (List ℕ → Read) → List ℕ × List ℕ → Read
+one_and others body = others body.1 >>= before_them body.0
+
+behind_one : (k m : ℕ) (read : Result (List ℕ × List ℕ) BatchFault) → ((bytes : List ℕ) → bodies_at (k + m) bytes ≡ (bodies_at k bytes >>= behind_them m))
+    → (read >>= one_and (bodies_at (k + m))) ≡ ((read >>= one_and (bodies_at k)) >>= behind_them m)
+behind_one k m (Ok body) both = ap (λ (read : Read). read >>= before_them body.0) (both body.1) ∙ consed_both body.0 m (bodies_at k body.1)
+behind_one k m (Err e) both = refl
+
+-- so many bodies and then so many more are read as all of them
+in_two : (k m : ℕ) (bytes : List ℕ) → bodies_at (k + m) bytes ≡ (bodies_at k bytes >>= behind_them m)
+unfolding bodies_at
+in_two zero m bytes =
+    let none : 0 + m ≡ m = omega arith in
+    rw none (sym (no_front (bodies_at m bytes)))
+in_two (suc k) m bytes =
+    let one : suc k + m ≡ suc (k + m) = omega arith in
+    rw one (behind_one k m (body_at bytes) (in_two k m))
+
+are_both : (bodies more : Bodies) (frames others : List Frame) → AreFramesOf bodies frames → AreFramesOf more others → AreFramesOf (bodies ++ more) (frames ++ others)
+are_both [] more [] others here there = there
+are_both [] more (f ∷ frames) others here there = absurd here
+are_both (b ∷ bodies) more [] others here there = absurd here
+are_both (b ∷ bodies) more (f ∷ frames) others here there = (here.0, are_both bodies more frames others here.1 there)
+
+fronts : (front more : Bodies) (read : Read) → with_front front (with_front more read) ≡ with_front (front ++ more) read
+fronts front more (Ok x) = ap (λ (ns : Bodies). Ok (ns, x.1)) (sym (append_assoc front more x.0))
+fronts front more (Err e) = refl
+
+-- so many bodies were read at once
+pub goes_on_by : (frames others : List Frame) (k m : ℕ) (bytes : List ℕ) (more : Bodies) (after : List ℕ) (total : Read) → bodies_at k bytes ≡ Ok (more, after) → AreFramesOf more others
+    → SoFar frames (k + m) bytes total → SoFar (frames ++ others) m after total
+goes_on_by frames others k m bytes more after total read are so_far =
+    let done = so_far.0 in
+    let two : bodies_at (k + m) bytes ≡ with_front more (bodies_at m after) = in_two k m bytes ∙ ap (λ (read : Read). read >>= behind_them m) read in
+    let one : with_front done (bodies_at (k + m) bytes) ≡ with_front (done ++ more) (bodies_at m after) = ap (with_front done) two ∙ fronts done more (bodies_at m after) in
+    (done ++ more, are_both done more frames others so_far.1 are, sym one ∙ so_far.2)
+
+-- or one of them couldn't be
+pub ends_by : (e : BatchFault) (frames : List Frame) (k m : ℕ) (bytes : List ℕ) (total : Read) → (IsTrue (is_of_bytes e) → bodies_at k bytes ≡ Err e)
+    → SoFar frames (k + m) bytes total → IsTrue (is_of_bytes e) → total ≡ Err e
+ends_by e frames k m bytes total fails so_far of_bytes =
+    let two : bodies_at (k + m) bytes ≡ Err e = in_two k m bytes ∙ ap (λ (read : Read). read >>= behind_them m) (fails of_bytes) in
+    sym so_far.2 ∙ ap (with_front so_far.0) two

@@ -4,3 +4,4 @@ pub mod Bodies
 pub mod Processing
 pub mod Blocks
 pub mod BlockFiles
+pub mod InOrder

@@ -2,6 +2,7 @@ ghost use Rattle.std.specs.Prelude.{◌≡◌, ◌+◌, ◌<◌, ◌≤◌, ◌^
 ghost use Rattle.batch_laws.specs.BatchFault.{failures_after};
 ghost use Rattle.batch_laws.specs.Reading.{GivesWhole, bodies_at, ended};
 ghost use Rattle.batch_laws.specs.Frames.{IsFrameOf, GivesFrames, GivesBatch};
+ghost use Rattle.batch.specs.InOrder.{GivesInto};
 ghost use Rattle.batch.specs.Window.{ahead};
 
 use crate::window::Window;
@@ -40,6 +41,28 @@ impl Window {
         }
     }
 
+    /// Reads the frames of the next bodies, so many, over the memory of others.
+    pub(crate) fn read_into<R: Source>(
+        &mut self,
+        source: &mut R,
+        count: u32,
+        frames: &mut Vec<Frame>,
+    ) -> Result<(), BatchFault>
+        requires room { R.failures source.old + 1 < 2 ^ 64 }
+        ensures failures { R.failures source.new ≡ failures_after result (R.failures source.old) }
+        ensures known { R.is_known source.old → R.is_known source.new }
+        ensures count { OnOk result (vec_len frames.new ≡ count) }
+        ensures gives { R.is_known source.old → GivesInto result frames.new.items
+            (ahead self.new (R.remaining source.new)) (bodies_at count (ahead self.old (R.remaining source.old))) }
+    {
+        frames.clear();
+        for _ in 0..count {
+            self.read_body(source)?;
+            frames.push(frame_of(&self.field))?;
+        }
+        Ok(())
+    }
+
     /// The frames of the next bodies, so many.
     pub(crate) fn read_frames<R: Source>(
         &mut self,
@@ -55,10 +78,7 @@ impl Window {
             (ahead self.new (R.remaining source.new)) (bodies_at count (ahead self.old (R.remaining source.old))) }
     {
         let mut frames = Vec::new(alloc);
-        for _ in 0..count {
-            self.read_body(source)?;
-            frames.push(frame_of(&self.field))?;
-        }
+        self.read_into(source, count, &mut frames)?;
         Ok(frames)
     }
 

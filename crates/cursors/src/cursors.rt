@@ -36,12 +36,17 @@ impl Model for Cursors {
 }
 
 impl Cursors {
-    /// Cursors for a batch of so many messages, none of which is executed, done, or to be validated, and the one seat that may raise done.
-    pub fn new(alloc: Global, messages: u64) -> Result<(Cursors, CursorSeat), AllocError>
+    /// Cursors for a batch of so many messages, none of which is done or to be validated, and the one seat that may raise done. The first
+    /// message to be executed is the one at this index.
+    pub fn new(
+        alloc: Global,
+        first: u64,
+        messages: u64,
+    ) -> Result<(Cursors, CursorSeat), AllocError>
         ensures seat { IfOk result (λ made. made.1.table_id ≡ made.0) }
         ensures publisher { IfOk result (λ made. made.1.me ≡ (publisher messages, [])) }
     {
-        let (table, seat) = Table::of_words(alloc, &[0, messages, 0], &messages)?;
+        let (table, seat) = Table::of_words(alloc, &[first, messages, 0], &messages)?;
         Ok((Cursors { table }, seat))
     }
 

@@ -29,8 +29,8 @@ impl Prefix {
         Ok((reads, writes))
     }
 
-    // Decides these bodies, one after another.
-    fn decide_each<F: Decide>(
+    /// Decides these bodies too, one after another, by any local decision. After an error the prefix is of no use.
+    pub fn decide_each<F: Decide>(
         &mut self,
         alloc: Global,
         frames: &[Frame],

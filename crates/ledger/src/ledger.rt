@@ -1,5 +1,6 @@
-ghost use Rattle.std.specs.Prelude.{◌≡◌, ◌≢◌, ◌≤◌, ◌↔◌, [], Ok, IfOk, IsTrue, length};
-ghost use Rattle.ledger.specs.Progress.{opened, further, book_of, replies_of, IsNext};
+ghost use Rattle.std.specs.Prelude.{◌≡◌, ◌≢◌, ◌≤◌, ◌↔◌, [], Ok, IfOk, IsTrue, length, take};
+ghost use Rattle.rows.specs.Fold.{rows_after, replies_to};
+ghost use Rattle.ledger.specs.Progress.{opened, begun, further, book_of, replies_of, IsNext};
 ghost use Rattle.ledger.specs.declared.verdict.Verdict.TheVariants.{Committed, Stale};
 
 use crate::agreement::agrees;
@@ -51,6 +52,22 @@ impl<'a> Ledger<'a> {
             frames,
             prefix: empty_prefix(alloc, opening, frames.len())?,
         })
+    }
+
+    /// A ledger of this batch, at most 65,536 bodies, in which the first messages are committed already: this prefix has their replies and
+    /// the book after them.
+    pub fn behind(opening: &'a Book, frames: &'a [Frame], first: Prefix) -> Ledger<'a>
+        requires few { length frames.now ≤ 65536 }
+        requires within { first.count ≤ length frames.now }
+        requires book { first.book ≡ rows_after opening.now (take first.count frames.now) }
+        requires replies { first.replies.items ≡ replies_to opening.now (take first.count frames.now) }
+        ensures { result ≡ begun opening.now frames.now first.count }
+    {
+        Ledger {
+            opening,
+            frames,
+            prefix: first,
+        }
     }
 
     /// How many messages are committed, which are no more than there are.

@@ -5,6 +5,7 @@ ghost use Rattle.workers.specs.Started.{IsStarted};
 use crate::together::decide_together;
 use crate::watch::Watch;
 use fold::{Outcome, PlainRows, Prefix};
+use ledger::Ledger;
 use rows::{Book, Frame, Places};
 use rules::decide_all;
 use std::alloc::{AllocError, Global};
@@ -36,9 +37,10 @@ pub(crate) fn decide_alone<R: Clock + Threads + Wait + Sync, F: Decide + Sync, G
     let mut watch = Watch::new(workers);
     let prefix = decide_first(rt, alloc, book, frames, &mut watch, decision, gate)?;
     let committed = prefix.count;
-    let (_, rest) = frames.split_at(committed as usize);
-    if watch.is_heavy() && !rest.is_empty() {
-        return share(rt, alloc, prefix, rest, workers, decision, gate);
+    if watch.is_heavy() && (committed as usize) < frames.len() {
+        let seen = prefix.book.copy()?;
+        let ledger = Ledger::behind(book, frames, prefix);
+        return decide_together(rt, alloc, &seen, frames, ledger, workers, decision, gate);
     }
     let Prefix { book, replies, .. } = decide_all(alloc, prefix, frames)?;
     Ok(Outcome {
@@ -46,37 +48,6 @@ pub(crate) fn decide_alone<R: Clock + Threads + Wait + Sync, F: Decide + Sync, G
         book,
         started: 1,
         committed,
-    })
-}
-
-// Decides the bodies behind these first ones by all workers together.
-fn share<R: Threads + Wait + Sync, F: Decide + Sync, G: Gate>(
-    rt: &R,
-    alloc: Global,
-    first: Prefix,
-    rest: &[Frame],
-    workers: Workers,
-    decision: &F,
-    gate: &G,
-) -> Result<Outcome, AllocError>
-    requires few { first.count + length rest.now ≤ 65536 }
-    ensures replies { IfOk result (λ outcome. outcome.replies.items ≡ first.replies.items ++ replies_to first.book rest.now) }
-    ensures book { IfOk result (λ outcome. outcome.book ≡ rows_after first.book rest.now) }
-    ensures started { IfOk result (λ outcome. IsStarted outcome.started workers) }
-    ensures committed { IfOk result (λ outcome. outcome.committed ≤ first.count + length rest.now) }
-{
-    let Prefix {
-        count,
-        book,
-        mut replies,
-    } = first;
-    let mut shared = decide_together(rt, alloc, &book, rest, count, workers, decision, gate)?;
-    replies.append(&mut shared.replies)?;
-    Ok(Outcome {
-        replies,
-        book: shared.book,
-        started: shared.started,
-        committed: count + shared.committed,
     })
 }
 

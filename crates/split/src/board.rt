@@ -64,7 +64,8 @@ impl<'a, B: Room> Board<'a, B> {
         ensures slots { length result.0.slots.items ≡ length ledger.entry.frames }
     {
         let place = Place::new(alloc, cursors.another(&mut seat));
-        let desk = Desk::new(Published::new(ledger, seat));
+        let mut desk = Desk::new(Published::new(ledger, seat));
+        desk.publish(&cursors);
         let Storage { slots, shards } = storage;
         let board = Board {
             cursors,

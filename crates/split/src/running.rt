@@ -5,6 +5,7 @@ ghost use Rattle.workers.specs.Started.{IsStarted};
 use crate::alone::decide_alone;
 use crate::together::decide_together;
 use fold::Outcome;
+use ledger::Ledger;
 use rows::{Book, Frame};
 use std::alloc::{AllocError, Global};
 use std::sync::Wait;
@@ -38,7 +39,8 @@ pub fn run_split<R: Clock + Threads + Wait + Sync, F: Decide + Sync, G: Gate>(
     ensures committed { IfOk result (λ outcome. outcome.committed ≤ length frames.now) }
 {
     if workers.count() > 1 && frames.len() <= FEW {
-        return decide_together(rt, alloc, book, frames, 0, workers, decision, gate);
+        let ledger = Ledger::new(alloc, book, frames)?;
+        return decide_together(rt, alloc, book, frames, ledger, workers, decision, gate);
     }
     decide_alone(rt, alloc, book, frames, workers, decision, gate)
 }

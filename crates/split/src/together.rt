@@ -20,29 +20,30 @@ use std::thread::Threads;
 use view::Decide;
 use workers::{Gate, Workers};
 
-/// Decides bodies on several threads, through slots, shards and the ledger. The gate is told of them by their place in the batch, where
-/// the first of them has this place.
+/// Decides the messages that a ledger leaves on several threads, through slots, shards and the ledger. The rows that no execution put are
+/// seen in this book, which is the ledger's as it is now.
 pub(crate) fn decide_together<R: Threads + Wait + Sync, F: Decide + Sync, G: Gate>(
     rt: &R,
     alloc: Global,
-    book: &Book,
+    seen: &Book,
     frames: &[Frame],
-    first: u32,
+    ledger: Ledger<'_>,
     workers: Workers,
     decision: &F,
     gate: &G,
 ) -> Result<Outcome, AllocError>
-    requires { length frames.now ≤ 65536 }
-    ensures replies { IfOk result (λ outcome. outcome.replies.items ≡ replies_to book.now frames.now) }
-    ensures book { IfOk result (λ outcome. outcome.book ≡ rows_after book.now frames.now) }
+    requires few { length frames.now ≤ 65536 }
+    requires frames { ledger.frames ≡ frames.now }
+    ensures replies { IfOk result (λ outcome. outcome.replies.items ≡ replies_to ledger.entry.opening frames.now) }
+    ensures book { IfOk result (λ outcome. outcome.book ≡ rows_after ledger.entry.opening frames.now) }
     ensures started { IfOk result (λ outcome. IsStarted outcome.started workers) }
     ensures committed { IfOk result (λ outcome. outcome.committed ≤ length frames.now) }
 {
     let storage = Storage::new(alloc, frames.len())?;
-    let (cursors, seat) = Cursors::new(alloc, frames.len() as u64)?;
-    let ledger = Ledger::new(alloc, book, frames)?;
+    let first = u64::from(ledger.count());
+    let (cursors, seat) = Cursors::new(alloc, first, frames.len() as u64)?;
     let (ledger, started) = ledger_of::<Brand, R, F, G>(
-        rt, alloc, book, frames, first, workers, decision, gate, cursors, seat, ledger, storage,
+        rt, alloc, seen, frames, workers, decision, gate, cursors, seat, ledger, storage,
     );
     outcome_of(alloc, ledger, frames, started)
 }
@@ -51,9 +52,8 @@ pub(crate) fn decide_together<R: Threads + Wait + Sync, F: Decide + Sync, G: Gat
 fn ledger_of<'a, B: Room + Send + Sync, R: Threads + Wait + Sync, F: Decide + Sync, G: Gate>(
     rt: &R,
     alloc: Global,
-    book: &'a Book,
-    frames: &'a [Frame],
-    first: u32,
+    seen: &Book,
+    frames: &[Frame],
     workers: Workers,
     decision: &F,
     gate: &G,
@@ -75,9 +75,8 @@ fn ledger_of<'a, B: Room + Send + Sync, R: Threads + Wait + Sync, F: Decide + Sy
         rt,
         alloc,
         board: &board,
-        book,
+        seen,
         frames,
-        first,
         decision,
         gate,
     };

@@ -17,19 +17,18 @@ use workers::Gate;
 // So far behind the committed messages others are executed. Other bounds were not measured.
 const AHEAD: u64 = 64;
 
-// So many messages are committed before the workers are told of them.
+// Workers are told of commits so many at a time, and of the last one.
 const AT_ONCE: u32 = 16;
 
-/// What a worker works with: the board, the opening book, the bodies, the place of the first of them in the batch, the decision and the
-/// gate. Whatever it does or leaves undone, the ledger's type keeps what is committed right.
+/// What a worker works with: the board, the book in which rows are seen that no execution put, the bodies, the decision and the gate.
+/// Whatever it does or leaves undone, the ledger's type keeps what is committed right.
 #[derive(Drop)]
 pub(crate) struct Worker<'w, 'a, B: Room, R: Wait, F: Decide, G: Gate> {
     pub(crate) rt: &'w R,
     pub(crate) alloc: Global,
     pub(crate) board: &'w Board<'a, B>,
-    pub(crate) book: &'w Book,
+    pub(crate) seen: &'w Book,
     pub(crate) frames: &'w [Frame],
-    pub(crate) first: u32,
     pub(crate) decision: &'w F,
     pub(crate) gate: &'w G,
 }
@@ -115,23 +114,15 @@ impl<B: Room, R: Wait, F: Decide, G: Gate> Worker<'_, '_, B, R, F, G> {
             return Err(Leave::Stopped);
         }
         for _ in self.rt.forever() {
-            let may_be_more = self.commit_some(place, &mut **desk);
-            desk.publish(self.board.cursors());
-            if !may_be_more? {
+            if !self.commit_next(place, &mut **desk)? {
                 return Ok(());
+            }
+            let count = desk.count();
+            if count % AT_ONCE == 0 || count as usize == self.frames.len() {
+                desk.publish(self.board.cursors());
             }
         }
         unreachable!()
-    }
-
-    // Commits messages in their order, some at most, at the desk that the worker holds. Answers whether there may be more.
-    fn commit_some(&self, place: &mut Place<B>, desk: &mut Desk<'_, B>) -> Result<bool, Leave> {
-        for _ in 0..AT_ONCE {
-            if !self.commit_next(place, desk)? {
-                return Ok(false);
-            }
-        }
-        Ok(true)
     }
 
     // Commits the next message, where it can be. Answers whether it is committed.
@@ -222,8 +213,7 @@ impl<B: Room, R: Wait, F: Decide, G: Gate> Worker<'_, '_, B, R, F, G> {
         let Some(incarnation) = self.take(index) else {
             return Ok(());
         };
-        let at = self.first.saturating_add(index);
-        self.gate.before_decide(at, incarnation);
+        self.gate.before_decide(index, incarnation);
         match self.attempt(place, frame, index) {
             Ok(attempt) => self.record(place, Version { index, incarnation }, attempt),
             Err(Stop::Blocked(_)) => self.block(place, index),
@@ -238,44 +228,52 @@ impl<B: Room, R: Wait, F: Decide, G: Gate> Worker<'_, '_, B, R, F, G> {
     }
 
     // Decides a message on the rows that it sees, and logs whose they are.
-    fn attempt(&self, place: &mut Place<B>, frame: &Frame, index: u32) -> Result<Attempt, Stop> {
+    fn attempt(
+        &self,
+        place: &mut Place<B>,
+        frame: &Frame,
+        index: u32,
+    ) -> Result<Box<Attempt>, Stop> {
         let (reads, writes, log) = place.sets(self.rt, self.board)?;
-        let rows = ShardRows::new(self.rt, self.board.shards(), self.book, index, log);
+        let rows = ShardRows::new(self.rt, self.board.shards(), self.seen, index, log);
         let mut recorder = Recorder::over(rows, reads, writes);
         let reply = self.decision.decide(frame, &mut recorder)?;
         let (rows, reads, writes) = recorder.into_parts();
-        Ok(Attempt {
+        let attempt = Attempt {
             execution: Execution::new(*frame, reads, writes, reply),
             log: rows.into_log(),
-        })
+        };
+        Ok(Box::new(self.alloc, attempt)?)
     }
 
-    // Records what a message put and hands its execution in. It is validated at once, as other messages may have put rows meanwhile; and
-    // where a later one had put one of its rows before, all behind it are validated again.
+    // Records what a message put and hands its execution in. Where a later one had put one of its rows before, all behind it are validated
+    // again. Whether others put rows meanwhile that it read, whoever commits it asks the book.
     fn record(
         &self,
         place: &mut Place<B>,
         version: Version,
-        attempt: Attempt,
+        attempt: Box<Attempt>,
     ) -> Result<(), Leave> {
         let done = u32::try_from(place.done(self.board)).unwrap_or(0);
         let is_overtaken = self.hand_in(version, attempt, done)?;
         place.got_on();
         place.watch(version);
         let Version { index, incarnation } = version;
-        let at = self.first.saturating_add(index);
-        self.gate.after_record(at, incarnation);
+        self.gate.after_record(index, incarnation);
         if is_overtaken {
             place.lower_validate(self.board, index.saturating_add(1));
         }
-        self.validate(place, index)?;
         Ok(())
     }
 
     // Puts what an execution wrote into the shards, in place of what the former one did, and itself into its message's slot. Answers
     // whether a later message had put one of its rows before.
-    fn hand_in(&self, version: Version, attempt: Attempt, done: u32) -> Result<bool, AllocError> {
-        let attempt = Box::new(self.alloc, attempt)?;
+    fn hand_in(
+        &self,
+        version: Version,
+        attempt: Box<Attempt>,
+        done: u32,
+    ) -> Result<bool, AllocError> {
         let Some(mut slot) = self.board.slot(self.rt, version.index) else {
             return Ok(false);
         };

@@ -1,14 +1,26 @@
-//! Batch files that are decided one body after another.
+//! Batch files that are decided one body after another, in both ways.
 
 ghost use Rattle.std.specs.Prelude.{◌+◌, ◌<◌, ◌≤◌, ◌^◌, length};
 ghost use Rattle.batch.specs.Processing.{AnswersFold};
 
-use batch::{BatchFault, process};
+use batch::{BatchFault, process, process_in_order};
 use devices::{Sink, Source};
 use fold::{Outcome, Prefix};
 use rows::{Book, Frame};
-use rules::decide_all;
+use rules::{Shipped, decide_all};
 use std::alloc::{AllocError, Global};
+use std::thread::Threads;
+
+// How a batch is read and decided.
+#[derive(Clone, Copy, Debug)]
+pub(crate) enum Way {
+    // It is read whole and then decided.
+    Whole,
+    // It is decided while it is read.
+    InOrder,
+}
+
+pub(crate) const WAYS: [Way; 2] = [Way::Whole, Way::InOrder];
 
 fn decide_serially(alloc: Global, book: &Book, frames: &[Frame]) -> Result<Outcome, AllocError>
     requires { length frames.now ≤ 65536 }
@@ -24,7 +36,24 @@ fn decide_serially(alloc: Global, book: &Book, frames: &[Frame]) -> Result<Outco
 }
 
 // Reads a batch file, decides its bodies one after another and writes the reply file: the book after them.
-pub(crate) fn process_serially<R: Source, W: Sink>(
+pub(crate) fn process_serially<T: Threads, R: Source, W: Sink>(
+    rt: &T,
+    alloc: Global,
+    way: Way,
+    book: &Book,
+    source: &mut R,
+    sink: &mut W,
+) -> Result<Book, BatchFault>
+    requires source { R.failures source.old + 1 < 2 ^ 64 }
+    requires sink { W.failures sink.old + 1 < 2 ^ 64 }
+{
+    match way {
+        Way::Whole => process_whole(alloc, book, source, sink),
+        Way::InOrder => process_while_reading(rt, alloc, book, source, sink),
+    }
+}
+
+fn process_whole<R: Source, W: Sink>(
     alloc: Global,
     book: &Book,
     source: &mut R,
@@ -39,6 +68,23 @@ pub(crate) fn process_serially<R: Source, W: Sink>(
     { decide_serially(alloc, book, frames) };
     match process(alloc, book, source, sink, &decide) {
         Ok(outcome) => Ok(outcome.book),
+        Err(fault) => Err(fault),
+    }
+}
+
+fn process_while_reading<T: Threads, R: Source, W: Sink>(
+    rt: &T,
+    alloc: Global,
+    book: &Book,
+    source: &mut R,
+    sink: &mut W,
+) -> Result<Book, BatchFault>
+    requires source { R.failures source.old + 1 < 2 ^ 64 }
+    requires sink { W.failures sink.old + 1 < 2 ^ 64 }
+{
+    let book = book.copy()?;
+    match process_in_order(rt, alloc, book, source, sink, &Shipped) {
+        Ok(prefix) => Ok(prefix.book),
         Err(fault) => Err(fault),
     }
 }

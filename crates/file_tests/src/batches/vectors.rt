@@ -1,14 +1,15 @@
 //! Files byte for byte.
 
-use crate::batches::serial::process_serially;
+use crate::batches::serial::{WAYS, Way, process_serially};
 use crate::batches::texts::{BATCH, EMPTY, EMPTY_REPLIES, REPLIES, SHORT, SHORT_REPLIES};
 use batch::{read_batch, read_replies, write_batch, write_replies};
 use codec::decode_reply;
 use devices::{FromRead, IntoWrite};
-use fixtures::{first_book_with, has_row};
+use fixtures::{count_of, first_book_with, has_row};
 use rows::{Book, Frame, ReplyBody};
 use std::alloc::{AllocError, Global};
 use std::test::Fail;
+use std::thread::Threads;
 
 // Batches, their replies, and a row of the book after them.
 const ANSWERED: &[(&[u8], &[u8], &str)] = &[
@@ -17,10 +18,16 @@ const ANSWERED: &[(&[u8], &[u8], &str)] = &[
     (SHORT, SHORT_REPLIES, "account A 10000 978"),
 ];
 
-fn is_answered(alloc: Global, book: &Book, batch: &[u8], replies: &[u8], row: &str) -> bool {
+fn is_answered<T: Threads>(
+    rt: &T,
+    alloc: Global,
+    way: Way,
+    book: &Book,
+    (batch, replies, row): (&[u8], &[u8], &str),
+) -> bool {
     let mut source = FromRead::new(batch);
     let mut sink = IntoWrite::new(Vec::new(alloc));
-    match process_serially(alloc, book, &mut source, &mut sink) {
+    match process_serially(rt, alloc, way, book, &mut source, &mut sink) {
         Ok(after) => sink.writer().as_slice() == replies && has_row(&after, row),
         Err(_) => false,
     }
@@ -29,11 +36,59 @@ fn is_answered(alloc: Global, book: &Book, batch: &[u8], replies: &[u8], row: &s
 #[test]
 fn batches_are_answered_byte_for_byte(rt: HostRuntime) -> Result<(), Fail> {
     let book = first_book_with(rt.alloc(), &[])?;
-    for (batch, replies, row) in ANSWERED {
+    for way in WAYS {
+        for answered in ANSWERED {
+            assert!(rt;
+                is_answered(&rt, rt.alloc(), way, &book, *answered),
+                "{way:?} {answered:?}"
+            );
+        }
+    }
+    Ok(())
+}
+
+// So many bodies that some are decided while others are read, and the last one stands alone behind whole pieces.
+const MANY: usize = 8193;
+
+// A batch of so many bodies, all of them the request of the one batch.
+fn long_batch(alloc: Global) -> Result<Vec<u8>, AllocError> {
+    let mut bodies = Vec::new(alloc);
+    for _ in 0..MANY {
+        bodies.push(Vec::from_slice(alloc, BATCH.get(12..).unwrap_or(BATCH))?)?;
+    }
+    let mut sink = IntoWrite::new(Vec::new(alloc));
+    write_batch(alloc, &bodies, &mut sink).map_err(|_| AllocError)?;
+    Ok(sink.into_writer())
+}
+
+// The replies to a batch that is decided on this book.
+fn replies_by<T: Threads>(
+    rt: &T,
+    alloc: Global,
+    way: Way,
+    book: &Book,
+    batch: &[u8],
+) -> Option<Vec<ReplyBody>> {
+    let mut source = FromRead::new(batch);
+    let mut sink = IntoWrite::new(Vec::new(alloc));
+    process_serially(rt, alloc, way, book, &mut source, &mut sink).ok()?;
+    let mut written = sink.writer().as_slice();
+    read_replies(alloc, &mut written).ok()
+}
+
+#[test]
+fn a_long_batch_is_answered(rt: HostRuntime) -> Result<(), Fail> {
+    let book = first_book_with(rt.alloc(), &[])?;
+    let batch = long_batch(rt.alloc())?;
+    for way in WAYS {
+        let replies = replies_by(&rt, rt.alloc(), way, &book, &batch).ok_or("replies")?;
+        assert!(rt; replies.len() == MANY, "{way:?}");
+        // The first is approved, and all others are duplicates of it.
         assert!(rt;
-            is_answered(rt.alloc(), &book, batch, replies, row),
-            "{batch:?}"
+            count_of(rt.alloc(), &replies, "000/000001") == 1,
+            "{way:?}"
         );
+        assert!(rt; count_of(rt.alloc(), &replies, "913") == 8192, "{way:?}");
     }
     Ok(())
 }

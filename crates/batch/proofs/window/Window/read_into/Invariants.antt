@@ -2,7 +2,7 @@ use Rattle.std.proofs.Common.{◌≡◌, ◌-◌, length}
 use Rattle.batch_laws.specs.Reading.{bodies_at}
 use Rattle.batch.specs.Window.{ahead}
 use Rattle.batch.proofs.ReadBodies.{SoFar}
-use Rattle.batch.proofs.window.Window.read_frames.Given as goal
+use Rattle.batch.proofs.window.Window.read_into.Given as goal
 
 abbrev pub invariant-loop : goal.invariant-loop
 invariant-loop g l = record {

@@ -3,14 +3,14 @@ use Rattle.std.proofs.lemmas.Result.{err_from_is_err_and}
 use Rattle.batch_laws.specs.Reading.{bodies_at}
 use Rattle.batch.specs.Window.{ahead}
 use Rattle.batch.proofs.ReadBodies.{starts, goes_on, ends, is_done}
-use Rattle.batch.proofs.window.Window.read_frames.Goals as goal
+use Rattle.batch.proofs.window.Window.read_into.Goals as goal
 
 pub loop-init : goal.loop-init
 loop-init g c = record {
   kept = search rules;
   known = λ known. known;
   count = search rules;
-  frames = λ known. starts c.args.count _ c.new-frames.result.items _ c.new-frames.ensures.items (omega arith);
+  frames = λ known. starts c.args.count _ c.clear.new.self.items _ c.clear.ensures.items (omega arith);
 }
 
 pub returns-in_err-read_body-clause-gives : goal.returns-in_err-read_body-clause-gives

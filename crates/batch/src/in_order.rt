@@ -1,0 +1,237 @@
+//! A batch that is decided in the order of its messages, while it is read.
+
+ghost use Rattle.std.specs.Prelude.{◌≡◌, ◌⊎◌, List, [], ◌+◌, ◌<◌, ◌≤◌, ◌^◌, ◌++◌, length, vec_len, IfOk, IfErr, OnOk, OnErr, IsTrue, Err};
+ghost use Rattle.rows.specs.Fold.{rows_after, replies_to};
+ghost use Rattle.rows.specs.declared.frame.Frame.{Frame};
+ghost use Rattle.batch_laws.specs.BatchFault.{failures_after, is_of_bytes};
+ghost use Rattle.batch_laws.specs.Reading.{bodies_at, bodies_of, batch_magic};
+ghost use Rattle.batch_laws.specs.Files.{replies_text};
+ghost use Rattle.batch_laws.specs.Frames.{IsBatchOf};
+ghost use Rattle.batch.specs.InOrder.{GivesInto, IsDecided, DecidesBodies, DecidesBatch, texts_of};
+ghost use Rattle.batch.specs.Window.{ahead};
+ghost use Rattle.batch.specs.Writing.{AppendsPart};
+
+use crate::replies::add_reply;
+use crate::window::Window;
+use crate::writing::{add_head, put_all};
+use batch_laws::BatchFault;
+use devices::{Sink, Source};
+use fold::Prefix;
+use rows::{Book, Frame, ReplyBody};
+use std::alloc::{AllocError, Global};
+use std::mem;
+use std::thread::{Threads, join_mut};
+use view::Decide;
+
+// So many bodies are read while as many are decided.
+const PIECE: u32 = 4096;
+
+/// A batch that was decided.
+#[derive(Drop)]
+pub struct Decided {
+    /// How many messages it has.
+    pub messages: u32,
+    /// The book after them.
+    pub book: Book,
+}
+
+// A batch that was decided, and the text of its reply file.
+#[derive(Drop)]
+pub(crate) struct Answered {
+    pub(crate) decided: Decided,
+    pub(crate) text: Vec<u8>,
+}
+
+// Appends the texts of replies, over memory for one of them.
+fn add_replies(
+    out: &mut Vec<u8>,
+    text: &mut Vec<u8>,
+    replies: &[ReplyBody],
+) -> Result<(), AllocError>
+    ensures { OnOk result (out.new.items ≡ out.old.items ++ texts_of replies.now) }
+{
+    for reply in replies {
+        add_reply(out, text, reply)?;
+    }
+    Ok(())
+}
+
+// A prefix of no body on this book, with room for a row of each of so many.
+fn roomy_prefix(alloc: Global, book: Book, messages: u32) -> Result<Prefix, AllocError>
+    ensures count { IfOk result (λ prefix. prefix.count ≡ 0) }
+    ensures book { IfOk result (λ prefix. prefix.book ≡ book) }
+    ensures replies { IfOk result (λ prefix. prefix.replies.items ≡ []) }
+{
+    let mut prefix = Prefix::new(alloc, book);
+    prefix.book.reserve(messages as usize)?;
+    Ok(prefix)
+}
+
+// Decides these frames in a thread of its own, and meanwhile appends the texts of the replies before theirs, and reads the next frames,
+// over the memory of others. Where none is left to be read, this thread decides.
+fn decide_and_read<T: Threads, R: Source, F: Decide + Sync>(
+    rt: &T,
+    alloc: Global,
+    prefix: &mut Prefix,
+    frames: &[Frame],
+    decision: &F,
+    window: &mut Window,
+    source: &mut R,
+    count: u32,
+    next: &mut Vec<Frame>,
+    replies: &[ReplyBody],
+    out: &mut Vec<u8>,
+    text: &mut Vec<u8>,
+) -> Result<(), BatchFault>
+    requires source { R.failures source.old + 1 < 2 ^ 64 }
+    requires few { prefix.old.count + length frames.now < 2 ^ 32 }
+    ensures failures { R.failures source.new ≡ failures_after result (R.failures source.old) }
+    ensures known { R.is_known source.old → R.is_known source.new }
+    ensures read { OnOk result (vec_len next.new ≡ count) }
+    ensures gives { R.is_known source.old → GivesInto result next.new.items
+        (ahead window.new (R.remaining source.new)) (bodies_at count (ahead window.old (R.remaining source.old))) }
+    ensures out { OnOk result (out.new.items ≡ out.old.items ++ texts_of replies.now) }
+    ensures count { OnOk result (prefix.new.count ≡ prefix.old.count + length frames.now) }
+    ensures book { OnOk result (prefix.new.book ≡ rows_after prefix.old.book frames.now) }
+    ensures replies { OnOk result (prefix.new.replies.items ≡ prefix.old.replies.items ++ replies_to prefix.old.book frames.now) }
+{
+    if count == 0 {
+        prefix.decide_each(alloc, frames, decision)?;
+        add_replies(out, text, replies)?;
+        return window.read_into(source, 0, next);
+    }
+    let (decided, read) = join_mut(
+        rt,
+        &mut || -> Result<(), AllocError>
+            requires { prefix.now.count + length frames.now < 2 ^ 32 }
+            ensures count { OnOk result (prefix.exit.now.count ≡ prefix.entry.now.count + length frames.entry.now) }
+            ensures book { OnOk result (prefix.exit.now.book ≡ rows_after prefix.entry.now.book frames.entry.now) }
+            ensures replies { OnOk result (prefix.exit.now.replies.items ≡ prefix.entry.now.replies.items ++ replies_to prefix.entry.now.book frames.entry.now) }
+        { prefix.decide_each(alloc, frames, decision) },
+        &mut || -> Result<(), BatchFault>
+            requires { R.failures source.now + 1 < 2 ^ 64 }
+            ensures failures { R.failures source.exit.now ≡ failures_after result (R.failures source.entry.now) }
+            ensures known { R.is_known source.entry.now → R.is_known source.exit.now }
+            ensures read { OnOk result (vec_len next.exit.now ≡ count) }
+            ensures out { OnOk result (out.exit.now.items ≡ out.entry.now.items ++ texts_of replies.entry.now) }
+            ensures gives { R.is_known source.entry.now → GivesInto result next.exit.now.items
+                (ahead window.exit.now (R.remaining source.exit.now)) (bodies_at count (ahead window.entry.now (R.remaining source.entry.now))) }
+        {
+            add_replies(out, text, replies)?;
+            window.read_into(source, count, next)
+        },
+    );
+    read?;
+    Ok(decided?)
+}
+
+// Reads the next bodies, so many, decides them on the book, and makes the text of their reply file.
+fn decide_bodies<T: Threads, R: Source, F: Decide + Sync>(
+    rt: &T,
+    alloc: Global,
+    book: Book,
+    decision: &F,
+    window: &mut Window,
+    source: &mut R,
+    count: u32,
+) -> Result<Answered, BatchFault>
+    requires source { R.failures source.old + 1 < 2 ^ 64 }
+    requires few { count ≤ 65536 }
+    ensures failures { R.failures source.new ≡ failures_after result (R.failures source.old) }
+    ensures known { R.is_known source.old → R.is_known source.new }
+    ensures decides { DecidesBodies book result (R.is_known source.old)
+        (ahead window.new (R.remaining source.new)) (bodies_at count (ahead window.old (R.remaining source.old))) }
+{
+    let mut prefix = roomy_prefix(alloc, book, count)?;
+    let mut frames = Vec::new(alloc);
+    let mut next = Vec::new(alloc);
+    let mut replies = Vec::new(alloc);
+    let mut out = Vec::new(alloc);
+    let mut text = Vec::new(alloc);
+    let mut left = count - count.min(PIECE);
+    add_head(&mut out, b"I83R", count)?;
+    window.read_into(source, count.min(PIECE), &mut frames)?;
+    while !frames.is_empty() {
+        let size = left.min(PIECE);
+        decide_and_read(
+            rt,
+            alloc,
+            &mut prefix,
+            &frames,
+            decision,
+            window,
+            source,
+            size,
+            &mut next,
+            &replies,
+            &mut out,
+            &mut text,
+        )?;
+        mem::swap(&mut frames, &mut next);
+        mem::swap(&mut replies, &mut prefix.replies);
+        prefix.replies.clear();
+        left -= size;
+    }
+    add_replies(&mut out, &mut text, &replies)?;
+    let Prefix { book, .. } = prefix;
+    Ok(Answered {
+        decided: Decided {
+            messages: count,
+            book,
+        },
+        text: out,
+    })
+}
+
+// Reads a batch file, all of the source, decides it on the book, and makes the text of its reply file.
+fn decide_batch<T: Threads, R: Source, F: Decide + Sync>(
+    rt: &T,
+    alloc: Global,
+    book: Book,
+    source: &mut R,
+    decision: &F,
+) -> Result<Answered, BatchFault>
+    requires source { R.failures source.old + 1 < 2 ^ 64 }
+    ensures failures { R.failures source.new ≡ failures_after result (R.failures source.old) }
+    ensures known { R.is_known source.old → R.is_known source.new }
+    ensures decides { DecidesBatch book result (R.is_known source.old) (R.remaining source.old) }
+    ensures end { OnOk result (R.is_known source.old → R.remaining source.new ≡ []) }
+{
+    let mut window = Window::new(alloc)?;
+    let count = window.read_head(source, b"I83B")?;
+    let answered = decide_bodies(rt, alloc, book, decision, &mut window, source, count)?;
+    window.read_end(source)?;
+    Ok(answered)
+}
+
+/// Reads a batch file, decides it on the book in the order of its messages, by any local decision, and writes the reply file. Messages
+/// are decided in a thread of their own while the next ones are read. All of the batch is read and decided before the first byte is put:
+/// a fault until then leaves the sink as it was, a fault while writing leaves a beginning of the text in it. `Device` is the fault
+/// exactly where a call of the source or of the sink failed.
+pub fn process_in_order<T: Threads, R: Source, W: Sink, F: Decide + Sync>(
+    rt: &T,
+    alloc: Global,
+    book: Book,
+    source: &mut R,
+    sink: &mut W,
+    decision: &F,
+) -> Result<Decided, BatchFault>
+    requires source { R.failures source.old + 1 < 2 ^ 64 }
+    requires sink { W.failures sink.old + 1 < 2 ^ 64 }
+    ensures failures { R.failures source.new + W.failures sink.new ≡ failures_after result (R.failures source.old + W.failures sink.old) }
+    ensures known { W.is_known sink.old → W.is_known sink.new }
+    ensures ok { IfOk result (λ decided. (frames : List Frame) × IsDecided book frames decided
+        × (R.is_known source.old → IsBatchOf (R.remaining source.old) frames)
+        × (W.is_known sink.old → W.written sink.new ≡ W.written sink.old ++ replies_text (replies_to book frames))) }
+    ensures end { OnOk result (R.is_known source.old → R.remaining source.new ≡ []) }
+    ensures fault { IfErr result (λ e. IsTrue (is_of_bytes e) → R.is_known source.old → bodies_of batch_magic (R.remaining source.old) ≡ Err e) }
+    // Nothing is put unless the source was a batch that was decided, and then a beginning of its text is put.
+    ensures begun { IfErr result (λ e. (sink.new ≡ sink.old) ⊎ ((frames : List Frame)
+        × (R.is_known source.old → IsBatchOf (R.remaining source.old) frames)
+        × (W.is_known sink.old → AppendsPart (W.written sink.old) (W.written sink.new) (replies_text (replies_to book frames))))) }
+    ensures untouched { IfErr result (λ e. IsTrue (is_of_bytes e) → sink.new ≡ sink.old) }
+{
+    let Answered { decided, text } = decide_batch(rt, alloc, book, source, decision)?;
+    put_all(sink, &text)?;
+    Ok(decided)
+}
