@@ -23,8 +23,11 @@ use std::mem;
 use std::thread::{Threads, join_mut};
 use view::Decide;
 
-// So many bodies are read while as many are decided.
+// So many bodies are read at most while others are decided.
 const PIECE: u32 = 4096;
+
+// So many are read first, while none is decided, and so many at least later on.
+const LEAST: u32 = 512;
 
 /// A batch that was decided.
 #[derive(Drop)]
@@ -54,6 +57,14 @@ fn add_replies(
         add_reply(out, text, reply)?;
     }
     Ok(())
+}
+
+// How many bodies are read next where so many are left: towards the end half of them, so that few are decided while none is read.
+fn piece_of(left: u32) -> u32
+    ensures within { result ≤ left }
+    ensures some { result ≡ 0 → left ≡ 0 }
+{
+    (left / 2).max(LEAST).min(PIECE).min(left)
 }
 
 // A prefix of no body on this book, with room for a row of each of so many.
@@ -148,11 +159,11 @@ fn decide_bodies<T: Threads, R: Source, F: Decide + Sync>(
     let mut replies = Vec::new(alloc);
     let mut out = Vec::new(alloc);
     let mut text = Vec::new(alloc);
-    let mut left = count - count.min(PIECE);
+    let mut left = count - count.min(LEAST);
     add_head(&mut out, b"I83R", count)?;
-    window.read_into(source, count.min(PIECE), &mut frames)?;
+    window.read_into(source, count.min(LEAST), &mut frames)?;
     while !frames.is_empty() {
-        let size = left.min(PIECE);
+        let size = piece_of(left);
         decide_and_read(
             rt,
             alloc,

@@ -53,8 +53,8 @@ returns-in_err-decide_and_read-clause-decides g c =
     let bytes = ahead c.loop-alloc.window (g.R.Source.remaining c.loop-alloc.source) in
     let total = bodies_at c.args.count (ahead c.args.window.now (g.R.Source.remaining c.args.source.now)) in
     let frames = so_far.0 ++ c.loop-alloc.frames.items in
-    let k = c.min-size.result in
-    let rest = c.loop-alloc.left - c.min-size.result in
+    let k = c.piece_of-size.result in
+    let rest = c.loop-alloc.left - c.piece_of-size.result in
     let both : c.loop-alloc.left ≡ k + rest = omega arith in
     rw (p.1, p.2) (λ known. ends_by c.in_err-decide_and_read.field-0.0 frames k rest bytes total
     (c.in_err-decide_and_read.ensures.gives (c.loop-alloc.invariant.known known))
@@ -67,8 +67,8 @@ loop-alloc-preserved g c =
     let total = bodies_at c.args.count (ahead c.args.window.now (g.R.Source.remaining c.args.source.now)) in
     let done = c.loop-alloc.frames.items in
     let frames = so_far.0 ++ done in
-    let k = c.min-size.result in
-    let rest = c.loop-alloc.left - c.min-size.result in
+    let k = c.piece_of-size.result in
+    let rest = c.loop-alloc.left - c.piece_of-size.result in
     let both : c.loop-alloc.left ≡ k + rest = omega arith in
     let decided = c.in_ok-decide_and_read.ensures in
     let told : c.decide_and_read.new.prefix.replies.items ≡ replies_to (rows_after c.args.book so_far.0) done =
