@@ -2,9 +2,10 @@
 use Rattle.std.proofs.Common.{◌≡◌, ◌≢◌, ℕ, zero, suc, ◌+◌, ◌-◌, ◌<◌, ◌≤◌, ◌==◌, Bool, true, false, if◌then◌else◌, List, [], ◌∷◌, length, get_or, set, Option, Some, None, IsSome, option_map, refl, sym, ap, ◌∙◌, subst, inl, inr, arith, rules, length-set, get_or-set_other, get_or-set_same}
 use Rattle.std.proofs.lemmas.Bool.{cases_lt, cases_eq}
 use Rattle.std.proofs.lemmas.List.{get_or_default}
-use Rattle.std.proofs.lemmas.List.Edits.{length-insert, get_or-insert_below, get_or-insert_at, length-remove, get_or-remove_below, get_or-remove_above}
+use Rattle.smallvec.proofs.SmallVecLemmas.{items-with_items}
+use Rattle.std.proofs.lemmas.List.Edits.{length-insert, get_or-insert_below, get_or-insert_at, get_or-insert_above, length-remove, get_or-remove_below, get_or-remove_above}
 use Rattle.std.specs.Bool.{Decides}
-use Rattle.std.specs.List.{insert, remove}
+use Rattle.std.specs.List.{insert, refill, remove}
 use Rattle.mvmem.specs.Chains.{found, held_of, AreInOrder, StandsAt, FitsAt}
 use Rattle.mvmem.specs.Entries.{Held, estimate_of}
 use Rattle.mvmem.specs.declared.link.Link.{Link}
@@ -97,6 +98,78 @@ remove_other [] place index at stands ne = absurd (let l = stands.0 in omega ari
 remove_other (first ∷ links) zero index at stands ne = sym (passed first links index (λ e. ne (sym e ∙ stands.1 first)))
 remove_other (first ∷ links) (suc place) index at stands ne =
     alike first (remove links place) links index (remove_other links place index at (let l = stands.0 in omega arith, λ d. stands.1 d) ne)
+
+-- a link is written over another through the slice that they stand in
+pub written_over : (links slice : List Link) (place : ℕ) (link : Link) → slice ≡ links → refill (length links) links (set slice place link) ≡ set links place link
+written_over links slice place link same =
+    items-with_items (record { items = links; capacity = 0 }) (set slice place link) (length-set slice place link ∙ ap length same)
+    ∙ ap (λ (xs : List Link). set xs place link) same
+
+-- the indices stay where a link is put over another of its index
+set_index : (links : List Link) (place : ℕ) (link : Link) → StandsAt links link.index place → (k : ℕ) (d : Link) → (get_or (set links place link) k d).index ≡ (get_or links k d).index
+set_index links place link stands k d =
+    elim (cases_eq k place) [
+      | inl at ↦
+          ap (λ (n : ℕ). (get_or (set links place link) n d).index) at
+          ∙ ap (λ (x : Link). x.index) (get_or-set_same links place link d stands.0)
+          ∙ sym (stands.1 d)
+          ∙ ap (λ (n : ℕ). (get_or links n d).index) (sym at)
+      | inr ne ↦ ap (λ (x : Link). x.index) (get_or-set_other links place k link d (λ s. omega arith))
+    ]
+
+-- so they stay in order
+pub set_order : (links : List Link) (place : ℕ) (link : Link) → AreInOrder links → StandsAt links link.index place → AreInOrder (set links place link)
+set_order links place link order stands i j d l m =
+    let many = length-set links place link in
+    let before = order i j d l (omega arith) in
+    let a = set_index links place link stands i d in
+    let b = set_index links place link stands j d in
+    omega arith
+
+-- behind a link that is put in between, each stands one place on
+shifted : (links : List Link) (place : ℕ) (link : Link) (k : ℕ) (d : Link) → place ≤ length links → place < k → (get_or (insert links place link) k d).index ≡ (get_or links (k - 1) d).index
+shifted links place link k d within after =
+    let next : k ≡ (k - 1) + 1 = omega arith in
+    ap (λ (n : ℕ). (get_or (insert links place link) n d).index) next
+    ∙ ap (λ (x : Link). x.index) (get_or-insert_above links place link d (k - 1) (omega arith) within)
+
+-- links stay in order where one is put in between, where it fits
+pub insert_order : (links : List Link) (place : ℕ) (link : Link) → AreInOrder links → FitsAt links link.index place → AreInOrder (insert links place link)
+insert_order links place link order fits i j d l m =
+    let many = length-insert links place link fits.0 in
+    let own = ap (λ (x : Link). x.index) (get_or-insert_at links place link d fits.0) in
+    elim (cases_lt i place) [
+      | inl before ↦
+          let first = ap (λ (x : Link). x.index) (get_or-insert_below links place link d i before fits.0) in
+          elim (cases_lt j place) [
+            | inl also ↦
+                let second = ap (λ (x : Link). x.index) (get_or-insert_below links place link d j also fits.0) in
+                let less = order i j d l (omega arith) in
+                omega arith
+            | inr from ↦ elim (cases_eq j place) [
+              | inl at ↦
+                  let less = fits.1 i d before in
+                  let second = ap (λ (n : ℕ). (get_or (insert links place link) n d).index) at in
+                  omega arith
+              | inr past ↦
+                  let second = shifted links place link j d fits.0 (omega arith) in
+                  let less = order i (j - 1) d (omega arith) (omega arith) in
+                  omega arith
+            ]
+          ]
+      | inr from ↦
+          let second = shifted links place link j d fits.0 (omega arith) in
+          elim (cases_eq i place) [
+            | inl at ↦
+                let first = ap (λ (n : ℕ). (get_or (insert links place link) n d).index) at in
+                let less = fits.2 (j - 1) d (omega arith) (omega arith) in
+                omega arith
+            | inr past ↦
+                let first = shifted links place link i d fits.0 (omega arith) in
+                let less = order (i - 1) (j - 1) d (omega arith) (omega arith) in
+                omega arith
+          ]
+    ]
 
 -- all links up to one that is below the index are
 pub nearer_below : (links : List Link) (middle index : ℕ) (e : Link) → AreInOrder links → middle < length links → (get_or links middle e).index < index → (k : ℕ) (d : Link) → k < middle + 1 → (get_or links k d).index < index

@@ -200,6 +200,17 @@ appended_rows m was new row chain n r none is same at =
     ap (λ (es : Chains). row_at es n) (is ∙ insert_entry-new key_eq m row chain (no_value _ none))
     ∙ row_at-append m.entries ((row, chain) ∷ []) n r (ap (λ (es : Chains). row_at es n) same ∙ at)
 
+-- and the row that is put last has the number that there were
+row_at-last : (es : Chains) (e : RowKey × Chain) → row_at (es ++ e ∷ []) (length es) ≡ Some e.0
+row_at-last [] e = refl
+row_at-last (x ∷ es) e = row_at-last es e
+
+pub appended_row : {S : Type 0} (m : IndexMap RowKey Chain S) (new : Chains) (row : RowKey) (chain : Chain) (n : ℕ) → false ≡ is_some (value_in m.entries row) → new ≡ insert_entry key_eq m.entries row chain → n ≡ length m.entries → row_at new n ≡ Some row
+appended_row m new row chain n none is many =
+    ap (row_at new) many
+    ∙ ap (λ (es : Chains). row_at es (length m.entries)) (is ∙ insert_entry-new key_eq m row chain (no_value _ none))
+    ∙ row_at-last m.entries (row, chain)
+
 -- what is seen of a row is of its kind
 pub seen_of_kind : (chains : Chains) (row : RowKey) (index : ℕ) (seen : Seen) → AreSound chains → Resolves (stands chains) row index seen → IsSeenOfKind row seen
 seen_of_kind chains row index Base sound is = tt

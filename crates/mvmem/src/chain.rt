@@ -1,30 +1,33 @@
-ghost use Rattle.std.specs.Prelude.{◌≡◌, ◌≢◌, ◌↔◌, ℕ, ◌<◌, ◌≤◌, [], length, vec_capacity, insert, slice_index_or, Some, None, IsTrue, OnOk, IfOk, IfErr, IfSome, IsSome, option_map};
+ghost use Rattle.std.specs.Prelude.{◌≡◌, ◌≢◌, ◌↔◌, ℕ, ◌<◌, ◌≤◌, [], length, insert, slice_index_or, Some, None, IsTrue, OnOk, IfOk, IfErr, IfSome, IsSome, option_map};
 ghost use Rattle.std.specs.Option.{option_copied};
 ghost use Rattle.mvmem.specs.Chains.{found, seen_of, AreInOrder, StandsAt, FitsAt};
 ghost use Rattle.mvmem.specs.Entries.{estimate_of, value_at};
 ghost use Rattle.mvmem.specs.Resolves.{IsNearestBelow, IsWithinDigitsOf};
 ghost use Rattle.mvmem.specs.declared.link.Link.{Link};
+ghost use Rattle.smallvec.specs.SmallVec.{HasRoomFor, small_vec_len};
 
 use crate::link::Link;
 use crate::version::Version;
 use rows::RowVal;
+use smallvec::SmallVec;
 use std::alloc::{AllocError, Global};
 use std::marker::Model;
 
-/// The entries of one row, in the order of their indices.
+/// The entries of one row, in the order of their indices. Many rows are put once, so the first entry stands in the chain itself, and
+/// those behind it in an allocation.
 #[derive(Drop)]
 pub(crate) struct Chain {
-    links: Vec<Link>,
+    links: SmallVec<Link, 1>,
 }
 
 impl Model for Chain {
     ghost use Rattle.std.specs.Prelude.{◌-◌};
-    ghost use Rattle.std.specs.Vec.{vec_len, vec_capacity};
+    ghost use Rattle.smallvec.specs.SmallVec.{small_vec_len};
     ghost use Rattle.mvmem.specs.Chains.{Chain, AreInOrder};
 
     ghost Value = { Chain };
 
-    ghost view = { λ c. record { links = c.links.items; room = vec_capacity c.links - vec_len c.links } };
+    ghost view = { λ c. record { links = c.links.items; room = c.links.capacity - small_vec_len c.links } };
 
     ghost invariant = { λ c. AreInOrder c.links.items };
 }
@@ -35,19 +38,16 @@ impl Chain {
         ensures { result.links ≡ [] }
     {
         Chain {
-            links: Vec::new(alloc),
+            links: SmallVec::new(alloc),
         }
     }
 
-    /// Makes room for one more entry. Many rows are put once, so the first entry gets room for itself alone.
+    /// Makes room for one more entry. For the first one there is room already.
     pub(crate) fn reserve(&mut self) -> Result<(), AllocError>
         ensures links { self.new.links ≡ self.old.links }
         ensures room { OnOk result (0 < self.new.room) }
         ensures more { self.old.room ≤ self.new.room }
     {
-        if self.links.is_empty() {
-            return self.links.reserve_exact(1);
-        }
         self.links.reserve(1)
     }
 
@@ -55,8 +55,9 @@ impl Chain {
     pub(crate) fn nearest_below(&self, index: u32) -> Option<&Link>
         ensures { IsNearestBelow (found self.now.links) index (seen_of (option_copied result)) }
     {
-        let place = place_below(&self.links, index);
-        link_before(&self.links, place, index)
+        let links = self.links.as_slice();
+        let place = place_below(links, index);
+        link_before(links, place, index)
     }
 
     /// The same, by halves, and how many indices were compared to find it.
@@ -65,8 +66,9 @@ impl Chain {
         ensures comparisons { IsWithinDigitsOf result.1 (length self.now.links) }
         ensures order { AreInOrder self.now.links }
     {
-        let (place, comparisons) = count_below(&self.links, index);
-        (link_before(&self.links, place, index), comparisons)
+        let links = self.links.as_slice();
+        let (place, comparisons) = count_below(links, index);
+        (link_before(links, place, index), comparisons)
     }
 
     /// Puts this value as the version's entry, over the one that its index has. Answers whether its index had none.
@@ -76,9 +78,9 @@ impl Chain {
         ensures others { (i : ℕ) → i ≢ version.index → found self.new.links i ≡ found self.old.links i }
         ensures new { IsTrue result ↔ (found self.old.links version.index ≡ None) }
     {
-        match place_of(&self.links, version.index) {
+        match place_of(self.links.as_slice(), version.index) {
             Ok(place) => {
-                self.links[place] = Link {
+                self.links.as_mut_slice()[place] = Link {
                     index: version.index,
                     incarnation: version.incarnation,
                     value: Some(*value),
@@ -96,8 +98,9 @@ impl Chain {
     pub(crate) fn superseded(&self, index: u32) -> Option<u32>
         ensures { IfSome result (λ first. (next : ℕ) × (first < next) × (next < index) × IsSome (found self.now.links next)) }
     {
-        if self.links.len() > 1 && self.links[1].index < index {
-            return Some(self.links[0].index);
+        let links = self.links.as_slice();
+        if links.len() > 1 && links[1].index < index {
+            return Some(links[0].index);
         }
         None
     }
@@ -108,7 +111,7 @@ impl Chain {
         ensures others { (i : ℕ) → i ≢ index → found self.new.links i ≡ found self.old.links i }
         ensures room { self.old.room ≤ self.new.room }
     {
-        if let Ok(place) = place_of(&self.links, index) {
+        if let Ok(place) = place_of(self.links.as_slice(), index) {
             self.links.remove(place);
         }
     }
@@ -118,8 +121,8 @@ impl Chain {
         ensures own { found self.new.links index ≡ option_map estimate_of (found self.old.links index) }
         ensures others { (i : ℕ) → i ≢ index → found self.new.links i ≡ found self.old.links i }
     {
-        if let Ok(place) = place_of(&self.links, index) {
-            self.links[place].value = None;
+        if let Ok(place) = place_of(self.links.as_slice(), index) {
+            self.links.as_mut_slice()[place].value = None;
         }
     }
 }
@@ -128,9 +131,9 @@ impl Chain {
 // copied once.
 #[inline(never)]
 #[tactic(auto, using(std::proofs::lemmas::List::Edits::insert_end))]
-fn put_in(links: &mut Vec<Link>, place: usize, version: Version, value: &RowVal)
+fn put_in(links: &mut SmallVec<Link, 1>, place: usize, version: Version, value: &RowVal)
     requires within { place ≤ length links.old.items }
-    requires room { length links.old.items < vec_capacity links.old }
+    requires room { HasRoomFor links.old 1 }
     ensures { links.new.items ≡ insert links.old.items place (record { index = version.index; incarnation = version.incarnation; value = Some value.now }) }
 {
     let Version { index, incarnation } = version;

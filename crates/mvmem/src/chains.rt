@@ -1,4 +1,4 @@
-ghost use Rattle.std.specs.Prelude.{◌≡◌, ◌≢◌, ◌↔◌, ℕ, ◌<◌, ◌≤◌, [], length, Some, None, IsTrue, IfSome, IfNone, IsSome, OnOk, option_map};
+ghost use Rattle.std.specs.Prelude.{◌≡◌, ◌≢◌, ◌↔◌, ℕ, ◌<◌, ◌≤◌, [], length, Some, None, IsTrue, IfOk, IfSome, IfNone, IsSome, OnOk, option_map};
 ghost use Rattle.rows.specs.RowVal.{IsOfKind};
 ghost use Rattle.rows.specs.declared.row_key.RowKey.{RowKey};
 ghost use Rattle.view.specs.RowSets.{value_in, IsOnceEach};
@@ -83,7 +83,7 @@ impl Chains {
     }
 
     /// The nearest entry below the index of the row with this number, if there is one.
-    pub(crate) fn nearest_at(&self, number: usize, index: u32) -> Option<&Link>
+    pub fn nearest_at(&self, number: usize, index: u32) -> Option<&Link>
         requires { number < length self.now }
         ensures seen { (row : RowKey) → row_at self.now number ≡ Some row → Resolves (stands self.now) row index (seen_of (option_copied result)) }
         ensures kind { (row : RowKey) → row_at self.now number ≡ Some row → IsSeenOfKind row (seen_of (option_copied result)) }
@@ -91,6 +91,19 @@ impl Chains {
         match self.rows.get_index(number) {
             Some((_, chain)) => chain.nearest_below(index),
             None => unreachable!(),
+        }
+    }
+
+    /// The row's nearest entry below the index, if there is one; and the row's number, if it has a chain.
+    pub fn look(&self, row: &RowKey, index: u32) -> (Option<&Link>, Option<usize>)
+        ensures seen { Resolves (stands self.now) row.now index (seen_of (option_copied result.0)) }
+        ensures kind { IsSeenOfKind row.now (seen_of (option_copied result.0)) }
+        ensures number { IfSome result.1 (λ number. row_at self.now number ≡ Some row.now) }
+        ensures absent { IfNone result.1 (value_in self.now row.now ≡ None) }
+    {
+        match self.number_of(row, &[]) {
+            Some(number) => (self.nearest_at(number, index), Some(number)),
+            None => (None, None),
         }
     }
 
@@ -148,9 +161,10 @@ impl Chains {
         chain.reserve()
     }
 
-    // Makes the chain of a row that has none, and room in it for an entry.
-    fn add(&mut self, alloc: Global, row: &RowKey) -> Result<(), AllocError>
+    // Makes the chain of a row that has none, and room in it for an entry. Answers the row's number.
+    fn add(&mut self, alloc: Global, row: &RowKey) -> Result<usize, AllocError>
         requires { value_in self.old row.now ≡ None }
+        ensures number { IfOk result (λ number. row_at self.new number ≡ Some row.now) }
         ensures stands { (r : RowKey) (i : ℕ) → stands self.new r i ≡ stands self.old r i }
         ensures room { OnOk result (0 < room_of self.new row.now) }
         ensures others { (r : RowKey) → 0 < room_of self.old r → 0 < room_of self.new r }
@@ -159,8 +173,9 @@ impl Chains {
     {
         let mut chain = Chain::new(alloc);
         chain.reserve()?;
+        let number = self.rows.len();
         self.rows.insert(*row, chain)?;
-        Ok(())
+        Ok(number)
     }
 
     /// Makes the row's chain, if it has none, and room in it for one more entry. The chain is looked for among these
@@ -171,6 +186,7 @@ impl Chains {
         row: &RowKey,
         numbers: &[usize],
     ) -> Result<usize, AllocError>
+        ensures number { IfOk result (λ number. row_at self.new number ≡ Some row.now) }
         ensures stands { (r : RowKey) (i : ℕ) → stands self.new r i ≡ stands self.old r i }
         ensures room { OnOk result (0 < room_of self.new row.now) }
         ensures others { (r : RowKey) → 0 < room_of self.old r → 0 < room_of self.new r }
@@ -182,11 +198,7 @@ impl Chains {
                 self.reserve_at(number)?;
                 Ok(number)
             }
-            None => {
-                let number = self.rows.len();
-                self.add(alloc, row)?;
-                Ok(number)
-            }
+            None => self.add(alloc, row),
         }
     }
 
@@ -210,11 +222,25 @@ impl Chains {
         let Some(number) = self.number_of(row, numbers) else {
             unreachable!();
         };
+        let is_new = self.put_at(number, version, value);
+        (number, is_new)
+    }
+
+    /// Puts this value as the version's entry of the row with this number, over the one that its index has. Answers whether its index had
+    /// none.
+    pub fn put_at(&mut self, number: usize, version: Version, value: &RowVal) -> bool
+        requires within { number < length self.old }
+        requires room { (row : RowKey) → row_at self.old number ≡ Some row → 0 < room_of self.old row }
+        requires kind { (row : RowKey) → row_at self.old number ≡ Some row → IsOfKind row value.now }
+        ensures changed { (row : RowKey) → row_at self.old number ≡ Some row → IsChangedAt self.old self.new row version.index (Some (value_at version.incarnation value.now)) }
+        ensures new { (row : RowKey) → row_at self.old number ≡ Some row → (IsTrue result ↔ (stands self.old row version.index ≡ None)) }
+        ensures rows { rows_of self.new ≡ rows_of self.old }
+        ensures others { (r : RowKey) → row_at self.old number ≢ Some r → room_of self.new r ≡ room_of self.old r }
+    {
         let Some(chain) = self.rows.get_index_mut(number) else {
             unreachable!();
         };
-        let is_new = chain.put(version, value);
-        (number, is_new)
+        chain.put(version, value)
     }
 
     /// The index of the first entry of the row with this number, where the row has another one below this index: no message from there on

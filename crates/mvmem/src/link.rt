@@ -7,7 +7,7 @@ use crate::version::Version;
 use rows::RowVal;
 
 /// An entry in the chain of its row.
-#[derive(Clone, Copy)]
+#[derive(Clone, Copy, Default)]
 pub struct Link {
     /// The message that put it.
     pub index: u32,
