@@ -1,15 +1,12 @@
 ghost use Rattle.std.specs.Prelude.{◌≡◌, length, IfOk};
-ghost use Rattle.std.specs.Option.{option_copied};
 ghost use Rattle.rows.specs.RowVal.{IsOfKind};
-ghost use Rattle.mvmem.specs.Chains.{seen_of};
-ghost use Rattle.mvmem.specs.Resolves.{IsSeenOfKind};
 ghost use Rattle.shards.specs.Sighted.{IsSeenSo};
 
 use crate::look::Look;
 use crate::shard_of::shard_of;
 use crate::sight::{Sight, copy_value, sight_of};
 use crossbeam_utils::CachePadded;
-use mvmem::{Chains, Link, Version};
+use mvmem::{Chains, Version};
 use rows::{RowKey, RowVal};
 use std::alloc::{AllocError, Global};
 use std::sync::{Mutex, Wait};
@@ -45,8 +42,7 @@ impl Shards {
         ensures { IsSeenSo key.now result.sight row.old row.new }
     {
         let chains = lock(rt, &self.shards[shard_of(key)]);
-        let number = chains.number_of(key, &[]);
-        let link = nearest_by(&chains, key, number, index);
+        let (link, number) = chains.look(key, index);
         copy_value(link, row);
         Look {
             sight: sight_of(link),
@@ -69,7 +65,7 @@ impl Shards {
     // Whose row the message at this index sees. Its chain is looked for by this number first.
     fn sight<R: Wait>(&self, rt: &R, key: &RowKey, number: Option<usize>, index: u32) -> Sight {
         let chains = lock(rt, &self.shards[shard_of(key)]);
-        sight_of(nearest_by(&chains, key, number, index))
+        sight_of(chains.nearest_below(key, number.as_slice(), index))
     }
 
     /// Puts what this version wrote, in place of what its message put before. A row that it read is found by its log. Answers whether a
@@ -141,21 +137,6 @@ impl Shards {
     }
 }
 
-// The row's nearest entry below the index, if there is one. Its chain is looked for by this number first.
-fn nearest_by<'a>(
-    chains: &'a Chains,
-    key: &RowKey,
-    number: Option<usize>,
-    index: u32,
-) -> Option<&'a Link>
-    ensures seen { IsSeenOfKind key.now (seen_of (option_copied result)) }
-{
-    match number {
-        Some(number) => chains.nearest_below(key, &[number], index),
-        None => chains.nearest_below(key, &[], index),
-    }
-}
-
 // The number of the row's chain, where it is among the first rows that were read, and had one then.
 fn number_in(reads: &ReadSet, log: &[Look], key: &RowKey) -> Option<usize> {
     for place in 0..reads.len().min(FEW) {
@@ -181,15 +162,12 @@ fn put_in(
 ) -> Result<bool, AllocError>
     requires { IsOfKind key.now value.now }
 {
-    let number = match number {
-        Some(number) => chains.reserve(alloc, key, &[number])?,
-        None => chains.reserve(alloc, key, &[])?,
-    };
-    let (number, _) = chains.put(key, &[number], version, value);
+    let number = chains.reserve(alloc, key, number.as_slice())?;
+    chains.put_at(number, version, value);
     if let Some(first) = chains.superseded(number, done) {
         chains.take_out(number, first);
     }
-    match chains.nearest_below(key, &[number], u32::MAX) {
+    match chains.nearest_at(number, u32::MAX) {
         Some(last) => Ok(last.index > version.index),
         None => Ok(false),
     }
