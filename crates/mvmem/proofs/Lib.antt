@@ -4,6 +4,7 @@ pub mod Kept
 pub mod Laid
 pub mod ListLaws
 pub mod Loops
+pub mod Made
 pub mod Placed
 pub mod Recorded
 pub mod Reserved

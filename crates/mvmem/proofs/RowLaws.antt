@@ -4,8 +4,7 @@ use Rattle.std.proofs.lemmas.Bool.{false≢true}
 use Rattle.std.proofs.lemmas.List.Quantifiers.{position-Some}
 use Rattle.std.proofs.lemmas.Option.{slice_get-get_or, none-some, same_Some}
 use Rattle.std.specs.List.{AllByRecursion, IsDistinct}
-use Rattle.indexmap.proofs.CallerLemmas.{insert_entry-new}
-use Rattle.indexmap.specs.IndexMap.{IndexMap, set_value_at, insert_entry}
+use Rattle.indexmap.specs.IndexMap.{set_value_at}
 use Rattle.rows.proofs.KeyLaws.{key_eq_decides}
 use Rattle.rows.specs.RowKey.{key_eq}
 use Rattle.rows.specs.RowVal.{IsOfKind}
@@ -190,26 +189,10 @@ same-sound es new sound rows same = record {
 }
 
 -- rows keep their numbers where one more is put last
-row_at-append : (es more : Chains) (n : ℕ) (row : RowKey) → row_at es n ≡ Some row → row_at (es ++ more) n ≡ Some row
+pub row_at-append : (es more : Chains) (n : ℕ) (row : RowKey) → row_at es n ≡ Some row → row_at (es ++ more) n ≡ Some row
 row_at-append [] more n row at = absurd (none-some row at)
 row_at-append (e ∷ es) more zero row at = at
 row_at-append (e ∷ es) more (suc n) row at = row_at-append es more n row at
-
-pub appended_rows : {S : Type 0} (m : IndexMap RowKey Chain S) (was new : Chains) (row : RowKey) (chain : Chain) (n : ℕ) (r : RowKey) → false ≡ is_some (value_in m.entries row) → new ≡ insert_entry key_eq m.entries row chain → m.entries ≡ was → row_at was n ≡ Some r → row_at new n ≡ Some r
-appended_rows m was new row chain n r none is same at =
-    ap (λ (es : Chains). row_at es n) (is ∙ insert_entry-new key_eq m row chain (no_value _ none))
-    ∙ row_at-append m.entries ((row, chain) ∷ []) n r (ap (λ (es : Chains). row_at es n) same ∙ at)
-
--- and the row that is put last has the number that there were
-row_at-last : (es : Chains) (e : RowKey × Chain) → row_at (es ++ e ∷ []) (length es) ≡ Some e.0
-row_at-last [] e = refl
-row_at-last (x ∷ es) e = row_at-last es e
-
-pub appended_row : {S : Type 0} (m : IndexMap RowKey Chain S) (new : Chains) (row : RowKey) (chain : Chain) (n : ℕ) → false ≡ is_some (value_in m.entries row) → new ≡ insert_entry key_eq m.entries row chain → n ≡ length m.entries → row_at new n ≡ Some row
-appended_row m new row chain n none is many =
-    ap (row_at new) many
-    ∙ ap (λ (es : Chains). row_at es (length m.entries)) (is ∙ insert_entry-new key_eq m row chain (no_value _ none))
-    ∙ row_at-last m.entries (row, chain)
 
 -- what is seen of a row is of its kind
 pub seen_of_kind : (chains : Chains) (row : RowKey) (index : ℕ) (seen : Seen) → AreSound chains → Resolves (stands chains) row index seen → IsSeenOfKind row seen

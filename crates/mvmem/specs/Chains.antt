@@ -1,6 +1,8 @@
 -- The entries of rows as they are kept: a chain for each row, in the order of its indices.
 use Rattle.std.specs.Prelude.{◌≡◌, ◌≢◌, ◌⊎◌, ℕ, ◌<◌, ◌≤◌, List, [], ◌∷◌, ◌==◌, length, map, slice_index_or, slice_get, if◌then◌else◌, Option, Some, None, IfSome}
 use Rattle.std.specs.List.{AllPairs}
+use Rattle.indexmap.specs.IndexMap.{insert_entry}
+use Rattle.rows.specs.RowKey.{key_eq}
 use Rattle.rows.specs.RowVal.{IsOfKind}
 use Rattle.rows.specs.declared.row_key.RowKey.{RowKey}
 use Rattle.view.specs.RowSets.{value_in, IsOnceEach}
@@ -89,3 +91,9 @@ abbrev pub IsChangedAt : Chains → Chains → RowKey → ℕ → Option Held �
 IsChangedAt old new row index entry =
     (stands new row index ≡ entry)
     × ((r : RowKey) (i : ℕ) → (r ≢ row) ⊎ (i ≢ index) → stands new r i ≡ stands old r i)
+
+-- the row has a chain now: its own, or else a new one, without links
+abbrev pub IsMade : Chains → Chains → RowKey → Type 0
+IsMade old new row =
+    (value_in old row ≢ None → new ≡ old)
+    × (value_in old row ≡ None → (chain : Chain) × (chain.links ≡ []) × (new ≡ insert_entry key_eq old row chain))

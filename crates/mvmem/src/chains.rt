@@ -1,9 +1,11 @@
-ghost use Rattle.std.specs.Prelude.{◌≡◌, ◌≢◌, ◌↔◌, ℕ, ◌<◌, ◌≤◌, [], length, Some, None, IsTrue, IfOk, IfSome, IfNone, IsSome, OnOk, option_map};
+ghost use Rattle.std.specs.Prelude.{◌≡◌, ◌≢◌, ◌↔◌, ℕ, ◌<◌, ◌≤◌, [], length, Some, None, IsTrue, IfOk, IfSome, IfNone, IsSome, OnOk, OnErr, option_map};
+ghost use Rattle.indexmap.specs.IndexMap.{insert_index};
+ghost use Rattle.rows.specs.RowKey.{key_eq};
 ghost use Rattle.rows.specs.RowVal.{IsOfKind};
 ghost use Rattle.rows.specs.declared.row_key.RowKey.{RowKey};
 ghost use Rattle.view.specs.RowSets.{value_in, IsOnceEach};
 ghost use Rattle.std.specs.Option.{option_copied};
-ghost use Rattle.mvmem.specs.Chains.{stands, seen_of, row_at, rows_of, room_of, links_in, AreInOrder, IsChangedAt};
+ghost use Rattle.mvmem.specs.Chains.{stands, seen_of, row_at, rows_of, room_of, links_in, AreInOrder, IsChangedAt, IsMade};
 ghost use Rattle.mvmem.specs.Entries.{estimate_of, value_at};
 ghost use Rattle.mvmem.specs.Resolves.{Resolves, IsSeenOfKind, IsWithinDigitsOf};
 
@@ -11,6 +13,7 @@ use crate::chain::Chain;
 use crate::link::Link;
 use crate::version::Version;
 use indexmap::IndexMap;
+use indexmap::map::Entry;
 use rows::{RowKey, RowVal};
 use std::alloc::{AllocError, Global};
 use std::marker::Model;
@@ -69,17 +72,27 @@ impl Chains {
         }
     }
 
-    /// The row's number, if it has a chain. It is looked for among these numbers first, which takes no hashing.
-    pub fn number_of(&self, row: &RowKey, numbers: &[usize]) -> Option<usize>
-        ensures found { IfSome result (λ number. row_at self.now number ≡ Some row.now) }
-        ensures absent { IfNone result (value_in self.now row.now ≡ None) }
+    // The row's number, if it is among these.
+    fn number_among(&self, row: &RowKey, numbers: &[usize]) -> Option<usize>
+        ensures { IfSome result (λ number. row_at self.now number ≡ Some row.now) }
     {
         for number in numbers {
             if self.is_number_of(*number, row) {
                 return Some(*number);
             }
         }
-        self.rows.get_index_of(row)
+        None
+    }
+
+    /// The row's number, if it has a chain. It is looked for among these numbers first, which takes no hashing.
+    pub fn number_of(&self, row: &RowKey, numbers: &[usize]) -> Option<usize>
+        ensures found { IfSome result (λ number. row_at self.now number ≡ Some row.now) }
+        ensures absent { IfNone result (value_in self.now row.now ≡ None) }
+    {
+        match self.number_among(row, numbers) {
+            Some(number) => Some(number),
+            None => self.rows.get_index_of(row),
+        }
     }
 
     /// The nearest entry below the index of the row with this number, if there is one.
@@ -161,21 +174,15 @@ impl Chains {
         chain.reserve()
     }
 
-    // Makes the chain of a row that has none, and room in it for an entry. Answers the row's number.
+    // Makes the row's chain, if it has none. Answers the row's number.
     fn add(&mut self, alloc: Global, row: &RowKey) -> Result<usize, AllocError>
-        requires { value_in self.old row.now ≡ None }
         ensures number { IfOk result (λ number. row_at self.new number ≡ Some row.now) }
         ensures stands { (r : RowKey) (i : ℕ) → stands self.new r i ≡ stands self.old r i }
-        ensures room { OnOk result (0 < room_of self.new row.now) }
         ensures others { (r : RowKey) → 0 < room_of self.old r → 0 < room_of self.new r }
         ensures numbers { (n : ℕ) (r : RowKey) → row_at self.old n ≡ Some r → row_at self.new n ≡ Some r }
         ensures once { IsOnceEach self.old → IsOnceEach self.new }
     {
-        let mut chain = Chain::new(alloc);
-        chain.reserve()?;
-        let number = self.rows.len();
-        self.rows.insert(*row, chain)?;
-        Ok(number)
+        make_chain(&mut self.rows, alloc, row)
     }
 
     /// Makes the row's chain, if it has none, and room in it for one more entry. The chain is looked for among these
@@ -193,13 +200,13 @@ impl Chains {
         ensures numbers { (n : ℕ) (r : RowKey) → row_at self.old n ≡ Some r → row_at self.new n ≡ Some r }
         ensures once { IsOnceEach self.old → IsOnceEach self.new }
     {
-        match self.number_of(row, numbers) {
-            Some(number) => {
-                self.reserve_at(number)?;
-                Ok(number)
-            }
-            None => self.add(alloc, row),
+        if let Some(number) = self.number_among(row, numbers) {
+            self.reserve_at(number)?;
+            return Ok(number);
         }
+        let number = self.add(alloc, row)?;
+        self.reserve_at(number)?;
+        Ok(number)
     }
 
     /// Puts this value as the version's entry of the row, over the one that its index has. The row's chain is looked for
@@ -279,5 +286,26 @@ impl Chains {
             unreachable!();
         };
         chain.to_estimate(index);
+    }
+}
+
+// Makes the row's chain, if it has none, by one look-up. An entry takes the chain without handing one back. Answers the row's number.
+fn make_chain(
+    rows: &mut IndexMap<RowKey, Chain>,
+    alloc: Global,
+    row: &RowKey,
+) -> Result<usize, AllocError>
+    ensures number { IfOk result (λ number. number ≡ insert_index key_eq rows.old row.now) }
+    ensures made { OnOk result (IsMade rows.old.entries rows.new.entries row.now) }
+    ensures err { OnErr result (rows.new.entries ≡ rows.old.entries) }
+    ensures once { IsOnceEach rows.new.entries }
+{
+    match rows.entry(*row)? {
+        Entry::Occupied(entry) => Ok(entry.index()),
+        Entry::Vacant(entry) => {
+            let number = entry.index();
+            entry.insert(Chain::new(alloc));
+            Ok(number)
+        }
     }
 }

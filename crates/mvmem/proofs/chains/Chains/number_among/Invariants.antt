@@ -1,4 +1,4 @@
-use Rattle.mvmem.proofs.chains.Chains.number_of.Given as goal
+use Rattle.mvmem.proofs.chains.Chains.number_among.Given as goal
 
 abbrev pub invariant-loop-number : goal.invariant-loop-number
 invariant-loop-number l = Unit {0}
