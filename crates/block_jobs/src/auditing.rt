@@ -12,10 +12,12 @@ use files::{BatchNames, Files};
 use jobs::{JobFault, open_book};
 use rows::{Book, Frame, ReplyBody};
 use std::alloc::Global;
+use std::thread::Threads;
 
 /// Whether the files of replies and of the new book hold what deciding the blocks of a block file on the book comes to; else what
 /// differs first.
-pub fn audit_block_files<F: Files>(
+pub fn audit_block_files<R: Threads, F: Files>(
+    rt: &R,
     alloc: Global,
     files: &F,
     names: &BatchNames,
@@ -25,13 +27,14 @@ pub fn audit_block_files<F: Files>(
     ensures fault { IfErr result (IsBlockAuditingFault (F.holds files.now)
         (string_bytes names.now.book) (string_bytes names.now.batch) (string_bytes names.now.replies) (string_bytes names.now.new_book) (HasFailed F.Input.failures)) }
 {
-    let book = open_book(alloc, files, names.book.as_str())?;
+    let book = open_book(rt, alloc, files, names.book.as_str())?;
     let blocks = open_blocks(alloc, files, names.batch.as_str())?;
-    audit_answers(alloc, files, names, &book, &blocks)
+    audit_answers(rt, alloc, files, names, &book, &blocks)
 }
 
 // Whether the files of replies and of the new book hold what deciding these blocks on this book comes to. They are read in this order.
-fn audit_answers<F: Files>(
+fn audit_answers<R: Threads, F: Files>(
+    rt: &R,
     alloc: Global,
     files: &F,
     names: &BatchNames,
@@ -44,7 +47,7 @@ fn audit_answers<F: Files>(
     ensures fault { IfErr result (IsBlockAnswersFault (F.holds files.now) (string_bytes names.now.replies) (string_bytes names.now.new_book) (HasFailed F.Input.failures)) }
 {
     let replies = open_block_replies(alloc, files, names.replies.as_str())?;
-    let after = open_book(alloc, files, names.new_book.as_str())?;
+    let after = open_book(rt, alloc, files, names.new_book.as_str())?;
     Ok(audit_blocks(alloc, book, blocks, &replies, &after)?)
 }
 

@@ -47,7 +47,7 @@ pub fn decide_blocks<R: Threads, F: Files, E: Fn(&Book, &[Frame]) -> Result<Outc
         → F.holds files.old other held → F.holds files.new other held }
     ensures known { F.is_known files.old → F.is_known files.new }
 {
-    let book = open_book(alloc, files, names.book.as_str())?;
+    let book = open_book(rt, alloc, files, names.book.as_str())?;
     match answer_blocks(alloc, files, names, book, decide)? {
         Ok(outcome) => put_outcome(rt, alloc, files, names.new_book.as_str(), &outcome),
         Err(halted) => Err(keep_blocks(rt, alloc, files, names.new_book.as_str(), &halted)),

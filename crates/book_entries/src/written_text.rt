@@ -1,4 +1,4 @@
-//! The tokens of a text, asked for in the order in which those of a book are written.
+//! The tokens of entries, asked for in the order in which those of a book are written.
 
 use json::{Reader, Token};
 
@@ -14,10 +14,11 @@ impl<'a> WrittenText<'a> {
         WrittenText { tokens }
     }
 
-    /// An object begins.
-    pub fn begin_object(&mut self) -> Option<()> {
-        match self.tokens.next()? {
-            Token::BeginObject => Some(()),
+    /// Whether one more entry begins; else the text ends.
+    pub fn has_entry(&mut self) -> Option<bool> {
+        match self.tokens.next() {
+            Some(Token::BeginObject) => Some(true),
+            None => Some(false),
             _ => None,
         }
     }
@@ -26,24 +27,6 @@ impl<'a> WrittenText<'a> {
     pub(crate) fn end_object(&mut self) -> Option<()> {
         match self.tokens.next()? {
             Token::EndObject => Some(()),
-            _ => None,
-        }
-    }
-
-    /// The list of this name begins.
-    pub fn begin_list(&mut self, name: &str) -> Option<()> {
-        self.key(name)?;
-        match self.tokens.next()? {
-            Token::BeginArray => Some(()),
-            _ => None,
-        }
-    }
-
-    /// Whether one more entry of the list begins; else the list ends.
-    pub fn has_entry(&mut self) -> Option<bool> {
-        match self.tokens.next()? {
-            Token::BeginObject => Some(true),
-            Token::EndArray => Some(false),
             _ => None,
         }
     }

@@ -3,6 +3,9 @@
 
 mod lists;
 mod reading;
+mod row;
+mod share;
+mod shares;
 mod written;
 
 pub use book_json_laws::{JsonFault, Part};

@@ -13,6 +13,7 @@ use book_json_laws::{BookVersion, JsonFault, Part, RowList, TextFault};
 use rows::Book;
 use serde_json::Value;
 use std::alloc::Global;
+use std::thread::Threads;
 
 const KEYS_OF_ONE: [&str; 5] = ["budgets", "cards", "days", "originals", "version"];
 
@@ -108,10 +109,10 @@ fn book_of_text(alloc: Global, bytes: &[u8]) -> Result<Book, TextFault>
 }
 
 /// The same, quickly where the text is as books are written.
-fn book_of_bytes(alloc: Global, bytes: &[u8]) -> Result<Book, TextFault>
+fn book_of_bytes<R: Threads>(rt: &R, alloc: Global, bytes: &[u8]) -> Result<Book, TextFault>
     ensures { GivesOrMemory (λ book. book) result (reading bytes.now) }
 {
-    match read_written(alloc, bytes)? {
+    match read_written(rt, alloc, bytes)? {
         Some(book) => Ok(book),
         None => book_of_text(alloc, bytes),
     }
@@ -127,10 +128,10 @@ fn book_of_bytes(alloc: Global, bytes: &[u8]) -> Result<Book, TextFault>
 /// each entry its keys (`Shape`), its fields in the order of their keys (`Shape` for another kind of value, `Range` for one
 /// outside its range), whether an original can be (`Range`), and whether an earlier entry has its row (`Shape`); then what
 /// `check_book` answers (`Invalid`). Or memory ran out (`OutOfMemory`).
-pub fn read_book(alloc: Global, bytes: &[u8]) -> Result<Book, JsonFault>
+pub fn read_book<R: Threads>(rt: &R, alloc: Global, bytes: &[u8]) -> Result<Book, JsonFault>
     ensures { IsAnswer (reading bytes.now) result }
 {
-    let book = book_of_bytes(alloc, bytes)?;
+    let book = book_of_bytes(rt, alloc, bytes)?;
     match check_book(&book) {
         Ok(()) => Ok(book),
         Err(fault) => Err(JsonFault::Invalid(fault)),

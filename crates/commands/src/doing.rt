@@ -50,10 +50,10 @@ pub(crate) fn done<R: Clock + Threads + Wait + Sync, F: Files>(
             engine,
         } => blocks(rt, alloc, files, &names, workers, engine),
         Command::Audit { names, journal } => match journal {
-            Some(journal) => audited_with_journal(alloc, files, &names, journal.as_str()),
-            None => audited(alloc, files, &names),
+            Some(journal) => audited_with_journal(rt, alloc, files, &names, journal.as_str()),
+            None => audited(rt, alloc, files, &names),
         },
-        Command::AuditBlocks(names) => audited_blocks(alloc, files, &names),
+        Command::AuditBlocks(names) => audited_blocks(rt, alloc, files, &names),
         Command::Show(file) => show(alloc, files, file.as_str()),
         Command::Pack { text, batch } => pack(alloc, files, text.as_str(), batch.as_str()),
     }
@@ -130,18 +130,24 @@ fn blocks<R: Clock + Threads + Wait + Sync, F: Files>(
 }
 
 // A batch is compared with what deciding it comes to.
-fn audited<F: Files>(alloc: Global, files: &F, names: &BatchNames) -> Result<Report, Fault>
+fn audited<R: Threads, F: Files>(
+    rt: &R,
+    alloc: Global,
+    files: &F,
+    names: &BatchNames,
+) -> Result<Report, Fault>
     ensures { MatchResult result
         (IsDoneAs (F.is_known files.now) (F.holds files.now) (F.holds files.now) (audit (names_of names.now) None))
         (IsFaultIn (F.is_known files.now) (F.holds files.now) (F.holds files.now) (failing F.Input.failures F.Output.failures F.refuses) (audit (names_of names.now) None)) }
 {
-    let found = audit_batch(alloc, files, names)?;
+    let found = audit_batch(rt, alloc, files, names)?;
     let text = audit_text(alloc, &found)?;
     Ok(Report::Audited(found, text))
 }
 
 // A batch is compared with what a journal plays to.
-fn audited_with_journal<F: Files>(
+fn audited_with_journal<R: Threads, F: Files>(
+    rt: &R,
     alloc: Global,
     files: &F,
     names: &BatchNames,
@@ -151,18 +157,23 @@ fn audited_with_journal<F: Files>(
         (IsDoneAs (F.is_known files.now) (F.holds files.now) (F.holds files.now) (audit (names_of names.now) (Some journal.now)))
         (IsFaultIn (F.is_known files.now) (F.holds files.now) (F.holds files.now) (failing F.Input.failures F.Output.failures F.refuses) (audit (names_of names.now) (Some journal.now))) }
 {
-    let found = audit_batch_with_journal(alloc, files, names, journal)?;
+    let found = audit_batch_with_journal(rt, alloc, files, names, journal)?;
     let text = audit_text(alloc, &found)?;
     Ok(Report::Audited(found, text))
 }
 
 // Blocks are compared with what deciding them comes to.
-fn audited_blocks<F: Files>(alloc: Global, files: &F, names: &BatchNames) -> Result<Report, Fault>
+fn audited_blocks<R: Threads, F: Files>(
+    rt: &R,
+    alloc: Global,
+    files: &F,
+    names: &BatchNames,
+) -> Result<Report, Fault>
     ensures { MatchResult result
         (IsDoneAs (F.is_known files.now) (F.holds files.now) (F.holds files.now) (audit_blocks (names_of names.now)))
         (IsFaultIn (F.is_known files.now) (F.holds files.now) (F.holds files.now) (failing F.Input.failures F.Output.failures F.refuses) (audit_blocks (names_of names.now))) }
 {
-    let found = audit_block_files(alloc, files, names)?;
+    let found = audit_block_files(rt, alloc, files, names)?;
     let text = block_audit_text(alloc, &found)?;
     Ok(Report::AuditedBlocks(found, text))
 }

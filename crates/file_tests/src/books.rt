@@ -2,5 +2,6 @@
 
 mod books;
 mod faults;
+mod large;
 mod order;
 mod texts;

@@ -13,9 +13,11 @@ use audit::{Audit, audit, audit_journal};
 use files::{BatchNames, Files};
 use rows::{Book, Frame, ReplyBody};
 use std::alloc::Global;
+use std::thread::Threads;
 
 /// Whether the files of replies and of the new book hold what deciding the batch on the book comes to; else what differs first.
-pub fn audit_batch<F: Files>(
+pub fn audit_batch<R: Threads, F: Files>(
+    rt: &R,
     alloc: Global,
     files: &F,
     names: &BatchNames,
@@ -25,7 +27,7 @@ pub fn audit_batch<F: Files>(
     ensures fault { IfErr result (IsAuditingFault (F.holds files.now)
         (string_bytes names.now.book) (string_bytes names.now.batch) (string_bytes names.now.replies) (string_bytes names.now.new_book) (HasFailed F.Input.failures)) }
 {
-    let run = open_run(alloc, files, names)?;
+    let run = open_run(rt, alloc, files, names)?;
     audit_run(alloc, &run)
 }
 
@@ -40,7 +42,8 @@ fn audit_run(alloc: Global, run: &AuditedRun) -> Result<Audit, JobFault>
 
 /// Whether the files of replies and of the new book hold what the journal plays to, which stands in a file of its own; else what
 /// differs first. The journal is read last.
-pub fn audit_batch_with_journal<F: Files>(
+pub fn audit_batch_with_journal<R: Threads, F: Files>(
+    rt: &R,
     alloc: Global,
     files: &F,
     names: &BatchNames,
@@ -51,7 +54,7 @@ pub fn audit_batch_with_journal<F: Files>(
     ensures fault { IfErr result (IsJournalAuditingFault (F.holds files.now)
         (string_bytes names.now.book) (string_bytes names.now.batch) (string_bytes names.now.replies) (string_bytes names.now.new_book) journal.now (HasFailed F.Input.failures)) }
 {
-    let run = open_run(alloc, files, names)?;
+    let run = open_run(rt, alloc, files, names)?;
     let entries = open_journal(alloc, files, journal)?;
     match audit_journal(
         alloc,
@@ -76,7 +79,12 @@ struct AuditedRun {
 }
 
 // What the files of these names hold. They are read in the order book, batch, replies, new book.
-fn open_run<F: Files>(alloc: Global, files: &F, names: &BatchNames) -> Result<AuditedRun, JobFault>
+fn open_run<R: Threads, F: Files>(
+    rt: &R,
+    alloc: Global,
+    files: &F,
+    names: &BatchNames,
+) -> Result<AuditedRun, JobFault>
     ensures held { IfOk result (λ run. AreHeld (F.holds files.now)
         (string_bytes names.now.book) (string_bytes names.now.batch) (string_bytes names.now.replies) (string_bytes names.now.new_book)
         run.book run.frames.items run.replies.items run.after) }
@@ -84,8 +92,8 @@ fn open_run<F: Files>(alloc: Global, files: &F, names: &BatchNames) -> Result<Au
     ensures fault { IfErr result (IsFaultInOrder (F.holds files.now)
         (string_bytes names.now.book) (string_bytes names.now.batch) (string_bytes names.now.replies) (string_bytes names.now.new_book) (HasFailed F.Input.failures) ⊥) }
 {
-    let (book, frames) = open_decided(alloc, files, names)?;
-    let (replies, after) = open_answers(alloc, files, names)?;
+    let (book, frames) = open_decided(rt, alloc, files, names)?;
+    let (replies, after) = open_answers(rt, alloc, files, names)?;
     Ok(AuditedRun {
         book,
         frames,
@@ -95,7 +103,8 @@ fn open_run<F: Files>(alloc: Global, files: &F, names: &BatchNames) -> Result<Au
 }
 
 // The book, and the messages of the batch that was decided on it.
-fn open_decided<F: Files>(
+fn open_decided<R: Threads, F: Files>(
+    rt: &R,
     alloc: Global,
     files: &F,
     names: &BatchNames,
@@ -104,13 +113,14 @@ fn open_decided<F: Files>(
     ensures count { IfOk result (λ decided. length decided.1.items ≤ 65536) }
     ensures fault { IfErr result (IsOpeningFault (F.holds files.now) (string_bytes names.now.book) (string_bytes names.now.batch) (HasFailed F.Input.failures)) }
 {
-    let book = open_book(alloc, files, names.book.as_str())?;
+    let book = open_book(rt, alloc, files, names.book.as_str())?;
     let frames = open_batch(alloc, files, names.batch.as_str())?;
     Ok((book, frames))
 }
 
 // The replies, and the book after them.
-fn open_answers<F: Files>(
+fn open_answers<R: Threads, F: Files>(
+    rt: &R,
     alloc: Global,
     files: &F,
     names: &BatchNames,
@@ -119,6 +129,6 @@ fn open_answers<F: Files>(
     ensures fault { IfErr result (IsAnswersFault (F.holds files.now) (string_bytes names.now.replies) (string_bytes names.now.new_book) (HasFailed F.Input.failures)) }
 {
     let replies = open_replies(alloc, files, names.replies.as_str())?;
-    let after = open_book(alloc, files, names.new_book.as_str())?;
+    let after = open_book(rt, alloc, files, names.new_book.as_str())?;
     Ok((replies, after))
 }

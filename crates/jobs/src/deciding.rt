@@ -48,7 +48,7 @@ pub fn decide_batch<R: Threads, F: Files, E: Fn(&Book, &[Frame]) -> Result<Outco
         → F.holds files.old other held → F.holds files.new other held }
     ensures known { F.is_known files.old → F.is_known files.new }
 {
-    let book = open_book(alloc, files, names.book.as_str())?;
+    let book = open_book(rt, alloc, files, names.book.as_str())?;
     let outcome = answer_batch(alloc, files, names, &book, decide)?;
     put_book(rt, alloc, files, names.new_book.as_str(), &outcome.book)?;
     Ok(outcome.replies.len())

@@ -14,14 +14,20 @@ use files::{Files, read_file};
 use journal_text::{Entry, read_journal};
 use rows::{Book, Frame, ReplyBody};
 use std::alloc::Global;
+use std::thread::Threads;
 
 /// The book of the file of this name.
-pub fn open_book<F: Files>(alloc: Global, files: &F, name: &str) -> Result<Book, JobFault>
+pub fn open_book<R: Threads, F: Files>(
+    rt: &R,
+    alloc: Global,
+    files: &F,
+    name: &str,
+) -> Result<Book, JobFault>
     ensures book { IfOk result (IsBookOf (F.holds files.now) name.now) }
     ensures fault { IfErr result (IsBookFault (F.holds files.now) name.now (HasFailed F.Input.failures)) }
 {
     let text = read_file(alloc, files, name)?;
-    match read_book(alloc, &text) {
+    match read_book(rt, alloc, &text) {
         Ok(book) => Ok(book),
         Err(fault) => Err(JobFault::Book(fault)),
     }

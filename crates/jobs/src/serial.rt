@@ -37,7 +37,7 @@ pub fn serial_batch<R: Threads, F: Files>(
         → F.holds files.old other held → F.holds files.new other held }
     ensures known { F.is_known files.old → F.is_known files.new }
 {
-    let book = open_book(alloc, files, names.book.as_str())?;
+    let book = open_book(rt, alloc, files, names.book.as_str())?;
     let decided = answer_in_order(rt, alloc, files, names, book)?;
     put_book(rt, alloc, files, names.new_book.as_str(), &decided.book)?;
     Ok(decided.messages as usize)

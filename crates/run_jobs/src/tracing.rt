@@ -49,7 +49,7 @@ pub fn run_batch_with_journal<R: Clock + Threads + Wait + Sync, F: Files>(
         → F.holds files.old other held → F.holds files.new other held }
     ensures known { F.is_known files.old → F.is_known files.new }
 {
-    let book = open_book(alloc, files, names.book.as_str())?;
+    let book = open_book(rt, alloc, files, names.book.as_str())?;
     let traced = answer_traced(rt, alloc, files, names, &book, workers)?;
     put_run(rt, alloc, files, names, journal, &traced)
 }

@@ -7,6 +7,7 @@ use fixtures::with_rows;
 use rows::Book;
 use std::alloc::Global;
 use std::test::Fail;
+use std::thread::Threads;
 
 // Rows, and the text of the book with them.
 const WRITTEN: &[(&[&str], &str)] = &[
@@ -70,8 +71,8 @@ const VERSION_2: &str =
     r#"{"ahead":[{"acquirer":"123456","kind":"request","pan":"4111110000000005","reversal":{"acquirer":"123456","stamp":"260110120000","trace":"000002"},"stamp":"260110120000","trace":"000001"}],"budgets":[{"cap":400,"left":500,"mode":"stand-in","prefix":"411111"}],"cards":[{"approvals":0,"available":10000,"currency":"978","day_amount":20000,"day_count":3,"expiry":"2812","pan":"4111110000000005","status":"active"},{"approvals":0,"available":500,"currency":"978","day_amount":20000,"day_count":3,"expiry":"2812","pan":"4111110000000013","status":"active"}],"days":[{"count":1,"day":"260110","pan":"4111110000000005","sum":6000}],"originals":[{"acquirer":"123456","action":"000","amount":6000,"approval":"000001","kind":"request","paid":"card","pan":"4111110000000005","processing":"000000","reversed":null,"stamp":"260110120000","stay":6000,"trace":"000003"}],"version":2}"#;
 
 // Whether the text is read as the book.
-fn is_read_as(alloc: Global, text: &str, book: &Book) -> bool {
-    match read_book(alloc, text.as_bytes()) {
+fn is_read_as<R: Threads>(rt: &R, alloc: Global, text: &str, book: &Book) -> bool {
+    match read_book(rt, alloc, text.as_bytes()) {
         Ok(read) => read.is_same(book),
         Err(_) => false,
     }
@@ -90,7 +91,7 @@ fn books_are_written_so(rt: HostRuntime) -> Result<(), Fail> {
     for (rows, text) in WRITTEN {
         let book = with_rows(Book::new(rt.alloc()), rows)?;
         assert!(rt; is_written_so(rt.alloc(), text, &book), "{text}");
-        assert!(rt; is_read_as(rt.alloc(), text, &book), "{text}");
+        assert!(rt; is_read_as(&rt, rt.alloc(), text, &book), "{text}");
     }
     Ok(())
 }
@@ -98,8 +99,8 @@ fn books_are_written_so(rt: HostRuntime) -> Result<(), Fail> {
 #[test]
 fn old_books_are_migrated(rt: HostRuntime) -> Result<(), Fail> {
     let book = with_rows(Book::new(rt.alloc()), MIGRATED)?;
-    assert!(rt; is_read_as(rt.alloc(), VERSION_1, &book));
+    assert!(rt; is_read_as(&rt, rt.alloc(), VERSION_1, &book));
     let book = with_rows(book, AHEAD_MARK)?;
-    assert!(rt; is_read_as(rt.alloc(), VERSION_2, &book));
+    assert!(rt; is_read_as(&rt, rt.alloc(), VERSION_2, &book));
     Ok(())
 }

@@ -4,6 +4,7 @@ use crate::books::texts::{ACCOUNT, AHEAD, BUDGET, CARD, DAY, ORIGINAL};
 use book_check::BookFault;
 use book_json::{JsonFault, Part, read_book};
 use std::alloc::Global;
+use std::thread::Threads;
 
 // A book, a text in it, what stands in its place, and the fault.
 const CHANGES: &[(&str, &str, &str, JsonFault)] = &[
@@ -191,9 +192,15 @@ const CHANGES: &[(&str, &str, &str, JsonFault)] = &[
 ];
 
 // Why the book with this change is none.
-fn fault_of(alloc: Global, book: &str, old: &str, new: &str) -> Option<JsonFault> {
+fn fault_of<R: Threads>(
+    rt: &R,
+    alloc: Global,
+    book: &str,
+    old: &str,
+    new: &str,
+) -> Option<JsonFault> {
     match book.replacen(alloc, old, new, 1) {
-        Ok(text) => read_book(alloc, text.as_bytes()).err(),
+        Ok(text) => read_book(rt, alloc, text.as_bytes()).err(),
         Err(_) => None,
     }
 }
@@ -202,7 +209,7 @@ fn fault_of(alloc: Global, book: &str, old: &str, new: &str) -> Option<JsonFault
 fn each_change_has_its_fault(rt: HostRuntime) {
     for (book, old, new, fault) in CHANGES {
         assert!(rt;
-            fault_of(rt.alloc(), book, old, new) == Some(*fault),
+            fault_of(&rt, rt.alloc(), book, old, new) == Some(*fault),
             "{old} {new}"
         );
     }

@@ -3,6 +3,7 @@
 use book_check::BookFault;
 use book_json::{JsonFault, Part, read_book};
 use std::alloc::{AllocError, Global};
+use std::thread::Threads;
 
 // Texts, and why they are no book.
 const TEXTS: &[(&[u8], Option<JsonFault>)] = &[
@@ -147,14 +148,14 @@ const TEXTS: &[(&[u8], Option<JsonFault>)] = &[
     ),
 ];
 
-fn fault_of(alloc: Global, text: &[u8]) -> Option<JsonFault> {
-    read_book(alloc, text).err()
+fn fault_of<R: Threads>(rt: &R, alloc: Global, text: &[u8]) -> Option<JsonFault> {
+    read_book(rt, alloc, text).err()
 }
 
 #[test]
 fn the_first_fault_is_answered(rt: HostRuntime) {
     for (text, fault) in TEXTS {
-        assert!(rt; fault_of(rt.alloc(), text) == *fault, "{text:?}");
+        assert!(rt; fault_of(&rt, rt.alloc(), text) == *fault, "{text:?}");
     }
 }
 
@@ -166,17 +167,17 @@ fn brackets(alloc: Global, count: usize) -> Result<String, AllocError> {
 }
 
 // Whether so many brackets are a fault.
-fn is_fault_of_depth(alloc: Global, count: usize, fault: JsonFault) -> bool {
+fn is_fault_of_depth<R: Threads>(rt: &R, alloc: Global, count: usize, fault: JsonFault) -> bool {
     match brackets(alloc, count) {
-        Ok(text) => fault_of(alloc, text.as_bytes()) == Some(fault),
+        Ok(text) => fault_of(rt, alloc, text.as_bytes()) == Some(fault),
         Err(_) => false,
     }
 }
 
 #[test]
 fn too_deep(rt: HostRuntime) {
-    assert!(rt; is_fault_of_depth(rt.alloc(), 200, JsonFault::Syntax));
-    assert!(rt; is_fault_of_depth(rt.alloc(), 100, JsonFault::Shape(Part::Top)));
+    assert!(rt; is_fault_of_depth(&rt, rt.alloc(), 200, JsonFault::Syntax));
+    assert!(rt; is_fault_of_depth(&rt, rt.alloc(), 100, JsonFault::Shape(Part::Top)));
 }
 
 #[test]

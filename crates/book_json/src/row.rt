@@ -1,0 +1,11 @@
+ghost use Rattle.rows.specs.RowVal.{IsOfKind};
+
+use rows::{RowKey, RowVal};
+
+/// A row of a book's text.
+#[derive(Clone, Copy)]
+pub(crate) struct Row {
+    pub(crate) key: RowKey,
+    pub(crate) val: RowVal,
+    ghost kind: { IsOfKind key val },
+}

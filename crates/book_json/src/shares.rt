@@ -1,0 +1,143 @@
+//! A book's text in shares, which several threads read.
+
+use crate::share::Share;
+use book_json_laws::RowList;
+use json::Scratch;
+use memchr::memmem;
+use rayon::current_num_threads;
+use std::alloc::{AllocError, Global};
+use std::thread::{Threads, join_mut};
+
+// How many bytes a share of a list has at least, if the list has as many.
+const SHARE: usize = 1 << 16;
+
+// What stands before the entries of the first list.
+const START: &str = r#"{"accounts":["#;
+
+// How a list is written.
+struct WrittenList {
+    list: RowList,
+    // What stands between two of its entries, with the first key of the second one.
+    between: &'static str,
+    // What stands behind its entries.
+    end: &'static str,
+}
+
+// The lists in the order of their keys.
+const LISTS: [WrittenList; 6] = [
+    WrittenList {
+        list: RowList::Accounts,
+        between: r#"},{"available":"#,
+        end: r#"],"ahead":["#,
+    },
+    WrittenList {
+        list: RowList::Ahead,
+        between: r#"},{"acquirer":"#,
+        end: r#"],"budgets":["#,
+    },
+    WrittenList {
+        list: RowList::Budgets,
+        between: r#"},{"cap":"#,
+        end: r#"],"cards":["#,
+    },
+    WrittenList {
+        list: RowList::Cards,
+        between: r#"},{"account":"#,
+        end: r#"],"days":["#,
+    },
+    WrittenList {
+        list: RowList::Days,
+        between: r#"},{"count":"#,
+        end: r#"],"originals":["#,
+    },
+    WrittenList {
+        list: RowList::Originals,
+        between: r#"},{"account":"#,
+        end: r#"],"version":3}"#,
+    },
+];
+
+/// The shares of a text, if its lists are found in it. They aren't read yet.
+pub(crate) fn cut(alloc: Global, bytes: &[u8]) -> Result<Option<Vec<Share<'_>>>, AllocError> {
+    let mut shares = Vec::new(alloc);
+    let Some(mut rest) = bytes.strip_prefix(START.as_bytes()) else {
+        return Ok(None);
+    };
+    for written in &LISTS {
+        let Some((entries, behind)) = cut_at(rest, written.end.as_bytes()) else {
+            return Ok(None);
+        };
+        cut_list(written, entries, &mut shares)?;
+        rest = behind;
+    }
+    Ok(Some(shares))
+}
+
+// What stands before a mark in a text, and what stands behind it.
+fn cut_at<'a>(text: &'a [u8], mark: &[u8]) -> Option<(&'a [u8], &'a [u8])> {
+    let (before, rest) = text.split_at_checked(memmem::find(text, mark)?)?;
+    Some((before, rest.strip_prefix(mark)?))
+}
+
+// Cuts the entries of a list into shares.
+fn cut_list<'a>(
+    written: &WrittenList,
+    entries: &'a [u8],
+    shares: &mut Vec<Share<'a>>,
+) -> Result<(), AllocError> {
+    let mut rest = entries;
+    for _ in 0..entries.len() / SHARE {
+        let Some((share, behind)) = cut_share(rest, written.between.as_bytes()) else {
+            break;
+        };
+        shares.push(Share::new(written.list, share))?;
+        rest = behind;
+    }
+    if !rest.is_empty() {
+        shares.push(Share::new(written.list, rest))?;
+    }
+    Ok(())
+}
+
+// The first entries of some, as many as a share has, and those behind them.
+fn cut_share<'a>(entries: &'a [u8], between: &[u8]) -> Option<(&'a [u8], &'a [u8])> {
+    let (_, late) = entries.split_at_checked(SHARE)?;
+    let place = memmem::find(late, between)?;
+    let (share, rest) = entries.split_at_checked(SHARE + place + 1)?;
+    Some((share, rest.strip_prefix(b",")?))
+}
+
+/// Reads the shares of a text of this length: a large one in as many threads as there are processors, each of which has about a
+/// share to read at least.
+pub(crate) fn read<R: Threads>(rt: &R, alloc: Global, len: usize, shares: &mut [Share<'_>]) {
+    let most = len / SHARE;
+    let threads = if most < 2 {
+        1
+    } else {
+        current_num_threads(rt).min(most)
+    };
+    read_all(rt, alloc, shares.len().div_ceil(threads), shares);
+}
+
+// Reads each share: so many in a thread of their own, and the rest from this one on.
+#[cycle(threads)]
+fn read_all<R: Threads>(rt: &R, alloc: Global, each: usize, shares: &mut [Share<'_>]) {
+    if each == 0 || shares.len() <= each {
+        read_in_turn(alloc, shares);
+        return;
+    }
+    let (front, back) = shares.split_at_mut(each);
+    join_mut(
+        rt,
+        &mut || read_in_turn(alloc, front),
+        &mut || read_all(rt, alloc, each, back),
+    );
+}
+
+// Reads each share, one after another.
+fn read_in_turn(alloc: Global, shares: &mut [Share<'_>]) {
+    let mut scratch = Scratch::new(alloc);
+    for share in shares.iter_mut() {
+        share.read(alloc, &mut scratch);
+    }
+}
