@@ -58,7 +58,7 @@ const LISTS: [WrittenList; 6] = [
 ];
 
 /// The shares of a text, if its lists are found in it. They aren't read yet.
-pub(crate) fn cut(alloc: Global, bytes: &[u8]) -> Result<Option<Vec<Share<'_>>>, AllocError> {
+pub(crate) fn shares_of(alloc: Global, bytes: &[u8]) -> Result<Option<Vec<Share<'_>>>, AllocError> {
     let mut shares = Vec::new(alloc);
     let Some(mut rest) = bytes.strip_prefix(START.as_bytes()) else {
         return Ok(None);
@@ -109,7 +109,7 @@ fn cut_share<'a>(entries: &'a [u8], between: &[u8]) -> Option<(&'a [u8], &'a [u8
 
 /// Reads the shares of a text of this length: a large one in as many threads as there are processors, each of which has about a
 /// share to read at least.
-pub(crate) fn read<R: Threads>(rt: &R, alloc: Global, len: usize, shares: &mut [Share<'_>]) {
+pub(crate) fn read_shares<R: Threads>(rt: &R, alloc: Global, len: usize, shares: &mut [Share<'_>]) {
     let most = len / SHARE;
     let threads = if most < 2 {
         1

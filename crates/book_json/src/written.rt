@@ -4,7 +4,7 @@ ghost use Rattle.std.specs.Prelude.{◌≡◌, Ok, IfOk, IfSome};
 ghost use Rattle.book_json_laws.specs.Reading.{reading};
 
 use crate::share::Share;
-use crate::shares::{cut, read};
+use crate::shares::{read_shares, shares_of};
 use book_text::write_book;
 use rows::Book;
 use std::alloc::{AllocError, Global};
@@ -25,10 +25,10 @@ fn book_of_lists<R: Threads>(
     alloc: Global,
     bytes: &[u8],
 ) -> Result<Option<Book>, AllocError> {
-    let Some(mut shares) = cut(alloc, bytes)? else {
+    let Some(mut shares) = shares_of(alloc, bytes)? else {
         return Ok(None);
     };
-    read(rt, alloc, bytes.len(), shares.as_mut_slice());
+    read_shares(rt, alloc, bytes.len(), shares.as_mut_slice());
     let mut book = Book::new(alloc);
     book.reserve(count(&shares))?;
     for share in shares {
