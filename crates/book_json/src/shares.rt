@@ -57,7 +57,7 @@ const LISTS: [WrittenList; 6] = [
     },
 ];
 
-/// The shares of a text, if its lists are found in it. They aren't read yet.
+/// The shares of a text, if its lists are found in it and nothing stands behind them. They aren't read yet.
 pub(crate) fn shares_of(alloc: Global, bytes: &[u8]) -> Result<Option<Vec<Share<'_>>>, AllocError> {
     let mut shares = Vec::new(alloc);
     let Some(mut rest) = bytes.strip_prefix(START.as_bytes()) else {
@@ -70,7 +70,7 @@ pub(crate) fn shares_of(alloc: Global, bytes: &[u8]) -> Result<Option<Vec<Share<
         cut_list(written, entries, &mut shares)?;
         rest = behind;
     }
-    Ok(Some(shares))
+    Ok(rest.is_empty().then_some(shares))
 }
 
 // What stands before a mark in a text, and what stands behind it.
