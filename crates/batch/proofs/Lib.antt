@@ -5,7 +5,4 @@ pub mod Lengths
 pub mod Folds
 pub mod FaultTexts
 pub mod ReadReplies
-pub mod Blocking
-pub mod ReadBlocks
-pub mod ReadReplyBlocks
 pub mod Puts

@@ -9,13 +9,9 @@ use byteorder::{BigEndian, ByteOrder};
 use devices::Source;
 
 impl Window {
-    // The four letters that a file begins with.
+    /// Reads the four letters that a file begins with. Others are `Magic`.
     #[tactic(auto, unfolding(batch_laws::specs::Reading::magic_at))]
-    pub(crate) fn read_magic<R: Source>(
-        &mut self,
-        source: &mut R,
-        magic: &[u8],
-    ) -> Result<(), BatchFault>
+    pub fn read_magic<R: Source>(&mut self, source: &mut R, magic: &[u8]) -> Result<(), BatchFault>
         requires room { R.failures source.old + 1 < 2 ^ 64 }
         ensures failures { R.failures source.new ≡ failures_after result (R.failures source.old) }
         ensures known { R.is_known source.old → R.is_known source.new }
@@ -44,9 +40,9 @@ impl Window {
         Ok(BigEndian::read_u16(&self.field))
     }
 
-    // A number of four bytes.
+    /// Reads a number of four bytes, the highest first.
     #[tactic(auto, unfolding(batch_laws::specs::Reading::number_at))]
-    pub(crate) fn read_long<R: Source>(&mut self, source: &mut R) -> Result<u32, BatchFault>
+    pub fn read_long<R: Source>(&mut self, source: &mut R) -> Result<u32, BatchFault>
         requires room { R.failures source.old + 1 < 2 ^ 64 }
         ensures failures { R.failures source.new ≡ failures_after result (R.failures source.old) }
         ensures known { R.is_known source.old → R.is_known source.new }
@@ -58,9 +54,9 @@ impl Window {
         Ok(BigEndian::read_u32(&self.field))
     }
 
-    // The version.
+    /// Reads the version, two bytes. Another than 1 is `Version`.
     #[tactic(auto, unfolding(batch_laws::specs::Reading::version_at))]
-    pub(crate) fn read_version<R: Source>(&mut self, source: &mut R) -> Result<u16, BatchFault>
+    pub fn read_version<R: Source>(&mut self, source: &mut R) -> Result<u16, BatchFault>
         requires room { R.failures source.old + 1 < 2 ^ 64 }
         ensures failures { R.failures source.new ≡ failures_after result (R.failures source.old) }
         ensures known { R.is_known source.old → R.is_known source.new }
@@ -75,9 +71,9 @@ impl Window {
         Ok(version)
     }
 
-    // The count.
+    /// Reads a count, four bytes. More than 65,536 is `Count`.
     #[tactic(auto, unfolding(batch_laws::specs::Reading::count_at))]
-    pub(crate) fn read_count<R: Source>(&mut self, source: &mut R) -> Result<u32, BatchFault>
+    pub fn read_count<R: Source>(&mut self, source: &mut R) -> Result<u32, BatchFault>
         requires room { R.failures source.old + 1 < 2 ^ 64 }
         ensures failures { R.failures source.new ≡ failures_after result (R.failures source.old) }
         ensures known { R.is_known source.old → R.is_known source.new }

@@ -26,8 +26,8 @@ fn frame_of(body: &[u8]) -> Frame
 }
 
 impl Window {
-    /// Sees that nothing is left.
-    pub(crate) fn read_end<R: Source>(&mut self, source: &mut R) -> Result<(), BatchFault>
+    /// Sees that nothing is left. A byte that is left is `Trailing`.
+    pub fn read_end<R: Source>(&mut self, source: &mut R) -> Result<(), BatchFault>
         requires room { R.failures source.old + 1 < 2 ^ 64 }
         ensures failures { R.failures source.new ≡ failures_after result (R.failures source.old) }
         ensures known { R.is_known source.old → R.is_known source.new }
@@ -63,8 +63,9 @@ impl Window {
         Ok(())
     }
 
-    /// The frames of the next bodies, so many.
-    pub(crate) fn read_frames<R: Source>(
+    /// Reads the frames of the next bodies, so many, in order: of each the message that it spells, or its fault. A body whose
+    /// length is outside 1 to 512 is `Length`.
+    pub fn read_frames<R: Source>(
         &mut self,
         alloc: Global,
         source: &mut R,

@@ -25,12 +25,9 @@ fn text_of(text: &mut Vec<u8>, reply: &ReplyBody) -> Result<(), AllocError>
     }
 }
 
-/// Appends a reply behind its length.
-pub(crate) fn add_reply(
-    out: &mut Vec<u8>,
-    text: &mut Vec<u8>,
-    reply: &ReplyBody,
-) -> Result<(), AllocError>
+/// Appends the text of a reply behind its length, two bytes: `R` and its bytes or `F` and five digits of a fault. `text` is
+/// memory for it. Memory can run out.
+pub fn add_reply(out: &mut Vec<u8>, text: &mut Vec<u8>, reply: &ReplyBody) -> Result<(), AllocError>
     ensures { OnOk result (out.new.items ≡ out.old.items ++ framed (reply_text reply.now)) }
 {
     text_of(text, reply)?;

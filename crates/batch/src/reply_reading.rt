@@ -80,8 +80,9 @@ fn reply_of(body: &[u8]) -> Option<ReplyBody>
 }
 
 impl Window {
-    /// The replies of the next bodies, so many. The bodies are counted from this number on.
-    pub(crate) fn read_replies<R: Source>(
+    /// Reads the replies of the next bodies, so many, in order. A body that is the text of no reply and of no fault is `Body`
+    /// with its number, counted from this one on; one whose length is outside 1 to 512 is `Length`.
+    pub fn read_replies<R: Source>(
         &mut self,
         alloc: Global,
         source: &mut R,

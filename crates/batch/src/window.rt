@@ -7,13 +7,16 @@ use std::alloc::{AllocError, Global};
 // How many bytes are asked for at once.
 const PIECE: usize = 65_536;
 
-/// What was taken from a source and not read yet, and the field that was read last.
+/// What was taken from a source and not read yet, and the field that was read last. Its methods read a file's parts from
+/// the left, each time from the same source: `Ended` where the source ends first, `Device` exactly where a call of the
+/// source failed, and `OutOfMemory`.
 #[derive(Drop)]
-pub(crate) struct Window {
+pub struct Window {
     piece: Vec<u8>,
     start: usize,
     end: usize,
-    pub(crate) field: Vec<u8>,
+    /// The bytes of the field that was read last, as far as it was read.
+    pub field: Vec<u8>,
     ghost in_order: { start ≤ end },
     ghost within: { end ≤ length piece.items },
     ghost room: { 0 < length piece.items },
@@ -25,8 +28,8 @@ impl Window {
     ghost use Rattle.batch_laws.specs.Reading.{Gives, field_at};
     ghost use Rattle.batch.specs.Window.{part, ahead};
 
-    /// Nothing was taken yet.
-    pub(crate) fn new(alloc: Global) -> Result<Window, AllocError>
+    /// A window of which nothing was taken yet. Memory can run out.
+    pub fn new(alloc: Global) -> Result<Window, AllocError>
         ensures { IfOk result (λ w. part w.piece.items w.start w.end ≡ []) }
     {
         Ok(Window {

@@ -12,8 +12,8 @@ use std::alloc::AllocError;
 /// How many bytes are put at once, at least.
 pub(crate) const PIECE: usize = 65_536;
 
-/// Puts all of the bytes.
-pub(crate) fn put_all<W: Sink>(sink: &mut W, bytes: &[u8]) -> Result<(), BatchFault>
+/// Puts all of the bytes. After a fault a beginning of them was put; it is `Device`, exactly where a call of the sink failed.
+pub fn put_all<W: Sink>(sink: &mut W, bytes: &[u8]) -> Result<(), BatchFault>
     requires room { W.failures sink.old + 1 < 2 ^ 64 }
     ensures failures { W.failures sink.new ≡ failures_after result (W.failures sink.old) }
     ensures known { W.is_known sink.old → W.is_known sink.new }
@@ -58,8 +58,8 @@ fn add_short(out: &mut Vec<u8>, number: u16) -> Result<(), AllocError>
     out.extend_from_slice(&bytes)
 }
 
-/// Appends a number in four bytes.
-pub(crate) fn add_long(out: &mut Vec<u8>, number: u32) -> Result<(), AllocError>
+/// Appends a number in four bytes, the highest first. Memory can run out.
+pub fn add_long(out: &mut Vec<u8>, number: u32) -> Result<(), AllocError>
     ensures { OnOk result (out.new.items ≡ out.old.items ++ big_bytes 4 number) }
 {
     let mut bytes = [0u8; 4];
@@ -67,9 +67,9 @@ pub(crate) fn add_long(out: &mut Vec<u8>, number: u32) -> Result<(), AllocError>
     out.extend_from_slice(&bytes)
 }
 
-/// Appends the letters, version 1 and a count.
+/// Appends the head of a file: its letters, version 1 in two bytes and a count in four. Memory can run out.
 #[tactic(auto, unfolding(batch_laws::specs::Files::head_text))]
-pub(crate) fn add_head(out: &mut Vec<u8>, magic: &[u8], count: u32) -> Result<(), AllocError>
+pub fn add_head(out: &mut Vec<u8>, magic: &[u8], count: u32) -> Result<(), AllocError>
     ensures { OnOk result (out.new.items ≡ out.old.items ++ head_text magic.now count) }
 {
     out.extend_from_slice(magic)?;

@@ -1,7 +1,7 @@
 -- Faults of block files.
 use Rattle.std.proofs.Common.{◌≡◌, ◌⊎◌, ℕ, ◌+◌, List, inl, inr, refl}
 use Rattle.std.specs.Prelude.{IsTrue}
-use Rattle.batch.specs.Blocks.{StopsBefore, StopsInHead, StopsInBlocks}
+use Rattle.batch_blocks.specs.Blocks.{StopsBefore, StopsInHead, StopsInBlocks}
 use Rattle.batch_laws.specs.BatchFault.{failures_at, is_of_bytes}
 use Rattle.batch_laws.specs.declared.batch_fault.BatchFault.{BatchFault}
 use Rattle.files.specs.Failing.{HasFailed}

@@ -1,7 +1,7 @@
 -- What a halt of blocks leaves in a file that was empty.
 use Rattle.std.proofs.Common.{◌≡◌, ℕ, ◌+◌, List, [], ◌++◌, refl, sym, ◌∙◌, inl, inr, arith, Result, Ok, Err, IfErr, IsTrue}
 use Rattle.std.proofs.lemmas.List.{append-nil}
-use Rattle.batch.specs.Blocks.{StopsBefore, StopsInHead, StopsInBlocks}
+use Rattle.batch_blocks.specs.Blocks.{StopsBefore, StopsInHead, StopsInBlocks}
 use Rattle.batch_laws.specs.BatchFault.{failures_at, is_of_bytes}
 use Rattle.batch_laws.specs.Blocks.{block_replies_magic, block_text, blocks_text, replies_to_blocks, rows_after_blocks}
 use Rattle.batch_laws.specs.Files.{head_text}

@@ -1,7 +1,7 @@
 -- Why blocks are not all decided, or not audited: the first fault of what a file holds, where its bytes are known; a call that failed; or
 -- want of memory.
 use Rattle.std.specs.Prelude.{◌≡◌, ◌≢◌, ◌⊎◌, ℕ, List, Ok, Err, IsTrue}
-use Rattle.batch.specs.BlockFiles.{FailsAmong}
+use Rattle.batch_blocks.specs.BlockFiles.{FailsAmong}
 use Rattle.batch_laws.specs.BatchFault.{is_of_bytes}
 use Rattle.batch_laws.specs.Blocks.{FailsAsBlockReplies, IsBlockFileOf, IsBlockReplyFileOf, block_head_at, blocks_magic}
 use Rattle.batch_laws.specs.declared.batch_fault.BatchFault.{BatchFault}

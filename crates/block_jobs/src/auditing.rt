@@ -1,13 +1,14 @@
 ghost use Rattle.std.specs.Prelude.{◌≤◌, ℕ, List, IfOk, IfErr, length, string_bytes};
 ghost use Rattle.std.specs.List.{All};
-ghost use Rattle.batch.specs.BlockFiles.{frames_of, replies_of};
+ghost use Rattle.batch_blocks.specs.BlockFiles.{frames_of, replies_of};
 ghost use Rattle.batch_laws.specs.Blocks.{IsBlockFileOf, IsBlockReplyFileOf};
 ghost use Rattle.files.specs.Failing.{HasFailed};
 ghost use Rattle.block_jobs.specs.Audited.{AreAnswersAudited, AreBlocksAudited};
 ghost use Rattle.block_jobs.specs.Faults.{IsBlockAnswersFault, IsBlockAuditingFault, IsBlockFileFault, IsBlockRepliesFault};
 
 use audit::{BlockAudit, audit_blocks};
-use batch::{BatchFault, read_block_replies, read_blocks};
+use batch_blocks::{read_block_replies, read_blocks};
+use batch_laws::BatchFault;
 use files::{BatchNames, Files};
 use jobs::{JobFault, open_book};
 use rows::{Book, Frame, ReplyBody};

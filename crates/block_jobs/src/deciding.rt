@@ -9,7 +9,7 @@ ghost use Rattle.jobs.specs.Faults.{IsPuttingFault};
 
 use crate::block_count::BlockCount;
 use crate::halt::Halt;
-use batch::{BlocksOutcome, Halted, process_blocks};
+use batch_blocks::{BlocksOutcome, Halted, process_blocks};
 use files::{BatchNames, Files};
 use fold::Outcome;
 use jobs::{JobFault, fault_of_closing, open_book, put_book};

@@ -4,7 +4,7 @@ use crate::blocks::serial::{Came, decided};
 use crate::blocks::texts::{
     EMPTY, EMPTY_REPLIES, REQUEST_AND_REVERSAL, TWO_REPLIES, TWO_REQUESTS, thousand_requests,
 };
-use batch::{read_block_replies, read_blocks};
+use batch_blocks::{read_block_replies, read_blocks};
 use devices::IntoWrite;
 use fixtures::{answer_text, first_book_with, has_row};
 use rows::{Book, Frame, ReplyBody};

@@ -3,7 +3,8 @@
 ghost use Rattle.std.specs.Prelude.{◌+◌, ◌<◌, ◌≤◌, ◌^◌, length};
 ghost use Rattle.batch.specs.Processing.{AnswersFold};
 
-use batch::{BatchFault, process_blocks};
+use batch::BatchFault;
+use batch_blocks::process_blocks;
 use devices::{Sink, Source};
 use fold::{Outcome, Prefix};
 use rows::{Book, Frame};

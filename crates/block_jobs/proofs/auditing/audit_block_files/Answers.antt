@@ -1,6 +1,6 @@
 use Rattle.std.proofs.Common.{inl, inr}
 use Rattle.std.proofs.lemmas.Result.{IfErr-weaker, IfOk-weaker, err_from_is_err_and}
-use Rattle.batch.specs.BlockFiles.{frames_of}
+use Rattle.batch_blocks.specs.BlockFiles.{frames_of}
 use Rattle.block_jobs.proofs.auditing.audit_block_files.Goals as goal
 
 pub returns-clause-audited : goal.returns-clause-audited

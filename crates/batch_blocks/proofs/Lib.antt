@@ -1,0 +1,3 @@
+pub mod Blocking
+pub mod ReadBlocks
+pub mod ReadReplyBlocks
