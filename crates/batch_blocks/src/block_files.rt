@@ -1,9 +1,9 @@
 //! Block files and their replies, read whole.
 
-ghost use Rattle.std.specs.Prelude.{◌≡◌, ◌+◌, ◌*◌, ◌<◌, ◌≤◌, ◌^◌, [], length, vec_len, IfOk, OnOk};
+ghost use Rattle.std.specs.Prelude.{◌≡◌, ◌+◌, ◌<◌, ◌≤◌, ◌^◌, [], length, vec_len, IfOk, OnOk};
 ghost use Rattle.std.specs.List.{All};
 ghost use Rattle.batch_laws.specs.BatchFault.{failures_after};
-ghost use Rattle.batch_blocks.specs.BlockFiles.{frames_of, GivesBlocks, GivesBlockFile};
+ghost use Rattle.batch_blocks.specs.BlockFiles.{GivesBlocks, GivesBlockFile};
 ghost use Rattle.batch.specs.Window.{ahead};
 
 use crate::blocks::{read_block, read_block_head};

@@ -1,9 +1,8 @@
 //! The reply files of block files, read whole.
 
-ghost use Rattle.std.specs.Prelude.{◌≡◌, ◌+◌, ◌*◌, ◌<◌, ◌≤◌, ◌^◌, [], length, vec_len, IfOk, OnOk};
+ghost use Rattle.std.specs.Prelude.{◌≡◌, ◌+◌, ◌<◌, ◌≤◌, ◌^◌, [], length, vec_len, IfOk, OnOk};
 ghost use Rattle.std.specs.List.{All};
 ghost use Rattle.batch_laws.specs.BatchFault.{failures_after};
-ghost use Rattle.batch_laws.specs.Blocks.{block_at};
 ghost use Rattle.batch_blocks.specs.BlockFiles.{GivesReplyBlock, GivesReplyBlocks, GivesBlockReplyFile};
 ghost use Rattle.batch.specs.Window.{ahead};
 

@@ -1,21 +1,16 @@
-ghost use Rattle.std.specs.Prelude.{◌≡◌, ◌⊎◌, List, ◌+◌, ◌*◌, ◌<◌, ◌≤◌, ◌^◌, ◌++◌, [], length, vec_len, IfOk, IfErr, OnOk, OnErr, IsTrue, Err};
-ghost use Rattle.rows.specs.Fold.{rows_after, replies_to};
+ghost use Rattle.std.specs.Prelude.{◌≡◌, ◌⊎◌, ◌+◌, ◌<◌, ◌≤◌, ◌^◌, ◌++◌, length, vec_len, IfOk, IfErr, OnOk, OnErr, IsTrue, Err};
 ghost use Rattle.rows.specs.declared.frame.Frame.{Frame};
-ghost use Rattle.batch_laws.specs.BatchFault.{failures_after, failures_at, is_of_bytes};
-ghost use Rattle.batch_laws.specs.Blocks.{IsBlock, block_text, block_at, block_count_at, block_head_at, block_replies_text, IsBlockFileOf, messages_in, rows_after_blocks, replies_to_blocks};
-ghost use Rattle.batch_laws.specs.Files.{head_text};
+ghost use Rattle.batch_laws.specs.BatchFault.{failures_after, is_of_bytes};
+ghost use Rattle.batch_laws.specs.Blocks.{block_text, block_at, block_count_at, block_head_at};
 ghost use Rattle.batch_laws.specs.Reading.{Gives};
 ghost use Rattle.batch_laws.specs.Frames.{GivesFrames};
-ghost use Rattle.batch_blocks.specs.Blocks.{AreDecided, BeginsBlock, StopsBehind, StopsBefore, StopsInHead, StopsInBlocks};
 ghost use Rattle.batch.specs.Writing.{AppendsPart};
-ghost use Rattle.batch.specs.Processing.{AnswersFold};
 ghost use Rattle.batch.specs.Window.{ahead};
 
 use batch::{Window, add_long, add_reply, put_all};
 use batch_laws::BatchFault;
 use devices::{Sink, Source};
-use fold::Outcome;
-use rows::{Book, Frame, ReplyBody};
+use rows::{Frame, ReplyBody};
 use std::alloc::{AllocError, Global};
 
 // The number of blocks.

@@ -1,8 +1,8 @@
-ghost use Rattle.std.specs.Prelude.{◌≡◌, ◌⊎◌, List, ◌+◌, ◌*◌, ◌<◌, ◌≤◌, ◌^◌, ◌++◌, [], length, OnOk, OnErr, IfErr, IsTrue, Err};
+ghost use Rattle.std.specs.Prelude.{◌≡◌, ◌⊎◌, ◌+◌, ◌<◌, ◌≤◌, ◌^◌, ◌++◌, [], length, OnOk, OnErr, IfErr, IsTrue, Err};
 ghost use Rattle.rows.specs.Fold.{rows_after, replies_to};
 ghost use Rattle.rows.specs.declared.frame.Frame.{Frame};
 ghost use Rattle.batch_laws.specs.BatchFault.{failures_after, is_of_bytes};
-ghost use Rattle.batch_laws.specs.Blocks.{IsBlock, block_text, block_at, block_replies_magic};
+ghost use Rattle.batch_laws.specs.Blocks.{block_text, block_at, block_replies_magic};
 ghost use Rattle.batch_laws.specs.Files.{head_text};
 ghost use Rattle.batch_blocks.specs.Blocks.{AreDecided, AreAllDecided, BeginsBlock, StopsBehind, StopsBefore, StopsInHead, StopsInBlocks, IsAnswered};
 ghost use Rattle.batch.specs.Writing.{AppendsPart};
