@@ -1,21 +1,18 @@
 //! A batch that is decided in the order of its messages, while it is read.
 
-ghost use Rattle.std.specs.Prelude.{◌≡◌, ◌⊎◌, List, [], ◌+◌, ◌<◌, ◌≤◌, ◌^◌, ◌++◌, length, vec_len, IfOk, IfErr, OnOk, OnErr, IsTrue, Err};
+ghost use Rattle.std.specs.Prelude.{◌≡◌, [], ◌+◌, ◌<◌, ◌≤◌, ◌^◌, ◌++◌, length, vec_len, IfOk, OnOk};
 ghost use Rattle.rows.specs.Fold.{rows_after, replies_to};
 ghost use Rattle.rows.specs.declared.frame.Frame.{Frame};
-ghost use Rattle.batch_laws.specs.BatchFault.{failures_after, is_of_bytes};
-ghost use Rattle.batch_laws.specs.Reading.{bodies_at, bodies_of, batch_magic};
-ghost use Rattle.batch_laws.specs.Files.{replies_text};
-ghost use Rattle.batch_laws.specs.Frames.{IsBatchOf};
-ghost use Rattle.batch.specs.InOrder.{GivesInto, IsDecided, DecidesBodies, DecidesBatch, texts_of};
+ghost use Rattle.batch_laws.specs.BatchFault.{failures_after};
+ghost use Rattle.batch_laws.specs.Reading.{bodies_at};
+ghost use Rattle.batch.specs.InOrder.{GivesInto, DecidesBodies, DecidesBatch, texts_of};
 ghost use Rattle.batch.specs.Window.{ahead};
-ghost use Rattle.batch.specs.Writing.{AppendsPart};
 
 use crate::replies::add_reply;
 use crate::window::Window;
-use crate::writing::{add_head, put_all};
+use crate::writing::add_head;
 use batch_laws::BatchFault;
-use devices::{Sink, Source};
+use devices::Source;
 use fold::Prefix;
 use rows::{Book, Frame, ReplyBody};
 use std::alloc::{AllocError, Global};
@@ -38,11 +35,13 @@ pub struct Decided {
     pub book: Book,
 }
 
-// A batch that was decided, and the text of its reply file.
+/// A batch that was decided, and the text of its reply file.
 #[derive(Drop)]
-pub(crate) struct Answered {
-    pub(crate) decided: Decided,
-    pub(crate) text: Vec<u8>,
+pub struct Answered {
+    /// What deciding it came to.
+    pub decided: Decided,
+    /// The text of the replies to its messages, with its head.
+    pub text: Vec<u8>,
 }
 
 // Appends the texts of replies, over memory for one of them.
@@ -194,8 +193,10 @@ fn decide_bodies<T: Threads, R: Source, F: Decide + Sync>(
     })
 }
 
-// Reads a batch file, all of the source, decides it on the book, and makes the text of its reply file.
-fn decide_batch<T: Threads, R: Source, F: Decide + Sync>(
+/// Reads a batch file, all of the source, decides it on the book in the order of its messages, by any local decision, and makes the text
+/// of its reply file. Messages are decided in a thread of their own while the next ones are read. `Device` is the fault exactly where a
+/// call of the source failed; and memory can run out.
+pub fn decide_in_order<T: Threads, R: Source, F: Decide + Sync>(
     rt: &T,
     alloc: Global,
     book: Book,
@@ -213,36 +214,4 @@ fn decide_batch<T: Threads, R: Source, F: Decide + Sync>(
     let answered = decide_bodies(rt, alloc, book, decision, &mut window, source, count)?;
     window.read_end(source)?;
     Ok(answered)
-}
-
-/// Reads a batch file, decides it on the book in the order of its messages, by any local decision, and writes the reply file. Messages
-/// are decided in a thread of their own while the next ones are read. All of the batch is read and decided before the first byte is put:
-/// a fault until then leaves the sink as it was, a fault while writing leaves a beginning of the text in it. `Device` is the fault
-/// exactly where a call of the source or of the sink failed.
-pub fn process_in_order<T: Threads, R: Source, W: Sink, F: Decide + Sync>(
-    rt: &T,
-    alloc: Global,
-    book: Book,
-    source: &mut R,
-    sink: &mut W,
-    decision: &F,
-) -> Result<Decided, BatchFault>
-    requires source { R.failures source.old + 1 < 2 ^ 64 }
-    requires sink { W.failures sink.old + 1 < 2 ^ 64 }
-    ensures failures { R.failures source.new + W.failures sink.new ≡ failures_after result (R.failures source.old + W.failures sink.old) }
-    ensures known { W.is_known sink.old → W.is_known sink.new }
-    ensures ok { IfOk result (λ decided. (frames : List Frame) × IsDecided book frames decided
-        × (R.is_known source.old → IsBatchOf (R.remaining source.old) frames)
-        × (W.is_known sink.old → W.written sink.new ≡ W.written sink.old ++ replies_text (replies_to book frames))) }
-    ensures end { OnOk result (R.is_known source.old → R.remaining source.new ≡ []) }
-    ensures fault { IfErr result (λ e. IsTrue (is_of_bytes e) → R.is_known source.old → bodies_of batch_magic (R.remaining source.old) ≡ Err e) }
-    // Nothing is put unless the source was a batch that was decided, and then a beginning of its text is put.
-    ensures begun { IfErr result (λ e. (sink.new ≡ sink.old) ⊎ ((frames : List Frame)
-        × (R.is_known source.old → IsBatchOf (R.remaining source.old) frames)
-        × (W.is_known sink.old → AppendsPart (W.written sink.old) (W.written sink.new) (replies_text (replies_to book frames))))) }
-    ensures untouched { IfErr result (λ e. IsTrue (is_of_bytes e) → sink.new ≡ sink.old) }
-{
-    let Answered { decided, text } = decide_batch(rt, alloc, book, source, decision)?;
-    put_all(sink, &text)?;
-    Ok(decided)
 }

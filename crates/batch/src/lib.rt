@@ -14,7 +14,7 @@ mod writing;
 pub use batch_laws::BatchFault;
 pub use bodies::write_batch;
 pub use frames::read_batch;
-pub use in_order::{Decided, process_in_order};
+pub use in_order::{Answered, Decided, decide_in_order};
 pub use processing::process;
 pub use replies::{add_reply, write_replies};
 pub use reply_reading::read_replies;

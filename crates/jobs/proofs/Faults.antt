@@ -7,7 +7,7 @@ use Rattle.files.specs.declared.read_fault.ReadFault.TheVariants as read
 use Rattle.files.specs.declared.write_fault.WriteFault.{WriteFault}
 use Rattle.files.specs.declared.write_fault.WriteFault.TheVariants as write
 use Rattle.jobs.specs.Decided.{Holding}
-use Rattle.jobs.specs.Faults.{HoldsSameOrNothing, IsBatchFault, IsBookFault, IsOfBytes, IsPuttingFault, IsReplyFileFault}
+use Rattle.jobs.specs.Faults.{HoldsSameOrNothing, IsBatchFault, IsRepliesFault, IsBookFault, IsOfBytes, IsPuttingFault, IsReplyFileFault}
 use Rattle.jobs.specs.JobFault.{fault_of_close, fault_of_read, fault_of_write}
 use Rattle.jobs.specs.declared.job_fault.JobFault.{JobFault}
 use Rattle.jobs.specs.declared.job_fault.JobFault.TheVariants.{Unreadable, Unwritable, Book, Batch, Journal, Text, OutOfMemory}
@@ -67,3 +67,14 @@ pub closed_empty : (old mid new : Holding) (name : List ℕ) (closed : Result (U
     → HoldsSameOrNothing old mid name → HoldsSameOrNothing old new name
 closed_empty old mid new name (Ok done) written put kept empty made = λ held h. inr (rw (← empty) put)
 closed_empty old mid new name (Err e) written put kept empty made = λ held h. elim (made held h) [ inl same ↦ inl (kept held same) | inr none ↦ inr (kept [] none) ]
+
+-- that replies are not put into their file is a fault of the batch
+pub of_replies : (old : Holding) (name : List ℕ) (read_failed put_failed refused : Type 0) (e : JobFault)
+    → IsRepliesFault put_failed refused e → IsBatchFault old name read_failed put_failed refused e
+of_replies old name read_failed put_failed refused (Batch fault) h = (λ bytes o t. absurd (h.0 t), λ d. inr (h.1 d))
+of_replies old name read_failed put_failed refused OutOfMemory h = tt
+of_replies old name read_failed put_failed refused Unreadable h = absurd h
+of_replies old name read_failed put_failed refused Unwritable h = absurd h
+of_replies old name read_failed put_failed refused (Book fault) h = absurd h
+of_replies old name read_failed put_failed refused (Journal fault) h = absurd h
+of_replies old name read_failed put_failed refused (Text line) h = absurd h

@@ -40,6 +40,16 @@ IsBatchFault old name read_failed put_failed refused (Book fault) = ⊥
 IsBatchFault old name read_failed put_failed refused (Journal fault) = ⊥
 IsBatchFault old name read_failed put_failed refused (Text line) = ⊥
 
+-- Why the replies to a batch that was decided are not put into their file: a call on it failed or was refused; or memory ran out.
+abbrev pub IsRepliesFault : Type 0 → Type 0 → JobFault → Type 0
+IsRepliesFault put_failed refused (Batch fault) = (¬ IsTrue (is_of_bytes fault)) × (fault ≡ Device → put_failed ⊎ refused)
+IsRepliesFault put_failed refused OutOfMemory = Unit {0}
+IsRepliesFault put_failed refused Unreadable = ⊥
+IsRepliesFault put_failed refused Unwritable = ⊥
+IsRepliesFault put_failed refused (Book fault) = ⊥
+IsRepliesFault put_failed refused (Journal fault) = ⊥
+IsRepliesFault put_failed refused (Text line) = ⊥
+
 -- Why a file is not put in its place: it is refused, or memory ran out.
 abbrev pub IsPuttingFault : Type 0 → JobFault → Type 0
 IsPuttingFault refused Unwritable = refused

@@ -1,10 +1,12 @@
 ghost use Rattle.std.specs.Prelude.{◌≡◌, ◌≢◌, ◌≤◌, ℕ, List, IfOk, IfErr, OnOk, OnErr, length, string_bytes};
+ghost use Rattle.std.specs.FinMap as map;
 ghost use Rattle.batch.specs.Processing.{IsFold, AnswersFold};
 ghost use Rattle.batch_laws.specs.Files.{replies_text};
 ghost use Rattle.batch_laws.specs.Frames.{IsBatchOf};
 ghost use Rattle.book_json_laws.specs.Text.{book_text};
 ghost use Rattle.files.specs.Failing.{HasFailed, HasRefused};
-ghost use Rattle.rows.specs.Fold.{replies_to};
+ghost use Rattle.rows.specs.Book.{AllOfKind};
+ghost use Rattle.rows.specs.Fold.{Rows, replies_to};
 ghost use Rattle.rows.specs.declared.frame.Frame.{Frame};
 ghost use Rattle.jobs.specs.Decided.{IsDecided};
 ghost use Rattle.jobs.specs.Faults.{HoldsSameOrNothing, IsBatchFault, IsDecidingFault, IsOfBytes, IsPuttingFault};
@@ -15,7 +17,7 @@ use batch::process;
 use book_text::BookPieces;
 use files::{BatchNames, Files};
 use fold::Outcome;
-use rows::{Book, Frame};
+use rows::{Book, Frame, SortedRows};
 use std::alloc::{AllocError, Global};
 use std::thread::Threads;
 
@@ -100,6 +102,24 @@ pub fn put_book<R: Threads, F: Files>(
     ensures others { (other held : List ℕ) → other ≢ name.now → F.holds files.old other held → F.holds files.new other held }
 {
     let rows = book.sorted_rows(alloc)?;
-    let mut text = BookPieces::new(rt, alloc, &rows)?;
+    put_rows(rt, alloc, files, name, &rows)
+}
+
+/// Puts the text of the book that has these sorted rows into the file of this name.
+pub(crate) fn put_rows<R: Threads, F: Files>(
+    rt: &R,
+    alloc: Global,
+    files: &mut F,
+    name: &str,
+    rows: &SortedRows<'_>,
+) -> Result<(), JobFault>
+    requires { AllOfKind rows.now }
+    ensures ok { OnOk result (F.is_known files.old → (book : Rows) → rows.now ≡ map.entries book → F.holds files.new name.now (book_text book)) }
+    ensures kept { OnErr result ((held : List ℕ) → F.holds files.old name.now held → F.holds files.new name.now held) }
+    ensures fault { IfErr result (IsPuttingFault (HasRefused F.refuses)) }
+    ensures known { F.is_known files.old → F.is_known files.new }
+    ensures others { (other held : List ℕ) → other ≢ name.now → F.holds files.old other held → F.holds files.new other held }
+{
+    let mut text = BookPieces::new(rt, alloc, rows)?;
     Ok(files.replace(name, &mut text)?)
 }

@@ -3,7 +3,7 @@
 ghost use Rattle.std.specs.Prelude.{◌+◌, ◌<◌, ◌≤◌, ◌^◌, length};
 ghost use Rattle.batch.specs.Processing.{AnswersFold};
 
-use batch::{BatchFault, process, process_in_order};
+use batch::{BatchFault, decide_in_order, process, put_all};
 use devices::{Sink, Source};
 use fold::{Outcome, Prefix};
 use rows::{Book, Frame};
@@ -83,8 +83,12 @@ fn process_while_reading<T: Threads, R: Source, W: Sink>(
     requires sink { W.failures sink.old + 1 < 2 ^ 64 }
 {
     let book = book.copy()?;
-    match process_in_order(rt, alloc, book, source, sink, &Shipped) {
-        Ok(prefix) => Ok(prefix.book),
+    let answered = match decide_in_order(rt, alloc, book, source, &Shipped) {
+        Ok(answered) => answered,
+        Err(fault) => return Err(fault),
+    };
+    match put_all(sink, &answered.text) {
+        Ok(()) => Ok(answered.decided.book),
         Err(fault) => Err(fault),
     }
 }

@@ -3,7 +3,7 @@ use Rattle.std.proofs.lemmas.Result.{err_from_is_err_and}
 use Rattle.batch_laws.specs.Reading.{batch_magic}
 use Rattle.batch.specs.Window.{ahead}
 use Rattle.batch.proofs.ReadBodies.{is_whole, head_fails, bodies_fail, end_fails}
-use Rattle.batch.proofs.in_order.decide_batch.Goals as goal
+use Rattle.batch.proofs.in_order.decide_in_order.Goals as goal
 
 pub returns-in_err-count-clause-decides : goal.returns-in_err-count-clause-decides
 returns-in_err-count-clause-decides g c =
