@@ -73,7 +73,7 @@ fn roomy_prefix(alloc: Global, book: Book, messages: u32) -> Result<Prefix, Allo
     ensures replies { IfOk result (λ prefix. prefix.replies.items ≡ []) }
 {
     let mut prefix = Prefix::new(alloc, book);
-    prefix.book.reserve(messages as usize)?;
+    prefix.make_ready(messages as usize)?;
     Ok(prefix)
 }
 

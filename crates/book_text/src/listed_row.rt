@@ -44,6 +44,7 @@ impl<'a> ListedRow<'a> {
         ensures { IfOk result (λ listed. rows_listed listed.items ≡ rows.now) }
     {
         let mut listed = Vec::new(alloc);
+        listed.reserve(rows.len())?;
         for (key, val) in rows.iter() {
             listed.push(ListedRow::new(key, val))?;
         }

@@ -16,14 +16,18 @@ impl<'a> PlainRows<'a> {
     pub fn new(book: &'a Book) -> PlainRows<'a>
         ensures { result.book.now ≡ book.now }
     {
-        PlainRows {
-            book,
-            places: Places::new(),
-        }
+        PlainRows::near(book, Places::new())
     }
 
-    // Where the rows were found: a hint for those that are put.
-    pub(crate) fn into_places(self) -> Places {
+    /// The rows of this book, which may stand at these places.
+    pub fn near(book: &'a Book, places: Places) -> PlainRows<'a>
+        ensures { result.book.now ≡ book.now }
+    {
+        PlainRows { book, places }
+    }
+
+    /// Where the rows were found: a hint for those that are put.
+    pub fn into_places(self) -> Places {
         self.places
     }
 }

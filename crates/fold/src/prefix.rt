@@ -4,9 +4,12 @@ ghost use Rattle.rows.specs.Fold.{overlay, reply_of, rows_after_one};
 ghost use Rattle.view.specs.Recording.{AgreesWithBook};
 
 use crate::putting::put_all_or_none;
-use rows::{Book, Frame, Places, ReplyBody};
+use rows::{Book, CardPlaces, Frame, Places, ReplyBody};
 use std::alloc::{AllocError, Global};
 use view::{Execution, ReadSet, Stop, WriteSet};
+
+// A book has few rows for a batch where it has at most so many for each body: then it is worth to find its cards' rows at once.
+const FEW_ROWS: usize = 8;
 
 /// The first bodies of a batch, decided: how many they are, the book after them, and their replies.
 #[derive(Drop)]
@@ -17,6 +20,8 @@ pub struct Prefix {
     pub book: Book,
     /// Their replies, in the order of arrival.
     pub replies: Vec<ReplyBody>,
+    // Where the rows of the book's cards were found last.
+    cards: CardPlaces,
 }
 
 impl Prefix {
@@ -26,16 +31,50 @@ impl Prefix {
         ensures book { result.book ≡ book }
         ensures replies { result.replies.items ≡ [] }
     {
+        Prefix::of(alloc, 0, book, Vec::new(alloc))
+    }
+
+    /// So many bodies are decided, with this book after them, and with these replies.
+    pub fn of(alloc: Global, count: u32, book: Book, replies: Vec<ReplyBody>) -> Prefix
+        ensures count { result.count ≡ count }
+        ensures book { result.book ≡ book }
+        ensures replies { result.replies.items ≡ replies.items }
+    {
         Prefix {
-            count: 0,
+            count,
             book,
-            replies: Vec::new(alloc),
+            replies,
+            cards: CardPlaces::new(alloc),
         }
+    }
+
+    /// Makes room for the rows of so many more bodies. Where they are many for the book, the rows of its cards are found at once. The
+    /// prefix is the same, also after an error.
+    pub fn make_ready(&mut self, bodies: usize) -> Result<(), AllocError>
+        ensures count { self.new.count ≡ self.old.count }
+        ensures book { self.new.book ≡ self.old.book }
+        ensures replies { self.new.replies.items ≡ self.old.replies.items }
+    {
+        self.book.reserve(bodies)?;
+        if self.book.len() <= bodies.saturating_mul(FEW_ROWS) {
+            self.cards.find_all(&self.book)?;
+        }
+        Ok(())
+    }
+
+    // Where the rows may stand that the first bodies ask for, as many as there are places.
+    pub(crate) fn look_ahead(&self, frames: &[Frame], ahead: &mut [Places]) {
+        self.cards.look_ahead(&self.book, frames, ahead);
+    }
+
+    /// Where the rows may stand that a body asks for: a hint alone.
+    pub fn places_of(&self, frame: &Frame) -> Places {
+        self.cards.places_of(frame)
     }
 
     /// One more body, as it was executed: its reply, and the rows that it puts, each where it was found. After an error nothing is
     /// changed.
-    pub fn extend(&mut self, execution: &Execution, places: &Places) -> Result<(), AllocError>
+    pub fn extend(&mut self, execution: &Execution, places: &mut Places) -> Result<(), AllocError>
         requires { self.old.count + 1 < 2 ^ 32 }
         ensures count { OnOk result (self.new.count ≡ self.old.count + 1) }
         ensures book { OnOk result (self.new.book ≡ overlay self.old.book execution.now.writes) }
@@ -45,6 +84,7 @@ impl Prefix {
         self.replies.reserve(1)?;
         put_all_or_none(&mut self.book, execution.writes(), places)?;
         push_copy(&mut self.replies, execution.reply());
+        self.cards.note(execution.frame(), places);
         self.count += 1;
         Ok(())
     }
@@ -56,7 +96,7 @@ impl Prefix {
         decided: &Result<ReplyBody, Stop>,
         reads: &ReadSet,
         writes: &WriteSet,
-        places: &Places,
+        places: &mut Places,
     ) -> Result<(), AllocError>
         requires room { self.old.count + 1 < 2 ^ 32 }
         requires local { IfOk decided.now (λ reply. IsLocal frame.now reads.now writes.now reply) }
@@ -66,13 +106,13 @@ impl Prefix {
         ensures book { OnOk result (self.new.book ≡ rows_after_one self.old.book frame.now) }
         ensures replies { OnOk result (self.new.replies.items ≡ self.old.replies.items ++ reply_of self.old.book frame.now ∷ []) }
     {
-        let _ = frame;
         let _ = reads;
         match decided {
             Ok(reply) => {
                 self.replies.reserve(1)?;
                 put_near(&mut self.book, writes, places)?;
                 push_copy(&mut self.replies, reply);
+                self.cards.note(frame, places);
                 self.count += 1;
                 Ok(())
             }
@@ -95,12 +135,12 @@ pub fn put_all(book: Book, writes: &WriteSet) -> Result<Book, AllocError>
     ensures { IfOk result (λ after. after ≡ overlay book writes.now) }
 {
     let mut after = book;
-    put_near(&mut after, writes, &Places::new())?;
+    put_near(&mut after, writes, &mut Places::new())?;
     Ok(after)
 }
 
 // Puts these rows, one after another, each where it was found.
-fn put_near(book: &mut Book, writes: &WriteSet, places: &Places) -> Result<(), AllocError>
+fn put_near(book: &mut Book, writes: &WriteSet, places: &mut Places) -> Result<(), AllocError>
     ensures { OnOk result (book.new ≡ overlay book.old writes.now) }
 {
     for index in 0..writes.len() {

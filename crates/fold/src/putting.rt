@@ -13,7 +13,7 @@ use view::WriteSet;
 pub(crate) fn put_all_or_none(
     book: &mut Book,
     writes: &WriteSet,
-    places: &Places,
+    places: &mut Places,
 ) -> Result<(), AllocError>
     ensures ok { OnOk result (book.new ≡ overlay book.old writes.now) }
     ensures err { OnErr result (book.new ≡ book.old) }
@@ -27,7 +27,7 @@ fn put_from(
     book: &mut Book,
     writes: &WriteSet,
     index: usize,
-    places: &Places,
+    places: &mut Places,
 ) -> Result<(), AllocError>
     requires { index ≤ length writes.now }
     ensures ok { OnOk result (book.new ≡ overlay book.old (drop index writes.now)) }
@@ -66,7 +66,7 @@ fn stand_near(book: &Book, writes: &WriteSet, from: usize, places: &Places) -> b
 }
 
 // Puts the rows from this place on over those that are there.
-fn put_over(book: &mut Book, writes: &WriteSet, from: usize, places: &Places)
+fn put_over(book: &mut Book, writes: &WriteSet, from: usize, places: &mut Places)
     requires { AreThere book.old (drop from writes.now) }
     ensures { book.new ≡ overlay book.old (drop from writes.now) }
 {

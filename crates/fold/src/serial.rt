@@ -3,16 +3,20 @@ ghost use Rattle.rows.specs.Fold.{rows_after, replies_to, rows_after_one, reply_
 
 use crate::plain_rows::PlainRows;
 use crate::prefix::Prefix;
-use rows::Frame;
+use rows::{Frame, Places};
 use std::alloc::{AllocError, Global};
 use view::{Decide, ReadSet, Recorder, WriteSet};
 
+// For so many bodies the rows are looked at ahead at once.
+const AHEAD: usize = 16;
+
 impl Prefix {
-    // Decides one more body, over the memory of two sets, which are handed back.
+    // Decides one more body, whose rows may stand at these places, over the memory of two sets, which are handed back.
     fn decide_one<F: Decide>(
         &mut self,
         frame: &Frame,
         decision: &F,
+        places: Places,
         reads: ReadSet,
         writes: WriteSet,
     ) -> Result<(ReadSet, WriteSet), AllocError>
@@ -21,11 +25,11 @@ impl Prefix {
         ensures book { OnOk result (self.new.book ≡ rows_after_one self.old.book frame.now) }
         ensures replies { OnOk result (self.new.replies.items ≡ self.old.replies.items ++ reply_of self.old.book frame.now ∷ []) }
     {
-        let mut recorder = Recorder::over(PlainRows::new(&self.book), reads, writes);
+        let mut recorder = Recorder::over(PlainRows::near(&self.book, places), reads, writes);
         let decided = decision.decide(frame, &mut recorder);
         let (source, reads, writes) = recorder.into_parts();
-        let places = source.into_places();
-        self.append(frame, &decided, &reads, &writes, &places)?;
+        let mut places = source.into_places();
+        self.append(frame, &decided, &reads, &writes, &mut places)?;
         Ok((reads, writes))
     }
 
@@ -41,12 +45,19 @@ impl Prefix {
         ensures book { OnOk result (self.new.book ≡ rows_after self.old.book frames.now) }
         ensures replies { OnOk result (self.new.replies.items ≡ self.old.replies.items ++ replies_to self.old.book frames.now) }
     {
-        self.book.reserve(frames.len())?;
+        self.make_ready(frames.len())?;
         self.replies.reserve(frames.len())?;
         let mut reads = ReadSet::new(alloc);
         let mut writes = WriteSet::new(alloc);
+        let mut ahead = [Places::new(); AHEAD];
+        let mut index: usize = 0;
         for frame in frames {
-            (reads, writes) = self.decide_one(frame, decision, reads, writes)?;
+            if index % AHEAD == 0 {
+                self.look_ahead(frames.get(index..).unwrap_or(&[]), &mut ahead);
+            }
+            let places = ahead[index % AHEAD];
+            (reads, writes) = self.decide_one(frame, decision, places, reads, writes)?;
+            index = index.wrapping_add(1);
         }
         Ok(())
     }

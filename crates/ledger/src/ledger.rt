@@ -93,12 +93,12 @@ impl<'a> Ledger<'a> {
         ensures committed { result ≡ Ok Committed → self.new ≡ further self.old }
         ensures otherwise { result ≢ Ok Committed → self.new ≡ self.old }
     {
-        let mut places = Places::new();
+        let mut places = self.prefix.places_of(execution.frame());
         if !self.is_next(execution, &mut places) {
             return Ok(Verdict::Stale);
         }
         let _ = execution.frame();
-        self.prefix.extend(execution, &places)?;
+        self.prefix.extend(execution, &mut places)?;
         Ok(Verdict::Committed)
     }
 
@@ -132,9 +132,8 @@ fn empty_prefix(alloc: Global, opening: &Book, messages: usize) -> Result<Prefix
     ensures book { IfOk result (λ prefix. prefix.book ≡ opening.now) }
     ensures replies { IfOk result (λ prefix. prefix.replies.items ≡ []) }
 {
-    let mut book = opening.copy()?;
-    book.reserve(messages)?;
-    let mut prefix = Prefix::new(alloc, book);
+    let mut prefix = Prefix::new(alloc, opening.copy()?);
+    prefix.make_ready(messages)?;
     prefix.replies.reserve(messages)?;
     Ok(prefix)
 }

@@ -5,7 +5,7 @@ ghost use Rattle.rows.specs.Book.{AllOfKind, IsWithin, value_at};
 ghost use Rattle.rows.specs.RowVal.{IsOfKind};
 ghost use Rattle.rows.specs.RowKey.{key_cmp, key_eq};
 
-use crate::places::Places;
+use crate::places::{KINDS, Places};
 use crate::row_key::RowKey;
 use crate::row_val::RowVal;
 use crate::sorted_rows::SortedRows;
@@ -65,16 +65,50 @@ impl Book {
         self.rows.get(key)
     }
 
-    /// The row's value where it stands, if there is such a row; its place is noted.
+    /// The row's value where it stands, if there is such a row, without a look-up where it stands at its noted place; else its
+    /// place is noted.
     #[inline(always)]
     #[tactic(auto, using(crate::proofs::BookLaws::get_seen))]
     pub fn find(&self, key: &RowKey, places: &mut Places) -> Option<&RowVal>
         ensures value { option_copied result ≡ map.get self.now key.now }
         ensures kind { IfSome result (λ val. IsOfKind key.now val.now) }
     {
+        if let Some(val) = self.row_near(key, places) {
+            return Some(val);
+        }
         let (place, _, val) = self.rows.get_full(key)?;
         places.note(key, place);
         Some(val)
+    }
+
+    // The row's value where it stands, if that is its noted place.
+    #[inline(always)]
+    fn row_near(&self, key: &RowKey, places: &Places) -> Option<&RowVal>
+        ensures value { IfSome result (λ val. map.get self.now key.now ≡ Some val.now) }
+        ensures kind { IfSome result (λ val. IsOfKind key.now val.now) }
+    {
+        let _count = self.rows.len();
+        let val = row_at(&self.rows, places.last(key), key)?;
+        Some(val)
+    }
+
+    // Forgets those places at which no row of their kind stands.
+    #[inline(always)]
+    pub(crate) fn keep_standing(&self, places: &mut Places) {
+        for kind in 0..KINDS {
+            if !self.has_at(places.last_of(kind), kind) {
+                places.forget(kind);
+            }
+        }
+    }
+
+    // Whether a row of this kind stands at the place.
+    #[inline(always)]
+    fn has_at(&self, place: usize, kind: u8) -> bool {
+        match self.rows.get_index(place) {
+            Some((key, val)) => key.kind() == kind && val.suits(key),
+            None => false,
+        }
     }
 
     /// Makes room for as many more rows, so that they are put without moving those that are there. It fails where memory
@@ -107,13 +141,13 @@ impl Book {
     }
 
     /// Puts a copy of the value at the key, over what was there, without a look-up where the row stands at its noted place.
-    /// Only a row that wasn't there takes memory.
+    /// Only a row that wasn't there takes memory; its place is noted.
     #[inline(always)]
     pub fn put_copy_near(
         &mut self,
         key: &RowKey,
         val: &RowVal,
-        places: &Places,
+        places: &mut Places,
     ) -> Result<(), AllocError>
         requires { IsOfKind key.now val.now }
         ensures ok { OnOk result (self.new ≡ map.insert self.old key.now val.now) }
@@ -123,7 +157,7 @@ impl Book {
         if copy_at(&mut self.rows, places.last(key), key, val) {
             return Ok(());
         }
-        put_entry(&mut self.rows, key, val)
+        put_noting(&mut self.rows, key, val, places)
     }
 
     /// Whether the row stands at its noted place. Where it doesn't it may still be there, since a place is a hint alone.
@@ -234,6 +268,26 @@ fn put_entry(
     Ok(())
 }
 
+// The same; where the row wasn't there, its place is noted.
+#[inline(always)]
+fn put_noting(
+    rows: &mut IndexMap<RowKey, RowVal>,
+    key: &RowKey,
+    val: &RowVal,
+    places: &mut Places,
+) -> Result<(), AllocError>
+    ensures updates { OnOk result (Updates key_eq rows.old rows.new key.now (Some val.now)) }
+    ensures err { OnErr result (rows.new.entries ≡ rows.old.entries) }
+    ensures absent { OnErr result (value_at rows.old.entries key.now ≡ None) }
+{
+    let count = rows.len();
+    put_entry(rows, key, val)?;
+    if count < rows.len() {
+        places.note(key, count);
+    }
+    Ok(())
+}
+
 // Writes a copy of a row over it, if it stands at this place.
 #[inline(always)]
 fn copy_at(rows: &mut IndexMap<RowKey, RowVal>, place: usize, key: &RowKey, val: &RowVal) -> bool
@@ -246,6 +300,15 @@ fn copy_at(rows: &mut IndexMap<RowKey, RowVal>, place: usize, key: &RowKey, val:
     let (_, there) = rows.pair_mut(place);
     there.copy_from(val);
     true
+}
+
+// The row's value where it stands, if that is this place.
+#[inline(always)]
+fn row_at<'a>(rows: &'a IndexMap<RowKey, RowVal>, place: usize, key: &RowKey) -> Option<&'a RowVal>
+    ensures { IfSome result (λ val. slice_get rows.now.entries place ≡ Some (key.now, val.now)) }
+{
+    let (there, val) = rows.get_index(place)?;
+    if there == key { Some(val) } else { None }
 }
 
 // Whether the row stands at this place.

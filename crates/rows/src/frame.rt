@@ -1,7 +1,7 @@
 ghost use Rattle.std.specs.Prelude.{◌≡◌, ◌↔◌, IsTrue};
 
 use crate::frame_fault::FrameFault;
-use iso8583::Message;
+use iso8583::{Message, Pan};
 
 /// A body of a batch.
 #[derive(Clone, Copy)]
@@ -13,6 +13,17 @@ pub enum Frame {
 }
 
 impl Frame {
+    // The number of the card that the message is of.
+    #[inline(always)]
+    pub(crate) fn pan(&self) -> Option<&Pan> {
+        match self {
+            Frame::Good(Message::Request(request)) => Some(&request.transaction.pan),
+            Frame::Good(Message::Advice(advice)) => Some(&advice.transaction.pan),
+            Frame::Good(Message::Reversal(reversal)) => Some(&reversal.transaction.pan),
+            Frame::Bad(_) => None,
+        }
+    }
+
     /// Whether the other is the same.
     pub fn is_same(&self, other: &Frame) -> bool
         ensures { IsTrue result ↔ (self.now ≡ other.now) }

@@ -417,10 +417,6 @@ impl Core {
         let count = self.sched.committed();
         let replies = replies_in(alloc, &self.slots[..count as usize])?;
         let book = self.memory.overlay(count, &self.opening)?;
-        Ok(Prefix {
-            count,
-            book,
-            replies,
-        })
+        Ok(Prefix::of(alloc, count, book, replies))
     }
 }

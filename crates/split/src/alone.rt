@@ -6,7 +6,7 @@ use crate::together::decide_together;
 use crate::watch::Watch;
 use fold::{Outcome, PlainRows, Prefix};
 use ledger::Ledger;
-use rows::{Book, Frame, Places};
+use rows::{Book, Frame};
 use rules::decide_all;
 use std::alloc::{AllocError, Global};
 use std::sync::Wait;
@@ -67,7 +67,7 @@ fn decide_first<R: Clock, F: Decide, G: Gate>(
     ensures replies { IfOk result (λ prefix. prefix.replies.items ≡ replies_to book.now (take prefix.count frames.now)) }
 {
     let mut prefix = Prefix::new(alloc, book.copy()?);
-    prefix.book.reserve(frames.len())?;
+    prefix.make_ready(frames.len())?;
     prefix.replies.reserve(frames.len())?;
     let mut reads = ReadSet::new(alloc);
     let mut writes = WriteSet::new(alloc);
@@ -101,15 +101,17 @@ fn decide_next<F: Decide>(
     ensures replies { OnOk result (prefix.new.replies.items ≡ prefix.old.replies.items ++ reply_of prefix.old.book frame.now ∷ []) }
     ensures kept { OnErr result ((prefix.new.count ≡ prefix.old.count) × (prefix.new.book ≡ prefix.old.book) × (prefix.new.replies.items ≡ prefix.old.replies.items)) }
 {
-    let mut recorder = Recorder::over(PlainRows::new(&prefix.book), reads, writes);
+    let rows = PlainRows::near(&prefix.book, prefix.places_of(frame));
+    let mut recorder = Recorder::over(rows, reads, writes);
     let reply = match decision.decide(frame, &mut recorder) {
         Ok(reply) => reply,
         Err(Stop::OutOfMemory) => return Err(AllocError),
         Err(_) => unreachable!(),
     };
-    let (_, reads, writes) = recorder.into_parts();
+    let (rows, reads, writes) = recorder.into_parts();
+    let mut places = rows.into_places();
     let execution = Execution::new(*frame, reads, writes, reply);
-    prefix.extend(&execution, &Places::new())?;
+    prefix.extend(&execution, &mut places)?;
     let (_, reads, writes, _) = execution.into_parts();
     Ok((reads, writes))
 }

@@ -1,4 +1,4 @@
-use Rattle.std.proofs.Common.{Result, Ok, Err, OnOk, OnErr}
+use Rattle.std.proofs.Common.{Result, Ok, Err, OnOk}
 use Rattle.rows.proofs.BookLaws.{get_seen, insert_seen}
 use Rattle.rows.proofs.book.Book.put_copy_near.Goals as goal
 
@@ -14,8 +14,8 @@ returns-then-copy_at-clause-ok c =
 pub returns-clause-ok : goal.returns-clause-ok
 returns-clause-ok c =
     rw (← c.self.view_is, ← c.copy_at.ensures.not_found c.if-copy_at.false)
-    (after_ok c.put_entry.result (λ updates. insert_seen c.copy_at.new.rows.entries c.put_entry.new.rows.entries c.args.key.now c.args.val.now updates.0) c.put_entry.ensures.updates)
+    (after_ok c.put_noting.result (λ updates. insert_seen c.copy_at.new.rows.entries c.put_noting.new.rows.entries c.args.key.now c.args.val.now updates.0) c.put_noting.ensures.updates)
 
 pub returns-clause-full : goal.returns-clause-full
 returns-clause-full c =
-    rw (← c.self.view_is, get_seen c.self.inside.rows.entries c.args.key.now, ← c.copy_at.ensures.not_found c.if-copy_at.false) c.put_entry.ensures.absent
+    rw (← c.self.view_is, get_seen c.self.inside.rows.entries c.args.key.now, ← c.copy_at.ensures.not_found c.if-copy_at.false) c.put_noting.ensures.absent
