@@ -10,9 +10,6 @@ use rows::Book;
 use std::alloc::{AllocError, Global};
 use std::thread::Threads;
 
-// Room is made for at most so many further rows: one for each message of the longest batch.
-const ROOM: usize = 65_536;
-
 // How many rows were read in all.
 fn count(shares: &[Share<'_>]) -> usize {
     let mut rows: usize = 0;
@@ -20,11 +17,6 @@ fn count(shares: &[Share<'_>]) -> usize {
         rows = rows.saturating_add(share.len());
     }
     rows
-}
-
-// For how many rows room is made where so many are read: also for those that a long batch may put, so that the rows needn't be moved.
-fn with_room(rows: usize) -> usize {
-    rows.saturating_add(rows.saturating_mul(4).min(ROOM))
 }
 
 // The book of a text's lists, if they are all found.
@@ -38,7 +30,7 @@ fn book_of_lists<R: Threads>(
     };
     read_shares(rt, alloc, bytes.len(), shares.as_mut_slice());
     let mut book = Book::new(alloc);
-    book.reserve(with_room(count(&shares)))?;
+    book.reserve(count(&shares))?;
     for share in shares {
         if !share.put_into(&mut book)? {
             return Ok(None);
