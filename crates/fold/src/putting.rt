@@ -1,4 +1,4 @@
-ghost use Rattle.std.specs.Prelude.{◌≡◌, ◌≢◌, ◌≤◌, drop, length, None, OnOk, OnErr, IfSome, IsTrue};
+ghost use Rattle.std.specs.Prelude.{◌≡◌, ◌≢◌, ◌+◌, ◌<◌, ◌≤◌, drop, length, None, OnOk, OnErr, IfSome, IsTrue};
 ghost use Rattle.std.specs.FinMap as map;
 ghost use Rattle.fold.specs.Former.{with_former};
 ghost use Rattle.fold.specs.There.{AreThere};
@@ -21,8 +21,8 @@ pub(crate) fn put_all_or_none(
     put_from(book, writes, 0, places)
 }
 
-// Puts the rows from this place on, or none of them: where a later one finds no room, each is given back what it was. Rows that all
-// stand where they were found need no room, so what they were is not asked for.
+// Puts the rows from this place on, or none of them: where a later one finds no room, each is given back what it was. Rows that
+// stand where they were found need no room, so what those before them were is not asked for.
 fn put_from(
     book: &mut Book,
     writes: &WriteSet,
@@ -40,6 +40,9 @@ fn put_from(
         put_over(book, writes, index, places);
         return Ok(());
     }
+    if stand_near(book, writes, index + 1, places) {
+        return put_before(book, writes, index, places);
+    }
     let (key, row) = writes.row(index);
     let former = book.get(key);
     book.put_copy_near(key, row, places)?;
@@ -50,6 +53,25 @@ fn put_from(
             Err(fault)
         }
     }
+}
+
+// Puts the row at this place, and those behind it over what is there: so it is the only one that may want memory.
+fn put_before(
+    book: &mut Book,
+    writes: &WriteSet,
+    index: usize,
+    places: &mut Places,
+) -> Result<(), AllocError>
+    requires within { index < length writes.now }
+    requires behind { AreThere book.old (drop (index + 1) writes.now) }
+    ensures ok { OnOk result (book.new ≡ overlay book.old (drop index writes.now)) }
+    ensures err { OnErr result (book.new ≡ book.old) }
+{
+    let _count = writes.len();
+    let (key, row) = writes.row(index);
+    book.put_copy_near(key, row, places)?;
+    put_over(book, writes, index + 1, places);
+    Ok(())
 }
 
 // Whether each row from this place on stands where it was found.

@@ -12,6 +12,9 @@ const DIGITS: usize = 8;
 // An odd number whose bits are spread, by which digits are multiplied (the golden ratio, as hashes by multiplication use it).
 const SPREAD: u64 = 0x9E37_79B9_7F4A_7C15;
 
+// For so many cards there is room where the book has one.
+const SPACE: usize = 4;
+
 /// Where the rows were found last that a card's messages ask for: its own, its day's, its budget's and its account's. So they are read
 /// without a look-up, and ahead of the message that asks for them. It is a hint alone, as places are.
 #[derive(Drop)]
@@ -52,10 +55,10 @@ impl CardPlaces {
         }
     }
 
-    // Makes room for twice as many cards, so that few fall together.
+    // Makes room for more cards, so that few fall together.
     fn make_room(&mut self, cards: usize) -> Result<(), AllocError> {
         let alloc = *self.of_card.allocator();
-        self.of_card = vec![in alloc; Places::new(); cards.saturating_mul(2)]?;
+        self.of_card = vec![in alloc; Places::new(); cards.saturating_mul(SPACE)]?;
         Ok(())
     }
 

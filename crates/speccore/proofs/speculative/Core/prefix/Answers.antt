@@ -23,19 +23,22 @@ returns-clause-within c =
     let h = Holds-reached (the_view c.self.inside).state c.self.invariant.1 in
     let within = h.within in
     let count = c.committed-count.ensures.count in
-    subst (λ (p : Play). c.committed-count.result ≤ length p.state.frames) c.self.view_is (omega arith)
+    let same = c.of.ensures.count in
+    subst (λ (p : Play). c.of.result.count ≤ length p.state.frames) c.self.view_is (omega arith)
 
 pub returns-clause-book : goal.returns-clause-book
 returns-clause-book c =
     let s : State = (the_view c.self.inside).state in
     let laid : IsLaidOver (shelf s) s.board.committed s.opening c.in_ok-book.book = subst (λ (n : ℕ). IsLaidOver (shelf s) n s.opening c.in_ok-book.book) c.committed-count.ensures.count c.in_ok-book.ensures in
-    subst (λ (p : Play). c.in_ok-book.book ≡ rows_after p.state.opening (take p.state.board.committed p.state.frames)) c.self.view_is
+    c.of.ensures.book
+    ∙ subst (λ (p : Play). c.in_ok-book.book ≡ rows_after p.state.opening (take p.state.board.committed p.state.frames)) c.self.view_is
     (one_laid (shelf s) s.board.committed s.opening c.in_ok-book.book (rows_after s.opening (take s.board.committed s.frames)) laid (rows-reached s c.self.invariant.1))
 
 pub returns-clause-replies : goal.returns-clause-replies
 returns-clause-replies c =
     let s : State = (the_view c.self.inside).state in
-    subst (λ (p : Play). c.in_ok-replies.replies.items ≡ replies_to p.state.opening (take p.state.board.committed p.state.frames)) c.self.view_is
+    c.of.ensures.replies
+    ∙ subst (λ (p : Play). c.in_ok-replies.replies.items ≡ replies_to p.state.opening (take p.state.board.committed p.state.frames)) c.self.view_is
     (c.in_ok-replies.ensures
     ∙ ap (filter_map (λ (k : Slot). k.reply)) (ap (take c.committed-count.result) c.deref.ensures.value ∙ ap (λ (n : ℕ). take n s.slots) c.committed-count.ensures.count)
     ∙ replies-reached s c.self.invariant.1)
