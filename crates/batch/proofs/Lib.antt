@@ -6,3 +6,4 @@ pub mod Folds
 pub mod FaultTexts
 pub mod ReadReplies
 pub mod Puts
+pub mod Handed

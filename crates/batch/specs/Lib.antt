@@ -3,3 +3,4 @@ pub mod Window
 pub mod Bodies
 pub mod Processing
 pub mod InOrder
+pub mod Pieces

@@ -1,30 +1,31 @@
 //! A batch that is decided in the order of its messages, while it is read.
 
-ghost use Rattle.std.specs.Prelude.{◌≡◌, [], ◌+◌, ◌<◌, ◌≤◌, ◌^◌, ◌++◌, length, vec_len, IfOk, OnOk};
-ghost use Rattle.rows.specs.Fold.{rows_after, replies_to};
-ghost use Rattle.rows.specs.declared.frame.Frame.{Frame};
+ghost use Rattle.std.specs.Prelude.{◌≡◌, ℕ, List, [], ◌+◌, ◌<◌, ◌≤◌, ◌^◌, ◌++◌, length, IfOk, OnOk};
+ghost use Rattle.rows.specs.Fold.{Rows, rows_after, replies_to};
+ghost use Rattle.rtrb.specs.Ring.{sent, received, SameProducer, SameConsumer};
 ghost use Rattle.batch_laws.specs.BatchFault.{failures_after};
-ghost use Rattle.batch_laws.specs.Reading.{bodies_at};
+ghost use Rattle.batch_laws.specs.Files.{head_text};
+ghost use Rattle.batch_laws.specs.Reading.{bodies_at, replies_magic};
 ghost use Rattle.batch.specs.InOrder.{GivesInto, DecidesBodies, DecidesBatch, texts_of};
+ghost use Rattle.batch.specs.Pieces.{AreJoined, HasDecided, HasTold, frames_in};
 ghost use Rattle.batch.specs.Window.{ahead};
 
+use crate::decider::Decider;
+use crate::piece::OfOneBatch;
+use crate::reader::{PIECE, Reader};
 use crate::replies::add_reply;
+use crate::signals::Signals;
 use crate::window::Window;
 use crate::writing::add_head;
 use batch_laws::BatchFault;
 use devices::Source;
 use fold::Prefix;
-use rows::{Book, Frame, ReplyBody};
+use rows::{Book, ReplyBody};
+use rtrb::RingBuffer;
 use std::alloc::{AllocError, Global};
-use std::mem;
+use std::sync::Wait;
 use std::thread::{Threads, join_mut};
 use view::Decide;
-
-// So many bodies are read at most while others are decided.
-const PIECE: u32 = 4096;
-
-// So many are read first, while none is decided, and so many at least later on.
-const LEAST: u32 = 512;
 
 /// A batch that was decided.
 #[derive(Drop)]
@@ -45,7 +46,7 @@ pub struct Answered {
 }
 
 // Appends the texts of replies, over memory for one of them.
-fn add_replies(
+pub(crate) fn add_replies(
     out: &mut Vec<u8>,
     text: &mut Vec<u8>,
     replies: &[ReplyBody],
@@ -58,85 +59,100 @@ fn add_replies(
     Ok(())
 }
 
-// How many bodies are read next where so many are left: towards the end half of them, so that few are decided while none is read.
-fn piece_of(left: u32) -> u32
-    ensures within { result ≤ left }
-    ensures some { result ≡ 0 → left ≡ 0 }
+// The ends of what the thread that reads and the one that decides hand to each other, for a batch of so many messages on this book.
+fn joined_ends(alloc: Global, book: Book, count: u32) -> Result<(Reader, Decider), AllocError>
+    requires { count ≤ 65536 }
+    ensures joined { IfOk result (λ ends. AreJoined ends.0 ends.1) }
+    ensures none { IfOk result (λ ends. (sent ends.0.going ≡ []) × (received ends.0.coming ≡ [])) }
+    ensures out { IfOk result (λ ends. ends.0.out.items ≡ head_text replies_magic count) }
+    ensures decided { IfOk result (λ ends. HasDecided book ends.1) }
 {
-    (left / 2).max(LEAST).min(PIECE).min(left)
+    // Where no thread can be made, all pieces are read before the first one is decided.
+    let most = count as usize / PIECE as usize + 2;
+    let (read, to_decide) = RingBuffer::with_protocol::<Global, OfOneBatch>(alloc, most)?;
+    let (decided, back) = RingBuffer::new(alloc, most)?;
+    let mut out = Vec::new(alloc);
+    add_head(&mut out, b"I83R", count)?;
+    let decider = Decider::new(alloc, book, count, to_decide, decided)?;
+    Ok((Reader::new(alloc, out, read, back), decider))
 }
 
-// A prefix of no body on this book, with room for a row of each of so many.
-fn roomy_prefix(alloc: Global, book: Book, messages: u32) -> Result<Prefix, AllocError>
-    ensures count { IfOk result (λ prefix. prefix.count ≡ 0) }
-    ensures book { IfOk result (λ prefix. prefix.book ≡ book) }
-    ensures replies { IfOk result (λ prefix. prefix.replies.items ≡ []) }
-{
-    let mut prefix = Prefix::new(alloc, book);
-    prefix.make_ready(messages as usize)?;
-    Ok(prefix)
-}
-
-// Decides these frames in a thread of its own, and meanwhile appends the texts of the replies before theirs, and reads the next frames,
-// over the memory of others. Where none is left to be read, this thread decides.
-fn decide_and_read<T: Threads, R: Source, F: Decide + Sync>(
+// Decides in a thread of its own, and meanwhile reads the next bodies, so many, and makes the text of the replies that come back.
+fn work_together<T: Threads + Wait + Sync, R: Source, F: Decide + Sync>(
     rt: &T,
     alloc: Global,
-    prefix: &mut Prefix,
-    frames: &[Frame],
+    reader: &mut Reader,
+    decider: &mut Decider,
     decision: &F,
     window: &mut Window,
     source: &mut R,
     count: u32,
-    next: &mut Vec<Frame>,
-    replies: &[ReplyBody],
-    out: &mut Vec<u8>,
-    text: &mut Vec<u8>,
 ) -> Result<(), BatchFault>
     requires source { R.failures source.old + 1 < 2 ^ 64 }
-    requires few { prefix.old.count + length frames.now < 2 ^ 32 }
+    requires few { count ≤ 65536 }
+    requires none { sent reader.old.going ≡ [] }
+    requires count { decider.old.prefix.count ≡ length (frames_in (received decider.old.coming)) }
+    ensures reader { SameProducer reader.old.going reader.new.going × SameConsumer reader.old.coming reader.new.coming }
+    ensures decider { SameConsumer decider.old.coming decider.new.coming × SameProducer decider.old.going decider.new.going }
     ensures failures { R.failures source.new ≡ failures_after result (R.failures source.old) }
     ensures known { R.is_known source.old → R.is_known source.new }
-    ensures read { OnOk result (vec_len next.new ≡ count) }
-    ensures gives { R.is_known source.old → GivesInto result next.new.items
+    ensures read { OnOk result (length (frames_in (sent reader.new.going)) ≡ count) }
+    ensures gives { R.is_known source.old → GivesInto result (frames_in (sent reader.new.going))
         (ahead window.new (R.remaining source.new)) (bodies_at count (ahead window.old (R.remaining source.old))) }
-    ensures out { OnOk result (out.new.items ≡ out.old.items ++ texts_of replies.now) }
-    ensures count { OnOk result (prefix.new.count ≡ prefix.old.count + length frames.now) }
-    ensures book { OnOk result (prefix.new.book ≡ rows_after prefix.old.book frames.now) }
-    ensures replies { OnOk result (prefix.new.replies.items ≡ prefix.old.replies.items ++ replies_to prefix.old.book frames.now) }
+    ensures told { (head : List ℕ) → HasTold head reader.old → OnOk result (HasTold head reader.new) }
+    ensures decided { (book : Rows) → HasDecided book decider.old → OnOk result (HasDecided book decider.new) }
 {
-    if count == 0 {
-        prefix.decide_each(alloc, frames, decision)?;
-        add_replies(out, text, replies)?;
-        return window.read_into(source, 0, next);
-    }
+    let signals = Signals::new();
     let (decided, read) = join_mut(
         rt,
         &mut || -> Result<(), AllocError>
-            requires { prefix.now.count + length frames.now < 2 ^ 32 }
-            ensures count { OnOk result (prefix.exit.now.count ≡ prefix.entry.now.count + length frames.entry.now) }
-            ensures book { OnOk result (prefix.exit.now.book ≡ rows_after prefix.entry.now.book frames.entry.now) }
-            ensures replies { OnOk result (prefix.exit.now.replies.items ≡ prefix.entry.now.replies.items ++ replies_to prefix.entry.now.book frames.entry.now) }
-        { prefix.decide_each(alloc, frames, decision) },
+            requires { decider.now.prefix.count ≡ length (frames_in (received decider.now.coming)) }
+            ensures ends { SameConsumer decider.entry.now.coming decider.exit.now.coming × SameProducer decider.entry.now.going decider.exit.now.going }
+            ensures decided { (book : Rows) → HasDecided book decider.entry.now → OnOk result (HasDecided book decider.exit.now) }
+        { decider.work(rt, alloc, decision, &signals) },
         &mut || -> Result<(), BatchFault>
-            requires { R.failures source.now + 1 < 2 ^ 64 }
+            requires source { R.failures source.now + 1 < 2 ^ 64 }
+            requires few { count ≤ 65536 }
+            requires none { sent reader.now.going ≡ [] }
+            ensures ends { SameProducer reader.entry.now.going reader.exit.now.going × SameConsumer reader.entry.now.coming reader.exit.now.coming }
             ensures failures { R.failures source.exit.now ≡ failures_after result (R.failures source.entry.now) }
             ensures known { R.is_known source.entry.now → R.is_known source.exit.now }
-            ensures read { OnOk result (vec_len next.exit.now ≡ count) }
-            ensures out { OnOk result (out.exit.now.items ≡ out.entry.now.items ++ texts_of replies.entry.now) }
-            ensures gives { R.is_known source.entry.now → GivesInto result next.exit.now.items
+            ensures read { OnOk result (length (frames_in (sent reader.exit.now.going)) ≡ count) }
+            ensures gives { R.is_known source.entry.now → GivesInto result (frames_in (sent reader.exit.now.going))
                 (ahead window.exit.now (R.remaining source.exit.now)) (bodies_at count (ahead window.entry.now (R.remaining source.entry.now))) }
-        {
-            add_replies(out, text, replies)?;
-            window.read_into(source, count, next)
-        },
+            ensures told { (head : List ℕ) → HasTold head reader.entry.now → OnOk result (HasTold head reader.exit.now) }
+        { reader.work(rt, alloc, window, source, count, &signals) },
     );
     read?;
     Ok(decided?)
 }
 
+// Decides what was read and not decided, and makes the text of the replies that have none yet.
+fn decide_rest<F: Decide>(
+    alloc: Global,
+    reader: &mut Reader,
+    decider: &mut Decider,
+    decision: &F,
+) -> Result<(), AllocError>
+    requires joined { AreJoined reader.old decider.old }
+    requires count { decider.old.prefix.count ≡ length (frames_in (received decider.old.coming)) }
+    ensures book { (book : Rows) → HasDecided book decider.old → OnOk result (decider.new.prefix.book ≡ rows_after book (frames_in (sent reader.old.going))) }
+    ensures told { (book : Rows) (head : List ℕ) → HasDecided book decider.old → HasTold head reader.old
+        → OnOk result (reader.new.out.items ≡ head ++ texts_of (replies_to book (frames_in (sent reader.old.going)))) }
+{
+    let left = reader.coming.slots_beside(&mut decider.going);
+    reader.take_left(left)?;
+    let left = decider.coming.slots_beside(&mut reader.going);
+    for _ in 0..left {
+        let mut piece = decider.coming.pop_known();
+        decider.decide(alloc, decision, &mut piece)?;
+        reader.tell(&piece)?;
+    }
+    Ok(())
+}
+
 // Reads the next bodies, so many, decides them on the book, and makes the text of their reply file.
-fn decide_bodies<T: Threads, R: Source, F: Decide + Sync>(
+fn decide_bodies<T: Threads + Wait + Sync, R: Source, F: Decide + Sync>(
     rt: &T,
     alloc: Global,
     book: Book,
@@ -152,37 +168,20 @@ fn decide_bodies<T: Threads, R: Source, F: Decide + Sync>(
     ensures decides { DecidesBodies book result (R.is_known source.old)
         (ahead window.new (R.remaining source.new)) (bodies_at count (ahead window.old (R.remaining source.old))) }
 {
-    let mut prefix = roomy_prefix(alloc, book, count)?;
-    let mut frames = Vec::new(alloc);
-    let mut next = Vec::new(alloc);
-    let mut replies = Vec::new(alloc);
-    let mut out = Vec::new(alloc);
-    let mut text = Vec::new(alloc);
-    let mut left = count - count.min(LEAST);
-    add_head(&mut out, b"I83R", count)?;
-    window.read_into(source, count.min(LEAST), &mut frames)?;
-    while !frames.is_empty() {
-        let size = piece_of(left);
-        decide_and_read(
-            rt,
-            alloc,
-            &mut prefix,
-            &frames,
-            decision,
-            window,
-            source,
-            size,
-            &mut next,
-            &replies,
-            &mut out,
-            &mut text,
-        )?;
-        mem::swap(&mut frames, &mut next);
-        mem::swap(&mut replies, &mut prefix.replies);
-        prefix.replies.clear();
-        left -= size;
-    }
-    add_replies(&mut out, &mut text, &replies)?;
+    let (mut reader, mut decider) = joined_ends(alloc, book, count)?;
+    work_together(
+        rt,
+        alloc,
+        &mut reader,
+        &mut decider,
+        decision,
+        window,
+        source,
+        count,
+    )?;
+    decide_rest(alloc, &mut reader, &mut decider, decision)?;
+    let Reader { out, .. } = reader;
+    let Decider { prefix, .. } = decider;
     let Prefix { book, .. } = prefix;
     Ok(Answered {
         decided: Decided {
@@ -196,7 +195,7 @@ fn decide_bodies<T: Threads, R: Source, F: Decide + Sync>(
 /// Reads a batch file, all of the source, decides it on the book in the order of its messages, by any local decision, and makes the text
 /// of its reply file. Messages are decided in a thread of their own while the next ones are read. `Device` is the fault exactly where a
 /// call of the source failed; and memory can run out.
-pub fn decide_in_order<T: Threads, R: Source, F: Decide + Sync>(
+pub fn decide_in_order<T: Threads + Wait + Sync, R: Source, F: Decide + Sync>(
     rt: &T,
     alloc: Global,
     book: Book,

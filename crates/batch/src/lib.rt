@@ -2,12 +2,17 @@
 #![tactic(auto)]
 
 mod bodies;
+mod decider;
 mod fields;
 mod frames;
+mod handing;
 mod in_order;
+mod piece;
 mod processing;
+mod reader;
 mod replies;
 mod reply_reading;
+mod signals;
 mod window;
 mod writing;
 

@@ -20,11 +20,12 @@ use files::{BatchNames, Files};
 use rows::{Book, SortedRows};
 use rules::Shipped;
 use std::alloc::{AllocError, Global};
+use std::sync::Wait;
 use std::thread::{Threads, join_mut};
 
 /// Decides a batch one message after another, files to files. Messages are decided while the next ones are read, and the new book's rows
 /// are sorted while the replies are put.
-pub fn serial_batch<R: Threads, F: Files>(
+pub fn serial_batch<R: Threads + Wait + Sync, F: Files>(
     rt: &R,
     alloc: Global,
     files: &mut F,
@@ -50,7 +51,7 @@ pub fn serial_batch<R: Threads, F: Files>(
 
 // Decides the batch on a book, one message after another. The answer has the file that was made for the replies, with nothing in it; after a
 // fault it is closed.
-fn decide_file<R: Threads, F: Files>(
+fn decide_file<R: Threads + Wait + Sync, F: Files>(
     rt: &R,
     alloc: Global,
     files: &mut F,
@@ -79,7 +80,7 @@ fn decide_file<R: Threads, F: Files>(
 }
 
 // Puts the replies to a batch into the file that was made for them, and the book after it into its own.
-fn put_answered<R: Threads, F: Files>(
+fn put_answered<R: Threads + Wait + Sync, F: Files>(
     rt: &R,
     alloc: Global,
     files: &mut F,
@@ -103,7 +104,7 @@ fn put_answered<R: Threads, F: Files>(
 }
 
 // Puts the replies to a batch into the file that was made for them under this name, and sorts the rows of the book after it meanwhile.
-fn put_replies<'a, R: Threads, F: Files>(
+fn put_replies<'a, R: Threads + Wait + Sync, F: Files>(
     rt: &R,
     alloc: Global,
     files: &mut F,
