@@ -4,12 +4,6 @@ use Rattle.std.specs.List.{flat_map}
 use Rattle.std.proofs.lemmas.List.{append-nil, take-append-drop, take_more, take_all}
 use Rattle.std.proofs.lemmas.List.Concat.{flat_map-append}
 use Rattle.batch.specs.Writing.{AppendsPart, Moves}
-use Rattle.batch.specs.InOrder.{texts_of}
-use Rattle.batch_laws.specs.Files.{framed, reply_text}
-use Rattle.fold.proofs.FoldLaws.{replies_to-append}
-use Rattle.rows.specs.Fold.{Rows, rows_after, replies_to}
-use Rattle.rows.specs.declared.frame.Frame.{Frame}
-use Rattle.rows.specs.declared.reply_body.ReplyBody.{ReplyBody}
 
 -- what was put since the beginning, and what is about to be put, are the text so far
 abbrev pub Progress : List ℕ → List ℕ → List ℕ → List ℕ → Type 0
@@ -64,13 +58,3 @@ one_more_at {A = A} text head items i item lt is =
 
 pub all_of_them : {A : Type 0} (text : A → List ℕ) (head : List ℕ) (items : List A) (i : ℕ) → length items ≤ i → so_many text head items i ≡ head ++ flat_map text items
 all_of_them {A = A} text head items i le = ap (λ (xs : List A). head ++ flat_map text xs) (take_all i items le)
-
--- a text whose last part is to be appended still, and that of more replies
-pub told_more : (book : Rows) (front frames : List Frame) (head out out' : List ℕ) (before after : List ReplyBody)
-    → out ++ texts_of before ≡ head ++ texts_of (replies_to book front) → out' ≡ out ++ texts_of before → after ≡ replies_to (rows_after book front) frames
-    → out' ++ texts_of after ≡ head ++ texts_of (replies_to book (front ++ frames))
-told_more book front frames head out out' before after so_far told are =
-    let text = λ (reply : ReplyBody). framed (reply_text reply) in
-    let all : texts_of (replies_to book (front ++ frames)) ≡ texts_of (replies_to book front) ++ texts_of (replies_to (rows_after book front) frames) =
-    ap texts_of (replies_to-append book front frames) ∙ flat_map-append text (replies_to book front) (replies_to (rows_after book front) frames) in
-    rw (told, so_far, are, all) (append_assoc head (texts_of (replies_to book front)) (texts_of (replies_to (rows_after book front) frames)))

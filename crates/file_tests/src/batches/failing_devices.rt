@@ -7,6 +7,7 @@ use devices::{FailingSink, FailingSource};
 use fixtures::first_book_with;
 use rows::{Book, Frame};
 use std::alloc::Global;
+use std::sync::Wait;
 use std::test::Fail;
 use std::thread::Threads;
 
@@ -39,7 +40,13 @@ fn a_byte_a_call_gives_the_same_frames(rt: HostRuntime) {
 }
 
 // Whether a source that fails behind so many calls is a fault of a device, and leaves the sink.
-fn source_fails<T: Threads>(rt: &T, alloc: Global, way: Way, book: &Book, answers: u64) -> bool {
+fn source_fails<T: Threads + Wait + Sync>(
+    rt: &T,
+    alloc: Global,
+    way: Way,
+    book: &Book,
+    answers: u64,
+) -> bool {
     let mut source = FailingSource::new(BATCH, 1, answers);
     let mut sink = FailingSink::new(alloc, 1, 117);
     let fault = process_serially(rt, alloc, way, book, &mut source, &mut sink).err();
@@ -47,7 +54,7 @@ fn source_fails<T: Threads>(rt: &T, alloc: Global, way: Way, book: &Book, answer
 }
 
 // Whether a sink that fails behind so many calls, of so many bytes each, is one, and holds this beginning of the replies.
-fn sink_fails<T: Threads>(
+fn sink_fails<T: Threads + Wait + Sync>(
     rt: &T,
     alloc: Global,
     way: Way,
@@ -62,7 +69,12 @@ fn sink_fails<T: Threads>(
 }
 
 // Whether each call that fails is a fault of its device.
-fn fails_at_each_call<T: Threads>(rt: &T, alloc: Global, way: Way, book: &Book) -> bool {
+fn fails_at_each_call<T: Threads + Wait + Sync>(
+    rt: &T,
+    alloc: Global,
+    way: Way,
+    book: &Book,
+) -> bool {
     for answers in 0..CALLS {
         if !source_fails(rt, alloc, way, book, answers) {
             return false;

@@ -9,6 +9,7 @@ use fold::{Outcome, Prefix};
 use rows::{Book, Frame};
 use rules::{Shipped, decide_all};
 use std::alloc::{AllocError, Global};
+use std::sync::Wait;
 use std::thread::Threads;
 
 // How a batch is read and decided.
@@ -36,7 +37,7 @@ fn decide_serially(alloc: Global, book: &Book, frames: &[Frame]) -> Result<Outco
 }
 
 // Reads a batch file, decides its bodies one after another and writes the reply file: the book after them.
-pub(crate) fn process_serially<T: Threads, R: Source, W: Sink>(
+pub(crate) fn process_serially<T: Threads + Wait + Sync, R: Source, W: Sink>(
     rt: &T,
     alloc: Global,
     way: Way,
@@ -72,7 +73,7 @@ fn process_whole<R: Source, W: Sink>(
     }
 }
 
-fn process_while_reading<T: Threads, R: Source, W: Sink>(
+fn process_while_reading<T: Threads + Wait + Sync, R: Source, W: Sink>(
     rt: &T,
     alloc: Global,
     book: &Book,

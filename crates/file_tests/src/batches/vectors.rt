@@ -8,6 +8,7 @@ use devices::{FromRead, IntoWrite};
 use fixtures::{count_of, first_book_with, has_row};
 use rows::{Book, Frame, ReplyBody};
 use std::alloc::{AllocError, Global};
+use std::sync::Wait;
 use std::test::Fail;
 use std::thread::Threads;
 
@@ -18,7 +19,7 @@ const ANSWERED: &[(&[u8], &[u8], &str)] = &[
     (SHORT, SHORT_REPLIES, "account A 10000 978"),
 ];
 
-fn is_answered<T: Threads>(
+fn is_answered<T: Threads + Wait + Sync>(
     rt: &T,
     alloc: Global,
     way: Way,
@@ -62,7 +63,7 @@ fn long_batch(alloc: Global) -> Result<Vec<u8>, AllocError> {
 }
 
 // The replies to a batch that is decided on this book.
-fn replies_by<T: Threads>(
+fn replies_by<T: Threads + Wait + Sync>(
     rt: &T,
     alloc: Global,
     way: Way,
