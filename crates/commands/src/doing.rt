@@ -60,7 +60,7 @@ pub(crate) fn done<R: Clock + Threads + Wait + Sync, F: Files>(
 }
 
 // A batch is decided one message after another.
-fn serial<R: Threads, F: Files>(
+fn serial<R: Threads + Wait + Sync, F: Files>(
     rt: &R,
     alloc: Global,
     files: &mut F,
