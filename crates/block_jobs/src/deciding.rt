@@ -15,18 +15,17 @@ use fold::Outcome;
 use jobs::{JobFault, fault_of_closing, open_book, put_book};
 use rows::{Book, Frame};
 use std::alloc::{AllocError, Global};
+use std::sync::Wait;
 use std::thread::Threads;
 
 /// Decides the blocks of one file on the book of another, each on the book after those before it, and puts the replies and the new
 /// book into files. `decide` has to answer the fold. Where a block can't be read, decided or answered, the blocks before it are
 /// kept: the new book is the one after them. After any other fault the file of the new book is as it was.
-pub fn decide_blocks<R: Threads, F: Files, E: Fn(&Book, &[Frame]) -> Result<Outcome, AllocError>>(
-    rt: &R,
-    alloc: Global,
-    files: &mut F,
-    names: &BatchNames,
-    decide: &E,
-) -> Result<BlockCount, Halt>
+pub fn decide_blocks<
+    R: Threads + Wait + Sync,
+    F: Files,
+    E: Fn(&Book, &[Frame]) -> Result<Outcome, AllocError>,
+>(rt: &R, alloc: Global, files: &mut F, names: &BatchNames, decide: &E) -> Result<BlockCount, Halt>
     // It may be called with a block, and what it answers is the fold.
     requires called { (rows : _) (frames : _) → length frames.now ≤ 65536 → E.pre decide.now rows frames }
     requires fold { (rows : _) (frames : _) (answer : _) → E.post decide.now rows frames answer → AnswersFold rows.now frames.now answer }
@@ -90,7 +89,7 @@ fn answer_blocks<F: Files, E: Fn(&Book, &[Frame]) -> Result<Outcome, AllocError>
 }
 
 // Puts the book after all blocks into the file of this name. The answer is how many there were.
-fn put_outcome<R: Threads, F: Files>(
+fn put_outcome<R: Threads + Wait + Sync, F: Files>(
     rt: &R,
     alloc: Global,
     files: &mut F,
@@ -112,7 +111,7 @@ fn put_outcome<R: Threads, F: Files>(
 }
 
 // Puts the book after the kept blocks into the file of this name.
-fn keep_blocks<R: Threads, F: Files>(
+fn keep_blocks<R: Threads + Wait + Sync, F: Files>(
     rt: &R,
     alloc: Global,
     files: &mut F,

@@ -1,3 +1,2 @@
 pub mod Entries
 pub mod Printing
-pub mod Taken

@@ -1,4 +1,3 @@
 pub mod Top
 pub mod Left
 pub mod Pieces
-pub mod Sheets

@@ -4,12 +4,11 @@
 mod field_writers;
 mod listed_row;
 mod parts;
-mod pieces;
 mod row_writers;
-mod sheet;
-mod sheets;
 mod tokens;
 mod writing;
 
-pub use pieces::BookPieces;
-pub use writing::write_book;
+pub use listed_row::ListedRow;
+pub use parts::{emptied, last_piece, list_behind, piece_between, rows_piece, skipped_if};
+pub use tokens::begin_object;
+pub use writing::{open_list, write_book};

@@ -8,7 +8,7 @@ use std::alloc::{AllocError, Global};
 
 /// A row of a book, where it stands, and the list of the text that it stands in: so it isn't looked at for each list.
 #[derive(Drop)]
-pub(crate) struct ListedRow<'a> {
+pub struct ListedRow<'a> {
     list: RowList,
     pub(crate) key: &'a RowKey,
     pub(crate) val: &'a RowVal,
@@ -36,10 +36,7 @@ impl<'a> ListedRow<'a> {
     }
 
     /// The rows with their lists, in their order.
-    pub(crate) fn all(
-        alloc: Global,
-        rows: &'a SortedRows<'_>,
-    ) -> Result<Vec<ListedRow<'a>>, AllocError>
+    pub fn all(alloc: Global, rows: &'a SortedRows<'_>) -> Result<Vec<ListedRow<'a>>, AllocError>
         requires { AllOfKind rows.now }
         ensures { IfOk result (λ listed. rows_listed listed.items ≡ rows.now) }
     {
@@ -52,7 +49,7 @@ impl<'a> ListedRow<'a> {
     }
 
     /// Whether the row stands in this list.
-    pub(crate) fn is_in(&self, list: RowList) -> bool
+    pub fn is_in(&self, list: RowList) -> bool
         ensures { result ≡ is_in list self.now.val.now }
     {
         list.part().number() == self.list.part().number()

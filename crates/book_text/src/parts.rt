@@ -16,7 +16,7 @@ use std::alloc::AllocError;
 use std::mem;
 
 /// The memory of a text, emptied, with none left in its place.
-pub(crate) fn emptied(text: &mut Vec<u8>) -> Vec<u8>
+pub fn emptied(text: &mut Vec<u8>) -> Vec<u8>
     ensures { result.items ≡ [] }
 {
     let alloc = *text.allocator();
@@ -27,7 +27,7 @@ pub(crate) fn emptied(text: &mut Vec<u8>) -> Vec<u8>
 
 /// The entries of those of the rows that stand in the list, and whether an entry of the list is written then. Where one was before,
 /// the text begins with `null`: the writer puts a comma behind a value, and that one is skipped.
-pub(crate) fn rows_piece(
+pub fn rows_piece(
     text: Vec<u8>,
     later: bool,
     list: RowList,
@@ -46,14 +46,14 @@ pub(crate) fn rows_piece(
 }
 
 /// How much of such a text is skipped.
-pub(crate) fn skipped_if(later: bool) -> usize
+pub fn skipped_if(later: bool) -> usize
     ensures { result ≡ skipped_if later }
 {
     if later { "null".len() } else { 0 }
 }
 
 /// What stands between the last entry of a list and the first of the next one.
-pub(crate) fn piece_between(text: Vec<u8>, next: RowList) -> Result<Vec<u8>, AllocError>
+pub fn piece_between(text: Vec<u8>, next: RowList) -> Result<Vec<u8>, AllocError>
     requires { text.items ≡ [] }
     ensures { IfOk result (λ piece. piece.items ≡ print (between next)) }
 {
@@ -64,7 +64,7 @@ pub(crate) fn piece_between(text: Vec<u8>, next: RowList) -> Result<Vec<u8>, All
 }
 
 /// What stands behind the last entry of the last list.
-pub(crate) fn last_piece(text: Vec<u8>) -> Result<Vec<u8>, AllocError>
+pub fn last_piece(text: Vec<u8>) -> Result<Vec<u8>, AllocError>
     requires { text.items ≡ [] }
     ensures { IfOk result (λ piece. piece.items ≡ print last_tokens) }
 {
@@ -75,7 +75,7 @@ pub(crate) fn last_piece(text: Vec<u8>) -> Result<Vec<u8>, AllocError>
 }
 
 /// The list that stands behind this one, if there is one.
-pub(crate) fn list_behind(list: RowList) -> Option<RowList>
+pub fn list_behind(list: RowList) -> Option<RowList>
     ensures { result ≡ next_list list }
 {
     match list {

@@ -7,7 +7,7 @@ ghost use Rattle.book_json_laws.specs.Text.{Adds};
 use json::Writer;
 use std::alloc::AllocError;
 
-pub(crate) fn begin_object(out: &mut Writer) -> Result<(), AllocError>
+pub fn begin_object(out: &mut Writer) -> Result<(), AllocError>
     ensures { OnOk result (Adds out.old out.new (begin_object ∷ [])) }
 {
     out.begin_object()

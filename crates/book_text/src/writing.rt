@@ -47,7 +47,7 @@ pub(crate) fn write_rows(
 }
 
 /// Begins a list.
-pub(crate) fn open_list(out: &mut Writer, list: RowList) -> Result<(), AllocError>
+pub fn open_list(out: &mut Writer, list: RowList) -> Result<(), AllocError>
     ensures { OnOk result (Adds out.old out.new (key_token (list_key list) ∷ begin_array_token ∷ [])) }
 {
     key(out, list.key())?;

@@ -5,7 +5,6 @@ ghost use Rattle.batch_laws.specs.Files.{replies_text};
 ghost use Rattle.batch_laws.specs.Frames.{IsBatchOf};
 ghost use Rattle.book_json_laws.specs.Text.{book_text};
 ghost use Rattle.files.specs.Failing.{HasFailed, HasRefused};
-ghost use Rattle.rows.specs.Book.{AllOfKind};
 ghost use Rattle.rows.specs.Fold.{Rows, replies_to};
 ghost use Rattle.rows.specs.declared.frame.Frame.{Frame};
 ghost use Rattle.jobs.specs.Decided.{IsDecided};
@@ -14,23 +13,23 @@ ghost use Rattle.jobs.specs.Faults.{HoldsSameOrNothing, IsBatchFault, IsDeciding
 use crate::job_fault::{JobFault, fault_of_closing};
 use crate::opening::open_book;
 use batch::process;
-use book_text::BookPieces;
 use files::{BatchNames, Files};
 use fold::Outcome;
-use rows::{Book, Frame, SortedRows};
+use rows::{Book, Frame};
 use std::alloc::{AllocError, Global};
-use std::thread::Threads;
+use std::marker::Brand;
+use std::sync::Wait;
+use std::thread::{Threads, join_mut};
+use text_desk::{OfRows, Sorting, TextDesk};
 
 /// Decides the batch of one file on the book of another, and puts the replies and the new book into files. `decide` has to
 /// answer the fold. The answer is how many messages were decided. Until the batch is decided nothing is written but an empty file
 /// for the replies, and after a fault the file of the new book is as it was.
-pub fn decide_batch<R: Threads, F: Files, E: Fn(&Book, &[Frame]) -> Result<Outcome, AllocError>>(
-    rt: &R,
-    alloc: Global,
-    files: &mut F,
-    names: &BatchNames,
-    decide: &E,
-) -> Result<usize, JobFault>
+pub fn decide_batch<
+    R: Threads + Wait + Sync,
+    F: Files,
+    E: Fn(&Book, &[Frame]) -> Result<Outcome, AllocError>,
+>(rt: &R, alloc: Global, files: &mut F, names: &BatchNames, decide: &E) -> Result<usize, JobFault>
     // It may be called with a batch, and what it answers is the fold.
     requires called { (rows : _) (frames : _) → length frames.now ≤ 65536 → E.pre decide.now rows frames }
     requires fold { (rows : _) (frames : _) (answer : _) → E.post decide.now rows frames answer → AnswersFold rows.now frames.now answer }
@@ -88,7 +87,7 @@ fn answer_batch<F: Files, E: Fn(&Book, &[Frame]) -> Result<Outcome, AllocError>>
 }
 
 /// Puts the text of a book into the file of this name.
-pub fn put_book<R: Threads, F: Files>(
+pub fn put_book<R: Threads + Wait + Sync, F: Files>(
     rt: &R,
     alloc: Global,
     files: &mut F,
@@ -101,25 +100,83 @@ pub fn put_book<R: Threads, F: Files>(
     ensures known { F.is_known files.old → F.is_known files.new }
     ensures others { (other held : List ℕ) → other ≢ name.now → F.holds files.old other held → F.holds files.new other held }
 {
-    let rows = book.sorted_rows(alloc)?;
-    put_rows(rt, alloc, files, name, &rows)
+    put_text::<Brand, R, F>(rt, alloc, files, Target { name }, book)
 }
 
-/// Puts the text of the book that has these sorted rows into the file of this name.
-pub(crate) fn put_rows<R: Threads, F: Files>(
+// The file that a text is put into. A function whose caller picks the rows of its types can't take a name as it is.
+#[derive(Drop)]
+struct Target<'a> {
+    name: &'a str,
+}
+
+// The same, where the rows are those of the types.
+fn put_text<B: OfRows + Send + Sync, R: Threads + Wait + Sync, F: Files>(
     rt: &R,
     alloc: Global,
     files: &mut F,
-    name: &str,
-    rows: &SortedRows<'_>,
+    target: Target<'_>,
+    book: &Book,
 ) -> Result<(), JobFault>
-    requires { AllOfKind rows.now }
-    ensures ok { OnOk result (F.is_known files.old → (book : Rows) → rows.now ≡ map.entries book → F.holds files.new name.now (book_text book)) }
+    requires { map.entries book.now ≡ B.rows }
+    ensures ok { OnOk result (F.is_known files.old → F.holds files.new target.entry.name.now (book_text book.now)) }
+    ensures kept { OnErr result ((held : List ℕ) → F.holds files.old target.entry.name.now held → F.holds files.new target.entry.name.now held) }
+    ensures fault { IfErr result (IsPuttingFault (HasRefused F.refuses)) }
+    ensures known { F.is_known files.old → F.is_known files.new }
+    ensures others { (other held : List ℕ) → other ≢ target.entry.name.now → F.holds files.old other held → F.holds files.new other held }
+{
+    let sorting: Sorting<'_, B> = Sorting::new(alloc, book);
+    let desk = TextDesk::new(&sorting)?;
+    put_helped(rt, files, target.name, &desk)
+}
+
+// Puts the text of a desk's rows into the file of this name. Other threads help to make it, where there are many.
+fn put_helped<B: OfRows + Send + Sync, R: Threads + Wait + Sync, F: Files>(
+    rt: &R,
+    files: &mut F,
+    name: &str,
+    desk: &TextDesk<'_, '_, B>,
+) -> Result<(), JobFault>
+    ensures ok { OnOk result (F.is_known files.old → (book : Rows) → B.rows ≡ map.entries book → F.holds files.new name.now (book_text book)) }
     ensures kept { OnErr result ((held : List ℕ) → F.holds files.old name.now held → F.holds files.new name.now held) }
     ensures fault { IfErr result (IsPuttingFault (HasRefused F.refuses)) }
     ensures known { F.is_known files.old → F.is_known files.new }
     ensures others { (other held : List ℕ) → other ≢ name.now → F.holds files.old other held → F.holds files.new other held }
 {
-    let mut text = BookPieces::new(rt, alloc, rows)?;
+    let helpers = desk.helpers(rt);
+    if helpers == 0 {
+        return put_pieces(rt, files, name, desk);
+    }
+    let (_, put) = join_mut(
+        rt,
+        &mut || desk.help_in(rt, helpers),
+        &mut || -> Result<(), JobFault>
+            ensures ok { OnOk result (F.is_known files.entry.now → (book : Rows) → B.rows ≡ map.entries book → F.holds files.exit.now name.entry.now (book_text book)) }
+            ensures kept { OnErr result ((held : List ℕ) → F.holds files.entry.now name.entry.now held → F.holds files.exit.now name.entry.now held) }
+            ensures fault { IfErr result (IsPuttingFault (HasRefused F.refuses)) }
+            ensures known { F.is_known files.entry.now → F.is_known files.exit.now }
+            ensures others { (other held : List ℕ) → other ≢ name.entry.now → F.holds files.entry.now other held → F.holds files.exit.now other held }
+        {
+            let put = put_pieces(rt, files, name, desk);
+            desk.close();
+            put
+        },
+    );
+    put
+}
+
+// Puts the text of a desk's rows into the file of this name.
+pub(crate) fn put_pieces<B: OfRows, R: Wait, F: Files>(
+    rt: &R,
+    files: &mut F,
+    name: &str,
+    desk: &TextDesk<'_, '_, B>,
+) -> Result<(), JobFault>
+    ensures ok { OnOk result (F.is_known files.old → (book : Rows) → B.rows ≡ map.entries book → F.holds files.new name.now (book_text book)) }
+    ensures kept { OnErr result ((held : List ℕ) → F.holds files.old name.now held → F.holds files.new name.now held) }
+    ensures fault { IfErr result (IsPuttingFault (HasRefused F.refuses)) }
+    ensures known { F.is_known files.old → F.is_known files.new }
+    ensures others { (other held : List ℕ) → other ≢ name.now → F.holds files.old other held → F.holds files.new other held }
+{
+    let mut text = desk.pieces(rt)?;
     Ok(files.replace(name, &mut text)?)
 }

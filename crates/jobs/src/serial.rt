@@ -1,27 +1,26 @@
-ghost use Rattle.std.specs.Prelude.{◌≡◌, ◌≢◌, ◌⊎◌, ◌+◌, ◌<◌, ◌^◌, ◌++◌, ℕ, List, [], IfOk, IfErr, OnOk, OnErr, string_bytes};
+ghost use Rattle.std.specs.Prelude.{◌≡◌, ◌≢◌, ◌⊎◌, ◌+◌, ◌<◌, ◌^◌, ◌++◌, ℕ, List, [], IfOk, IfErr, IsSome, OnOk, OnErr, string_bytes};
 ghost use Rattle.std.specs.FinMap as map;
 ghost use Rattle.batch.specs.InOrder as in_order;
-ghost use Rattle.batch_laws.specs.BatchFault.{failures_after};
 ghost use Rattle.batch_laws.specs.Frames.{IsBatchOf};
 ghost use Rattle.book_json_laws.specs.Text.{book_text};
 ghost use Rattle.files.specs.Failing.{HasFailed, HasRefused};
-ghost use Rattle.rows.specs.Book.{AllOfKind};
+ghost use Rattle.rows.specs.Fold.{Rows};
 ghost use Rattle.rows.specs.declared.frame.Frame.{Frame};
-ghost use Rattle.batch_laws.specs.declared.batch_fault.BatchFault.TheVariants.{Device};
 ghost use Rattle.jobs.specs.Decided.{IsDecided};
 ghost use Rattle.jobs.specs.Faults.{HoldsSameOrNothing, IsBatchFault, IsDecidingFault, IsOfBytes, IsPuttingFault, IsRepliesFault};
 
-use crate::deciding::put_rows;
+use crate::deciding::put_pieces;
 use crate::job_fault::{JobFault, fault_of_closing};
 use crate::opening::open_book;
-use batch::{Answered, BatchFault, decide_in_order, put_all};
-use devices::Sink;
+use batch::{Answered, decide_in_order, put_all};
 use files::{BatchNames, Files};
-use rows::{Book, SortedRows};
+use rows::Book;
 use rules::Shipped;
-use std::alloc::{AllocError, Global};
+use std::alloc::Global;
+use std::marker::Brand;
 use std::sync::Wait;
 use std::thread::{Threads, join_mut};
+use text_desk::{OfRows, Sorting, TextDesk};
 
 /// Decides a batch one message after another, files to files. Messages are decided while the next ones are read, and the new book's rows
 /// are sorted while the replies are put.
@@ -99,71 +98,137 @@ fn put_answered<R: Threads + Wait + Sync, F: Files>(
     ensures others { (other held : List ℕ) → other ≢ string_bytes names.now.replies → other ≢ string_bytes names.now.new_book
         → F.holds files.old other held → F.holds files.new other held }
 {
-    let rows = put_replies(rt, alloc, files, names.replies.as_str(), answered, replies)?;
-    put_rows(rt, alloc, files, names.new_book.as_str(), &rows)
+    put_both::<Brand, R, F>(rt, alloc, files, names, answered, replies)
 }
 
-// Puts the replies to a batch into the file that was made for them under this name, and sorts the rows of the book after it meanwhile.
-fn put_replies<'a, R: Threads + Wait + Sync, F: Files>(
+// The same, where the rows of the book are those of the types.
+fn put_both<B: OfRows + Send + Sync, R: Threads + Wait + Sync, F: Files>(
     rt: &R,
     alloc: Global,
     files: &mut F,
+    names: &BatchNames,
+    answered: &Answered,
+    output: F::Output,
+) -> Result<(), JobFault>
+    requires rows { map.entries answered.now.decided.book ≡ B.rows }
+    requires room { F.Output.failures output + 1 < 2 ^ 64 }
+    ensures book { OnOk result (F.is_known files.old → F.holds files.new (string_bytes names.now.new_book) (book_text answered.now.decided.book)) }
+    ensures put { OnOk result (F.is_known files.old → F.Output.is_known output → string_bytes names.now.replies ≢ string_bytes names.now.new_book
+        → F.holds files.new (string_bytes names.now.replies) (F.Output.written output ++ answered.now.text.items)) }
+    ensures kept { OnErr result (string_bytes names.now.new_book ≢ string_bytes names.now.replies → (held : List ℕ)
+        → F.holds files.old (string_bytes names.now.new_book) held → F.holds files.new (string_bytes names.now.new_book) held) }
+    ensures fault { IfErr result (λ fault. IsRepliesFault (HasFailed F.Output.failures) (HasRefused F.refuses) fault ⊎ IsPuttingFault (HasRefused F.refuses) fault) }
+    ensures known { F.is_known files.old → F.is_known files.new }
+    ensures others { (other held : List ℕ) → other ≢ string_bytes names.now.replies → other ≢ string_bytes names.now.new_book
+        → F.holds files.old other held → F.holds files.new other held }
+{
+    let sorting: Sorting<'_, B> = Sorting::new(alloc, &answered.decided.book);
+    let desk = TextDesk::new(&sorting)?;
+    let mut replies = Some(output);
+    put_helped(rt, files, names, &answered.text, &mut replies, &desk)
+}
+
+// Puts the replies to a batch, of this text, into the file that is there for them, and then the text of a desk's rows into that of the new
+// book. Where these are many, other threads sort them meanwhile and help to make the text.
+fn put_helped<B: OfRows + Send + Sync, R: Threads + Wait + Sync, F: Files>(
+    rt: &R,
+    files: &mut F,
+    names: &BatchNames,
+    text: &[u8],
+    replies: &mut Option<F::Output>,
+    desk: &TextDesk<'_, '_, B>,
+) -> Result<(), JobFault>
+    requires some { IsSome replies.old }
+    requires room { (output : F.Output) → replies.old ≡ Some output → F.Output.failures output + 1 < 2 ^ 64 }
+    ensures book { OnOk result (F.is_known files.old → (book : Rows) → B.rows ≡ map.entries book
+        → F.holds files.new (string_bytes names.now.new_book) (book_text book)) }
+    ensures put { OnOk result (F.is_known files.old → (output : F.Output) → replies.old ≡ Some output → F.Output.is_known output
+        → string_bytes names.now.replies ≢ string_bytes names.now.new_book
+        → F.holds files.new (string_bytes names.now.replies) (F.Output.written output ++ text.now)) }
+    ensures kept { OnErr result (string_bytes names.now.new_book ≢ string_bytes names.now.replies → (held : List ℕ)
+        → F.holds files.old (string_bytes names.now.new_book) held → F.holds files.new (string_bytes names.now.new_book) held) }
+    ensures fault { IfErr result (λ fault. IsRepliesFault (HasFailed F.Output.failures) (HasRefused F.refuses) fault ⊎ IsPuttingFault (HasRefused F.refuses) fault) }
+    ensures known { F.is_known files.old → F.is_known files.new }
+    ensures others { (other held : List ℕ) → other ≢ string_bytes names.now.replies → other ≢ string_bytes names.now.new_book
+        → F.holds files.old other held → F.holds files.new other held }
+{
+    let helpers = desk.helpers(rt);
+    if helpers == 0 {
+        return put_in_turn(rt, files, names, text, replies, desk);
+    }
+    let (_, put) = join_mut(
+        rt,
+        &mut || desk.help_in(rt, helpers),
+        &mut || -> Result<(), JobFault>
+            requires some { IsSome replies.now }
+            requires room { (output : F.Output) → replies.now ≡ Some output → F.Output.failures output + 1 < 2 ^ 64 }
+            ensures book { OnOk result (F.is_known files.entry.now → (book : Rows) → B.rows ≡ map.entries book
+                → F.holds files.exit.now (string_bytes names.entry.now.new_book) (book_text book)) }
+            ensures put { OnOk result (F.is_known files.entry.now → (output : F.Output) → replies.entry.now ≡ Some output → F.Output.is_known output
+                → string_bytes names.entry.now.replies ≢ string_bytes names.entry.now.new_book
+                → F.holds files.exit.now (string_bytes names.entry.now.replies) (F.Output.written output ++ text.entry.now)) }
+            ensures kept { OnErr result (string_bytes names.entry.now.new_book ≢ string_bytes names.entry.now.replies → (held : List ℕ)
+                → F.holds files.entry.now (string_bytes names.entry.now.new_book) held → F.holds files.exit.now (string_bytes names.entry.now.new_book) held) }
+            ensures fault { IfErr result (λ fault. IsRepliesFault (HasFailed F.Output.failures) (HasRefused F.refuses) fault ⊎ IsPuttingFault (HasRefused F.refuses) fault) }
+            ensures known { F.is_known files.entry.now → F.is_known files.exit.now }
+            ensures others { (other held : List ℕ) → other ≢ string_bytes names.entry.now.replies → other ≢ string_bytes names.entry.now.new_book
+                → F.holds files.entry.now other held → F.holds files.exit.now other held }
+        {
+            let put = put_in_turn(rt, files, names, text, replies, desk);
+            desk.close();
+            put
+        },
+    );
+    put
+}
+
+// The same in this thread.
+fn put_in_turn<B: OfRows, R: Wait, F: Files>(
+    rt: &R,
+    files: &mut F,
+    names: &BatchNames,
+    text: &[u8],
+    replies: &mut Option<F::Output>,
+    desk: &TextDesk<'_, '_, B>,
+) -> Result<(), JobFault>
+    requires some { IsSome replies.old }
+    requires room { (output : F.Output) → replies.old ≡ Some output → F.Output.failures output + 1 < 2 ^ 64 }
+    ensures book { OnOk result (F.is_known files.old → (book : Rows) → B.rows ≡ map.entries book
+        → F.holds files.new (string_bytes names.now.new_book) (book_text book)) }
+    ensures put { OnOk result (F.is_known files.old → (output : F.Output) → replies.old ≡ Some output → F.Output.is_known output
+        → string_bytes names.now.replies ≢ string_bytes names.now.new_book
+        → F.holds files.new (string_bytes names.now.replies) (F.Output.written output ++ text.now)) }
+    ensures kept { OnErr result (string_bytes names.now.new_book ≢ string_bytes names.now.replies → (held : List ℕ)
+        → F.holds files.old (string_bytes names.now.new_book) held → F.holds files.new (string_bytes names.now.new_book) held) }
+    ensures fault { IfErr result (λ fault. IsRepliesFault (HasFailed F.Output.failures) (HasRefused F.refuses) fault ⊎ IsPuttingFault (HasRefused F.refuses) fault) }
+    ensures known { F.is_known files.old → F.is_known files.new }
+    ensures others { (other held : List ℕ) → other ≢ string_bytes names.now.replies → other ≢ string_bytes names.now.new_book
+        → F.holds files.old other held → F.holds files.new other held }
+{
+    let output = replies.take().unwrap();
+    put_replies(files, names.replies.as_str(), text, output)?;
+    put_pieces(rt, files, names.new_book.as_str(), desk)
+}
+
+// Puts the replies to a batch, of this text, into the file that was made for them under this name.
+fn put_replies<F: Files>(
+    files: &mut F,
     name: &str,
-    answered: &'a Answered,
+    text: &[u8],
     mut replies: F::Output,
-) -> Result<SortedRows<'a>, JobFault>
+) -> Result<(), JobFault>
     requires room { F.Output.failures replies + 1 < 2 ^ 64 }
-    ensures rows { IfOk result (λ rows. rows ≡ map.entries answered.now.decided.book) }
-    ensures kinds { AllOfKind (map.entries answered.now.decided.book) }
     ensures put { OnOk result (F.is_known files.old → F.Output.is_known replies
-        → F.holds files.new name.now (F.Output.written replies ++ answered.now.text.items)) }
+        → F.holds files.new name.now (F.Output.written replies ++ text.now)) }
     ensures fault { IfErr result (IsRepliesFault (HasFailed F.Output.failures) (HasRefused F.refuses)) }
     ensures known { F.is_known files.old → F.is_known files.new }
     ensures others { (other held : List ℕ) → other ≢ name.now → F.holds files.old other held → F.holds files.new other held }
 {
-    let (rows, put) = sort_and_put(
-        rt,
-        alloc,
-        &answered.decided.book,
-        &answered.text,
-        &mut replies,
-    );
+    let put = put_all(&mut replies, text);
     let closed = files.close(name, replies);
     match (put, closed) {
-        (Ok(()), Ok(())) => Ok(rows?),
+        (Ok(()), Ok(())) => Ok(()),
         (Ok(()), Err(fault)) => Err(fault_of_closing(fault)),
         (Err(fault), _) => Err(JobFault::Batch(fault)),
     }
-}
-
-// Sorts the rows of a book in a thread of its own, and puts the bytes meanwhile.
-fn sort_and_put<'a, R: Threads, W: Sink>(
-    rt: &R,
-    alloc: Global,
-    book: &'a Book,
-    bytes: &[u8],
-    sink: &mut W,
-) -> (Result<SortedRows<'a>, AllocError>, Result<(), BatchFault>)
-    requires room { W.failures sink.old + 1 < 2 ^ 64 }
-    ensures rows { IfOk result.0 (λ rows. rows ≡ map.entries book.now) }
-    ensures kinds { AllOfKind (map.entries book.now) }
-    ensures failures { W.failures sink.new ≡ failures_after result.1 (W.failures sink.old) }
-    ensures known { W.is_known sink.old → W.is_known sink.new }
-    ensures put { OnOk result.1 (W.is_known sink.old → W.written sink.new ≡ W.written sink.old ++ bytes.now) }
-    ensures fault { IfErr result.1 (λ fault. fault ≡ Device) }
-{
-    join_mut(
-        rt,
-        &mut || -> Result<SortedRows, AllocError>
-            ensures rows { IfOk result (λ rows. rows ≡ map.entries book.entry.now) }
-            ensures kinds { AllOfKind (map.entries book.entry.now) }
-        { book.sorted_rows(alloc) },
-        &mut || -> Result<(), BatchFault>
-            requires { W.failures sink.now + 1 < 2 ^ 64 }
-            ensures failures { W.failures sink.exit.now ≡ failures_after result (W.failures sink.entry.now) }
-            ensures known { W.is_known sink.entry.now → W.is_known sink.exit.now }
-            ensures put { OnOk result (W.is_known sink.entry.now → W.written sink.exit.now ≡ W.written sink.entry.now ++ bytes.entry.now) }
-            ensures fault { IfErr result (λ fault. fault ≡ Device) }
-        { put_all(sink, bytes) },
-    )
 }

@@ -122,7 +122,7 @@ fn trace_batch<R: Clock + Threads + Wait + Sync, S: Source, W: Sink>(
 }
 
 // Puts the journal of a run into its file, and then the book after it. The answer is how many messages were decided.
-fn put_run<R: Threads, F: Files>(
+fn put_run<R: Threads + Wait + Sync, F: Files>(
     rt: &R,
     alloc: Global,
     files: &mut F,

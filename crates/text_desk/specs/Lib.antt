@@ -1,0 +1,2 @@
+pub mod Rest
+pub mod Sheets
