@@ -25,10 +25,6 @@ replies_of p = replies_to p.opening (take p.count p.frames)
 abbrev pub opened : Rows → List Frame → Progress
 opened opening frames = record { opening = opening; frames = frames; count = 0 }
 
--- the first of them are committed, so many
-abbrev pub begun : Rows → List Frame → ℕ → Progress
-begun opening frames count = record { opening = opening; frames = frames; count = count }
-
 -- one more is committed
 abbrev pub further : Progress → Progress
 further p = record { opening = p.opening; frames = p.frames; count = p.count + 1 }

@@ -1,16 +1,16 @@
-ghost use Rattle.std.specs.Prelude.{◌≡◌, ◌≢◌, ◌≤◌, ◌↔◌, [], Ok, IfOk, IsTrue, length, take};
-ghost use Rattle.rows.specs.Fold.{rows_after, replies_to};
-ghost use Rattle.ledger.specs.Progress.{opened, begun, further, book_of, replies_of, IsNext};
+ghost use Rattle.std.specs.Prelude.{◌≡◌, ◌≢◌, ◌<◌, ◌≤◌, ◌↔◌, [], Ok, IfOk, OnOk, OnErr, IsTrue, length};
+ghost use Rattle.ledger.specs.Progress.{opened, further, book_of, replies_of, IsNext};
 ghost use Rattle.ledger.specs.declared.verdict.Verdict.TheVariants.{Committed, Stale};
 
 use crate::agreement::agrees;
+use crate::deciding::decide_on;
 use crate::frames::{are_same, is_at};
 use crate::verdict::Verdict;
 use fold::Prefix;
 use rows::{Book, Frame, Places};
 use std::alloc::{AllocError, Global};
 use std::marker::Model;
-use view::Execution;
+use view::{Decide, Execution, ReadSet, Stop, WriteSet};
 
 /// The messages of a batch that are committed, in the order of their arrival, with the book that the batch was opened with. Their
 /// replies and the book after them are those of deciding them one after another. Contracts see how far it has come.
@@ -54,28 +54,27 @@ impl<'a> Ledger<'a> {
         })
     }
 
-    /// A ledger of this batch, at most 65,536 bodies, in which the first messages are committed already: this prefix has their replies and
-    /// the book after them.
-    pub fn behind(opening: &'a Book, frames: &'a [Frame], first: Prefix) -> Ledger<'a>
-        requires few { length frames.now ≤ 65536 }
-        requires within { first.count ≤ length frames.now }
-        requires book { first.book ≡ rows_after opening.now (take first.count frames.now) }
-        requires replies { first.replies.items ≡ replies_to opening.now (take first.count frames.now) }
-        ensures { result ≡ begun opening.now frames.now first.count }
-    {
-        Ledger {
-            opening,
-            frames,
-            prefix: first,
-        }
-    }
-
     /// How many messages are committed, which are no more than there are.
     pub fn count(&self) -> u32
         ensures count { result ≡ self.now.count }
         ensures within { result ≤ length self.now.frames }
     {
         self.prefix.count
+    }
+
+    /// Whether all messages are committed.
+    pub fn is_done(&self) -> bool
+        ensures done { IsTrue result ↔ (self.now.count ≡ length self.now.frames) }
+        ensures within { self.now.count ≤ length self.now.frames }
+    {
+        self.prefix.count as usize == self.frames.len()
+    }
+
+    /// The book after the messages that are committed.
+    pub fn book(&self) -> &Book
+        ensures { result.now ≡ book_of self.now }
+    {
+        &self.prefix.book
     }
 
     /// Whether the batch was opened with this book and these bodies.
@@ -100,6 +99,22 @@ impl<'a> Ledger<'a> {
         let _ = execution.frame();
         self.prefix.extend(execution, &mut places)?;
         Ok(Verdict::Committed)
+    }
+
+    /// Decides the next message on the ledger's own book, and commits it: nothing is to be compared, since no other worker has the book.
+    /// It goes over the memory of two sets, which are handed back with the rows that were read and put. After an error nothing is changed.
+    pub fn decide_next<F: Decide>(
+        &mut self,
+        decision: &F,
+        reads: ReadSet,
+        writes: WriteSet,
+    ) -> Result<(ReadSet, WriteSet), Stop>
+        requires { self.old.count < length self.old.frames }
+        ensures committed { OnOk result (self.new ≡ further self.old) }
+        ensures otherwise { OnErr result (self.new ≡ self.old) }
+    {
+        let frame = &self.frames[self.prefix.count as usize];
+        decide_on(&mut self.prefix, frame, decision, reads, writes)
     }
 
     // Whether the execution is that of the next message, and each row is as it was read. Where they stand is noted.

@@ -2,6 +2,7 @@
 #![tactic(auto)]
 
 mod agreement;
+mod deciding;
 mod frames;
 mod ledger;
 mod verdict;

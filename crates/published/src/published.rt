@@ -1,22 +1,20 @@
-ghost use Rattle.std.specs.Prelude.{◌≡◌, ◌≢◌, ◌≤◌, ◌↔◌, [], false, Ok, IfOk, length};
+ghost use Rattle.std.specs.Prelude.{◌≡◌, ◌≢◌, ◌<◌, ◌≤◌, ◌↔◌, [], Ok, IfOk, IsTrue, OnOk, OnErr, length};
 ghost use Rattle.cursors.specs.CursorRule.{publisher};
 ghost use Rattle.ledger.specs.Progress.{further, IsNext};
-ghost use Rattle.published.specs.Standing.{advanced, told, stopping};
+ghost use Rattle.published.specs.Standing.{advanced, told};
 ghost use Rattle.ledger.specs.declared.verdict.Verdict.TheVariants.{Committed, Stale};
 
 use cursors::{CursorSeat, Cursors};
 use ledger::{Ledger, Verdict};
 use std::alloc::AllocError;
 use std::marker::Model;
-use view::Execution;
+use view::{Decide, Execution, ReadSet, Stop, WriteSet};
 
-/// A ledger with the one seat that may raise how many messages are done, and whether the workers are to stop. What the seat raised done
-/// to is never more than is committed.
+/// A ledger with the one seat that may raise how many messages are done. What the seat raised done to is never more than is committed.
 #[derive(Drop)]
 pub struct Published<'a> {
     ledger: Ledger<'a>,
     seat: CursorSeat,
-    stopped: bool,
 }
 
 impl<'a> Model for Published<'a> {
@@ -32,7 +30,7 @@ impl<'a> Model for Published<'a> {
 
     ghost coded = { standing_code (progress_code (map.code key_row.coded val_row.coded) frame_row.coded) table_id_coded };
 
-    ghost view = { λ p. record { ledger = p.ledger; table = p.seat.table_id; published = p.seat.me.0.seen; stopped = p.stopped } };
+    ghost view = { λ p. record { ledger = p.ledger; table = p.seat.table_id; published = p.seat.me.0.seen } };
 
     ghost invariant = { λ p. IsPublisher p.ledger p.seat.me.0 };
 }
@@ -41,13 +39,9 @@ impl<'a> Published<'a> {
     /// A ledger with the seat that may raise done, before its first step, of cursors for as many messages as the ledger has.
     pub fn new(ledger: Ledger<'a>, seat: CursorSeat) -> Published<'a>
         requires { seat.me ≡ (publisher (length ledger.frames), []) }
-        ensures { result ≡ record { ledger = ledger.entry; table = seat.table_id; published = 0; stopped = false } }
+        ensures { result ≡ record { ledger = ledger.entry; table = seat.table_id; published = 0 } }
     {
-        Published {
-            ledger,
-            seat,
-            stopped: false,
-        }
+        Published { ledger, seat }
     }
 
     /// Commits the execution, where it is that of the next message and the book after those before it has each row as it was read.
@@ -58,6 +52,20 @@ impl<'a> Published<'a> {
         ensures otherwise { result ≢ Ok Committed → self.new ≡ self.old }
     {
         self.ledger.try_commit(execution)
+    }
+
+    /// Decides the next message on the ledger's own book, and commits it. After an error nothing is changed.
+    pub fn decide_next<F: Decide>(
+        &mut self,
+        decision: &F,
+        reads: ReadSet,
+        writes: WriteSet,
+    ) -> Result<(ReadSet, WriteSet), Stop>
+        requires { self.old.ledger.count < length self.old.ledger.frames }
+        ensures committed { OnOk result (self.new ≡ advanced self.old) }
+        ensures otherwise { OnErr result (self.new ≡ self.old) }
+    {
+        self.ledger.decide_next(decision, reads, writes)
     }
 
     /// Raises done to how many messages are committed.
@@ -76,18 +84,12 @@ impl<'a> Published<'a> {
         self.ledger.count()
     }
 
-    /// Has the workers stop.
-    pub fn stop(&mut self)
-        ensures { self.new ≡ stopping self.old }
+    /// Whether all messages are committed.
+    pub fn is_done(&self) -> bool
+        ensures done { IsTrue result ↔ (self.now.ledger.count ≡ length self.now.ledger.frames) }
+        ensures within { self.now.ledger.count ≤ length self.now.ledger.frames }
     {
-        self.stopped = true;
-    }
-
-    /// Whether the workers are to stop.
-    pub fn stopped(&self) -> bool
-        ensures { result ≡ self.now.stopped }
-    {
-        self.stopped
+        self.ledger.is_done()
     }
 
     /// The ledger, and the last value of done, once no thread has the cursors any more: it is what was published, and no more than is
@@ -98,11 +100,7 @@ impl<'a> Published<'a> {
         ensures published { result.1 ≡ self.entry.published }
         ensures behind { result.1 ≤ self.entry.ledger.count }
     {
-        let Published {
-            ledger,
-            seat,
-            stopped: _,
-        } = self;
+        let Published { ledger, seat } = self;
         let done = cursors.close(seat);
         (ledger, done)
     }
@@ -111,11 +109,7 @@ impl<'a> Published<'a> {
     pub fn into_ledger(self) -> Ledger<'a>
         ensures { result ≡ self.entry.ledger }
     {
-        let Published {
-            ledger,
-            seat: _,
-            stopped: _,
-        } = self;
+        let Published { ledger, seat: _ } = self;
         ledger
     }
 }

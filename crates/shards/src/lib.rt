@@ -5,6 +5,7 @@ mod look;
 mod shard_of;
 mod shard_rows;
 mod shards;
+mod shared_originals;
 mod sight;
 
 pub use look::Look;

@@ -4,13 +4,14 @@ ghost use Rattle.shards.specs.Sighted.{IsSeenSo};
 
 use crate::look::Look;
 use crate::shard_of::shard_of;
+use crate::shared_originals::SharedOriginals;
 use crate::sight::{Sight, copy_value, sight_of};
 use crossbeam_utils::CachePadded;
 use mvmem::{Chains, Version};
-use rows::{RowKey, RowVal};
+use rows::{Frame, RowKey, RowVal};
 use std::alloc::{AllocError, Global};
 use std::sync::{Mutex, Wait};
-use view::{Execution, ReadSet, WriteSet};
+use view::{ReadSet, WriteSet};
 use workers::lock;
 
 // How many shards there are.
@@ -20,19 +21,30 @@ const SHARDS: usize = 64;
 const FEW: usize = 8;
 
 /// The rows that executions put, in 64 shards: a chain of entries for each row, each shard under a lock of its own. A lock is held
-/// while one row is looked for, or while one entry is put.
+/// while one row is looked for, or while one entry is put. An original that one body alone names has no entries, since no other message
+/// looks for it.
 #[derive(Drop)]
 pub struct Shards {
     shards: Vec<CachePadded<Mutex<Chains>>>,
+    shared: SharedOriginals,
     ghost all: { length shards.items ≡ 64 },
 }
 
 impl Shards {
-    /// Shards in which no row is put.
-    pub fn new(alloc: Global) -> Result<Shards, AllocError> {
+    /// Shards in which no row is put, for the messages of these bodies.
+    pub fn new(alloc: Global, frames: &[Frame]) -> Result<Shards, AllocError> {
         Ok(Shards {
             shards: empty_shards(alloc)?,
+            shared: SharedOriginals::of(alloc, frames)?,
         })
+    }
+
+    // Whether the row has entries, once it is put.
+    fn keeps(&self, key: &RowKey) -> bool {
+        match key {
+            RowKey::Original(identity) => self.shared.has(identity),
+            _ => true,
+        }
     }
 
     /// Whose row the message at this index sees. What was put is written to a place of the caller's, which stays as it was where nothing
@@ -41,6 +53,12 @@ impl Shards {
     pub fn look<R: Wait>(&self, rt: &R, key: &RowKey, index: u32, row: &mut Option<RowVal>) -> Look
         ensures { IsSeenSo key.now result.sight row.old row.new }
     {
+        if !self.keeps(key) {
+            return Look {
+                sight: Sight::Base,
+                number: None,
+            };
+        }
         let chains = lock(rt, &self.shards[shard_of(key)]);
         let (link, number) = chains.look(key, index);
         copy_value(link, row);
@@ -64,28 +82,34 @@ impl Shards {
 
     // Whose row the message at this index sees. Its chain is looked for by this number first.
     fn sight<R: Wait>(&self, rt: &R, key: &RowKey, number: Option<usize>, index: u32) -> Sight {
+        if !self.keeps(key) {
+            return Sight::Base;
+        }
         let chains = lock(rt, &self.shards[shard_of(key)]);
         sight_of(chains.nearest_below(key, number.as_slice(), index))
     }
 
-    /// Puts what this version wrote, in place of what its message put before. A row that it read is found by its log. Answers whether a
-    /// later message has put one of these rows already, and may have missed what this one puts. The first `done` messages are committed:
-    /// entries that no message behind these sees are taken out.
+    /// Puts what this version wrote, in place of what its message put before. A row that it read is found by its log, as far as there is
+    /// one. Answers whether a later message has put one of these rows already, and may have missed what this one puts. The first `done`
+    /// messages are committed: entries that no message behind these sees are taken out.
     pub fn record<R: Wait>(
         &self,
         rt: &R,
         alloc: Global,
         version: Version,
-        execution: &Execution,
+        reads: &ReadSet,
+        writes: &WriteSet,
         log: &[Look],
         former: Option<&WriteSet>,
         done: u32,
     ) -> Result<bool, AllocError> {
-        let writes = execution.writes();
         let mut is_overtaken = false;
         for place in 0..writes.len() {
             let (key, value) = writes.row(place);
-            let number = number_in(execution.reads(), log, key);
+            if !self.keeps(key) {
+                continue;
+            }
+            let number = number_in(reads, log, key);
             is_overtaken = self.put(rt, alloc, version, key, value, number, done)? || is_overtaken;
         }
         if let Some(former) = former {
@@ -139,7 +163,7 @@ impl Shards {
 
 // The number of the row's chain, where it is among the first rows that were read, and had one then.
 fn number_in(reads: &ReadSet, log: &[Look], key: &RowKey) -> Option<usize> {
-    for place in 0..reads.len().min(FEW) {
+    for place in 0..reads.len().min(log.len()).min(FEW) {
         let (read, _) = reads.row(place);
         if *read == *key {
             return log.get(place)?.number;
@@ -149,8 +173,8 @@ fn number_in(reads: &ReadSet, log: &[Look], key: &RowKey) -> Option<usize> {
 }
 
 // Puts this value as the version's entry of the row. Answers whether a later message has one. The row's chain is looked for by this
-// number first. Where no message from `done` on sees the row's first entry, that one is taken out, so that a chain has few entries and
-// its memory is used again.
+// number first. Where no message from `done` on sees the row's first entry, that one is taken out before, so that a chain has few entries
+// and its memory is used again.
 fn put_in(
     chains: &mut Chains,
     alloc: Global,
@@ -163,10 +187,10 @@ fn put_in(
     requires { IsOfKind key.now value.now }
 {
     let number = chains.reserve(alloc, key, number.as_slice())?;
-    chains.put_at(number, version, value);
     if let Some(first) = chains.superseded(number, done) {
         chains.take_out(number, first);
     }
+    chains.put_at(number, version, value);
     match chains.nearest_at(number, u32::MAX) {
         Some(last) => Ok(last.index > version.index),
         None => Ok(false),

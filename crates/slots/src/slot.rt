@@ -129,6 +129,21 @@ impl Slot {
         }
     }
 
+    /// The message is committed, where it runs: whoever commits decided it at once, so no execution is left. Answers whether it ran;
+    /// nothing is changed else.
+    pub fn settle(&mut self) -> bool
+        ensures settled { IsTrue result → (self.old.stage ≡ stage.Running) × (self.new ≡ committed self.old) }
+        ensures kept { IsFalse result → (self.old.stage ≢ stage.Running) × (self.new ≡ self.old) }
+    {
+        match self.stage {
+            Stage::Running => {
+                (self.stage, self.attempt) = (Stage::Committed, None);
+                true
+            }
+            _ => false,
+        }
+    }
+
     /// The message is committed, where it was executed, and its execution is handed back; nothing is changed else.
     pub fn commit(&mut self) -> Option<Box<Attempt>>
         ensures committed { self.old.stage ≡ stage.Executed → (option_map (λ attempt. attempt.value) result ≡ self.old.attempt) × (self.new ≡ committed self.old) }

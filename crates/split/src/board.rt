@@ -1,32 +1,31 @@
-ghost use Rattle.std.specs.Prelude.{◌≡◌, [], length, IfOk};
-ghost use Rattle.cursors.specs.CursorRule.{publisher};
+ghost use Rattle.std.specs.Prelude.{◌≡◌, length, IfOk};
 
-use crate::desk::Desk;
-use crate::place::Place;
 use crate::room::Room;
 use crossbeam_utils::CachePadded;
-use cursors::{CursorSeat, Cursors};
-use ledger::Ledger;
-use published::Published;
+use cursors::Cursors;
+use rows::Frame;
 use shards::Shards;
 use slots::{Attempt, Slot};
 use std::alloc::{AllocError, Global};
+use std::marker::PhantomData;
+use std::sync::atomic::{AtomicBool, Ordering};
 use std::sync::{Condvar, Mutex, MutexGuard, Wait};
 use workers::lock;
 
-/// What the workers of a batch share: the cursors without a lock; the ledger, each message's slot and each shard of the rows under a
+/// What the workers of a batch share: the cursors and the stop mark without a lock; each message's slot and each shard of the rows under a
 /// lock of its own; and executions that are done with, for their memory. A thread that holds a shard or these takes no other lock, and one
-/// that holds a slot takes no other slot.
+/// that holds a slot takes no other slot. The ledger is the first worker's alone.
 #[derive(Drop)]
-pub(crate) struct Board<'a, B: Room> {
+pub(crate) struct Board<B: Room> {
     cursors: Cursors,
-    // The desk isn't on the line of its lock, at which other workers look.
-    desk: CachePadded<Mutex<CachePadded<Desk<'a, B>>>>,
     slots: Vec<Mutex<Slot>>,
     shards: Shards,
     spares: CachePadded<Mutex<Vec<Box<Attempt>>>>,
     // Where workers rest. They are woken when one leaves.
     bed: Condvar,
+    // The stop mark: whether the workers are to leave.
+    stopped: AtomicBool,
+    of: PhantomData<B>,
     ghost at: { cursors ≡ B.table },
 }
 
@@ -38,44 +37,33 @@ pub(crate) struct Storage {
 }
 
 impl Storage {
-    // For so many messages.
-    pub(crate) fn new(alloc: Global, messages: usize) -> Result<Storage, AllocError>
-        ensures { IfOk result (λ storage. length storage.slots.items ≡ messages) }
+    // For the messages of a batch, of which those from the first on are to be decided.
+    pub(crate) fn new(alloc: Global, frames: &[Frame], first: usize) -> Result<Storage, AllocError>
+        ensures { IfOk result (λ storage. length storage.slots.items ≡ length frames.now) }
     {
-        let slots = ready_slots(alloc, messages)?;
-        let shards = Shards::new(alloc)?;
+        let slots = ready_slots(alloc, frames.len())?;
+        let shards = Shards::new(alloc, frames.get(first..).unwrap_or(&[]))?;
         Ok(Storage { slots, shards })
     }
 }
 
-impl<'a, B: Room> Board<'a, B> {
-    // A board for the ledger's batch, and the place of the first worker.
-    pub(crate) fn new(
-        alloc: Global,
-        cursors: Cursors,
-        mut seat: CursorSeat,
-        ledger: Ledger<'a>,
-        storage: Storage,
-    ) -> (Board<'a, B>, Place<B>)
-        requires batch { (ledger.opening ≡ B.opening) × (ledger.frames ≡ B.frames) }
-        requires table { (cursors ≡ B.table) × (seat.table_id ≡ B.table) }
-        requires first { seat.me ≡ (publisher (length ledger.frames), []) }
-        requires slots { length storage.slots.items ≡ length ledger.frames }
-        ensures slots { length result.0.slots.items ≡ length ledger.entry.frames }
+impl<B: Room> Board<B> {
+    // A board for the room's batch.
+    pub(crate) fn new(alloc: Global, cursors: Cursors, storage: Storage) -> Board<B>
+        requires table { cursors ≡ B.table }
+        requires slots { length storage.slots.items ≡ length B.frames }
+        ensures slots { length result.slots.items ≡ length B.frames }
     {
-        let place = Place::new(alloc, cursors.another(&mut seat));
-        let mut desk = Desk::new(Published::new(ledger, seat));
-        desk.publish(&cursors);
         let Storage { slots, shards } = storage;
-        let board = Board {
+        Board {
             cursors,
-            desk: CachePadded::new(Mutex::new(CachePadded::new(desk))),
             slots,
             shards,
             spares: CachePadded::new(Mutex::new(Vec::new(alloc))),
             bed: Condvar::new(),
-        };
-        (board, place)
+            stopped: AtomicBool::new(false),
+            of: PhantomData,
+        }
     }
 
     // The cursors.
@@ -110,23 +98,14 @@ impl<'a, B: Room> Board<'a, B> {
         self.slots.get(index as usize)?.try_lock()
     }
 
-    // The ledger, where no other worker holds it.
-    pub(crate) fn free_desk(&self) -> Option<MutexGuard<'_, CachePadded<Desk<'a, B>>>> {
-        self.desk.try_lock()
-    }
-
     // Sets the stop mark.
-    pub(crate) fn stop<R: Wait>(&self, rt: &R) {
-        self.desk.lock(rt).stop();
+    pub(crate) fn stop(&self) {
+        self.stopped.store(true, Ordering::SeqCst);
     }
 
-    // The ledger, once no worker has the board any more.
-    pub(crate) fn into_ledger(self) -> Ledger<'a>
-        ensures opening { result.opening ≡ B.opening }
-        ensures frames { result.frames ≡ B.frames }
-    {
-        let Board { desk, .. } = self;
-        desk.into_inner().into_inner().into_inner().into_ledger()
+    // Whether the stop mark is set.
+    pub(crate) fn is_stopped(&self) -> bool {
+        self.stopped.load(Ordering::SeqCst)
     }
 }
 

@@ -1,7 +1,7 @@
-ghost use Rattle.std.specs.Prelude.{◌≡◌, ◌≢◌, ◌↔◌, Ok, IfOk};
+ghost use Rattle.std.specs.Prelude.{◌≡◌, ◌≢◌, ◌<◌, ◌≤◌, ◌↔◌, Ok, IfOk, IsTrue, OnOk, OnErr, length};
 ghost use Rattle.ledger.specs.Progress.{IsNext};
 ghost use Rattle.ledger.specs.declared.verdict.Verdict.TheVariants.{Committed, Stale};
-ghost use Rattle.published.specs.Standing.{advanced, told, stopping};
+ghost use Rattle.published.specs.Standing.{advanced, told};
 ghost use Rattle.std.specs.Coded.{Coded-set};
 ghost use Rattle.split.specs.Rooms.{rows_coded};
 
@@ -11,9 +11,9 @@ use ledger::{Ledger, Verdict};
 use published::Published;
 use std::alloc::AllocError;
 use std::marker::PhantomData;
-use view::Execution;
+use view::{Decide, Execution, ReadSet, Stop, WriteSet};
 
-/// What lies under the ledger's lock: the ledger with the seat that publishes, and the stop mark.
+/// The ledger with the seat that publishes, which the first worker has alone.
 #[derive(Drop)]
 pub(crate) struct Desk<'a, B: Room> {
     published: Published<'a>,
@@ -47,6 +47,20 @@ impl<'a, B: Room> Desk<'a, B> {
         self.published.try_commit(execution)
     }
 
+    // Decides the next message on the ledger's own book, and commits it.
+    pub(crate) fn decide_next<F: Decide>(
+        &mut self,
+        decision: &F,
+        reads: ReadSet,
+        writes: WriteSet,
+    ) -> Result<(ReadSet, WriteSet), Stop>
+        requires { self.old.published.ledger.count < length self.old.published.ledger.frames }
+        ensures committed { OnOk result (self.new.published ≡ advanced self.old.published) }
+        ensures otherwise { OnErr result (self.new.published ≡ self.old.published) }
+    {
+        self.published.decide_next(decision, reads, writes)
+    }
+
     // Tells the workers how many messages are committed.
     pub(crate) fn publish(&mut self, cursors: &Cursors)
         requires { cursors.now ≡ B.table }
@@ -62,18 +76,12 @@ impl<'a, B: Room> Desk<'a, B> {
         self.published.count()
     }
 
-    // Sets the stop mark.
-    pub(crate) fn stop(&mut self)
-        ensures { self.new.published ≡ stopping self.old.published }
+    // Whether all messages are committed.
+    pub(crate) fn is_done(&self) -> bool
+        ensures done { IsTrue result ↔ (self.now.published.ledger.count ≡ length self.now.published.ledger.frames) }
+        ensures within { self.now.published.ledger.count ≤ length self.now.published.ledger.frames }
     {
-        self.published.stop();
-    }
-
-    // Whether the stop mark is set.
-    pub(crate) fn stopped(&self) -> bool
-        ensures { result ≡ self.now.published.stopped }
-    {
-        self.published.stopped()
+        self.published.is_done()
     }
 
     // The ledger, once no thread has the cursors any more.

@@ -2,6 +2,7 @@ ghost use Rattle.std.specs.Prelude.{◌≡◌};
 ghost use Rattle.split.specs.declared.leave.Leave.TheVariants.{OutOfMemory};
 
 use std::alloc::AllocError;
+use view::Stop;
 
 /// Why a worker leaves.
 #[derive(Clone, Copy, PartialEq, Eq)]
@@ -23,5 +24,14 @@ impl From<AllocError> for Leave {
 
     fn from(_error: AllocError) -> Leave {
         Leave::OutOfMemory
+    }
+}
+
+impl From<Stop> for Leave {
+    fn from(stop: Stop) -> Leave {
+        match stop {
+            Stop::OutOfMemory => Leave::OutOfMemory,
+            Stop::Blocked(_) | Stop::Lost => Leave::Lost,
+        }
     }
 }

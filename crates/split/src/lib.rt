@@ -5,6 +5,8 @@
 mod alone;
 mod board;
 mod desk;
+mod leader;
+mod leading;
 mod leave;
 mod place;
 mod room;

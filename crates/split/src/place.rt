@@ -55,7 +55,7 @@ impl<B: Room> Place<B> {
     }
 
     // A place for another worker.
-    pub(crate) fn another(&mut self, board: &Board<'_, B>) -> Place<B> {
+    pub(crate) fn another(&mut self, board: &Board<B>) -> Place<B> {
         Place {
             seat: board.cursors().another(&mut self.seat),
             spares: Vec::new(*self.spares.allocator()),
@@ -68,13 +68,8 @@ impl<B: Room> Place<B> {
     }
 
     // How many messages are committed, as far as the worker can see.
-    pub(crate) fn done(&mut self, board: &Board<'_, B>) -> u64 {
+    pub(crate) fn done(&mut self, board: &Board<B>) -> u64 {
         board.cursors().done(&mut self.seat)
-    }
-
-    // Whether it is the place of the first worker.
-    pub(crate) fn is_first(&self) -> bool {
-        self.is_first
     }
 
     // Notes that this version was executed. One that isn't its message's first tells that executions are given up.
@@ -96,11 +91,10 @@ impl<B: Room> Place<B> {
         self.idle = 0;
     }
 
-    // Notes that the worker found nothing to do, and gives its turn away. After several such turns in a row it sleeps briefly, but for the
-    // first worker, which never does.
-    pub(crate) fn idle<R: Wait>(&mut self, rt: &R, board: &Board<'_, B>) {
+    // Notes that the worker found nothing to do, and gives its turn away. After several such turns in a row it sleeps briefly.
+    pub(crate) fn idle<R: Wait>(&mut self, rt: &R, board: &Board<B>) {
         self.idle = self.idle.saturating_add(1);
-        if self.is_first || self.idle <= AWAKE {
+        if self.idle <= AWAKE {
             thread::yield_now();
             return;
         }
@@ -109,12 +103,12 @@ impl<B: Room> Place<B> {
     }
 
     // No message is to be validated.
-    pub(crate) fn end_validation(&mut self, board: &Board<'_, B>, messages: u64) {
+    pub(crate) fn end_validation(&mut self, board: &Board<B>, messages: u64) {
         board.cursors().end_validation(&mut self.seat, messages);
     }
 
     // Once the version that is watched can't be executed any more: whether it is the one that was committed tells how long the worker rests.
-    pub(crate) fn look_back<R: Wait>(&mut self, rt: &R, board: &Board<'_, B>, done: u64) {
+    pub(crate) fn look_back<R: Wait>(&mut self, rt: &R, board: &Board<B>, done: u64) {
         let Some(Version { index, incarnation }) = self.watched else {
             return;
         };
@@ -127,34 +121,32 @@ impl<B: Room> Place<B> {
         }
     }
 
-    // Rests, where the worker's executions were given up. Answers whether it did.
-    pub(crate) fn rest<R: Wait>(&self, rt: &R, board: &Board<'_, B>) -> bool {
-        let rests = self.pace.rests();
-        if rests {
+    // Rests, where the worker's executions were given up.
+    pub(crate) fn rest<R: Wait>(&self, rt: &R, board: &Board<B>) {
+        if self.pace.rests() {
             self.pace.rest(rt, board.bed());
         }
-        rests
     }
 
     // Draws the message to execute next.
-    pub(crate) fn draw_execute(&mut self, board: &Board<'_, B>) -> u64 {
+    pub(crate) fn draw_execute(&mut self, board: &Board<B>) -> u64 {
         board.cursors().draw_execute(&mut self.seat)
     }
 
     // Draws the message to validate next.
-    pub(crate) fn draw_validate(&mut self, board: &Board<'_, B>) -> u64 {
+    pub(crate) fn draw_validate(&mut self, board: &Board<B>) -> u64 {
         board.cursors().draw_validate(&mut self.seat)
     }
 
     // Has execution go on at this message, where it is already behind it.
-    pub(crate) fn lower_execute(&mut self, board: &Board<'_, B>, index: u32) {
+    pub(crate) fn lower_execute(&mut self, board: &Board<B>, index: u32) {
         board
             .cursors()
             .lower_execute(&mut self.seat, u64::from(index));
     }
 
     // Has validation go on at this message, where it is already behind it.
-    pub(crate) fn lower_validate(&mut self, board: &Board<'_, B>, index: u32) {
+    pub(crate) fn lower_validate(&mut self, board: &Board<B>, index: u32) {
         board
             .cursors()
             .lower_validate(&mut self.seat, u64::from(index));
@@ -164,7 +156,7 @@ impl<B: Room> Place<B> {
     pub(crate) fn keep<R: Wait>(
         &mut self,
         rt: &R,
-        board: &Board<'_, B>,
+        board: &Board<B>,
         attempt: Box<Attempt>,
     ) -> Result<(), AllocError> {
         self.spares.push(attempt)?;
@@ -178,7 +170,7 @@ impl<B: Room> Place<B> {
     pub(crate) fn sets<R: Wait>(
         &mut self,
         rt: &R,
-        board: &Board<'_, B>,
+        board: &Board<B>,
     ) -> Result<(ReadSet, WriteSet, Vec<Look>), AllocError> {
         if self.spares.is_empty() {
             self.fetch(rt, board)?;
@@ -193,7 +185,7 @@ impl<B: Room> Place<B> {
     }
 
     // Fetches executions that are done with from the board.
-    fn fetch<R: Wait>(&mut self, rt: &R, board: &Board<'_, B>) -> Result<(), AllocError> {
+    fn fetch<R: Wait>(&mut self, rt: &R, board: &Board<B>) -> Result<(), AllocError> {
         move_some(&mut board.spares(rt), &mut self.spares, SPARES / 2)
     }
 }

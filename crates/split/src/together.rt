@@ -4,12 +4,15 @@ ghost use Rattle.cursors.specs.CursorRule.{publisher};
 ghost use Rattle.workers.specs.Started.{IsStarted};
 
 use crate::board::{Board, Storage};
+use crate::desk::Desk;
+use crate::leader::Leader;
 use crate::place::Place;
 use crate::room::Room;
 use crate::turns::Worker;
 use cursors::{CursorSeat, Cursors};
 use fold::{Outcome, Prefix};
 use ledger::Ledger;
+use published::Published;
 use rows::{Book, Frame};
 use rules::decide_all;
 use std::alloc::{AllocError, Global};
@@ -39,9 +42,9 @@ pub(crate) fn decide_together<R: Threads + Wait + Sync, F: Decide + Sync, G: Gat
     ensures started { IfOk result (λ outcome. IsStarted outcome.started workers) }
     ensures committed { IfOk result (λ outcome. outcome.committed ≤ length frames.now) }
 {
-    let storage = Storage::new(alloc, frames.len())?;
-    let first = u64::from(ledger.count());
-    let (cursors, seat) = Cursors::new(alloc, first, frames.len() as u64)?;
+    let first = ledger.count();
+    let storage = Storage::new(alloc, frames, first as usize)?;
+    let (cursors, seat) = Cursors::new(alloc, u64::from(first), frames.len() as u64)?;
     let (ledger, started) = ledger_of::<Brand, R, F, G>(
         rt, alloc, seen, frames, workers, decision, gate, cursors, seat, ledger, storage,
     );
@@ -58,7 +61,7 @@ fn ledger_of<'a, B: Room + Send + Sync, R: Threads + Wait + Sync, F: Decide + Sy
     decision: &F,
     gate: &G,
     cursors: Cursors,
-    seat: CursorSeat,
+    mut seat: CursorSeat,
     ledger: Ledger<'a>,
     storage: Storage,
 ) -> (Ledger<'a>, u32)
@@ -70,7 +73,11 @@ fn ledger_of<'a, B: Room + Send + Sync, R: Threads + Wait + Sync, F: Decide + Sy
     ensures frames { result.0.frames ≡ B.frames }
     ensures started { IsStarted result.1 workers }
 {
-    let (board, place): (Board<'a, B>, _) = Board::new(alloc, cursors, seat, ledger, storage);
+    let place = Place::new(alloc, cursors.another(&mut seat));
+    let mut desk: Desk<'a, B> = Desk::new(Published::new(ledger, seat));
+    desk.publish(&cursors);
+    let leader = Leader::new(alloc, place, desk);
+    let board = Board::new(alloc, cursors, storage);
     let worker = Worker {
         rt,
         alloc,
@@ -80,42 +87,41 @@ fn ledger_of<'a, B: Room + Send + Sync, R: Threads + Wait + Sync, F: Decide + Sy
         decision,
         gate,
     };
-    let started = work_together(&worker, place, workers);
-    (board.into_ledger(), started)
+    let (desk, started) = work_together(&worker, leader, workers);
+    (desk.into_ledger(), started)
 }
 
-// Starts the other workers and works as the first; the answer is how many took part.
-fn work_together<B: Room + Send + Sync, R: Threads + Wait + Sync, F: Decide + Sync, G: Gate>(
-    worker: &Worker<'_, '_, B, R, F, G>,
-    mut place: Place<B>,
+// Starts the other workers and works as the first; the answer is the ledger, and how many took part.
+fn work_together<'a, B: Room + Send + Sync, R: Threads + Wait + Sync, F: Decide + Sync, G: Gate>(
+    worker: &Worker<'_, B, R, F, G>,
+    mut leader: Leader<'a, B>,
     workers: Workers,
-) -> u32
-    ensures { IsStarted result workers }
+) -> (Desk<'a, B>, u32)
+    ensures { IsStarted result.1 workers }
 {
     let count = workers.count();
     thread::scope(
         thread::scope_env(),
         worker.rt,
-        move |scope| -> u32
+        move |scope| -> (Desk<'_, B>, u32)
             requires { IsStarted count 64 }
-            ensures { IsStarted result count }
+            ensures { IsStarted result.1 count }
         {
             let mut started = 1u32;
             for _number in 1..count {
-                let other = place.another(worker.board);
+                let other = leader.another(worker.board);
                 if scope.spawn(move || worker.work(other)).is_ok() {
                     started += 1;
                 }
             }
-            worker.work(place);
-            started
+            (worker.lead(leader), started)
         },
     )
 }
 
-// What the ledger has, which the workers committed, then what they left, decided one after another.
+/// What the ledger has, which the workers committed, then what they left, decided one after another by the shipped decision.
 #[tactic(auto, using(crate::proofs::Rest::rows_of_both, crate::proofs::Rest::replies_of_both))]
-fn outcome_of(
+pub(crate) fn outcome_of(
     alloc: Global,
     ledger: Ledger<'_>,
     frames: &[Frame],

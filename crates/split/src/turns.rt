@@ -1,9 +1,7 @@
 use crate::board::Board;
-use crate::desk::Desk;
 use crate::leave::Leave;
 use crate::place::Place;
 use crate::room::Room;
-use ledger::Verdict;
 use mvmem::Version;
 use rows::{Book, Frame};
 use shards::ShardRows;
@@ -17,65 +15,65 @@ use workers::Gate;
 // So far behind the committed messages others are executed. Other bounds were not measured.
 const AHEAD: u64 = 64;
 
-// Workers are told of commits so many at a time, and of the last one.
-const AT_ONCE: u32 = 16;
-
 /// What a worker works with: the board, the book in which rows are seen that no execution put, the bodies, the decision and the gate.
 /// Whatever it does or leaves undone, the ledger's type keeps what is committed right.
 #[derive(Drop)]
-pub(crate) struct Worker<'w, 'a, B: Room, R: Wait, F: Decide, G: Gate> {
+pub(crate) struct Worker<'w, B: Room, R: Wait, F: Decide, G: Gate> {
     pub(crate) rt: &'w R,
     pub(crate) alloc: Global,
-    pub(crate) board: &'w Board<'a, B>,
+    pub(crate) board: &'w Board<B>,
     pub(crate) seen: &'w Book,
     pub(crate) frames: &'w [Frame],
     pub(crate) decision: &'w F,
     pub(crate) gate: &'w G,
 }
 
-impl<B: Room, R: Wait, F: Decide, G: Gate> Worker<'_, '_, B, R, F, G> {
-    /// Turns from this place, until all is committed or the stop mark is set. A turn that has to leave sets it.
+impl<B: Room, R: Wait, F: Decide, G: Gate> Worker<'_, B, R, F, G> {
+    /// Turns from this place, until all is committed or the stop mark is set.
     pub(crate) fn work(&self, mut place: Place<B>) {
         for _ in self.rt.forever() {
-            match self.turn(&mut place) {
-                Ok(()) => {}
-                Err(Leave::Done | Leave::Stopped) => break,
-                Err(Leave::OutOfMemory | Leave::Worn | Leave::Lost) => {
-                    self.board.stop(self.rt);
-                    break;
-                }
+            if let Err(leave) = self.turn(&mut place) {
+                self.leave(leave);
+                break;
             }
+        }
+    }
+
+    // Wakes those that rest. A worker that has to leave before all is done sets the stop mark.
+    pub(crate) fn leave(&self, leave: Leave) {
+        match leave {
+            Leave::Done | Leave::Stopped => {}
+            Leave::OutOfMemory | Leave::Worn | Leave::Lost => self.board.stop(),
         }
         self.board.bed().notify_all();
     }
 
-    // Validates a message where one is to be, or else executes one that is near. The first worker commits ahead of that, so that the book
-    // stays with one processor; others do where they find nothing else to do.
+    // Validates a message where one is to be, or else executes one that is near.
     fn turn(&self, place: &mut Place<B>) -> Result<(), Leave> {
+        if self.board.is_stopped() {
+            return Err(Leave::Stopped);
+        }
         let done = place.done(self.board);
         if done == self.frames.len() as u64 {
             return Err(Leave::Done);
         }
         place.look_back(self.rt, self.board, done);
-        if place.rest(self.rt, self.board) || place.is_first() {
-            self.commit(place)?;
-        }
+        place.rest(self.rt, self.board);
         if self.validate_next(place, done)? {
             place.got_on();
             return Ok(());
         }
-        if self.is_near(done) {
-            if let Some(index) = self.message(place.draw_execute(self.board)) {
-                return self.execute(place, index);
+        match self.draw_near(place, done) {
+            Some(index) => self.execute(place, index),
+            None => {
+                place.idle(self.rt, self.board);
+                Ok(())
             }
         }
-        self.commit(place)?;
-        place.idle(self.rt, self.board);
-        Ok(())
     }
 
     // Validates the next message that is to be, where it stands executed. Behind those that may be executed none is to be.
-    fn validate_next(&self, place: &mut Place<B>, done: u64) -> Result<bool, Leave> {
+    pub(crate) fn validate_next(&self, place: &mut Place<B>, done: u64) -> Result<bool, Leave> {
         let messages = self.frames.len() as u64;
         if self.board.cursors().next_to_validate() >= messages {
             return Ok(false);
@@ -91,10 +89,13 @@ impl<B: Room, R: Wait, F: Decide, G: Gate> Worker<'_, '_, B, R, F, G> {
         }
     }
 
-    // Whether a message is to be executed that is near those that are committed.
-    fn is_near(&self, done: u64) -> bool {
+    // Draws the next message that is to be executed, where it is near those that are committed.
+    pub(crate) fn draw_near(&self, place: &mut Place<B>, done: u64) -> Option<u32> {
         let next = self.board.cursors().next_to_execute();
-        next < done.saturating_add(AHEAD) && next < self.frames.len() as u64
+        if next >= done.saturating_add(AHEAD) || next >= self.frames.len() as u64 {
+            return None;
+        }
+        self.message(place.draw_execute(self.board))
     }
 
     // The message that was drawn, where the number names one.
@@ -103,61 +104,6 @@ impl<B: Room, R: Wait, F: Decide, G: Gate> Worker<'_, '_, B, R, F, G> {
             return u32::try_from(drawn).ok();
         }
         None
-    }
-
-    // Commits messages in their order, as many as can be, where no other worker does so.
-    fn commit(&self, place: &mut Place<B>) -> Result<(), Leave> {
-        let Some(mut desk) = self.board.free_desk() else {
-            return Ok(());
-        };
-        if desk.stopped() {
-            return Err(Leave::Stopped);
-        }
-        for _ in self.rt.forever() {
-            if !self.commit_next(place, &mut **desk)? {
-                return Ok(());
-            }
-            let count = desk.count();
-            if count % AT_ONCE == 0 || count as usize == self.frames.len() {
-                desk.publish(self.board.cursors());
-            }
-        }
-        unreachable!()
-    }
-
-    // Commits the next message, where it can be. Answers whether it is committed.
-    fn commit_next(&self, place: &mut Place<B>, desk: &mut Desk<'_, B>) -> Result<bool, Leave> {
-        let index = desk.count();
-        let Some(mut slot) = self.board.free_slot(index) else {
-            return Ok(false);
-        };
-        self.commit_in(place, desk, index, &mut slot)
-    }
-
-    // Commits the message of this slot where it is executed, and gives it up where the book doesn't agree with what it read. Answers
-    // whether it is committed.
-    fn commit_in(
-        &self,
-        place: &mut Place<B>,
-        desk: &mut Desk<'_, B>,
-        index: u32,
-        slot: &mut Slot,
-    ) -> Result<bool, Leave> {
-        let Some(attempt) = slot.attempt() else {
-            return Ok(false);
-        };
-        match desk.commit(&attempt.execution)? {
-            Verdict::Committed => {
-                if let Some(done) = slot.commit() {
-                    place.keep(self.rt, self.board, done)?;
-                }
-                Ok(true)
-            }
-            Verdict::Stale => {
-                self.give_up(place, index, slot)?;
-                Ok(false)
-            }
-        }
     }
 
     // Looks again for the rows that an executed message read, and gives it up where it sees others. Answers whether the message stood
@@ -192,7 +138,12 @@ impl<B: Room, R: Wait, F: Decide, G: Gate> Worker<'_, '_, B, R, F, G> {
     }
 
     // Gives an executed message up: its entries are estimates, it is executed again, and those behind it are validated again.
-    fn give_up(&self, place: &mut Place<B>, index: u32, slot: &mut Slot) -> Result<(), Leave> {
+    pub(crate) fn give_up(
+        &self,
+        place: &mut Place<B>,
+        index: u32,
+        slot: &mut Slot,
+    ) -> Result<(), Leave> {
         if let Some(attempt) = slot.attempt() {
             let writes = attempt.execution.writes();
             self.board.shards().to_estimates(self.rt, index, writes);
@@ -207,23 +158,27 @@ impl<B: Room, R: Wait, F: Decide, G: Gate> Worker<'_, '_, B, R, F, G> {
 
     // Executes a message where it is ready. No lock is held while it is decided.
     fn execute(&self, place: &mut Place<B>, index: u32) -> Result<(), Leave> {
-        let Some(frame) = self.frames.get(index as usize) else {
-            return Ok(());
-        };
         let Some(incarnation) = self.take(index) else {
             return Ok(());
         };
         self.gate.before_decide(index, incarnation);
-        match self.attempt(place, frame, index) {
-            Ok(attempt) => self.record(place, Version { index, incarnation }, attempt),
-            Err(Stop::Blocked(_)) => self.block(place, index),
-            Err(Stop::OutOfMemory) => Err(Leave::OutOfMemory),
-            Err(Stop::Lost) => Err(Leave::Lost),
+        self.decide(place, Version { index, incarnation })
+    }
+
+    // Decides a message that was taken, and records what it put.
+    pub(crate) fn decide(&self, place: &mut Place<B>, version: Version) -> Result<(), Leave> {
+        let Some(frame) = self.frames.get(version.index as usize) else {
+            return Ok(());
+        };
+        match self.attempt(place, frame, version.index) {
+            Ok(attempt) => self.record(place, version, attempt),
+            Err(Stop::Blocked(_)) => self.block(place, version.index),
+            Err(stop) => Err(Leave::from(stop)),
         }
     }
 
     // Takes a message to be executed, where it is ready, and answers its incarnation.
-    fn take(&self, index: u32) -> Option<u32> {
+    pub(crate) fn take(&self, index: u32) -> Option<u32> {
         self.board.slot(self.rt, index)?.take()
     }
 
@@ -281,20 +236,25 @@ impl<B: Room, R: Wait, F: Decide, G: Gate> Worker<'_, '_, B, R, F, G> {
         let Attempt { execution, log } = &*attempt;
         let shards = self.board.shards();
         let is_overtaken = shards.record(
-            self.rt, self.alloc, version, execution, log, former, done,
+            self.rt,
+            self.alloc,
+            version,
+            execution.reads(),
+            execution.writes(),
+            log,
+            former,
+            done,
         )?;
         slot.put(attempt);
         Ok(is_overtaken)
     }
 
-    // Gives a message up that met an estimate, to be executed again, and lets the one run that it waits for. The worker that was to execute
-    // that one may have left: who commits sees whether the stop mark is set.
+    // Gives a message up that met an estimate, to be executed again, and lets the one run that it waits for.
     fn block(&self, place: &mut Place<B>, index: u32) -> Result<(), Leave> {
         if self.give_back(index) == GivenUp::Worn {
             return Err(Leave::Worn);
         }
         place.lower_execute(self.board, index);
-        self.commit(place)?;
         place.hold_up();
         thread::yield_now();
         Ok(())
