@@ -1,5 +1,5 @@
-//! Decides a batch on several threads that share no one lock (Block-STM): rows, messages and commits have locks of their own, and three
-//! words are shared without any.
+//! Decides a batch on several threads that share no one lock (Block-STM): rows and messages have locks of their own, three words are
+//! shared without any, and what is committed is the first worker's alone.
 #![tactic(auto)]
 
 mod alone;
