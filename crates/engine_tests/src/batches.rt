@@ -4,11 +4,15 @@ use crate::deciding::came;
 use fixtures::{advice_rules, request_rules, reversal_rules, unchecked_rules, worked};
 use rules::Shipped;
 use std::alloc::Global;
+use std::hint::spin_loop;
 use std::process::Abort;
 use std::sync::Wait;
 use std::thread::Threads;
 use std::time::Clock;
-use workers::{Engine, OpenGate};
+use workers::{Engine, Gate};
+
+// So long each message is held: some ten microseconds, in which others are executed.
+const SPINS: u32 = 500;
 
 const RUNS: &[(Engine, u32)] = &[
     (Engine::Locked, 1),
@@ -19,6 +23,20 @@ const RUNS: &[(Engine, u32)] = &[
     (Engine::Split, 64),
 ];
 
+// Holds each message a little, so that several workers take part in a short batch too.
+#[derive(Drop)]
+struct SlowGate;
+
+impl Gate for SlowGate {
+    fn before_decide(&self, _index: u32, _incarnation: u32) {
+        for _ in 0..SPINS {
+            spin_loop();
+        }
+    }
+
+    fn after_record(&self, _index: u32, _incarnation: u32) {}
+}
+
 // What is wrong with the batch, decided by so many workers of this engine, who commit every message.
 fn wrong_with<'a, R: Clock + Threads + Wait + Sync>(
     rt: &R,
@@ -26,7 +44,7 @@ fn wrong_with<'a, R: Clock + Threads + Wait + Sync>(
     batch: &'a str,
     run_by: (Engine, u32),
 ) -> Option<&'a str> {
-    match came(rt, alloc, run_by, batch, &Shipped, &OpenGate) {
+    match came(rt, alloc, run_by, batch, &Shipped, &SlowGate) {
         Ok(came) if came.committed == came.bodies => None,
         Ok(_) => Some("as many commits"),
         Err(line) => Some(line),
