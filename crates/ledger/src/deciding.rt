@@ -3,6 +3,7 @@ ghost use Rattle.rows.specs.Fold.{reply_of, rows_after_one};
 
 use fold::{PlainRows, Prefix};
 use rows::Frame;
+use std::alloc::AllocError;
 use view::{Decide, Execution, ReadSet, Recorder, Stop, WriteSet};
 
 // Decides one more body on the book of a prefix, over the memory of two sets, which are handed back. After an error nothing is changed.
@@ -12,7 +13,7 @@ pub(crate) fn decide_on<F: Decide>(
     decision: &F,
     reads: ReadSet,
     writes: WriteSet,
-) -> Result<(ReadSet, WriteSet), Stop>
+) -> Result<(ReadSet, WriteSet), AllocError>
     requires room { prefix.old.count + 1 < 2 ^ 32 }
     ensures count { OnOk result (prefix.new.count ≡ prefix.old.count + 1) }
     ensures book { OnOk result (prefix.new.book ≡ rows_after_one prefix.old.book frame.now) }
@@ -21,7 +22,11 @@ pub(crate) fn decide_on<F: Decide>(
 {
     let rows = PlainRows::near(&prefix.book, prefix.places_of(frame));
     let mut recorder = Recorder::over(rows, reads, writes);
-    let reply = decision.decide(frame, &mut recorder)?;
+    let reply = match decision.decide(frame, &mut recorder) {
+        Ok(reply) => reply,
+        Err(Stop::OutOfMemory) => return Err(AllocError),
+        Err(_) => unreachable!(),
+    };
     let (rows, reads, writes) = recorder.into_parts();
     let mut places = rows.into_places();
     let execution = Execution::new(*frame, reads, writes, reply);

@@ -10,7 +10,7 @@ use fold::Prefix;
 use rows::{Book, Frame, Places};
 use std::alloc::{AllocError, Global};
 use std::marker::Model;
-use view::{Decide, Execution, ReadSet, Stop, WriteSet};
+use view::{Decide, Execution, ReadSet, WriteSet};
 
 /// The messages of a batch that are committed, in the order of their arrival, with the book that the batch was opened with. Their
 /// replies and the book after them are those of deciding them one after another. Contracts see how far it has come.
@@ -102,13 +102,14 @@ impl<'a> Ledger<'a> {
     }
 
     /// Decides the next message on the ledger's own book, and commits it: nothing is to be compared, since no other worker has the book.
-    /// It goes over the memory of two sets, which are handed back with the rows that were read and put. After an error nothing is changed.
+    /// It goes over the memory of two sets, which are handed back with the rows that were read and put. After an error, which is want of
+    /// memory, nothing is changed.
     pub fn decide_next<F: Decide>(
         &mut self,
         decision: &F,
         reads: ReadSet,
         writes: WriteSet,
-    ) -> Result<(ReadSet, WriteSet), Stop>
+    ) -> Result<(ReadSet, WriteSet), AllocError>
         requires { self.old.count < length self.old.frames }
         ensures committed { OnOk result (self.new ≡ further self.old) }
         ensures otherwise { OnErr result (self.new ≡ self.old) }

@@ -8,7 +8,7 @@ use cursors::{CursorSeat, Cursors};
 use ledger::{Ledger, Verdict};
 use std::alloc::AllocError;
 use std::marker::Model;
-use view::{Decide, Execution, ReadSet, Stop, WriteSet};
+use view::{Decide, Execution, ReadSet, WriteSet};
 
 /// A ledger with the one seat that may raise how many messages are done. What the seat raised done to is never more than is committed.
 #[derive(Drop)]
@@ -60,7 +60,7 @@ impl<'a> Published<'a> {
         decision: &F,
         reads: ReadSet,
         writes: WriteSet,
-    ) -> Result<(ReadSet, WriteSet), Stop>
+    ) -> Result<(ReadSet, WriteSet), AllocError>
         requires { self.old.ledger.count < length self.old.ledger.frames }
         ensures committed { OnOk result (self.new ≡ advanced self.old) }
         ensures otherwise { OnErr result (self.new ≡ self.old) }

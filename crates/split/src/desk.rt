@@ -11,7 +11,7 @@ use ledger::{Ledger, Verdict};
 use published::Published;
 use std::alloc::AllocError;
 use std::marker::PhantomData;
-use view::{Decide, Execution, ReadSet, Stop, WriteSet};
+use view::{Decide, Execution, ReadSet, WriteSet};
 
 /// The ledger with the seat that publishes, which the first worker has alone.
 #[derive(Drop)]
@@ -53,7 +53,7 @@ impl<'a, B: Room> Desk<'a, B> {
         decision: &F,
         reads: ReadSet,
         writes: WriteSet,
-    ) -> Result<(ReadSet, WriteSet), Stop>
+    ) -> Result<(ReadSet, WriteSet), AllocError>
         requires { self.old.published.ledger.count < length self.old.published.ledger.frames }
         ensures committed { OnOk result (self.new.published ≡ advanced self.old.published) }
         ensures otherwise { OnErr result (self.new.published ≡ self.old.published) }

@@ -4,9 +4,9 @@ use crate::board::Board;
 use crate::desk::Desk;
 use crate::place::Place;
 use crate::room::Room;
-use std::alloc::Global;
+use std::alloc::{AllocError, Global};
 use std::mem;
-use view::{Decide, ReadSet, Stop, WriteSet};
+use view::{Decide, ReadSet, WriteSet};
 
 /// What the first worker has alone: its place, the ledger, and two sets, over whose memory it decides on the ledger's book.
 #[derive(Drop)]
@@ -34,7 +34,11 @@ impl<'a, B: Room> Leader<'a, B> {
     }
 
     // Decides the next message on the ledger's book, and commits it.
-    pub(crate) fn decide_next<F: Decide>(&mut self, alloc: Global, decision: &F) -> Result<(), Stop>
+    pub(crate) fn decide_next<F: Decide>(
+        &mut self,
+        alloc: Global,
+        decision: &F,
+    ) -> Result<(), AllocError>
         requires { self.old.desk.published.ledger.count < length self.old.desk.published.ledger.frames }
     {
         let reads = mem::replace(&mut self.reads, ReadSet::new(alloc));
