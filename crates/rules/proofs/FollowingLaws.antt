@@ -174,7 +174,7 @@ concluded_local frame reads writes reply done look agrees =
 -- ---- with one row put
 
 -- a row that is put first
-first_put : (writes now : Writes) (key : RowKey) (value : RowVal) (entry : RowKey × RowVal) → writes ≡ [] → now ≡ put writes key value → (key, value) ≡ entry → now ≡ entry ∷ []
+pub first_put : (writes now : Writes) (key : RowKey) (value : RowVal) (entry : RowKey × RowVal) → writes ≡ [] → now ≡ put writes key value → (key, value) ≡ entry → now ≡ entry ∷ []
 first_put writes now key value entry none is same = is ∙ ap (λ (ws : Writes). put ws key value) none ∙ ap (λ (e : RowKey × RowVal). e ∷ []) same
 
 -- the plan is an answer that puts one row, which is put, and the answer is given

@@ -1,3 +1,4 @@
 pub mod FollowingLaws
 pub mod PutLaws
 pub mod RefundLaws
+pub mod StageLaws

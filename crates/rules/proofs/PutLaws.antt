@@ -12,6 +12,10 @@ use Rattle.rows.specs.declared.row_val.RowVal.{RowVal}
 use Rattle.view.specs.Recording.{Recording}
 use Rattle.view.specs.RowSets.{value_in, put}
 
+-- a recorder without the rows that are put
+abbrev pub without_puts : {S : Type 0} → Recording S → Recording S
+without_puts rows = record rows { writes = [] }
+
 -- one more row is put
 pub next_put : (writes now : Writes) (k : RowKey) (value : RowVal) (before after : Writes) → now ≡ put writes k value → writes ≡ before → put before k value ≡ after → now ≡ after
 next_put writes now k value before after is was computed = is ∙ ap (λ (ws : Writes). put ws k value) was ∙ computed
@@ -85,30 +89,30 @@ module _ {S : Type 0} (old one two : Recording S) (identity : Identity) (a b : R
 module _ {S : Type 0} (old one two three four : Recording S) (identity : Identity) (pan other : Pan) (day : List ℕ) (a b c : RowVal) (f : Funds) (last : RowKey) (d : RowVal) where
   pub four_puts : old.writes ≡ [] → one ≡ record old { writes = put old.writes (key.Original identity) a } → two ≡ record one { writes = put one.writes (key.Card pan) b }
       → three ≡ record two { writes = put two.writes (key.Velocity other day) c } → four ≡ record three { writes = put three.writes last d } → last ≡ key_of_funds f
-      → (four.reads ≡ old.reads) × (four.writes ≡ (key.Original identity, a) ∷ (key.Card pan, b) ∷ (key.Velocity other day, c) ∷ (key_of_funds f, d) ∷ [])
+      → (without_puts four ≡ without_puts old) × (four.writes ≡ (key.Original identity, a) ∷ (key.Card pan, b) ∷ (key.Velocity other day, c) ∷ (key_of_funds f, d) ∷ [])
   four_puts none p q r s k =
       let w1 = next_put old.writes one.writes (key.Original identity) a [] ((key.Original identity, a) ∷ []) (ap (λ (x : Recording S). x.writes) p) none refl in
       let w2 = next_put one.writes two.writes (key.Card pan) b _ ((key.Original identity, a) ∷ (key.Card pan, b) ∷ []) (ap (λ (x : Recording S). x.writes) q) w1 refl in
       let w3 = next_put two.writes three.writes (key.Velocity other day) c _ ((key.Original identity, a) ∷ (key.Card pan, b) ∷ (key.Velocity other day, c) ∷ []) (ap (λ (x : Recording S). x.writes) r) w2 refl in
       let w4 = ap (λ (x : Recording S). x.writes) s ∙ (λ i. put (w3 i) (k i) d) ∙ funds_put_last f identity pan other day a b c d in
-      (ap (λ (x : Recording S). x.reads) s ∙ ap (λ (x : Recording S). x.reads) r ∙ ap (λ (x : Recording S). x.reads) q ∙ ap (λ (x : Recording S). x.reads) p, w4)
+      (ap without_puts s ∙ ap without_puts r ∙ ap without_puts q ∙ ap without_puts p, w4)
 
 -- two rows of an advice that is accepted, put one after another over none
 module _ {S : Type 0} (old one two : Recording S) (identity : Identity) (a : RowVal) (f : Funds) (last : RowKey) (d : RowVal) where
   pub two_puts : old.writes ≡ [] → one ≡ record old { writes = put old.writes (key.Original identity) a } → two ≡ record one { writes = put one.writes last d } → last ≡ key_of_funds f
-      → (two.reads ≡ old.reads) × (two.writes ≡ (key.Original identity, a) ∷ (key_of_funds f, d) ∷ [])
+      → (without_puts two ≡ without_puts old) × (two.writes ≡ (key.Original identity, a) ∷ (key_of_funds f, d) ∷ [])
   two_puts none p q k =
       let w1 = next_put old.writes one.writes (key.Original identity) a [] ((key.Original identity, a) ∷ []) (ap (λ (x : Recording S). x.writes) p) none refl in
       let w2 = ap (λ (x : Recording S). x.writes) q ∙ (λ i. put (w1 i) (k i) d) ∙ funds_put_second f identity a d in
-      (ap (λ (x : Recording S). x.reads) q ∙ ap (λ (x : Recording S). x.reads) p, w2)
+      (ap without_puts q ∙ ap without_puts p, w2)
 
 -- three rows of a reversal of a request
 module _ {S : Type 0} (old one two three : Recording S) (identity : Identity) (pan : Pan) (day : List ℕ) (a b : RowVal) (f : Funds) (last : RowKey) (d : RowVal) where
   pub three_puts : old.writes ≡ [] → one ≡ record old { writes = put old.writes (key.Original identity) a } → two ≡ record one { writes = put one.writes (key.Velocity pan day) b }
       → three ≡ record two { writes = put two.writes last d } → last ≡ key_of_funds f
-      → (three.reads ≡ old.reads) × (three.writes ≡ (key.Original identity, a) ∷ (key.Velocity pan day, b) ∷ (key_of_funds f, d) ∷ [])
+      → (without_puts three ≡ without_puts old) × (three.writes ≡ (key.Original identity, a) ∷ (key.Velocity pan day, b) ∷ (key_of_funds f, d) ∷ [])
   three_puts none p q r k =
       let w1 = next_put old.writes one.writes (key.Original identity) a [] ((key.Original identity, a) ∷ []) (ap (λ (x : Recording S). x.writes) p) none refl in
       let w2 = next_put one.writes two.writes (key.Velocity pan day) b _ ((key.Original identity, a) ∷ (key.Velocity pan day, b) ∷ []) (ap (λ (x : Recording S). x.writes) q) w1 refl in
       let w3 = ap (λ (x : Recording S). x.writes) r ∙ (λ i. put (w2 i) (k i) d) ∙ funds_put_third f identity pan day a b d in
-      (ap (λ (x : Recording S). x.reads) r ∙ ap (λ (x : Recording S). x.reads) q ∙ ap (λ (x : Recording S). x.reads) p, w3)
+      (ap without_puts r ∙ ap without_puts q ∙ ap without_puts p, w3)

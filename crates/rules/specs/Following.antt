@@ -7,6 +7,7 @@ use Rattle.rows.specs.RowKey.{kind_of}
 use Rattle.rows.specs.declared.frame.Frame.{Frame}
 use Rattle.rows.specs.declared.reply_body.ReplyBody.{ReplyBody}
 use Rattle.rows.specs.declared.row_key.RowKey.{RowKey}
+use Rattle.view.specs.Recording.{Recording}
 
 -- a decision that needed these rows before, in their order
 abbrev pub after_looks : List RowKey → Decided → Decided
@@ -22,6 +23,11 @@ kinds_read reads = map (λ read. kind_of read.0) reads
 pub record Follows (frame : Frame) (reads : Reads) (writes : Writes) (plan : Plan) : Type 0 where
   pub unput : writes ≡ []
   pub left : (look : Lookup) → Agrees reads look → decision look frame ≡ after_looks (keys_read reads) (carried_out plan look)
+
+-- the decision follows this plan, and the rows that it has read are of these kinds, in their order
+pub record IsAt {S : Type 0} (frame : Frame) (rows : Recording S) (read : List ℕ) (plan : Plan) : Type 0 where
+  pub follows : Follows frame rows.reads rows.writes plan
+  pub kinds : kinds_read rows.reads ≡ read
 
 -- on all rows that agree with those that were read, the decision is this reply and these rows, and needed just those
 abbrev pub Concludes : Frame → Reads → Writes → ReplyBody → Type 0

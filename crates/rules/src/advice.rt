@@ -2,8 +2,8 @@ ghost use Rattle.std.specs.Prelude.{◌≡◌, ◌⊎◌, ◌∷◌, [], Some, I
 ghost use Rattle.iso8583.specs.declared.message.Message.TheVariants as message;
 ghost use Rattle.rows.specs.AdviceTable as table;
 ghost use Rattle.rows.specs.declared.frame.Frame.TheVariants.{Good};
-ghost use Rattle.rules.specs.Following.{Follows, Concludes, kinds_read};
-ghost use Rattle.rules.specs.Needs.{ReadsNeeds};
+ghost use Rattle.rules.specs.Following.{Follows, Concludes, IsAt, kinds_read};
+ghost use Rattle.rules.specs.Stage.{DecidesAdvice};
 ghost use Rattle.view.specs.Recording.{IsStopOf};
 
 use crate::advice_answers::{accept, acknowledge, answer_again};
@@ -18,13 +18,8 @@ pub(crate) fn decide_advice<S: RowSource>(
     advice: &Advice,
     rows: &mut Recorder<S>,
 ) -> Result<ReplyBody, Stop>
-    requires follows { Follows (Good (message.Advice advice.now)) rows.old.reads rows.old.writes (table.advice_plan advice.now) }
-    requires kinds { kinds_read rows.old.reads ≡ [] }
-    ensures done { IfOk result (λ reply. Concludes (Good (message.Advice advice.now)) rows.new.reads rows.new.writes reply) }
-    ensures so_far { ReadsNeeds (Good (message.Advice advice.now)) rows.new.reads }
-    ensures stop { IfErr result (λ stop. (stop ≡ Stop.OutOfMemory) ⊎ IsStopOf S.answers rows.new.source stop) }
-    ensures stops { IfSome (S.book rows.old.source) (λ _. IfErr result (λ stop. stop ≡ Stop.OutOfMemory)) }
-    ensures book { S.book rows.new.source ≡ S.book rows.old.source }
+    requires at { IsAt (Good (message.Advice advice.now)) rows.old [] (table.advice_plan advice.now) }
+    ensures { DecidesAdvice S.answers S.book advice.now rows.old rows.new result }
 {
     let key = RowKey::Original(advice.transaction.identity());
     rows.ask(&key)?;
@@ -36,13 +31,8 @@ pub(crate) fn decide_advice<S: RowSource>(
 
 // Decides an advice whose identity wasn't seen before: nothing else is looked at where the acquirer didn't approve.
 fn decide_fresh<S: RowSource>(advice: &Advice, rows: &mut Recorder<S>) -> Result<ReplyBody, Stop>
-    requires follows { Follows (Good (message.Advice advice.now)) rows.old.reads rows.old.writes (table.fresh_advice advice.now) }
-    requires kinds { kinds_read rows.old.reads ≡ 3 ∷ [] }
-    ensures done { IfOk result (λ reply. Concludes (Good (message.Advice advice.now)) rows.new.reads rows.new.writes reply) }
-    ensures so_far { ReadsNeeds (Good (message.Advice advice.now)) rows.new.reads }
-    ensures stop { IfErr result (λ stop. (stop ≡ Stop.OutOfMemory) ⊎ IsStopOf S.answers rows.new.source stop) }
-    ensures stops { IfSome (S.book rows.old.source) (λ _. IfErr result (λ stop. stop ≡ Stop.OutOfMemory)) }
-    ensures book { S.book rows.new.source ≡ S.book rows.old.source }
+    requires at { IsAt (Good (message.Advice advice.now)) rows.old (3 ∷ []) (table.fresh_advice advice.now) }
+    ensures { DecidesAdvice S.answers S.book advice.now rows.old rows.new result }
 {
     if advice.action.code() != 0 {
         return acknowledge(advice, rows);
@@ -64,13 +54,8 @@ fn decide_on_account<S: RowSource>(
     id: AccountId,
     rows: &mut Recorder<S>,
 ) -> Result<ReplyBody, Stop>
-    requires follows { Follows (Good (message.Advice advice.now)) rows.old.reads rows.old.writes (table.advice_on_named advice.now (Some id)) }
-    requires kinds { kinds_read rows.old.reads ≡ 3 ∷ 0 ∷ [] }
-    ensures done { IfOk result (λ reply. Concludes (Good (message.Advice advice.now)) rows.new.reads rows.new.writes reply) }
-    ensures so_far { ReadsNeeds (Good (message.Advice advice.now)) rows.new.reads }
-    ensures stop { IfErr result (λ stop. (stop ≡ Stop.OutOfMemory) ⊎ IsStopOf S.answers rows.new.source stop) }
-    ensures stops { IfSome (S.book rows.old.source) (λ _. IfErr result (λ stop. stop ≡ Stop.OutOfMemory)) }
-    ensures book { S.book rows.new.source ≡ S.book rows.old.source }
+    requires at { IsAt (Good (message.Advice advice.now)) rows.old (3 ∷ 0 ∷ []) (table.advice_on_named advice.now (Some id)) }
+    ensures { DecidesAdvice S.answers S.book advice.now rows.old rows.new result }
 {
     let paying = id;
     let key = RowKey::Account(paying);
@@ -91,13 +76,8 @@ fn decide_on_funds<S: RowSource>(
     account: &AccountRow,
     rows: &mut Recorder<S>,
 ) -> Result<ReplyBody, Stop>
-    requires follows { Follows (Good (message.Advice advice.now)) rows.old.reads rows.old.writes (table.looked_for_funds advice.now id account.now) }
-    requires kinds { kinds_read rows.old.reads ≡ 3 ∷ 0 ∷ 4 ∷ [] }
-    ensures done { IfOk result (λ reply. Concludes (Good (message.Advice advice.now)) rows.new.reads rows.new.writes reply) }
-    ensures so_far { ReadsNeeds (Good (message.Advice advice.now)) rows.new.reads }
-    ensures stop { IfErr result (λ stop. (stop ≡ Stop.OutOfMemory) ⊎ IsStopOf S.answers rows.new.source stop) }
-    ensures stops { IfSome (S.book rows.old.source) (λ _. IfErr result (λ stop. stop ≡ Stop.OutOfMemory)) }
-    ensures book { S.book rows.new.source ≡ S.book rows.old.source }
+    requires at { IsAt (Good (message.Advice advice.now)) rows.old (3 ∷ 0 ∷ 4 ∷ []) (table.looked_for_funds advice.now id account.now) }
+    ensures { DecidesAdvice S.answers S.book advice.now rows.old rows.new result }
 {
     let key = RowKey::Budget(advice.transaction.pan.prefix());
     rows.ask(&key)?;

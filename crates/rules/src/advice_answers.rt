@@ -6,7 +6,7 @@ ghost use Rattle.rows.specs.Facts.{is_of_same};
 ghost use Rattle.rows.specs.Funds.{balance_of};
 ghost use Rattle.rows.specs.declared.frame.Frame.TheVariants.{Good};
 ghost use Rattle.rules.specs.Following.{Follows, Concludes};
-ghost use Rattle.rules.specs.Needs.{ReadsNeeds};
+ghost use Rattle.rules.specs.Stage.{DecidesAdvice};
 ghost use Rattle.view.specs.Recording.{IsStopOf};
 
 use crate::facts::{is_marked, is_of_same, kept_of};
@@ -31,11 +31,7 @@ pub(crate) fn acknowledge<S: RowSource>(
     rows: &mut Recorder<S>,
 ) -> Result<ReplyBody, Stop>
     requires follows { Follows (Good (message.Advice advice.now)) rows.old.reads rows.old.writes (table.acknowledged advice.now) }
-    ensures done { IfOk result (λ reply. Concludes (Good (message.Advice advice.now)) rows.new.reads rows.new.writes reply) }
-    ensures so_far { ReadsNeeds (Good (message.Advice advice.now)) rows.new.reads }
-    ensures stop { IfErr result (λ stop. (stop ≡ Stop.OutOfMemory) ⊎ IsStopOf S.answers rows.new.source stop) }
-    ensures stops { IfSome (S.book rows.old.source) (λ _. IfErr result (λ stop. stop ≡ Stop.OutOfMemory)) }
-    ensures book { S.book rows.new.source ≡ S.book rows.old.source }
+    ensures { DecidesAdvice S.answers S.book advice.now rows.old rows.new result }
 {
     let key = RowKey::Original(advice.transaction.identity());
     let outcome = Outcome::Acknowledged(UnpostedAction::ACKNOWLEDGED, None);
@@ -50,11 +46,7 @@ pub(crate) fn answer_again<S: RowSource>(
     rows: &mut Recorder<S>,
 ) -> Result<ReplyBody, Stop>
     requires follows { Follows (Good (message.Advice advice.now)) rows.old.reads rows.old.writes (table.advice_again advice.now row.now) }
-    ensures done { IfOk result (λ reply. Concludes (Good (message.Advice advice.now)) rows.new.reads rows.new.writes reply) }
-    ensures so_far { ReadsNeeds (Good (message.Advice advice.now)) rows.new.reads }
-    ensures stop { IfErr result (λ stop. (stop ≡ Stop.OutOfMemory) ⊎ IsStopOf S.answers rows.new.source stop) }
-    ensures stops { IfSome (S.book rows.old.source) (λ _. IfErr result (λ stop. stop ≡ Stop.OutOfMemory)) }
-    ensures book { S.book rows.new.source ≡ S.book rows.old.source }
+    ensures { DecidesAdvice S.answers S.book advice.now rows.old rows.new result }
 {
     match row {
         OriginalRow::Ahead(mark) => answer_marked(advice, mark, rows),
@@ -69,11 +61,7 @@ fn answer_marked<S: RowSource>(
     rows: &mut Recorder<S>,
 ) -> Result<ReplyBody, Stop>
     requires follows { Follows (Good (message.Advice advice.now)) rows.old.reads rows.old.writes (table.advice_again advice.now (OriginalRow.Ahead mark.now)) }
-    ensures done { IfOk result (λ reply. Concludes (Good (message.Advice advice.now)) rows.new.reads rows.new.writes reply) }
-    ensures so_far { ReadsNeeds (Good (message.Advice advice.now)) rows.new.reads }
-    ensures stop { IfErr result (λ stop. (stop ≡ Stop.OutOfMemory) ⊎ IsStopOf S.answers rows.new.source stop) }
-    ensures stops { IfSome (S.book rows.old.source) (λ _. IfErr result (λ stop. stop ≡ Stop.OutOfMemory)) }
-    ensures book { S.book rows.new.source ≡ S.book rows.old.source }
+    ensures { DecidesAdvice S.answers S.book advice.now rows.old rows.new result }
 {
     if !is_marked(mark, &advice.transaction, OriginalKind::Advice) {
         return Ok(reply_to(advice, Action::DUPLICATE));
@@ -111,11 +99,7 @@ pub(crate) fn accept<S: RowSource>(
 ) -> Result<ReplyBody, Stop>
     requires follows { Follows (Good (message.Advice advice.now)) rows.old.reads rows.old.writes (table.accepted advice.now paying.now) }
     requires covered { advice.now.transaction.amount ≤ balance_of paying.now }
-    ensures done { IfOk result (λ reply. Concludes (Good (message.Advice advice.now)) rows.new.reads rows.new.writes reply) }
-    ensures so_far { ReadsNeeds (Good (message.Advice advice.now)) rows.new.reads }
-    ensures stop { IfErr result (λ stop. (stop ≡ Stop.OutOfMemory) ⊎ IsStopOf S.answers rows.new.source stop) }
-    ensures stops { IfSome (S.book rows.old.source) (λ _. IfErr result (λ stop. stop ≡ Stop.OutOfMemory)) }
-    ensures book { S.book rows.new.source ≡ S.book rows.old.source }
+    ensures { DecidesAdvice S.answers S.book advice.now rows.old rows.new result }
 {
     // What pays covers the amount.
     let balance = paying.balance().saturating_sub(advice.transaction.amount);

@@ -3,8 +3,8 @@ ghost use Rattle.iso8583.specs.declared.message.Message.TheVariants as message;
 ghost use Rattle.rows.specs.Facts.{identity_of};
 ghost use Rattle.rows.specs.RequestTable as table;
 ghost use Rattle.rows.specs.declared.frame.Frame.TheVariants.{Good};
-ghost use Rattle.rules.specs.Following.{Follows, Concludes, kinds_read};
-ghost use Rattle.rules.specs.Needs.{ReadsNeeds};
+ghost use Rattle.rules.specs.Following.{Follows, Concludes, IsAt, kinds_read};
+ghost use Rattle.rules.specs.Stage.{DecidesRequest};
 ghost use Rattle.view.specs.Recording.{IsStopOf};
 
 use crate::request_answers::{answer_again, approve, decline};
@@ -19,13 +19,8 @@ pub(crate) fn decide_request<S: RowSource>(
     request: &Request,
     rows: &mut Recorder<S>,
 ) -> Result<Verdict, Stop>
-    requires follows { Follows (Good (message.Request request.now)) rows.old.reads rows.old.writes (table.request_plan request.now) }
-    requires kinds { kinds_read rows.old.reads ≡ [] }
-    ensures done { IfOk result (λ verdict. Concludes (Good (message.Request request.now)) rows.new.reads rows.new.writes (table.reply_to_request request.now verdict)) }
-    ensures so_far { ReadsNeeds (Good (message.Request request.now)) rows.new.reads }
-    ensures stop { IfErr result (λ stop. (stop ≡ Stop.OutOfMemory) ⊎ IsStopOf S.answers rows.new.source stop) }
-    ensures stops { IfSome (S.book rows.old.source) (λ _. IfErr result (λ stop. stop ≡ Stop.OutOfMemory)) }
-    ensures book { S.book rows.new.source ≡ S.book rows.old.source }
+    requires at { IsAt (Good (message.Request request.now)) rows.old [] (table.request_plan request.now) }
+    ensures { DecidesRequest S.answers S.book request.now rows.old rows.new result }
 {
     let key = RowKey::Original(request.transaction.identity());
     rows.ask(&key)?;
@@ -42,13 +37,8 @@ fn decide_fresh<S: RowSource>(
     rows: &mut Recorder<S>,
 ) -> Result<Verdict, Stop>
     requires named { key.now ≡ RowKey.Original (identity_of request.now.transaction) }
-    requires follows { Follows (Good (message.Request request.now)) rows.old.reads rows.old.writes (table.fresh_request request.now) }
-    requires kinds { kinds_read rows.old.reads ≡ 3 ∷ [] }
-    ensures done { IfOk result (λ verdict. Concludes (Good (message.Request request.now)) rows.new.reads rows.new.writes (table.reply_to_request request.now verdict)) }
-    ensures so_far { ReadsNeeds (Good (message.Request request.now)) rows.new.reads }
-    ensures stop { IfErr result (λ stop. (stop ≡ Stop.OutOfMemory) ⊎ IsStopOf S.answers rows.new.source stop) }
-    ensures stops { IfSome (S.book rows.old.source) (λ _. IfErr result (λ stop. stop ≡ Stop.OutOfMemory)) }
-    ensures book { S.book rows.new.source ≡ S.book rows.old.source }
+    requires at { IsAt (Good (message.Request request.now)) rows.old (3 ∷ []) (table.fresh_request request.now) }
+    ensures { DecidesRequest S.answers S.book request.now rows.old rows.new result }
 {
     if let Some(code) = refused_unseen(request) {
         return decline(request, key, code, rows);
@@ -72,13 +62,8 @@ fn decide_on_account<S: RowSource>(
     rows: &mut Recorder<S>,
 ) -> Result<Verdict, Stop>
     requires named { key.now ≡ RowKey.Original (identity_of request.now.transaction) }
-    requires follows { Follows (Good (message.Request request.now)) rows.old.reads rows.old.writes (table.on_usable request.now card.now (Ok id.now)) }
-    requires kinds { kinds_read rows.old.reads ≡ 3 ∷ 0 ∷ [] }
-    ensures done { IfOk result (λ verdict. Concludes (Good (message.Request request.now)) rows.new.reads rows.new.writes (table.reply_to_request request.now verdict)) }
-    ensures so_far { ReadsNeeds (Good (message.Request request.now)) rows.new.reads }
-    ensures stop { IfErr result (λ stop. (stop ≡ Stop.OutOfMemory) ⊎ IsStopOf S.answers rows.new.source stop) }
-    ensures stops { IfSome (S.book rows.old.source) (λ _. IfErr result (λ stop. stop ≡ Stop.OutOfMemory)) }
-    ensures book { S.book rows.new.source ≡ S.book rows.old.source }
+    requires at { IsAt (Good (message.Request request.now)) rows.old (3 ∷ 0 ∷ []) (table.on_usable request.now card.now (Ok id.now)) }
+    ensures { DecidesRequest S.answers S.book request.now rows.old rows.new result }
 {
     rows.ask(&RowKey::Account(*id))?;
     let Some(account) = account_in(rows.latest()) else {
@@ -100,13 +85,8 @@ fn decide_on_day<S: RowSource>(
     rows: &mut Recorder<S>,
 ) -> Result<Verdict, Stop>
     requires named { key.now ≡ RowKey.Original (identity_of request.now.transaction) }
-    requires follows { Follows (Good (message.Request request.now)) rows.old.reads rows.old.writes (table.looked_for_day request.now card.now id.now account.now) }
-    requires kinds { kinds_read rows.old.reads ≡ 3 ∷ 0 ∷ 4 ∷ [] }
-    ensures done { IfOk result (λ verdict. Concludes (Good (message.Request request.now)) rows.new.reads rows.new.writes (table.reply_to_request request.now verdict)) }
-    ensures so_far { ReadsNeeds (Good (message.Request request.now)) rows.new.reads }
-    ensures stop { IfErr result (λ stop. (stop ≡ Stop.OutOfMemory) ⊎ IsStopOf S.answers rows.new.source stop) }
-    ensures stops { IfSome (S.book rows.old.source) (λ _. IfErr result (λ stop. stop ≡ Stop.OutOfMemory)) }
-    ensures book { S.book rows.new.source ≡ S.book rows.old.source }
+    requires at { IsAt (Good (message.Request request.now)) rows.old (3 ∷ 0 ∷ 4 ∷ []) (table.looked_for_day request.now card.now id.now account.now) }
+    ensures { DecidesRequest S.answers S.book request.now rows.old rows.new result }
 {
     let day_key = RowKey::Velocity(request.transaction.pan, request.transaction.stamp.day());
     rows.ask(&day_key)?;
@@ -125,13 +105,8 @@ fn decide_on_limits<S: RowSource>(
     rows: &mut Recorder<S>,
 ) -> Result<Verdict, Stop>
     requires named { key.now ≡ RowKey.Original (identity_of request.now.transaction) }
-    requires follows { Follows (Good (message.Request request.now)) rows.old.reads rows.old.writes (table.on_day request.now card.now id.now account.now day.now) }
-    requires kinds { kinds_read rows.old.reads ≡ 3 ∷ 0 ∷ 4 ∷ 1 ∷ [] }
-    ensures done { IfOk result (λ verdict. Concludes (Good (message.Request request.now)) rows.new.reads rows.new.writes (table.reply_to_request request.now verdict)) }
-    ensures so_far { ReadsNeeds (Good (message.Request request.now)) rows.new.reads }
-    ensures stop { IfErr result (λ stop. (stop ≡ Stop.OutOfMemory) ⊎ IsStopOf S.answers rows.new.source stop) }
-    ensures stops { IfSome (S.book rows.old.source) (λ _. IfErr result (λ stop. stop ≡ Stop.OutOfMemory)) }
-    ensures book { S.book rows.new.source ≡ S.book rows.old.source }
+    requires at { IsAt (Good (message.Request request.now)) rows.old (3 ∷ 0 ∷ 4 ∷ 1 ∷ []) (table.on_day request.now card.now id.now account.now day.now) }
+    ensures { DecidesRequest S.answers S.book request.now rows.old rows.new result }
 {
     if let Some(code) = refused_by_limits(request, card, day) {
         return decline(request, key, code, rows);

@@ -8,7 +8,7 @@ ghost use Rattle.rows.specs.RowVal.{IsOfKind};
 ghost use Rattle.rows.specs.Typed.{original_in};
 ghost use Rattle.rows.specs.declared.frame.Frame.TheVariants.{Good};
 ghost use Rattle.rules.specs.Following.{Follows, Concludes};
-ghost use Rattle.rules.specs.Needs.{ReadsNeeds};
+ghost use Rattle.rules.specs.Stage.{DecidesRequest};
 ghost use Rattle.view.specs.Recording.{IsStopOf};
 ghost use Rattle.view.specs.RowSets.{value_in, latest, put};
 
@@ -31,11 +31,7 @@ pub(crate) fn decline<S: RowSource>(
 ) -> Result<Verdict, Stop>
     requires named { key.now ≡ RowKey.Original (identity_of request.now.transaction) }
     requires follows { Follows (Good (message.Request request.now)) rows.old.reads rows.old.writes (table.declined_request request.now code) }
-    ensures done { IfOk result (λ verdict. Concludes (Good (message.Request request.now)) rows.new.reads rows.new.writes (table.reply_to_request request.now verdict)) }
-    ensures so_far { ReadsNeeds (Good (message.Request request.now)) rows.new.reads }
-    ensures stop { IfErr result (λ stop. (stop ≡ Stop.OutOfMemory) ⊎ IsStopOf S.answers rows.new.source stop) }
-    ensures stops { IfSome (S.book rows.old.source) (λ _. IfErr result (λ stop. stop ≡ Stop.OutOfMemory)) }
-    ensures book { S.book rows.new.source ≡ S.book rows.old.source }
+    ensures { DecidesRequest S.answers S.book request.now rows.old rows.new result }
 {
     let kept = kept_of(&request.transaction, Outcome::Declined(code, None));
     rows.write_copy(key, &kept)?;
@@ -54,11 +50,7 @@ pub(crate) fn answer_again<S: RowSource>(
     requires seen { IsSome (latest rows.old.reads) }
     requires kind { IfSome (latest rows.old.reads) (IsOfKind key.now) }
     requires follows { Follows (Good (message.Request request.now)) rows.old.reads rows.old.writes (table.on_original request.now (original_in (latest rows.old.reads))) }
-    ensures done { IfOk result (λ verdict. Concludes (Good (message.Request request.now)) rows.new.reads rows.new.writes (table.reply_to_request request.now verdict)) }
-    ensures so_far { ReadsNeeds (Good (message.Request request.now)) rows.new.reads }
-    ensures stop { IfErr result (λ stop. (stop ≡ Stop.OutOfMemory) ⊎ IsStopOf S.answers rows.new.source stop) }
-    ensures stops { IfSome (S.book rows.old.source) (λ _. IfErr result (λ stop. stop ≡ Stop.OutOfMemory)) }
-    ensures book { S.book rows.new.source ≡ S.book rows.old.source }
+    ensures { DecidesRequest S.answers S.book request.now rows.old rows.new result }
 {
     match *rows.latest() {
         Some(RowVal::Ahead(mark)) => answer_marked(request, key, &mark, rows),
@@ -76,11 +68,7 @@ fn answer_marked<S: RowSource>(
 ) -> Result<Verdict, Stop>
     requires named { key.now ≡ RowKey.Original (identity_of request.now.transaction) }
     requires follows { Follows (Good (message.Request request.now)) rows.old.reads rows.old.writes (table.request_again request.now (OriginalRow.Ahead mark.now)) }
-    ensures done { IfOk result (λ verdict. Concludes (Good (message.Request request.now)) rows.new.reads rows.new.writes (table.reply_to_request request.now verdict)) }
-    ensures so_far { ReadsNeeds (Good (message.Request request.now)) rows.new.reads }
-    ensures stop { IfErr result (λ stop. (stop ≡ Stop.OutOfMemory) ⊎ IsStopOf S.answers rows.new.source stop) }
-    ensures stops { IfSome (S.book rows.old.source) (λ _. IfErr result (λ stop. stop ≡ Stop.OutOfMemory)) }
-    ensures book { S.book rows.new.source ≡ S.book rows.old.source }
+    ensures { DecidesRequest S.answers S.book request.now rows.old rows.new result }
 {
     if !is_marked(mark, &request.transaction, OriginalKind::Request) {
         return Ok(Verdict::Declined(DeclineCode::DUPLICATE));
@@ -124,11 +112,7 @@ pub(crate) fn approve<S: RowSource>(
     requires count { day.now.count < 999999 }
     requires sum { day.now.sum + request.now.transaction.amount ≤ 10 ^ 15 }
     requires covered { request.now.transaction.amount ≤ balance_of paying.now }
-    ensures done { IfOk result (λ verdict. Concludes (Good (message.Request request.now)) rows.new.reads rows.new.writes (table.reply_to_request request.now verdict)) }
-    ensures so_far { ReadsNeeds (Good (message.Request request.now)) rows.new.reads }
-    ensures stop { IfErr result (λ stop. (stop ≡ Stop.OutOfMemory) ⊎ IsStopOf S.answers rows.new.source stop) }
-    ensures stops { IfSome (S.book rows.old.source) (λ _. IfErr result (λ stop. stop ≡ Stop.OutOfMemory)) }
-    ensures book { S.book rows.new.source ≡ S.book rows.old.source }
+    ensures { DecidesRequest S.answers S.book request.now rows.old rows.new result }
 {
     let amount = request.transaction.amount;
     let approvals = next_of(card.approvals);

@@ -4,8 +4,8 @@ ghost use Rattle.rows.specs.Kept.{payment_of_outcome, reversal_of_outcome};
 ghost use Rattle.iso8583.specs.declared.message.Message.TheVariants as message;
 ghost use Rattle.rows.specs.ReversalTable as table;
 ghost use Rattle.rows.specs.declared.frame.Frame.TheVariants.{Good};
-ghost use Rattle.rules.specs.Following.{Follows, Concludes, kinds_read};
-ghost use Rattle.rules.specs.Needs.{ReadsNeeds};
+ghost use Rattle.rules.specs.Following.{Follows, Concludes, IsAt, kinds_read};
+ghost use Rattle.rules.specs.Stage.{DecidesReversal};
 ghost use Rattle.view.specs.Recording.{IsStopOf};
 
 use crate::reversal_answers::{answer_settled, mark_ahead, settle_unposted, unchanged};
@@ -21,13 +21,8 @@ pub(crate) fn decide_reversal<S: RowSource>(
     reversal: &Reversal,
     rows: &mut Recorder<S>,
 ) -> Result<ReplyBody, Stop>
-    requires follows { Follows (Good (message.Reversal reversal.now)) rows.old.reads rows.old.writes (table.reversal_plan reversal.now) }
-    requires kinds { kinds_read rows.old.reads ≡ [] }
-    ensures done { IfOk result (λ reply. Concludes (Good (message.Reversal reversal.now)) rows.new.reads rows.new.writes reply) }
-    ensures so_far { ReadsNeeds (Good (message.Reversal reversal.now)) rows.new.reads }
-    ensures stop { IfErr result (λ stop. (stop ≡ Stop.OutOfMemory) ⊎ IsStopOf S.answers rows.new.source stop) }
-    ensures stops { IfSome (S.book rows.old.source) (λ _. IfErr result (λ stop. stop ≡ Stop.OutOfMemory)) }
-    ensures book { S.book rows.new.source ≡ S.book rows.old.source }
+    requires at { IsAt (Good (message.Reversal reversal.now)) rows.old [] (table.reversal_plan reversal.now) }
+    ensures { DecidesReversal S.answers S.book reversal.now rows.old rows.new result }
 {
     let key = RowKey::Original(reversal.original.identity);
     rows.ask(&key)?;
@@ -43,13 +38,8 @@ fn decide_on_row<S: RowSource>(
     row: &OriginalRow,
     rows: &mut Recorder<S>,
 ) -> Result<ReplyBody, Stop>
-    requires follows { Follows (Good (message.Reversal reversal.now)) rows.old.reads rows.old.writes (table.on_reversed reversal.now (Some row.now)) }
-    requires kinds { kinds_read rows.old.reads ≡ 3 ∷ [] }
-    ensures done { IfOk result (λ reply. Concludes (Good (message.Reversal reversal.now)) rows.new.reads rows.new.writes reply) }
-    ensures so_far { ReadsNeeds (Good (message.Reversal reversal.now)) rows.new.reads }
-    ensures stop { IfErr result (λ stop. (stop ≡ Stop.OutOfMemory) ⊎ IsStopOf S.answers rows.new.source stop) }
-    ensures stops { IfSome (S.book rows.old.source) (λ _. IfErr result (λ stop. stop ≡ Stop.OutOfMemory)) }
-    ensures book { S.book rows.new.source ≡ S.book rows.old.source }
+    requires at { IsAt (Good (message.Reversal reversal.now)) rows.old (3 ∷ []) (table.on_reversed reversal.now (Some row.now)) }
+    ensures { DecidesReversal S.answers S.book reversal.now rows.old rows.new result }
 {
     match row {
         OriginalRow::Ahead(_) => Ok(unchanged(reversal, Action::NOT_TRACED)),
@@ -63,13 +53,8 @@ fn decide_on_kept<S: RowSource>(
     kept: &Kept,
     rows: &mut Recorder<S>,
 ) -> Result<ReplyBody, Stop>
-    requires follows { Follows (Good (message.Reversal reversal.now)) rows.old.reads rows.old.writes (table.on_kept reversal.now kept.now) }
-    requires kinds { kinds_read rows.old.reads ≡ 3 ∷ [] }
-    ensures done { IfOk result (λ reply. Concludes (Good (message.Reversal reversal.now)) rows.new.reads rows.new.writes reply) }
-    ensures so_far { ReadsNeeds (Good (message.Reversal reversal.now)) rows.new.reads }
-    ensures stop { IfErr result (λ stop. (stop ≡ Stop.OutOfMemory) ⊎ IsStopOf S.answers rows.new.source stop) }
-    ensures stops { IfSome (S.book rows.old.source) (λ _. IfErr result (λ stop. stop ≡ Stop.OutOfMemory)) }
-    ensures book { S.book rows.new.source ≡ S.book rows.old.source }
+    requires at { IsAt (Good (message.Reversal reversal.now)) rows.old (3 ∷ []) (table.on_kept reversal.now kept.now) }
+    ensures { DecidesReversal S.answers S.book reversal.now rows.old rows.new result }
 {
     if !is_named(reversal, kept) {
         return Ok(unchanged(reversal, Action::NOT_TRACED));
@@ -86,13 +71,8 @@ fn decide_on_payment<S: RowSource>(
     kept: &Kept,
     rows: &mut Recorder<S>,
 ) -> Result<ReplyBody, Stop>
-    requires follows { Follows (Good (message.Reversal reversal.now)) rows.old.reads rows.old.writes (table.on_payment reversal.now kept.now (payment_of_outcome kept.now.outcome)) }
-    requires kinds { kinds_read rows.old.reads ≡ 3 ∷ [] }
-    ensures done { IfOk result (λ reply. Concludes (Good (message.Reversal reversal.now)) rows.new.reads rows.new.writes reply) }
-    ensures so_far { ReadsNeeds (Good (message.Reversal reversal.now)) rows.new.reads }
-    ensures stop { IfErr result (λ stop. (stop ≡ Stop.OutOfMemory) ⊎ IsStopOf S.answers rows.new.source stop) }
-    ensures stops { IfSome (S.book rows.old.source) (λ _. IfErr result (λ stop. stop ≡ Stop.OutOfMemory)) }
-    ensures book { S.book rows.new.source ≡ S.book rows.old.source }
+    requires at { IsAt (Good (message.Reversal reversal.now)) rows.old (3 ∷ []) (table.on_payment reversal.now kept.now (payment_of_outcome kept.now.outcome)) }
+    ensures { DecidesReversal S.answers S.book reversal.now rows.old rows.new result }
 {
     let Some(payment) = kept.outcome().payment() else {
         return settle_unposted(reversal, kept, rows);
@@ -113,13 +93,8 @@ fn decide_by_account<S: RowSource>(
     id: AccountId,
     rows: &mut Recorder<S>,
 ) -> Result<ReplyBody, Stop>
-    requires follows { Follows (Good (message.Reversal reversal.now)) rows.old.reads rows.old.writes (table.by_payer reversal.now kept.now (Payer.Account id)) }
-    requires kinds { kinds_read rows.old.reads ≡ 3 ∷ [] }
-    ensures done { IfOk result (λ reply. Concludes (Good (message.Reversal reversal.now)) rows.new.reads rows.new.writes reply) }
-    ensures so_far { ReadsNeeds (Good (message.Reversal reversal.now)) rows.new.reads }
-    ensures stop { IfErr result (λ stop. (stop ≡ Stop.OutOfMemory) ⊎ IsStopOf S.answers rows.new.source stop) }
-    ensures stops { IfSome (S.book rows.old.source) (λ _. IfErr result (λ stop. stop ≡ Stop.OutOfMemory)) }
-    ensures book { S.book rows.new.source ≡ S.book rows.old.source }
+    requires at { IsAt (Good (message.Reversal reversal.now)) rows.old (3 ∷ []) (table.by_payer reversal.now kept.now (Payer.Account id)) }
+    ensures { DecidesReversal S.answers S.book reversal.now rows.old rows.new result }
 {
     let paying = id;
     let key = RowKey::Account(paying);
@@ -134,13 +109,8 @@ fn decide_by_budget<S: RowSource>(
     kept: &Kept,
     rows: &mut Recorder<S>,
 ) -> Result<ReplyBody, Stop>
-    requires follows { Follows (Good (message.Reversal reversal.now)) rows.old.reads rows.old.writes (table.by_payer reversal.now kept.now Payer.Budget) }
-    requires kinds { kinds_read rows.old.reads ≡ 3 ∷ [] }
-    ensures done { IfOk result (λ reply. Concludes (Good (message.Reversal reversal.now)) rows.new.reads rows.new.writes reply) }
-    ensures so_far { ReadsNeeds (Good (message.Reversal reversal.now)) rows.new.reads }
-    ensures stop { IfErr result (λ stop. (stop ≡ Stop.OutOfMemory) ⊎ IsStopOf S.answers rows.new.source stop) }
-    ensures stops { IfSome (S.book rows.old.source) (λ _. IfErr result (λ stop. stop ≡ Stop.OutOfMemory)) }
-    ensures book { S.book rows.new.source ≡ S.book rows.old.source }
+    requires at { IsAt (Good (message.Reversal reversal.now)) rows.old (3 ∷ []) (table.by_payer reversal.now kept.now Payer.Budget) }
+    ensures { DecidesReversal S.answers S.book reversal.now rows.old rows.new result }
 {
     let key = RowKey::Budget(kept.card().prefix());
     rows.ask(&key)?;
@@ -157,11 +127,7 @@ fn decide_on_paid<S: RowSource>(
 ) -> Result<ReplyBody, Stop>
     requires follows { Follows (Good (message.Reversal reversal.now)) rows.old.reads rows.old.writes (table.on_paid reversal.now kept.now paid.now) }
     requires days { list_all (λ kind. not (1 == kind)) (kinds_read rows.old.reads) ≡ true }
-    ensures done { IfOk result (λ reply. Concludes (Good (message.Reversal reversal.now)) rows.new.reads rows.new.writes reply) }
-    ensures so_far { ReadsNeeds (Good (message.Reversal reversal.now)) rows.new.reads }
-    ensures stop { IfErr result (λ stop. (stop ≡ Stop.OutOfMemory) ⊎ IsStopOf S.answers rows.new.source stop) }
-    ensures stops { IfSome (S.book rows.old.source) (λ _. IfErr result (λ stop. stop ≡ Stop.OutOfMemory)) }
-    ensures book { S.book rows.new.source ≡ S.book rows.old.source }
+    ensures { DecidesReversal S.answers S.book reversal.now rows.old rows.new result }
 {
     let Some(paid) = paid else {
         return Ok(unchanged(reversal, Action::NOT_TRACED));
@@ -181,11 +147,7 @@ fn decide_on_day<S: RowSource>(
 ) -> Result<ReplyBody, Stop>
     requires follows { Follows (Good (message.Reversal reversal.now)) rows.old.reads rows.old.writes (table.looked_for_day reversal.now kept.now paid.now) }
     requires days { list_all (λ kind. not (1 == kind)) (kinds_read rows.old.reads) ≡ true }
-    ensures done { IfOk result (λ reply. Concludes (Good (message.Reversal reversal.now)) rows.new.reads rows.new.writes reply) }
-    ensures so_far { ReadsNeeds (Good (message.Reversal reversal.now)) rows.new.reads }
-    ensures stop { IfErr result (λ stop. (stop ≡ Stop.OutOfMemory) ⊎ IsStopOf S.answers rows.new.source stop) }
-    ensures stops { IfSome (S.book rows.old.source) (λ _. IfErr result (λ stop. stop ≡ Stop.OutOfMemory)) }
-    ensures book { S.book rows.new.source ≡ S.book rows.old.source }
+    ensures { DecidesReversal S.answers S.book reversal.now rows.old rows.new result }
 {
     let key = RowKey::Velocity(kept.card(), reversal.original.identity.stamp.day());
     rows.ask(&key)?;

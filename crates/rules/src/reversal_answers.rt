@@ -4,7 +4,7 @@ ghost use Rattle.iso8583.specs.declared.message.Message.TheVariants as message;
 ghost use Rattle.rows.specs.ReversalTable as table;
 ghost use Rattle.rows.specs.declared.frame.Frame.TheVariants.{Good};
 ghost use Rattle.rules.specs.Following.{Follows, Concludes};
-ghost use Rattle.rules.specs.Needs.{ReadsNeeds};
+ghost use Rattle.rules.specs.Stage.{DecidesReversal};
 ghost use Rattle.view.specs.Recording.{IsStopOf};
 
 use crate::reversal_facts::is_same_identity;
@@ -28,11 +28,7 @@ pub(crate) fn mark_ahead<S: RowSource>(
     rows: &mut Recorder<S>,
 ) -> Result<ReplyBody, Stop>
     requires follows { Follows (Good (message.Reversal reversal.now)) rows.old.reads rows.old.writes (table.marked_ahead reversal.now) }
-    ensures done { IfOk result (λ reply. Concludes (Good (message.Reversal reversal.now)) rows.new.reads rows.new.writes reply) }
-    ensures so_far { ReadsNeeds (Good (message.Reversal reversal.now)) rows.new.reads }
-    ensures stop { IfErr result (λ stop. (stop ≡ Stop.OutOfMemory) ⊎ IsStopOf S.answers rows.new.source stop) }
-    ensures stops { IfSome (S.book rows.old.source) (λ _. IfErr result (λ stop. stop ≡ Stop.OutOfMemory)) }
-    ensures book { S.book rows.new.source ≡ S.book rows.old.source }
+    ensures { DecidesReversal S.answers S.book reversal.now rows.old rows.new result }
 {
     let mark = Mark {
         card: reversal.transaction.pan,
@@ -76,11 +72,7 @@ pub(crate) fn settle_unposted<S: RowSource>(
     rows: &mut Recorder<S>,
 ) -> Result<ReplyBody, Stop>
     requires follows { Follows (Good (message.Reversal reversal.now)) rows.old.reads rows.old.writes (table.on_payment reversal.now kept.now None) }
-    ensures done { IfOk result (λ reply. Concludes (Good (message.Reversal reversal.now)) rows.new.reads rows.new.writes reply) }
-    ensures so_far { ReadsNeeds (Good (message.Reversal reversal.now)) rows.new.reads }
-    ensures stop { IfErr result (λ stop. (stop ≡ Stop.OutOfMemory) ⊎ IsStopOf S.answers rows.new.source stop) }
-    ensures stops { IfSome (S.book rows.old.source) (λ _. IfErr result (λ stop. stop ≡ Stop.OutOfMemory)) }
-    ensures book { S.book rows.new.source ≡ S.book rows.old.source }
+    ensures { DecidesReversal S.answers S.book reversal.now rows.old rows.new result }
 {
     let settled = kept.settled(reversal.transaction.identity(), Amount::ZERO);
     let key = RowKey::Original(reversal.original.identity);

@@ -5,7 +5,7 @@ ghost use Rattle.iso8583.specs.declared.message.Message.TheVariants as message;
 ghost use Rattle.rows.specs.ReversalTable as table;
 ghost use Rattle.rows.specs.declared.frame.Frame.TheVariants.{Good};
 ghost use Rattle.rules.specs.Following.{Follows, Concludes};
-ghost use Rattle.rules.specs.Needs.{ReadsNeeds};
+ghost use Rattle.rules.specs.Stage.{DecidesReversal};
 ghost use Rattle.view.specs.Recording.{IsStopOf};
 
 use crate::put_funds::put_funds;
@@ -31,11 +31,7 @@ pub(crate) fn reverse_advice<S: RowSource>(
     rows: &mut Recorder<S>,
 ) -> Result<ReplyBody, Stop>
     requires follows { Follows (Good (message.Reversal reversal.now)) rows.old.reads rows.old.writes (table.reversed_advice reversal.now kept.now paid.now) }
-    ensures done { IfOk result (λ reply. Concludes (Good (message.Reversal reversal.now)) rows.new.reads rows.new.writes reply) }
-    ensures so_far { ReadsNeeds (Good (message.Reversal reversal.now)) rows.new.reads }
-    ensures stop { IfErr result (λ stop. (stop ≡ Stop.OutOfMemory) ⊎ IsStopOf S.answers rows.new.source stop) }
-    ensures stops { IfSome (S.book rows.old.source) (λ _. IfErr result (λ stop. stop ≡ Stop.OutOfMemory)) }
-    ensures book { S.book rows.new.source ≡ S.book rows.old.source }
+    ensures { DecidesReversal S.answers S.book reversal.now rows.old rows.new result }
 {
     let Some(balance) = paid.balance().checked_add(given_back(reversal, kept)) else {
         return Ok(unchanged(reversal, Action::SYSTEM_MALFUNCTION));
@@ -55,11 +51,7 @@ pub(crate) fn reverse_request<S: RowSource>(
     rows: &mut Recorder<S>,
 ) -> Result<ReplyBody, Stop>
     requires follows { Follows (Good (message.Reversal reversal.now)) rows.old.reads rows.old.writes (table.on_original_day reversal.now kept.now paid.now (Some day.now)) }
-    ensures done { IfOk result (λ reply. Concludes (Good (message.Reversal reversal.now)) rows.new.reads rows.new.writes reply) }
-    ensures so_far { ReadsNeeds (Good (message.Reversal reversal.now)) rows.new.reads }
-    ensures stop { IfErr result (λ stop. (stop ≡ Stop.OutOfMemory) ⊎ IsStopOf S.answers rows.new.source stop) }
-    ensures stops { IfSome (S.book rows.old.source) (λ _. IfErr result (λ stop. stop ≡ Stop.OutOfMemory)) }
-    ensures book { S.book rows.new.source ≡ S.book rows.old.source }
+    ensures { DecidesReversal S.answers S.book reversal.now rows.old rows.new result }
 {
     let Some(balance) = paid.balance().checked_add(given_back(reversal, kept)) else {
         return Ok(unchanged(reversal, Action::SYSTEM_MALFUNCTION));

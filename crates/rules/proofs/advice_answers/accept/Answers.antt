@@ -3,24 +3,23 @@ use Rattle.rows.specs.AdviceTable.{kept_of_advice, accepted_writes}
 use Rattle.rows.specs.Funds.{balance_of, with_balance, key_of_funds, row_of_funds, paid_by}
 use Rattle.rows.specs.declared.outcome.Outcome.TheVariants as outcome
 use Rattle.rows.specs.declared.row_key.RowKey.TheVariants as key
-use Rattle.rules.proofs.FollowingLaws.{follows_needs, concluded, concluded_needs}
-use Rattle.rules.proofs.PutLaws.{two_puts, payer_unput}
+use Rattle.rules.proofs.PutLaws.{without_puts, two_puts, payer_unput}
+use Rattle.rules.proofs.StageLaws.{stops_putting, answers_with}
 use Rattle.rules.proofs.advice_answers.accept.Goals as goal
-
-pub returns-in_err-write-clause-so_far : goal.returns-in_err-write-clause-so_far
-returns-in_err-write-clause-so_far g c = follows_needs _ _ _ _ _ c.requires.follows (ap (λ (r : _). r.reads) c.in_err-write.ensures.err)
 
 pub put_funds-requires : goal.put_funds-requires
 put_funds-requires g c = record {
   absent = payer_unput c.args.rows.now _ c.args.rows.now _ _ c.kept_of-kept.result c.args.paying.now c.requires.follows.unput c.in_ok-write.ensures.ok;
 }
 
-pub returns-in_err-put_funds-clause-so_far : goal.returns-in_err-put_funds-clause-so_far
-returns-in_err-put_funds-clause-so_far g c =
-    follows_needs _ _ _ _ _ c.requires.follows (ap (λ (r : _). r.reads) c.in_err-put_funds.ensures.err ∙ ap (λ (r : _). r.reads) c.in_ok-write.ensures.ok)
+pub returns-in_err-write : goal.returns-in_err-write
+returns-in_err-write g c = stops_putting c.requires.follows (ap without_puts c.in_err-write.ensures.err) c.in_err-write.ensures.stop c.from_residual.ensures.1
 
-pub returns-clause-done : goal.returns-clause-done
-returns-clause-done g c =
+pub returns-in_err-put_funds : goal.returns-in_err-put_funds
+returns-in_err-put_funds g c = stops_putting c.requires.follows (ap without_puts c.in_err-put_funds.ensures.err ∙ ap without_puts c.in_ok-write.ensures.ok) c.in_err-put_funds.ensures.stop c.from_residual-in_err-put_funds.ensures.1
+
+pub returns : goal.returns
+returns g c =
     let a = c.args.advice.now in
     let paying = c.args.paying.now in
     let outcome : outcome.Accepted (record { payer = c.payer.result; settlement = None }) ≡ outcome.Accepted (paid_by paying) =
@@ -31,13 +30,4 @@ returns-clause-done g c =
     let puts = two_puts c.args.rows.now _ _ _ _ paying _ _ c.requires.follows.unput c.in_ok-write.ensures.ok c.in_ok-put_funds.ensures.ok refl in
     let table : c.put_funds.new.rows.writes ≡ accepted_writes a paying =
     puts.1 ∙ (λ i. (key.Original (c.identity.ensures i), kept i) ∷ (key_of_funds paying, paid i) ∷ []) in
-    concluded _ _ _ _ _ _ _ _ c.requires.follows puts.0 table c.reply_to.ensures
-
-pub returns-clause-so_far : goal.returns-clause-so_far
-returns-clause-so_far g c = concluded_needs _ _ _ _ (returns-clause-done g c)
-
-pub returns-in_err-put_funds-clause-book : goal.returns-in_err-put_funds-clause-book
-returns-in_err-put_funds-clause-book g c = ap (λ (r : _). g.S.RowSource.book r.source) c.in_err-put_funds.ensures.err ∙ ap (λ (r : _). g.S.RowSource.book r.source) c.in_ok-write.ensures.ok
-
-pub returns-clause-book : goal.returns-clause-book
-returns-clause-book g c = ap (λ (r : _). g.S.RowSource.book r.source) c.in_ok-put_funds.ensures.ok ∙ ap (λ (r : _). g.S.RowSource.book r.source) c.in_ok-write.ensures.ok
+    answers_with c.requires.follows puts.0 table c.reply_to.ensures

@@ -2,21 +2,19 @@ use Rattle.std.proofs.Common.{refl, sym, ap, ◌∙◌}
 use Rattle.rows.specs.declared.row_key.RowKey.TheVariants as key
 use Rattle.rows.specs.RequestTable as table
 use Rattle.rows.specs.Typed as typed
-use Rattle.rules.proofs.FollowingLaws.{unread, looked_as, follows_then, follows_else, follows_needs, not_true, not_false, kinds_more, stops_kept}
+use Rattle.rules.proofs.FollowingLaws.{looked_as, follows_then, follows_else, not_true, not_false}
 use Rattle.rows.specs.Facts.{is_same_currency}
+use Rattle.rules.proofs.StageLaws.{unread_at, reaches, stops_asking}
 use Rattle.rules.proofs.request.decide_on_account.Goals as goal
 
 pub ask-requires : goal.ask-requires
-ask-requires g c = unread c.args.rows.now _ _ _ (key.Account c.args.id.now) c.requires.follows c.requires.kinds refl
-
-pub returns-in_err-ask-clause-so_far : goal.returns-in_err-ask-clause-so_far
-returns-in_err-ask-clause-so_far g c = follows_needs _ _ _ _ _ c.requires.follows c.in_err-ask.ensures.err
+ask-requires g c = unread_at (key.Account c.args.id.now) c.requires.at refl
 
 pub decline-requires : goal.decline-requires
 decline-requires g c = record {
   named = c.requires.named;
   follows =
-      looked_as _ _ _ _ _ _ _ _ _ _ c.requires.follows c.in_ok-ask.ensures.logged c.in_ok-ask.ensures.writes refl
+      looked_as _ _ _ _ _ _ _ _ _ _ c.requires.at.follows c.in_ok-ask.ensures.logged c.in_ok-ask.ensures.writes refl
       (ap (table.on_account c.args.request.now c.args.card.now c.args.id.now) (sym (c.account_in.ensures ∙ ap typed.account_in c.latest.ensures) ∙ c.in_default.is));
 }
 
@@ -25,35 +23,18 @@ decline-requires-then-ne g c = record {
   named = c.requires.named;
   follows =
       follows_else _ _ _ (is_same_currency c.args.request.now.transaction.currency c.in-Some.account.currency) _ _
-      (looked_as _ _ _ _ _ _ _ _ _ _ c.requires.follows c.in_ok-ask.ensures.logged c.in_ok-ask.ensures.writes refl
+      (looked_as _ _ _ _ _ _ _ _ _ _ c.requires.at.follows c.in_ok-ask.ensures.logged c.in_ok-ask.ensures.writes refl
       (ap (table.on_account c.args.request.now c.args.card.now c.args.id.now) (sym (c.account_in.ensures ∙ ap typed.account_in c.latest.ensures) ∙ c.in-Some.is)))
       (not_true _ (sym c.ne.ensures ∙ c.if-ne.true));
 }
 
-pub decide_on_day-requires-clause-follows : goal.decide_on_day-requires-clause-follows
-decide_on_day-requires-clause-follows g c =
-    follows_then _ _ _ (is_same_currency c.args.request.now.transaction.currency c.in-Some.account.currency) _ _
-    (looked_as _ _ _ _ _ _ _ _ _ _ c.requires.follows c.in_ok-ask.ensures.logged c.in_ok-ask.ensures.writes refl
+pub decide_on_day-requires-clause-at : goal.decide_on_day-requires-clause-at
+decide_on_day-requires-clause-at g c =
+    reaches _ _ c.requires.at c.in_ok-ask.ensures.logged
+    (follows_then _ _ _ (is_same_currency c.args.request.now.transaction.currency c.in-Some.account.currency) _ _
+    (looked_as _ _ _ _ _ _ _ _ _ _ c.requires.at.follows c.in_ok-ask.ensures.logged c.in_ok-ask.ensures.writes refl
     (ap (table.on_account c.args.request.now c.args.card.now c.args.id.now) (sym (c.account_in.ensures ∙ ap typed.account_in c.latest.ensures) ∙ c.in-Some.is)))
-    (not_false _ (sym c.ne.ensures ∙ c.if-ne.false))
+    (not_false _ (sym c.ne.ensures ∙ c.if-ne.false)))
 
-pub decide_on_day-requires-clause-kinds : goal.decide_on_day-requires-clause-kinds
-decide_on_day-requires-clause-kinds g c = kinds_more _ _ _ _ _ c.requires.kinds c.in_ok-ask.ensures.logged
-
-pub returns-clause-stops : goal.returns-clause-stops
-returns-clause-stops g c = stops_kept _ _ _ c.in_ok-ask.ensures.book c.decide_on_day.ensures.stops
-
-pub returns-clause-book : goal.returns-clause-book
-returns-clause-book g c = c.decide_on_day.ensures.book ∙ c.in_ok-ask.ensures.book
-
-pub returns-in_default-clause-stops : goal.returns-in_default-clause-stops
-returns-in_default-clause-stops g c = stops_kept _ _ _ c.in_ok-ask.ensures.book c.decline.ensures.stops
-
-pub returns-in_default-clause-book : goal.returns-in_default-clause-book
-returns-in_default-clause-book g c = c.decline.ensures.book ∙ c.in_ok-ask.ensures.book
-
-pub returns-then-ne-clause-stops : goal.returns-then-ne-clause-stops
-returns-then-ne-clause-stops g c = stops_kept _ _ _ c.in_ok-ask.ensures.book c.decline-then-ne.ensures.stops
-
-pub returns-then-ne-clause-book : goal.returns-then-ne-clause-book
-returns-then-ne-clause-book g c = c.decline-then-ne.ensures.book ∙ c.in_ok-ask.ensures.book
+pub returns-in_err-ask : goal.returns-in_err-ask
+returns-in_err-ask g c = stops_asking c.requires.at.follows c.in_err-ask.ensures.err c.in_err-ask.ensures.stop c.in_err-ask.ensures.stops c.in_err-ask.ensures.book c.from_residual.ensures.1

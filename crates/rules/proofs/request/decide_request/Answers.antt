@@ -2,20 +2,19 @@ use Rattle.std.proofs.Common.{refl, sym, ap, ◌∙◌}
 use Rattle.rows.specs.declared.row_key.RowKey.TheVariants as key
 use Rattle.rows.specs.RequestTable as table
 use Rattle.rows.specs.Typed as typed
-use Rattle.rules.proofs.FollowingLaws.{unread, looked_as, kinds_more}
+use Rattle.rules.proofs.FollowingLaws.{looked_as}
+use Rattle.rules.proofs.StageLaws.{unread_at, reaches}
 use Rattle.rules.proofs.request.decide_request.Goals as goal
 
 pub ask-requires : goal.ask-requires
-ask-requires g c = unread c.args.rows.now _ _ _ (key.Original c.identity.result) c.requires.follows c.requires.kinds refl
+ask-requires g c = unread_at (key.Original c.identity.result) c.requires.at refl
 
 pub answer_again-requires-clause-follows : goal.answer_again-requires-clause-follows
 answer_again-requires-clause-follows g c =
-    looked_as _ _ _ _ _ _ _ _ _ _ c.requires.follows c.in_ok-ask.ensures.logged c.in_ok-ask.ensures.writes (λ i. key.Original (c.identity.ensures i)) refl
+    looked_as _ _ _ _ _ _ _ _ _ _ c.requires.at.follows c.in_ok-ask.ensures.logged c.in_ok-ask.ensures.writes (λ i. key.Original (c.identity.ensures i)) refl
 
-pub decide_fresh-requires-clause-follows : goal.decide_fresh-requires-clause-follows
-decide_fresh-requires-clause-follows g c =
-    looked_as _ _ _ _ _ _ _ _ _ _ c.requires.follows c.in_ok-ask.ensures.logged c.in_ok-ask.ensures.writes (λ i. key.Original (c.identity.ensures i))
-    (ap (λ row. table.on_original c.args.request.now (typed.original_in row)) (sym c.latest.ensures ∙ c.in-None.is))
-
-pub decide_fresh-requires-clause-kinds : goal.decide_fresh-requires-clause-kinds
-decide_fresh-requires-clause-kinds g c = kinds_more _ _ _ _ _ c.requires.kinds c.in_ok-ask.ensures.logged
+pub decide_fresh-requires-clause-at : goal.decide_fresh-requires-clause-at
+decide_fresh-requires-clause-at g c =
+    reaches _ _ c.requires.at c.in_ok-ask.ensures.logged
+    (looked_as _ _ _ _ _ _ _ _ _ _ c.requires.at.follows c.in_ok-ask.ensures.logged c.in_ok-ask.ensures.writes (λ i. key.Original (c.identity.ensures i))
+    (ap (λ row. table.on_original c.args.request.now (typed.original_in row)) (sym c.latest.ensures ∙ c.in-None.is)))

@@ -9,8 +9,8 @@ use Rattle.iso8583.specs.declared.verdict.Verdict.TheVariants as verdict
 use Rattle.rows.specs.declared.row_key.RowKey.TheVariants as key
 use Rattle.rows.specs.declared.row_val.RowVal.TheVariants as val
 use Rattle.view.specs.RowSets.{value_in, put}
-use Rattle.rules.proofs.FollowingLaws.{follows_needs, concluded, concluded_needs}
-use Rattle.rules.proofs.PutLaws.{four_puts, card_unput, day_unput, paying_unput}
+use Rattle.rules.proofs.PutLaws.{without_puts, four_puts, card_unput, day_unput, paying_unput}
+use Rattle.rules.proofs.StageLaws.{stops_putting, answers_with}
 use Rattle.rules.proofs.request_answers.approve.Goals as goal
 
 pub write_new-requires-clause-absent : goal.write_new-requires-clause-absent
@@ -33,26 +33,20 @@ put_funds-requires g c = record {
       c.in_ok-charge_day.ensures.ok;
 }
 
-pub returns-in_err-write_new-clause-so_far : goal.returns-in_err-write_new-clause-so_far
-returns-in_err-write_new-clause-so_far g c = follows_needs _ _ _ _ _ c.requires.follows (ap (λ (r : _). r.reads) c.in_err-write_new.ensures.err)
+pub returns-in_err-write_new : goal.returns-in_err-write_new
+returns-in_err-write_new g c = stops_putting c.requires.follows (ap without_puts c.in_err-write_new.ensures.err) c.in_err-write_new.ensures.stop c.from_residual.ensures.1
 
-pub returns-in_err-charge_card-clause-so_far : goal.returns-in_err-charge_card-clause-so_far
-returns-in_err-charge_card-clause-so_far g c =
-    follows_needs _ _ _ _ _ c.requires.follows (ap (λ (r : _). r.reads) c.in_err-charge_card.ensures.err ∙ ap (λ (r : _). r.reads) c.in_ok-write_new.ensures.ok)
+pub returns-in_err-charge_card : goal.returns-in_err-charge_card
+returns-in_err-charge_card g c = stops_putting c.requires.follows (ap without_puts c.in_err-charge_card.ensures.err ∙ ap without_puts c.in_ok-write_new.ensures.ok) c.in_err-charge_card.ensures.stop c.from_residual-in_err-charge_card.ensures.1
 
-pub returns-in_err-charge_day-clause-so_far : goal.returns-in_err-charge_day-clause-so_far
-returns-in_err-charge_day-clause-so_far g c =
-    follows_needs _ _ _ _ _ c.requires.follows
-    (ap (λ (r : _). r.reads) c.in_err-charge_day.ensures.err ∙ ap (λ (r : _). r.reads) c.in_ok-charge_card.ensures.ok ∙ ap (λ (r : _). r.reads) c.in_ok-write_new.ensures.ok)
+pub returns-in_err-charge_day : goal.returns-in_err-charge_day
+returns-in_err-charge_day g c = stops_putting c.requires.follows (ap without_puts c.in_err-charge_day.ensures.err ∙ ap without_puts c.in_ok-charge_card.ensures.ok ∙ ap without_puts c.in_ok-write_new.ensures.ok) c.in_err-charge_day.ensures.stop c.from_residual-in_err-charge_day.ensures.1
 
-pub returns-in_err-put_funds-clause-so_far : goal.returns-in_err-put_funds-clause-so_far
-returns-in_err-put_funds-clause-so_far g c =
-    follows_needs _ _ _ _ _ c.requires.follows
-    (ap (λ (r : _). r.reads) c.in_err-put_funds.ensures.err ∙ ap (λ (r : _). r.reads) c.in_ok-charge_day.ensures.ok ∙ ap (λ (r : _). r.reads) c.in_ok-charge_card.ensures.ok
-    ∙ ap (λ (r : _). r.reads) c.in_ok-write_new.ensures.ok)
+pub returns-in_err-put_funds : goal.returns-in_err-put_funds
+returns-in_err-put_funds g c = stops_putting c.requires.follows (ap without_puts c.in_err-put_funds.ensures.err ∙ ap without_puts c.in_ok-charge_day.ensures.ok ∙ ap without_puts c.in_ok-charge_card.ensures.ok ∙ ap without_puts c.in_ok-write_new.ensures.ok) c.in_err-put_funds.ensures.stop c.from_residual-in_err-put_funds.ensures.1
 
-pub returns-clause-done : goal.returns-clause-done
-returns-clause-done g c =
+pub returns : goal.returns
+returns g c =
     let r = c.args.request.now in
     let paying = c.args.paying.now in
     let approvals = c.next_of-approvals.ensures in
@@ -69,25 +63,4 @@ returns-clause-done g c =
     puts.1 ∙ (λ i. (key.Original (identity_of r.transaction), kept i) ∷ (key.Card r.transaction.pan, val.Card (record c.args.card.now { approvals = approvals i }))
     ∷ (key.Velocity r.transaction.pan (day_of r.transaction.stamp), val.Velocity (record { count = c.next_of-count.ensures i; sum = c.sum_of-sum.ensures i }))
     ∷ (key_of_funds paying, paid i) ∷ []) in
-    concluded _ _ _ _ _ _ _ _ c.requires.follows puts.0 table (ap (λ code. reply_to_request r (verdict.Approved code)) code)
-
-pub returns-clause-so_far : goal.returns-clause-so_far
-returns-clause-so_far g c = concluded_needs _ _ _ _ (returns-clause-done g c)
-
--- neither the reads nor the source change where a row is put
-pub returns-in_err-charge_card-clause-book : goal.returns-in_err-charge_card-clause-book
-returns-in_err-charge_card-clause-book g c = ap (λ (r : _). g.S.RowSource.book r.source) c.in_err-charge_card.ensures.err ∙ ap (λ (r : _). g.S.RowSource.book r.source) c.in_ok-write_new.ensures.ok
-
-pub returns-in_err-charge_day-clause-book : goal.returns-in_err-charge_day-clause-book
-returns-in_err-charge_day-clause-book g c =
-    ap (λ (r : _). g.S.RowSource.book r.source) c.in_err-charge_day.ensures.err ∙ ap (λ (r : _). g.S.RowSource.book r.source) c.in_ok-charge_card.ensures.ok ∙ ap (λ (r : _). g.S.RowSource.book r.source) c.in_ok-write_new.ensures.ok
-
-pub returns-in_err-put_funds-clause-book : goal.returns-in_err-put_funds-clause-book
-returns-in_err-put_funds-clause-book g c =
-    ap (λ (r : _). g.S.RowSource.book r.source) c.in_err-put_funds.ensures.err ∙ ap (λ (r : _). g.S.RowSource.book r.source) c.in_ok-charge_day.ensures.ok
-    ∙ ap (λ (r : _). g.S.RowSource.book r.source) c.in_ok-charge_card.ensures.ok ∙ ap (λ (r : _). g.S.RowSource.book r.source) c.in_ok-write_new.ensures.ok
-
-pub returns-clause-book : goal.returns-clause-book
-returns-clause-book g c =
-    ap (λ (r : _). g.S.RowSource.book r.source) c.in_ok-put_funds.ensures.ok ∙ ap (λ (r : _). g.S.RowSource.book r.source) c.in_ok-charge_day.ensures.ok
-    ∙ ap (λ (r : _). g.S.RowSource.book r.source) c.in_ok-charge_card.ensures.ok ∙ ap (λ (r : _). g.S.RowSource.book r.source) c.in_ok-write_new.ensures.ok
+    answers_with c.requires.follows puts.0 table (ap (λ code. reply_to_request r (verdict.Approved code)) code)

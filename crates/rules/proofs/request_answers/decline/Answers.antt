@@ -1,19 +1,10 @@
 use Rattle.std.proofs.Common.{refl, ap}
-use Rattle.rules.proofs.FollowingLaws.{follows_needs, concluded_with_one, concluded_needs}
+use Rattle.rules.proofs.StageLaws.{stops_putting, answers_with_one}
+use Rattle.rules.proofs.PutLaws.{without_puts}
 use Rattle.rules.proofs.request_answers.decline.Goals as goal
 
-pub returns-in_err-write_copy-clause-so_far : goal.returns-in_err-write_copy-clause-so_far
-returns-in_err-write_copy-clause-so_far g c = follows_needs _ _ _ _ _ c.requires.follows (ap (λ (r : _). r.reads) c.in_err-write_copy.ensures.err)
+pub returns-in_err-write_copy : goal.returns-in_err-write_copy
+returns-in_err-write_copy g c = stops_putting c.requires.follows (ap without_puts c.in_err-write_copy.ensures.err) c.in_err-write_copy.ensures.stop c.from_residual.ensures.1
 
-pub returns-clause-done : goal.returns-clause-done
-returns-clause-done g c =
-    concluded_with_one _ c.args.rows.now _ _ _ _ _ _ c.requires.follows c.in_ok-write_copy.ensures.ok (λ i. (c.requires.named i, c.kept_of-kept.ensures i)) refl
-
-pub returns-clause-so_far : goal.returns-clause-so_far
-returns-clause-so_far g c = concluded_needs _ _ _ _ (returns-clause-done g c)
-
-pub returns-in_err-write_copy-clause-book : goal.returns-in_err-write_copy-clause-book
-returns-in_err-write_copy-clause-book g c = ap (λ (r : _). g.S.RowSource.book r.source) c.in_err-write_copy.ensures.err
-
-pub returns-clause-book : goal.returns-clause-book
-returns-clause-book g c = ap (λ (r : _). g.S.RowSource.book r.source) c.in_ok-write_copy.ensures.ok
+pub returns : goal.returns
+returns g c = answers_with_one c.requires.follows c.in_ok-write_copy.ensures.ok (λ i. (c.requires.named i, c.kept_of-kept.ensures i)) refl

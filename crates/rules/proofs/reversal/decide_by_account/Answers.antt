@@ -3,25 +3,20 @@ use Rattle.rows.specs.ReversalTable as table
 use Rattle.rows.specs.declared.row_key.RowKey.TheVariants as key
 use Rattle.rows.specs.Typed as typed
 use Rattle.std.specs.List.{list_all}
-use Rattle.rules.proofs.FollowingLaws.{unread, looked_as, follows_needs, kinds_more, stops_kept}
+use Rattle.rules.proofs.FollowingLaws.{looked_as, kinds_more}
+use Rattle.rules.proofs.StageLaws.{unread_at, stops_asking}
 use Rattle.rules.proofs.reversal.decide_by_account.Goals as goal
 
 pub ask-requires : goal.ask-requires
-ask-requires g c = unread c.args.rows.now _ _ _ (key.Account c.args.id) c.requires.follows c.requires.kinds refl
-
-pub returns-in_err-ask-clause-so_far : goal.returns-in_err-ask-clause-so_far
-returns-in_err-ask-clause-so_far g c = follows_needs _ _ _ _ _ c.requires.follows c.in_err-ask.ensures.err
+ask-requires g c = unread_at (key.Account c.args.id) c.requires.at refl
 
 pub decide_on_paid-requires-clause-follows : goal.decide_on_paid-requires-clause-follows
 decide_on_paid-requires-clause-follows g c =
-    looked_as _ _ _ _ _ _ _ _ _ _ c.requires.follows c.in_ok-ask.ensures.logged c.in_ok-ask.ensures.writes refl
+    looked_as _ _ _ _ _ _ _ _ _ _ c.requires.at.follows c.in_ok-ask.ensures.logged c.in_ok-ask.ensures.writes refl
     (ap (table.on_paid c.args.reversal.now c.args.kept.now) (ap (option_map _) (sym (c.account_in.ensures ∙ ap typed.account_in c.latest.ensures)) ∙ sym c.account_funds-paid.ensures))
 
 pub decide_on_paid-requires-clause-days : goal.decide_on_paid-requires-clause-days
-decide_on_paid-requires-clause-days g c = ap (λ kinds. list_all (λ kind. not (1 == kind)) kinds) (kinds_more _ _ _ _ _ c.requires.kinds c.in_ok-ask.ensures.logged)
+decide_on_paid-requires-clause-days g c = ap (λ kinds. list_all (λ kind. not (1 == kind)) kinds) (kinds_more _ _ _ _ _ c.requires.at.kinds c.in_ok-ask.ensures.logged)
 
-pub returns-clause-stops : goal.returns-clause-stops
-returns-clause-stops g c = stops_kept _ _ _ c.in_ok-ask.ensures.book c.decide_on_paid.ensures.stops
-
-pub returns-clause-book : goal.returns-clause-book
-returns-clause-book g c = c.decide_on_paid.ensures.book ∙ c.in_ok-ask.ensures.book
+pub returns-in_err-ask : goal.returns-in_err-ask
+returns-in_err-ask g c = stops_asking c.requires.at.follows c.in_err-ask.ensures.err c.in_err-ask.ensures.stop c.in_err-ask.ensures.stops c.in_err-ask.ensures.book c.from_residual.ensures.1

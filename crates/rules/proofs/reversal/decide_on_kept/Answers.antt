@@ -1,13 +1,11 @@
 use Rattle.std.proofs.Common.{refl, sym, ◌∙◌}
-use Rattle.rules.proofs.FollowingLaws.{follows_else, follows_needs, concluded_with_none, concluded_needs}
+use Rattle.rules.proofs.FollowingLaws.{follows_else}
+use Rattle.rules.proofs.StageLaws.{concludes, answers_with_none}
 use Rattle.rules.proofs.reversal.decide_on_kept.Goals as goal
 
-pub returns-then-not-is_named-clause-done : goal.returns-then-not-is_named-clause-done
-returns-then-not-is_named-clause-done g c =
-    concluded_with_none _ c.args.rows.now _ _ (follows_else _ _ _ _ _ _ c.requires.follows (sym c.is_named.ensures ∙ c.if-not-is_named.true)) c.unchanged.ensures
+pub returns-then-not-is_named : goal.returns-then-not-is_named
+returns-then-not-is_named g c =
+    answers_with_none (follows_else _ _ _ _ _ _ c.requires.at.follows (sym c.is_named.ensures ∙ c.if-not-is_named.true)) c.unchanged.ensures
 
-pub returns-then-not-is_named-clause-so_far : goal.returns-then-not-is_named-clause-so_far
-returns-then-not-is_named-clause-so_far g c = concluded_needs _ _ _ _ (returns-then-not-is_named-clause-done g c)
-
-pub returns-in-Some-clause-so_far : goal.returns-in-Some-clause-so_far
-returns-in-Some-clause-so_far g c = follows_needs _ _ _ _ _ c.requires.follows refl
+pub returns-in-Some : goal.returns-in-Some
+returns-in-Some g c = concludes c.answer_settled.ensures refl

@@ -9,6 +9,7 @@ use Rattle.rows.specs.declared.frame.Frame.TheVariants.{Good, Bad}
 use Rattle.rows.specs.declared.reply_body.ReplyBody.{ReplyBody}
 use Rattle.rows.specs.declared.reply_body.ReplyBody.TheVariants.{Fault}
 use Rattle.rules.proofs.FollowingLaws.{begins, concluded_with_none, concluded_local, concluded_all}
+use Rattle.rules.proofs.StageLaws.{starts}
 use Rattle.rules.proofs.shipped.ShippedDecide.decide.Goals as goal
 use Rattle.rules.specs.Following.{Concludes}
 use Rattle.rules.specs.Needs.{ReadsAllNeeds}
@@ -25,14 +26,14 @@ local good frame reads writes (Err stop) is done = tt
 bad : {S : Type 0} (rows : Recording S) (fault : CodecFault) → IsNew rows → Concludes (Bad fault) rows.reads rows.writes (Fault fault)
 bad rows fault new = concluded_with_none (Bad fault) rows _ _ (begins (Bad fault) _ _ new.0 new.1) refl
 
-pub decide_request-requires-clause-follows : goal.decide_request-requires-clause-follows
-decide_request-requires-clause-follows g c = begins (Good (message.Request c.in-Request.request)) _ _ c.requires.0 c.requires.1
+pub decide_request-requires : goal.decide_request-requires
+decide_request-requires g c = record { at = starts (Good (message.Request c.in-Request.request)) c.requires }
 
-pub decide_advice-requires-clause-follows : goal.decide_advice-requires-clause-follows
-decide_advice-requires-clause-follows g c = begins (Good (message.Advice c.in-Advice.advice)) _ _ c.requires.0 c.requires.1
+pub decide_advice-requires : goal.decide_advice-requires
+decide_advice-requires g c = record { at = starts (Good (message.Advice c.in-Advice.advice)) c.requires }
 
-pub decide_reversal-requires-clause-follows : goal.decide_reversal-requires-clause-follows
-decide_reversal-requires-clause-follows g c = begins (Good (message.Reversal c.in-Reversal.reversal)) _ _ c.requires.0 c.requires.1
+pub decide_reversal-requires : goal.decide_reversal-requires
+decide_reversal-requires g c = record { at = starts (Good (message.Reversal c.in-Reversal.reversal)) c.requires }
 
 pub returns-in_ok-verdict-in-Request-clause-local : goal.returns-in_ok-verdict-in-Request-clause-local
 returns-in_ok-verdict-in-Request-clause-local g c =
