@@ -18,26 +18,26 @@ use Rattle.view.specs.Recording.{Recording, IsStopOf}
 use Rattle.view.specs.declared.stop.Stop.{Stop}
 use Rattle.view.specs.declared.stop.Stop.TheVariants.{OutOfMemory}
 
--- the body is decided by its table, or the decision stops: what is returned, and the recorder before and after
-pub record DecidesByTable {S T : Type 0} (answers : S → RowKey → Result (Option RowVal) Stop → S → Type 0) (book : S → Option Rows)
-    (frame : Frame) (reply : T → ReplyBody) (old new : Recording S) (result : Result T Stop) : Type 0 where
-  -- what is returned is the table's reply, and the rows that are put are the table's
-  pub done : IfOk result (λ value. Concludes frame new.reads new.writes (reply value))
-  -- the rows that were read are the first of those that the table needs
-  pub so_far : ReadsNeeds frame new.reads
-  -- it stops where the source does or memory runs out
-  pub stop : IfErr result (λ stop. (stop ≡ OutOfMemory) ⊎ IsStopOf answers new.source stop)
-  -- on a known book, want of memory is all that stops it
-  pub stops : IfSome (book old.source) (λ _. IfErr result (λ stop. stop ≡ OutOfMemory))
-  -- the book stays
-  pub same_book : book new.source ≡ book old.source
+-- over what a source of rows answers, and the book behind it where that is known
+module _ {S : Type 0} (answers : S → RowKey → Result (Option RowVal) Stop → S → Type 0) (book_of : S → Option Rows) where
+  -- the message is decided by its table or the decision stops, by what is returned and the recorder before and after
+  pub record DecidesByTable {T : Type 0} (frame : Frame) (reply : T → ReplyBody) (old new : Recording S) (result : Result T Stop) : Type 0 where
+    -- what is returned is the table's reply, and the rows that are put are the table's
+    pub done : IfOk result (λ value. Concludes frame new.reads new.writes (reply value))
+    -- the rows that were read are the first of those that the table needs
+    pub so_far : ReadsNeeds frame new.reads
+    -- it stops where the source does or memory runs out
+    pub stop : IfErr result (λ stop. (stop ≡ OutOfMemory) ⊎ IsStopOf answers new.source stop)
+    -- on a known book, want of memory is all that stops it
+    pub stops : IfSome (book_of old.source) (λ _. IfErr result (λ stop. stop ≡ OutOfMemory))
+    -- the book stays
+    pub book : book_of new.source ≡ book_of old.source
 
--- the same of each kind of message
-abbrev pub DecidesRequest : {S : Type 0} → (S → RowKey → Result (Option RowVal) Stop → S → Type 0) → (S → Option Rows) → Request → Recording S → Recording S → Result Verdict Stop → Type 0
-DecidesRequest answers book request = DecidesByTable answers book (Good (message.Request request)) (reply_to_request request)
+  abbrev pub DecidesRequest : Request → Recording S → Recording S → Result Verdict Stop → Type 0
+  DecidesRequest request = DecidesByTable (Good (message.Request request)) (reply_to_request request)
 
-abbrev pub DecidesAdvice : {S : Type 0} → (S → RowKey → Result (Option RowVal) Stop → S → Type 0) → (S → Option Rows) → Advice → Recording S → Recording S → Result ReplyBody Stop → Type 0
-DecidesAdvice answers book advice = DecidesByTable answers book (Good (message.Advice advice)) (λ reply. reply)
+  abbrev pub DecidesAdvice : Advice → Recording S → Recording S → Result ReplyBody Stop → Type 0
+  DecidesAdvice advice = DecidesByTable (Good (message.Advice advice)) (λ reply. reply)
 
-abbrev pub DecidesReversal : {S : Type 0} → (S → RowKey → Result (Option RowVal) Stop → S → Type 0) → (S → Option Rows) → Reversal → Recording S → Recording S → Result ReplyBody Stop → Type 0
-DecidesReversal answers book reversal = DecidesByTable answers book (Good (message.Reversal reversal)) (λ reply. reply)
+  abbrev pub DecidesReversal : Reversal → Recording S → Recording S → Result ReplyBody Stop → Type 0
+  DecidesReversal reversal = DecidesByTable (Good (message.Reversal reversal)) (λ reply. reply)

@@ -1,10 +1,9 @@
-ghost use Rattle.std.specs.Prelude.{◌≡◌, ◌⊎◌, ◌∷◌, [], Some, IfOk, IfErr, IfSome};
+ghost use Rattle.std.specs.Prelude.{◌∷◌, [], Some};
 ghost use Rattle.iso8583.specs.declared.message.Message.TheVariants as message;
 ghost use Rattle.rows.specs.AdviceTable as table;
 ghost use Rattle.rows.specs.declared.frame.Frame.TheVariants.{Good};
-ghost use Rattle.rules.specs.Following.{Follows, Concludes, IsAt, kinds_read};
+ghost use Rattle.rules.specs.Following.{IsAt};
 ghost use Rattle.rules.specs.Stage.{DecidesAdvice};
-ghost use Rattle.view.specs.Recording.{IsStopOf};
 
 use crate::advice_answers::{accept, acknowledge, answer_again};
 use crate::advice_facts::advice_funds;

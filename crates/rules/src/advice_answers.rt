@@ -1,4 +1,4 @@
-ghost use Rattle.std.specs.Prelude.{◌≡◌, ◌⊎◌, ◌≤◌, ◌&&◌, IfOk, IfErr, IfSome};
+ghost use Rattle.std.specs.Prelude.{◌≡◌, ◌≤◌, ◌&&◌};
 ghost use Rattle.iso8583.specs.declared.message.Message.TheVariants as message;
 ghost use Rattle.iso8583.specs.declared.original_kind.OriginalKind.TheVariants as kind;
 ghost use Rattle.rows.specs.AdviceTable as table;
@@ -7,7 +7,6 @@ ghost use Rattle.rows.specs.Funds.{balance_of};
 ghost use Rattle.rows.specs.declared.frame.Frame.TheVariants.{Good};
 ghost use Rattle.rules.specs.Following.{Follows, Concludes};
 ghost use Rattle.rules.specs.Stage.{DecidesAdvice};
-ghost use Rattle.view.specs.Recording.{IsStopOf};
 
 use crate::facts::{is_marked, is_of_same, kept_of};
 use crate::put_funds::put_funds;

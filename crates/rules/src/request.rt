@@ -1,11 +1,10 @@
-ghost use Rattle.std.specs.Prelude.{◌≡◌, ◌⊎◌, ◌∷◌, [], Ok, IfOk, IfErr, IfSome};
+ghost use Rattle.std.specs.Prelude.{◌≡◌, ◌∷◌, [], Ok};
 ghost use Rattle.iso8583.specs.declared.message.Message.TheVariants as message;
 ghost use Rattle.rows.specs.Facts.{identity_of};
 ghost use Rattle.rows.specs.RequestTable as table;
 ghost use Rattle.rows.specs.declared.frame.Frame.TheVariants.{Good};
-ghost use Rattle.rules.specs.Following.{Follows, Concludes, IsAt, kinds_read};
+ghost use Rattle.rules.specs.Following.{IsAt};
 ghost use Rattle.rules.specs.Stage.{DecidesRequest};
-ghost use Rattle.view.specs.Recording.{IsStopOf};
 
 use crate::request_answers::{answer_again, approve, decline};
 use crate::request_facts::{refused_by_limits, refused_unseen, request_funds, usable_account};

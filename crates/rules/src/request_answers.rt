@@ -1,4 +1,4 @@
-ghost use Rattle.std.specs.Prelude.{◌≡◌, ◌⊎◌, ◌+◌, ◌^◌, ◌<◌, ◌≤◌, ◌&&◌, length, None, IsSome, IfOk, IfErr, IfSome, OnOk, OnErr};
+ghost use Rattle.std.specs.Prelude.{◌≡◌, ◌+◌, ◌^◌, ◌<◌, ◌≤◌, ◌&&◌, length, None, IsSome, IfErr, IfSome, OnOk, OnErr};
 ghost use Rattle.iso8583.specs.declared.message.Message.TheVariants as message;
 ghost use Rattle.iso8583.specs.declared.original_kind.OriginalKind.TheVariants as kind;
 ghost use Rattle.rows.specs.Facts.{day_of, identity_of, is_of_same};
@@ -9,7 +9,6 @@ ghost use Rattle.rows.specs.Typed.{original_in};
 ghost use Rattle.rows.specs.declared.frame.Frame.TheVariants.{Good};
 ghost use Rattle.rules.specs.Following.{Follows, Concludes};
 ghost use Rattle.rules.specs.Stage.{DecidesRequest};
-ghost use Rattle.view.specs.Recording.{IsStopOf};
 ghost use Rattle.view.specs.RowSets.{value_in, latest, put};
 
 use crate::facts::{is_marked, is_of_same, kept_of};

@@ -1,12 +1,11 @@
-ghost use Rattle.std.specs.Prelude.{◌≡◌, ◌⊎◌, ◌∷◌, [], ◌==◌, not, true, Some, IfOk, IfErr, IfSome};
+ghost use Rattle.std.specs.Prelude.{◌≡◌, ◌∷◌, [], ◌==◌, not, true, Some};
 ghost use Rattle.std.specs.List.{list_all};
-ghost use Rattle.rows.specs.Kept.{payment_of_outcome, reversal_of_outcome};
+ghost use Rattle.rows.specs.Kept.{payment_of_outcome};
 ghost use Rattle.iso8583.specs.declared.message.Message.TheVariants as message;
 ghost use Rattle.rows.specs.ReversalTable as table;
 ghost use Rattle.rows.specs.declared.frame.Frame.TheVariants.{Good};
-ghost use Rattle.rules.specs.Following.{Follows, Concludes, IsAt, kinds_read};
+ghost use Rattle.rules.specs.Following.{Follows, IsAt, kinds_read};
 ghost use Rattle.rules.specs.Stage.{DecidesReversal};
-ghost use Rattle.view.specs.Recording.{IsStopOf};
 
 use crate::reversal_answers::{answer_settled, mark_ahead, settle_unposted, unchanged};
 use crate::reversal_facts::{account_funds, budget_funds, is_named, is_wrong_part};

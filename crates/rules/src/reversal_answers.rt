@@ -1,11 +1,10 @@
-ghost use Rattle.std.specs.Prelude.{◌≡◌, ◌⊎◌, ◌&&◌, None, Some, IfOk, IfErr, IfSome};
+ghost use Rattle.std.specs.Prelude.{◌≡◌, ◌&&◌, None, Some};
 ghost use Rattle.rows.specs.Facts.{identity_of, is_same_identity};
 ghost use Rattle.iso8583.specs.declared.message.Message.TheVariants as message;
 ghost use Rattle.rows.specs.ReversalTable as table;
 ghost use Rattle.rows.specs.declared.frame.Frame.TheVariants.{Good};
 ghost use Rattle.rules.specs.Following.{Follows, Concludes};
 ghost use Rattle.rules.specs.Stage.{DecidesReversal};
-ghost use Rattle.view.specs.Recording.{IsStopOf};
 
 use crate::reversal_facts::is_same_identity;
 use iso8583::{Action, Amount, Answer, Identity, Reply, Reversal};

@@ -1,12 +1,11 @@
-ghost use Rattle.std.specs.Prelude.{◌≡◌, ◌⊎◌, ◌-◌, Some, IfOk, IfErr, IfSome};
+ghost use Rattle.std.specs.Prelude.{◌≡◌, ◌-◌, Some};
 ghost use Rattle.rows.specs.Facts.{identity_of};
 ghost use Rattle.rows.specs.Kept.{settled};
 ghost use Rattle.iso8583.specs.declared.message.Message.TheVariants as message;
 ghost use Rattle.rows.specs.ReversalTable as table;
 ghost use Rattle.rows.specs.declared.frame.Frame.TheVariants.{Good};
-ghost use Rattle.rules.specs.Following.{Follows, Concludes};
+ghost use Rattle.rules.specs.Following.{Follows};
 ghost use Rattle.rules.specs.Stage.{DecidesReversal};
-ghost use Rattle.view.specs.Recording.{IsStopOf};
 
 use crate::put_funds::put_funds;
 use crate::reversal_answers::unchanged;
