@@ -1,16 +1,16 @@
--- The first key at which the listed rows part is the least whose row differs.
-use Rattle.std.proofs.Common.{◌≡◌, ◌≢◌, Bool, true, false, ◌&&◌, T, inl, inr, List, [], ◌∷◌, ◌++◌, Option, Some, None, cond, Ordering, Less, Equal, Greater, refl, sym, ap, subst, ◌∙◌}
+-- The key of the first joined row that isn't the same in both books is the least whose row differs.
+use Rattle.std.proofs.Common.{◌≡◌, ◌≢◌, ◌⊎◌, Bool, true, false, ◌&&◌, T, inl, inr, List, [], ◌∷◌, Option, Some, None, cond, Ordering, Less, Equal, Greater, refl, sym, ap, subst, ◌∙◌}
 use Rattle.std.proofs.lemmas.Option.{none-some, same_Some}
 use Rattle.std.proofs.lemmas.Cmp.{tied_itself}
 use Rattle.std.specs.FinMap as map
 use Rattle.std.specs.Ordering.{eq_by_cmp, is_eq, is_lt, ordering_reverse}
-use Rattle.rows.proofs.KeyLaws.{key_cmp_total}
+use Rattle.rows.proofs.KeyLaws.{key_cmp_total, key_cmp_antisymmetric}
 use Rattle.rows.specs.Fold.{Rows}
 use Rattle.rows.specs.RowKey.{key_cmp}
 use Rattle.rows.specs.declared.row_key.RowKey.{RowKey}
 use Rattle.rows.specs.declared.row_val.RowVal.{RowVal}
 use Rattle.audit.specs.Difference.{IsLeastDifference}
-use Rattle.audit.specs.FirstKey.{BeginsWithLesser, IsFirstDifferingKey}
+use Rattle.audit.proofs.Joined.{Row, FindsFirst, by_key, join, join_by, same_row}
 
 first_of_both : (a b : Bool) → T (a && b) → T a
 first_of_both true b p = tt
@@ -25,41 +25,52 @@ less Less p = refl
 less Equal p = absurd p
 less Greater p = absurd p
 
+-- the rows stand in the order of their keys
+abbrev IsOrdered : List Row → Type 0
+IsOrdered rows = T (map.is_sorted key_cmp rows)
+
+first_less : (row next : Row) (rows : List Row) → IsOrdered (row ∷ next ∷ rows) → key_cmp row.0 next.0 ≡ Less
+first_less row next rows sorted = less _ (first_of_both _ _ (first_of_both _ _ sorted))
+
 -- a key below the first of rows in order has no row
-missing : (q : RowKey) (row : RowKey × RowVal) (rows : List (RowKey × RowVal)) → T (map.is_sorted key_cmp (row ∷ rows)) → key_cmp q row.0 ≡ Less → map.find key_cmp q (row ∷ rows) ≡ None
+missing : (q : RowKey) (row : Row) (rows : List Row) → IsOrdered (row ∷ rows) → key_cmp q row.0 ≡ Less → map.find key_cmp q (row ∷ rows) ≡ None
 missing q row [] sorted low = ap (λ (o : Ordering). cond (is_eq o) (Some row.1) None) low
 missing q row (next ∷ rows) sorted low =
-    let up : key_cmp row.0 next.0 ≡ Less = less _ (first_of_both _ _ (first_of_both _ _ sorted)) in
+    let up = first_less row next rows sorted in
     ap (λ (o : Ordering). cond (is_eq o) (Some row.1) (map.find key_cmp q (next ∷ rows))) low
     ∙ missing q next rows (second_of_both _ _ sorted) (key_cmp_total.trans q row.0 next.0 low up)
 
 -- the first row's key has its value
-found : (row : RowKey × RowVal) (rows : List (RowKey × RowVal)) → map.find key_cmp row.0 (row ∷ rows) ≡ Some row.1
+found : (row : Row) (rows : List Row) → map.find key_cmp row.0 (row ∷ rows) ≡ Some row.1
 found row rows = ap (λ (o : Ordering). cond (is_eq o) (Some row.1) (map.find key_cmp row.0 rows)) (tied_itself key_cmp_total row.0)
 
--- a row further on has a greater key
-above : (row : RowKey × RowVal) (front : List (RowKey × RowVal)) (last : RowKey × RowVal) (rows : List (RowKey × RowVal)) → T (map.is_sorted key_cmp (row ∷ front ++ last ∷ rows)) → key_cmp row.0 last.0 ≡ Less
-above row [] last rows sorted = less _ (first_of_both _ _ (first_of_both _ _ sorted))
-above row (next ∷ front) last rows sorted =
-    key_cmp_total.trans row.0 next.0 last.0 (less _ (first_of_both _ _ (first_of_both _ _ sorted))) (above next front last rows (second_of_both _ _ sorted))
+sorted_tail : (row : Row) (rows : List Row) → IsOrdered (row ∷ rows) → IsOrdered rows
+sorted_tail row [] sorted = tt
+sorted_tail row (next ∷ rows) sorted = second_of_both _ _ sorted
 
 -- here the rows differ, and not at a lesser key
-abbrev DiffersFirst : List (RowKey × RowVal) → List (RowKey × RowVal) → RowKey → Type 0
+abbrev DiffersFirst : List Row → List Row → RowKey → Type 0
 DiffersFirst xs ys key = (map.find key_cmp key xs ≢ map.find key_cmp key ys) × ((q : RowKey) → key_cmp q key ≡ Less → map.find key_cmp q xs ≡ map.find key_cmp q ys)
+
+-- The rows begin with this key, and the others with a greater one, with another value of it, or not at all.
+abbrev BeginsWithLesser : List Row → List Row → RowKey → Type 0
+BeginsWithLesser [] others key = ⊥
+BeginsWithLesser (row ∷ rows) [] key = key ≡ row.0
+BeginsWithLesser (row ∷ rows) (other ∷ others) key = (key ≡ row.0) × ((key_cmp row.0 other.0 ≡ Less) ⊎ ((row.0 ≡ other.0) × (row.1 ≢ other.1)))
 
 lower : (q k l : RowKey) → k ≡ l → key_cmp q k ≡ Less → key_cmp q l ≡ Less
 lower q k l same low = subst (λ (x : RowKey). key_cmp q x ≡ Less) same low
 
-at_found : (x : RowKey × RowVal) (xs : List (RowKey × RowVal)) (key : RowKey) → key ≡ x.0 → map.find key_cmp key (x ∷ xs) ≡ Some x.1
+at_found : (x : Row) (xs : List Row) (key : RowKey) → key ≡ x.0 → map.find key_cmp key (x ∷ xs) ≡ Some x.1
 at_found x xs key is = ap (λ (k : RowKey). map.find key_cmp k (x ∷ xs)) is ∙ found x xs
 
-at_rests : (xs ys : List (RowKey × RowVal)) (key : RowKey) → T (map.is_sorted key_cmp xs) → T (map.is_sorted key_cmp ys) → BeginsWithLesser xs ys key → DiffersFirst xs ys key
-at_rests [] ys key g h begins = absurd begins
-at_rests (x ∷ xs) [] key g h is = (
+at_front : (xs ys : List Row) (key : RowKey) → IsOrdered xs → IsOrdered ys → BeginsWithLesser xs ys key → DiffersFirst xs ys key
+at_front [] ys key g h begins = absurd begins
+at_front (x ∷ xs) [] key g h is = (
   λ same. none-some x.1 (sym same ∙ at_found x xs key is),
   λ q low. missing q x xs g (lower q key x.0 is low),
 )
-at_rests (x ∷ xs) (y ∷ ys) key g h begins =
+at_front (x ∷ xs) (y ∷ ys) key g h begins =
     let is : key ≡ x.0 = begins.0 in
     elim begins.1 [
       | inl less ↦ (
@@ -72,47 +83,55 @@ at_rests (x ∷ xs) (y ∷ ys) key g h begins =
       )
     ]
 
-its_key : (x : RowKey × RowVal) (xs ys : List (RowKey × RowVal)) (key : RowKey) → BeginsWithLesser (x ∷ xs) ys key → key ≡ x.0
-its_key x xs [] key is = is
-its_key x xs (y ∷ ys) key begins = begins.0
-
--- the key is above those of the front
-over : (e : RowKey × RowVal) (front xs ys : List (RowKey × RowVal)) (key : RowKey) → T (map.is_sorted key_cmp (e ∷ front ++ xs)) → BeginsWithLesser xs ys key → key_cmp key e.0 ≡ Greater
-over e front [] ys key sorted begins = absurd begins
-over e front (x ∷ xs) ys key sorted begins =
-    let low : key_cmp e.0 key ≡ Less = subst (λ (k : RowKey). key_cmp e.0 k ≡ Less) (sym (its_key x xs ys key begins)) (above e front x xs sorted) in
-    key_cmp_total.antisymm key e.0 ∙ ap ordering_reverse low
-
-passed : (e : RowKey × RowVal) (rows : List (RowKey × RowVal)) (key : RowKey) → key_cmp key e.0 ≡ Greater → map.find key_cmp key (e ∷ rows) ≡ map.find key_cmp key rows
+-- a key above that of the first row is looked for behind it
+passed : (e : Row) (rows : List Row) (key : RowKey) → key_cmp key e.0 ≡ Greater → map.find key_cmp key (e ∷ rows) ≡ map.find key_cmp key rows
 passed e rows key up = ap (λ (o : Ordering). cond (is_eq o) (Some e.1) (map.find key_cmp key rows)) up
 
-behind : (front xs ys : List (RowKey × RowVal)) (key : RowKey) → T (map.is_sorted key_cmp (front ++ xs)) → T (map.is_sorted key_cmp (front ++ ys)) → BeginsWithLesser xs ys key → DiffersFirst (front ++ xs) (front ++ ys) key
-behind [] xs ys key g h begins = at_rests xs ys key g h begins
-behind (e ∷ front) xs ys key g h begins =
-    let rest = behind front xs ys key (second_of_both _ _ g) (second_of_both _ _ h) begins in
-    let up = over e front xs ys key g begins in (
-      λ same. rest.0 (sym (passed e (front ++ xs) key up) ∙ same ∙ passed e (front ++ ys) key up),
-      λ q low. ap (λ (o : Option RowVal). cond (eq_by_cmp key_cmp q e.0) (Some e.1) o) (rest.1 q low),
-    )
+other_way : (xs ys : List Row) (key : RowKey) → DiffersFirst xs ys key → DiffersFirst ys xs key
+other_way xs ys key d = (λ same. d.0 (sym same), λ q low. sym (d.1 q low))
 
-in_order : (rows : Rows) (front rest : List (RowKey × RowVal)) → map.entries rows ≡ front ++ rest → T (map.is_sorted key_cmp (front ++ rest))
-in_order rows front rest are = subst (λ es. T (map.is_sorted key_cmp es)) are (map.entries_sorted rows)
+-- a key that is not above that of the first row has no row behind it
+none_behind : (key : RowKey) (row : Row) (rows : List Row) → IsOrdered (row ∷ rows) → key_cmp key row.0 ≢ Greater → map.find key_cmp key rows ≡ None
+none_behind key row [] sorted low = refl
+none_behind key row (next ∷ rows) sorted low = missing key next rows (second_of_both _ _ sorted) (at (key_cmp key row.0) refl)
+  where
+    at : (o : Ordering) → key_cmp key row.0 ≡ o → key_cmp key next.0 ≡ Less
+    at Less is = key_cmp_total.trans key row.0 next.0 is (first_less row next rows sorted)
+    at Equal is = subst (λ (k : RowKey). key_cmp k next.0 ≡ Less) (sym (key_cmp_antisymmetric key row.0 is)) (first_less row next rows sorted)
+    at Greater is = absurd (low is)
 
-listed : (rows : Rows) (front rest : List (RowKey × RowVal)) (q : RowKey) → map.entries rows ≡ front ++ rest → map.get rows q ≡ map.find key_cmp q (front ++ rest)
-listed rows front rest q are = map.get-entries rows q ∙ ap (map.find key_cmp q) are
+-- one more row at the front of both
+one_more : (row : Row) (xs ys : List Row) (key : RowKey) → IsOrdered (row ∷ xs) → IsOrdered (row ∷ ys) → DiffersFirst xs ys key → DiffersFirst (row ∷ xs) (row ∷ ys) key
+one_more row xs ys key g h d = (
+  λ same. let low = λ (up : key_cmp key row.0 ≡ Greater). d.0 (sym (passed row xs key up) ∙ same ∙ passed row ys key up) in d.0 (none_behind key row xs g low ∙ sym (none_behind key row ys h low)),
+  λ q low. ap (λ (o : Option RowVal). cond (eq_by_cmp key_cmp q row.0) (Some row.1) o) (d.1 q low),
+)
 
-pub least : (book right : Rows) (key : RowKey) → IsFirstDifferingKey (map.entries book) (map.entries right) key → IsLeastDifference book right key
-least book right key first =
-    let front = first.front.front in
-    let g = in_order book front first.my_rest first.front.are_mine in
-    let h = in_order right front first.their_rest first.front.are_theirs in
-    let mine = λ (q : RowKey). listed book front first.my_rest q first.front.are_mine in
-    let theirs = λ (q : RowKey). listed right front first.their_rest q first.front.are_theirs in
-    elim first.lesser [
-      | inl begins ↦
-          let d = behind front first.my_rest first.their_rest key g h begins in
-          record { here = λ same. d.0 (sym (mine key) ∙ same ∙ theirs key); below = λ q low. mine q ∙ d.1 q low ∙ sym (theirs q) }
-      | inr begins ↦
-          let d = behind front first.their_rest first.my_rest key h g begins in
-          record { here = λ same. d.0 (sym (theirs key) ∙ sym same ∙ mine key); below = λ q low. mine q ∙ sym (d.1 q low) ∙ sym (theirs q) }
-    ]
+differ_by : (x y : Row) (xs ys : List Row) (key : RowKey) → IsOrdered (x ∷ xs) → IsOrdered (y ∷ ys) → (FindsFirst (join xs ys) (Some key) → DiffersFirst xs ys key)
+    → (o : Ordering) → by_key x y ≡ o → FindsFirst (join_by o x y xs ys) (Some key) → DiffersFirst (x ∷ xs) (y ∷ ys) key
+differ_by x y xs ys key g h behind Less is (inl here) = at_front (x ∷ xs) (y ∷ ys) key g h (here, inl is)
+differ_by x y xs ys key g h behind Less is (inr same) = absurd same.0
+differ_by x y xs ys key g h behind Equal is (inl here) = at_front (x ∷ xs) (y ∷ ys) key g h (here.0, inr (key_cmp_antisymmetric x.0 y.0 is, here.1))
+differ_by x y xs ys key g h behind Equal is (inr same) =
+    let row : x ≡ y = same_row x y is same.0 in
+    subst (λ (z : Row). DiffersFirst (x ∷ xs) (z ∷ ys) key) row (one_more x xs ys key g (subst (λ (z : Row). IsOrdered (z ∷ ys)) (sym row) h) (behind same.1))
+differ_by x y xs ys key g h behind Greater is (inl here) =
+    other_way (y ∷ ys) (x ∷ xs) key (at_front (y ∷ ys) (x ∷ xs) key h g (here, inl (key_cmp_total.antisymm y.0 x.0 ∙ ap ordering_reverse is)))
+differ_by x y xs ys key g h behind Greater is (inr same) = absurd same.0
+
+differ : (mine theirs : List Row) (key : RowKey) → IsOrdered mine → IsOrdered theirs → FindsFirst (join mine theirs) (Some key) → DiffersFirst mine theirs key
+differ [] [] key g h none = absurd (none-some key (sym none))
+differ [] (y ∷ ys) key g h (inl here) = other_way (y ∷ ys) [] key (at_front (y ∷ ys) [] key h g here)
+differ [] (y ∷ ys) key g h (inr same) = absurd same.0
+differ (x ∷ xs) [] key g h (inl here) = at_front (x ∷ xs) [] key g h here
+differ (x ∷ xs) [] key g h (inr same) = absurd same.0
+differ (x ∷ xs) (y ∷ ys) key g h finds =
+    differ_by x y xs ys key g h (differ xs ys key (sorted_tail x xs g) (sorted_tail y ys h)) (by_key x y) refl finds
+
+pub least : (book right : Rows) (key : RowKey) → FindsFirst (join (map.entries book) (map.entries right)) (Some key) → IsLeastDifference book right key
+least book right key finds =
+    let d = differ (map.entries book) (map.entries right) key (map.entries_sorted book) (map.entries_sorted right) finds in
+    record {
+      here = λ same. d.0 (sym (map.get-entries book key) ∙ same ∙ map.get-entries right key);
+      below = λ q low. map.get-entries book q ∙ d.1 q low ∙ sym (map.get-entries right q);
+    }

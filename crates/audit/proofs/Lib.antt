@@ -1,6 +1,6 @@
 mod BlockSteps
 mod Counts
-mod Keys
+mod Joined
 mod LeastKey
 mod Played
 mod SameCounts

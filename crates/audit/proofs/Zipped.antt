@@ -1,14 +1,21 @@
 -- The first pair of two lists of one length that isn't twice the same.
-use Rattle.std.proofs.Common.{◌≡◌, ◌≢◌, ℕ, zero, suc, ◌<◌, List, [], ◌∷◌, length, take, refl, zip, arith}
+use Rattle.std.proofs.Common.{◌≡◌, ◌≢◌, ℕ, zero, suc, ◌<◌, List, [], ◌∷◌, length, map, take, Bor, Iter, refl, ap, zip, arith}
+use Rattle.std.proofs.iter.Yields.{fronts}
+use Rattle.std.proofs.lemmas.Iterator.{YieldsList, YieldsList-from_slice}
 use Rattle.std.proofs.lemmas.Option.{same_Some}
 use Rattle.std.specs.List.{AllWithin, HoldsAt, slice_get}
+use Rattle.std.specs.Slice.Iter.{iter_rest}
+use Rattle.itertools.proofs.TwoLemmas.{YieldsList-from_gives_of_both_refs}
+use Rattle.itertools.specs.Adaptor.{EachRunBehindBoth, GivesOfBoth}
+use Rattle.itertools.specs.TwoSources.{zip_eq_steps}
+use Rattle.itertools.specs.declared.zip_eq_impl.ZipEq.{ZipEq}
 use Rattle.rows.specs.declared.reply_body.ReplyBody.{ReplyBody}
 use Rattle.audit.specs.Difference.{IsFirstDifference}
 
-abbrev AreSame : ReplyBody × ReplyBody → Type 0
+abbrev pub AreSame : ReplyBody × ReplyBody → Type 0
 AreSame pair = pair.0 ≡ pair.1
 
-abbrev Differ : ReplyBody × ReplyBody → Type 0
+abbrev pub Differ : ReplyBody × ReplyBody → Type 0
 Differ pair = pair.0 ≢ pair.1
 
 one_less : (m n : ℕ) → suc m ≡ suc n → m ≡ n
@@ -49,3 +56,18 @@ pub first_differing : (xs ys : List ReplyBody) (n : ℕ) → length xs ≡ lengt
 first_differing xs ys n e h =
     let at = differ_at xs ys n e h.0 h.1 in
     record { within = at.0; before = same_front xs ys n e h.2; here = at.1 }
+
+abbrev pub pair_of : Bor ReplyBody × Bor ReplyBody → ReplyBody × ReplyBody
+pair_of p = (p.0.now, p.1.now)
+
+-- zipping references zips what they point to
+zipped : (us vs : List (Bor ReplyBody)) → map pair_of (zip us vs) ≡ zip (map (λ u. u.now) us) (map (λ v. v.now) vs)
+zipped [] vs = refl
+zipped (u ∷ us) [] = refl
+zipped (u ∷ us) (v ∷ vs) = ap (λ (pairs : List (ReplyBody × ReplyBody)). (u.now, v.now) ∷ pairs) (zipped us vs)
+
+-- what `zip_eq` of two slices gives
+pub paired : {pairs : ZipEq (Iter ReplyBody) (Iter ReplyBody)} {mine theirs : Iter ReplyBody} (xs ys : List ReplyBody)
+    → EachRunBehindBoth (zip_eq_steps fronts fronts) pairs fronts mine fronts theirs (λ p a b. GivesOfBoth p a b zip) → iter_rest mine ≡ xs → iter_rest theirs ≡ ys
+    → YieldsList (zip_eq_steps fronts fronts) pair_of pairs (zip xs ys)
+paired xs ys runs mine theirs = YieldsList-from_gives_of_both_refs pair_of zip zip zipped runs (YieldsList-from_slice xs mine) (YieldsList-from_slice ys theirs)

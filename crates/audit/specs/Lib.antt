@@ -1,6 +1,6 @@
 pub mod Blocks
 pub mod Difference
 pub mod Finding
-pub mod FirstKey
+pub mod JoinedRows
 pub mod PlayFinding
 pub mod Texts

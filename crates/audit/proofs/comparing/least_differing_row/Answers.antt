@@ -1,26 +1,33 @@
-use Rattle.std.proofs.Common.{◌≡◌, Option, Some, None, IfSome, IfNone, List, sym, subst, ◌∙◌}
+use Rattle.std.proofs.Common.{◌≡◌, rules, Option, Some, None, IfSome, IfNone, refl, ◌∙◌}
 use Rattle.std.specs.FinMap as map
+use Rattle.std.specs.Map.Iter.{deref_pair}
+use Rattle.std.proofs.lemmas.Iterator.Consumers.{YieldsList-from_rest}
+use Rattle.itertools.specs.List.{merge_join_by}
+use Rattle.itertools.proofs.TwoLemmas.{YieldsList-from_front_of_both}
 use Rattle.rows.specs.Fold.{Rows}
 use Rattle.rows.specs.declared.row_key.RowKey.{RowKey}
-use Rattle.rows.specs.declared.row_val.RowVal.{RowVal}
 use Rattle.audit.specs.Difference.{IsLeastDifference}
-use Rattle.audit.specs.FirstKey.{IsFirstDifferingKey}
+use Rattle.audit.proofs.Joined.{agree, join, joined, lent, lent_by_key, row_of, FindsFirst, found}
 use Rattle.audit.proofs.LeastKey.{least}
 use Rattle.audit.proofs.comparing.least_differing_row.Goals as goal
 
-found : (o : Option RowKey) (book right : Rows) (xs ys : List (RowKey × RowVal)) → xs ≡ map.entries book → ys ≡ map.entries right → IfSome o (IsFirstDifferingKey xs ys) → IfSome o (IsLeastDifference book right)
-found None book right xs ys mine theirs h = tt
-found (Some key) book right xs ys mine theirs h =
-    least book right key (subst (λ es. IsFirstDifferingKey es (map.entries right) key) mine (subst (λ es. IsFirstDifferingKey xs es key) theirs h))
+some_key : (o : Option RowKey) (book right : Rows) → FindsFirst (join (map.entries book) (map.entries right)) o → IfSome o (IsLeastDifference book right)
+some_key None book right h = tt
+some_key (Some key) book right h = least book right key h
 
-missed : (o : Option RowKey) (book right : Rows) (xs ys : List (RowKey × RowVal)) → xs ≡ map.entries book → ys ≡ map.entries right → IfNone o (xs ≡ ys) → IfNone o (book ≡ right)
-missed None book right xs ys mine theirs h = map.same_entries_map book right (sym mine ∙ h ∙ theirs)
-missed (Some key) book right xs ys mine theirs h = tt
+no_key : (o : Option RowKey) (book right : Rows) → FindsFirst (join (map.entries book) (map.entries right)) o → IfNone o (book ≡ right)
+no_key None book right h = map.same_entries_map book right (agree (map.entries book) (map.entries right) h)
+no_key (Some key) book right h = tt
 
-pub returns-clause-some : goal.returns-clause-some
-returns-clause-some c =
-    found c.first_differing_key.result c.args.book.now c.args.right.now c.iter.result c.iter-2.result (c.iter.ensures ∙ c.in_ok-mine.ensures.rows) (c.iter-2.ensures ∙ c.in_ok-theirs.ensures.rows) c.first_differing_key.ensures.some
-
-pub returns-clause-none : goal.returns-clause-none
-returns-clause-none c =
-    missed c.first_differing_key.result c.args.book.now c.args.right.now c.iter.result c.iter-2.result (c.iter.ensures ∙ c.in_ok-mine.ensures.rows) (c.iter-2.ensures ∙ c.in_ok-theirs.ensures.rows) c.first_differing_key.ensures.none
+pub returns : goal.returns
+returns c =
+    let joined_rows = YieldsList-from_front_of_both {v = deref_pair} {v' = deref_pair} row_of (merge_join_by lent_by_key) join lent lent (λ _. refl) (λ _. refl) joined
+    (λ p on at. let r = c.merge_join_by.ensures.runs p on at in (r.0, r.1, (r.2.0, r.2.1, (r.2.2.1 lent_by_key (search rules)).2)))
+    (YieldsList-from_rest (map.entries c.args.book.now) (c.iter.ensures ∙ c.in_ok-mine.ensures.rows))
+    (YieldsList-from_rest (map.entries c.args.right.now) (c.merge_join_by.ensures.second.0 ∙ c.iter-2.ensures ∙ c.in_ok-theirs.ensures.rows)) in
+    let run = c.find_map-least.ensures.runs in
+    let finds = found _ _ run.0 c.find_map-least.result run.1 joined_rows (search rules) (λ x k. search rules) (λ x key k. search rules) run.2 in
+    record {
+      some = some_key c.find_map-least.result c.args.book.now c.args.right.now finds;
+      none = no_key c.find_map-least.result c.args.book.now c.args.right.now finds;
+    }
