@@ -114,6 +114,10 @@ looked_as frame reads now writes puts k key next row plan follows is same named 
     follows_as frame now puts (next row) plan left
     (looked frame reads now writes puts key next row follows (is ∙ ap (λ (q : RowKey). logged reads q row) named) same)
 
+-- what was found in the row that was read, as its type says
+pub read_as : {A B : Type 0} (typed : A → B) {row latest : A} {found value : B} → latest ≡ row → found ≡ typed latest → found ≡ value → typed row ≡ value
+read_as typed is found same = ap typed (sym is) ∙ sym found ∙ same
+
 -- a test of the plan holds
 pub follows_then : (frame : Frame) (reads : Reads) (writes : Writes) (test : Bool) (plan other : Plan)
     → Follows frame reads writes (if test then plan else other) → test ≡ true → Follows frame reads writes plan

@@ -1,8 +1,8 @@
-use Rattle.std.proofs.Common.{refl, sym, ap, ◌∙◌}
+use Rattle.std.proofs.Common.{refl, ap}
 use Rattle.rows.specs.declared.row_key.RowKey.TheVariants as key
 use Rattle.rows.specs.AdviceTable as table
 use Rattle.rows.specs.Typed as typed
-use Rattle.rules.proofs.FollowingLaws.{looked_as}
+use Rattle.rules.proofs.FollowingLaws.{read_as, looked_as}
 use Rattle.rules.proofs.StageLaws.{unread_at, reaches}
 use Rattle.rules.proofs.advice.decide_advice.Goals as goal
 
@@ -13,7 +13,7 @@ pub answer_again-requires : goal.answer_again-requires
 answer_again-requires g c = record {
   follows =
       looked_as _ _ _ _ _ _ _ _ _ _ c.requires.at.follows c.in_ok-ask.ensures.logged c.in_ok-ask.ensures.writes (λ i. key.Original (c.identity.ensures i))
-      (ap (table.advice_on_original c.args.advice.now) (sym (c.original_in.ensures ∙ ap typed.original_in c.latest.ensures) ∙ c.in-Some.is));
+      (ap (table.advice_on_original c.args.advice.now) (read_as typed.original_in c.latest.ensures c.original_in.ensures c.in-Some.is));
 }
 
 pub decide_fresh-requires : goal.decide_fresh-requires
@@ -21,5 +21,5 @@ decide_fresh-requires g c = record {
   at =
       reaches _ _ c.requires.at c.in_ok-ask.ensures.logged
       (looked_as _ _ _ _ _ _ _ _ _ _ c.requires.at.follows c.in_ok-ask.ensures.logged c.in_ok-ask.ensures.writes (λ i. key.Original (c.identity.ensures i))
-      (ap (table.advice_on_original c.args.advice.now) (sym (c.original_in.ensures ∙ ap typed.original_in c.latest.ensures) ∙ c.in-None.is)));
+      (ap (table.advice_on_original c.args.advice.now) (read_as typed.original_in c.latest.ensures c.original_in.ensures c.in-None.is)));
 }

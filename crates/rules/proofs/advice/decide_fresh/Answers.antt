@@ -2,7 +2,7 @@ use Rattle.std.proofs.Common.{refl, sym, ap, ◌∙◌}
 use Rattle.rows.specs.declared.row_key.RowKey.TheVariants as key
 use Rattle.rows.specs.AdviceTable as table
 use Rattle.rows.specs.Typed as typed
-use Rattle.rules.proofs.FollowingLaws.{looked_as, follows_then, follows_else, same_number, other_number}
+use Rattle.rules.proofs.FollowingLaws.{read_as, looked_as, follows_then, follows_else, same_number, other_number}
 use Rattle.rules.proofs.StageLaws.{unread_at, reaches, stops_asking}
 use Rattle.rules.proofs.advice.decide_fresh.Goals as goal
 
@@ -21,7 +21,7 @@ acknowledge-requires-in_default g c =
       follows =
           looked_as _ _ _ _ _ _ _ _ _ _ (follows_then _ _ _ _ (table.looked_for_card a) _ c.requires.at.follows (same_number _ _ (sym c.code.ensures.value ∙ c.if-code-ne0.false)))
           c.in_ok-ask.ensures.logged c.in_ok-ask.ensures.writes refl
-          (ap (table.advice_on_card a) (sym (c.card_in.ensures ∙ ap typed.card_in c.latest.ensures) ∙ c.in_default.is));
+          (ap (table.advice_on_card a) (read_as typed.card_in c.latest.ensures c.card_in.ensures c.in_default.is));
     }
 
 pub decide_on_account-requires : goal.decide_on_account-requires
@@ -31,7 +31,7 @@ decide_on_account-requires g c = record {
       reaches _ _ c.requires.at c.in_ok-ask.ensures.logged
       (looked_as _ _ _ _ _ _ _ _ _ _ (follows_then _ _ _ _ (table.looked_for_card a) _ c.requires.at.follows (same_number _ _ (sym c.code.ensures.value ∙ c.if-code-ne0.false)))
       c.in_ok-ask.ensures.logged c.in_ok-ask.ensures.writes refl
-      (ap (table.advice_on_card a) (sym (c.card_in.ensures ∙ ap typed.card_in c.latest.ensures) ∙ c.in-Some.is) ∙ ap (table.advice_on_named a) (sym (c.copied.ensures ∙ c.account_of.ensures) ∙ c.in-Some-copied.is)));
+      (ap (table.advice_on_card a) (read_as typed.card_in c.latest.ensures c.card_in.ensures c.in-Some.is) ∙ ap (table.advice_on_named a) (sym (c.copied.ensures ∙ c.account_of.ensures) ∙ c.in-Some-copied.is)));
 }
 
 pub acknowledge-requires-in-None : goal.acknowledge-requires-in-None
@@ -41,7 +41,7 @@ acknowledge-requires-in-None g c =
       follows =
           looked_as _ _ _ _ _ _ _ _ _ _ (follows_then _ _ _ _ (table.looked_for_card a) _ c.requires.at.follows (same_number _ _ (sym c.code.ensures.value ∙ c.if-code-ne0.false)))
           c.in_ok-ask.ensures.logged c.in_ok-ask.ensures.writes refl
-          (ap (table.advice_on_card a) (sym (c.card_in.ensures ∙ ap typed.card_in c.latest.ensures) ∙ c.in-Some.is) ∙ ap (table.advice_on_named a) (sym (c.copied.ensures ∙ c.account_of.ensures) ∙ c.in-None.is));
+          (ap (table.advice_on_card a) (read_as typed.card_in c.latest.ensures c.card_in.ensures c.in-Some.is) ∙ ap (table.advice_on_named a) (sym (c.copied.ensures ∙ c.account_of.ensures) ∙ c.in-None.is));
     }
 
 pub returns-in_err-ask : goal.returns-in_err-ask

@@ -2,7 +2,7 @@ use Rattle.std.proofs.Common.{refl, sym, ap, ◌∙◌}
 use Rattle.rows.specs.declared.row_key.RowKey.TheVariants as key
 use Rattle.rows.specs.AdviceTable as table
 use Rattle.rows.specs.Typed as typed
-use Rattle.rules.proofs.FollowingLaws.{looked_as}
+use Rattle.rules.proofs.FollowingLaws.{read_as, looked_as}
 use Rattle.rules.proofs.StageLaws.{unread_at, stops_asking}
 use Rattle.rules.proofs.advice.decide_on_funds.Goals as goal
 
@@ -14,7 +14,7 @@ accept-requires-clause-follows g c =
     let a = c.args.advice.now in
     looked_as _ _ _ _ _ _ _ _ _ _ c.requires.at.follows c.in_ok-ask.ensures.logged c.in_ok-ask.ensures.writes (λ i. key.Budget (c.prefix.ensures i))
     (ap (table.advice_on_funds a)
-    (ap (table.advice_funds a.transaction c.args.id c.args.account.now) (sym (c.budget_in-budget.ensures ∙ ap typed.budget_in c.latest.ensures)) ∙ sym c.advice_funds.ensures.funds ∙ c.in-Some.is))
+    (ap (table.advice_funds a.transaction c.args.id c.args.account.now) (read_as typed.budget_in c.latest.ensures c.budget_in-budget.ensures refl) ∙ sym c.advice_funds.ensures.funds ∙ c.in-Some.is))
 
 pub acknowledge-requires : goal.acknowledge-requires
 acknowledge-requires g c =
@@ -23,7 +23,7 @@ acknowledge-requires g c =
       follows =
           looked_as _ _ _ _ _ _ _ _ _ _ c.requires.at.follows c.in_ok-ask.ensures.logged c.in_ok-ask.ensures.writes (λ i. key.Budget (c.prefix.ensures i))
           (ap (table.advice_on_funds a)
-          (ap (table.advice_funds a.transaction c.args.id c.args.account.now) (sym (c.budget_in-budget.ensures ∙ ap typed.budget_in c.latest.ensures)) ∙ sym c.advice_funds.ensures.funds ∙ c.in-None.is));
+          (ap (table.advice_funds a.transaction c.args.id c.args.account.now) (read_as typed.budget_in c.latest.ensures c.budget_in-budget.ensures refl) ∙ sym c.advice_funds.ensures.funds ∙ c.in-None.is));
     }
 
 pub returns-in_err-ask : goal.returns-in_err-ask

@@ -2,7 +2,7 @@ use Rattle.std.proofs.Common.{refl, sym, ap, ◌∙◌}
 use Rattle.rows.specs.declared.row_key.RowKey.TheVariants as key
 use Rattle.rows.specs.RequestTable as table
 use Rattle.rows.specs.Typed as typed
-use Rattle.rules.proofs.FollowingLaws.{looked_as, follows_as}
+use Rattle.rules.proofs.FollowingLaws.{read_as, looked_as, follows_as}
 use Rattle.rules.proofs.StageLaws.{unread_at, reaches, stops_asking}
 use Rattle.rules.proofs.request.decide_fresh.Goals as goal
 
@@ -16,7 +16,7 @@ decline-requires-in_default-card_in g c =
       named = c.requires.named;
       follows =
           looked_as _ _ _ _ _ _ _ _ _ _ (follows_as _ _ _ _ (table.looked_for_card r) (ap (λ o. table.unless_refused r o (table.looked_for_card r)) (sym c.refused_unseen.ensures ∙ c.in_default.is)) c.requires.at.follows)
-          c.in_ok-ask.ensures.logged c.in_ok-ask.ensures.writes refl (ap (table.on_card r) (sym (c.card_in.ensures ∙ ap typed.card_in c.latest.ensures) ∙ c.in_default-card_in.is));
+          c.in_ok-ask.ensures.logged c.in_ok-ask.ensures.writes refl (ap (table.on_card r) (read_as typed.card_in c.latest.ensures c.card_in.ensures c.in_default-card_in.is));
     }
 
 pub decide_on_account-requires-clause-at : goal.decide_on_account-requires-clause-at
@@ -25,7 +25,7 @@ decide_on_account-requires-clause-at g c =
     reaches _ _ c.requires.at c.in_ok-ask.ensures.logged
     (looked_as _ _ _ _ _ _ _ _ _ _ (follows_as _ _ _ _ (table.looked_for_card r) (ap (λ o. table.unless_refused r o (table.looked_for_card r)) (sym c.refused_unseen.ensures ∙ c.in_default.is)) c.requires.at.follows)
     c.in_ok-ask.ensures.logged c.in_ok-ask.ensures.writes refl
-    (ap (table.on_card r) (sym (c.card_in.ensures ∙ ap typed.card_in c.latest.ensures) ∙ c.in-Some-card_in.is) ∙ ap (table.on_usable r c.in-Some-card_in.card) c.in-Ok.ensures.ok))
+    (ap (table.on_card r) (read_as typed.card_in c.latest.ensures c.card_in.ensures c.in-Some-card_in.is) ∙ ap (table.on_usable r c.in-Some-card_in.card) c.in-Ok.ensures.ok))
 
 pub decline-requires-in-Err : goal.decline-requires-in-Err
 decline-requires-in-Err g c =
@@ -35,7 +35,7 @@ decline-requires-in-Err g c =
       follows =
           looked_as _ _ _ _ _ _ _ _ _ _ (follows_as _ _ _ _ (table.looked_for_card r) (ap (λ o. table.unless_refused r o (table.looked_for_card r)) (sym c.refused_unseen.ensures ∙ c.in_default.is)) c.requires.at.follows)
           c.in_ok-ask.ensures.logged c.in_ok-ask.ensures.writes refl
-          (ap (table.on_card r) (sym (c.card_in.ensures ∙ ap typed.card_in c.latest.ensures) ∙ c.in-Some-card_in.is) ∙ ap (table.on_usable r c.in-Some-card_in.card) c.in-Err.ensures.err);
+          (ap (table.on_card r) (read_as typed.card_in c.latest.ensures c.card_in.ensures c.in-Some-card_in.is) ∙ ap (table.on_usable r c.in-Some-card_in.card) c.in-Err.ensures.err);
     }
 
 pub returns-in_err-ask : goal.returns-in_err-ask

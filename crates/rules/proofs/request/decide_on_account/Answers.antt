@@ -2,7 +2,7 @@ use Rattle.std.proofs.Common.{refl, sym, ap, ◌∙◌}
 use Rattle.rows.specs.declared.row_key.RowKey.TheVariants as key
 use Rattle.rows.specs.RequestTable as table
 use Rattle.rows.specs.Typed as typed
-use Rattle.rules.proofs.FollowingLaws.{looked_as, follows_then, follows_else, not_true, not_false}
+use Rattle.rules.proofs.FollowingLaws.{read_as, looked_as, follows_then, follows_else, not_true, not_false}
 use Rattle.rows.specs.Facts.{is_same_currency}
 use Rattle.rules.proofs.StageLaws.{unread_at, reaches, stops_asking}
 use Rattle.rules.proofs.request.decide_on_account.Goals as goal
@@ -15,7 +15,7 @@ decline-requires g c = record {
   named = c.requires.named;
   follows =
       looked_as _ _ _ _ _ _ _ _ _ _ c.requires.at.follows c.in_ok-ask.ensures.logged c.in_ok-ask.ensures.writes refl
-      (ap (table.on_account c.args.request.now c.args.card.now c.args.id.now) (sym (c.account_in.ensures ∙ ap typed.account_in c.latest.ensures) ∙ c.in_default.is));
+      (ap (table.on_account c.args.request.now c.args.card.now c.args.id.now) (read_as typed.account_in c.latest.ensures c.account_in.ensures c.in_default.is));
 }
 
 pub decline-requires-then-ne : goal.decline-requires-then-ne
@@ -24,7 +24,7 @@ decline-requires-then-ne g c = record {
   follows =
       follows_else _ _ _ (is_same_currency c.args.request.now.transaction.currency c.in-Some.account.currency) _ _
       (looked_as _ _ _ _ _ _ _ _ _ _ c.requires.at.follows c.in_ok-ask.ensures.logged c.in_ok-ask.ensures.writes refl
-      (ap (table.on_account c.args.request.now c.args.card.now c.args.id.now) (sym (c.account_in.ensures ∙ ap typed.account_in c.latest.ensures) ∙ c.in-Some.is)))
+      (ap (table.on_account c.args.request.now c.args.card.now c.args.id.now) (read_as typed.account_in c.latest.ensures c.account_in.ensures c.in-Some.is)))
       (not_true _ (sym c.ne.ensures ∙ c.if-ne.true));
 }
 
@@ -33,7 +33,7 @@ decide_on_day-requires-clause-at g c =
     reaches _ _ c.requires.at c.in_ok-ask.ensures.logged
     (follows_then _ _ _ (is_same_currency c.args.request.now.transaction.currency c.in-Some.account.currency) _ _
     (looked_as _ _ _ _ _ _ _ _ _ _ c.requires.at.follows c.in_ok-ask.ensures.logged c.in_ok-ask.ensures.writes refl
-    (ap (table.on_account c.args.request.now c.args.card.now c.args.id.now) (sym (c.account_in.ensures ∙ ap typed.account_in c.latest.ensures) ∙ c.in-Some.is)))
+    (ap (table.on_account c.args.request.now c.args.card.now c.args.id.now) (read_as typed.account_in c.latest.ensures c.account_in.ensures c.in-Some.is)))
     (not_false _ (sym c.ne.ensures ∙ c.if-ne.false)))
 
 pub returns-in_err-ask : goal.returns-in_err-ask

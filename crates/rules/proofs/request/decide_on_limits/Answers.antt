@@ -2,7 +2,7 @@ use Rattle.std.proofs.Common.{refl, sym, ap, ◌∙◌}
 use Rattle.rows.specs.declared.row_key.RowKey.TheVariants as key
 use Rattle.rows.specs.RequestTable as table
 use Rattle.rows.specs.Typed as typed
-use Rattle.rules.proofs.FollowingLaws.{looked_as, follows_as}
+use Rattle.rules.proofs.FollowingLaws.{read_as, looked_as, follows_as}
 use Rattle.rules.proofs.StageLaws.{unread_at, stops_asking}
 use Rattle.rules.proofs.request.decide_on_limits.Goals as goal
 
@@ -18,7 +18,7 @@ approve-requires-clause-follows g c =
     c.requires.at.follows)
     c.in_ok-ask.ensures.logged c.in_ok-ask.ensures.writes (λ i. key.Budget (c.prefix.ensures i))
     (ap (table.on_funds r c.args.card.now c.args.day.now)
-    (ap (table.request_funds r.transaction c.args.id.now c.args.account.now) (sym (c.budget_in-budget.ensures ∙ ap typed.budget_in c.latest.ensures)) ∙ sym c.request_funds.ensures.funds ∙ c.in-Ok.is))
+    (ap (table.request_funds r.transaction c.args.id.now c.args.account.now) (read_as typed.budget_in c.latest.ensures c.budget_in-budget.ensures refl) ∙ sym c.request_funds.ensures.funds ∙ c.in-Ok.is))
 
 pub decline-requires-in-Err : goal.decline-requires-in-Err
 decline-requires-in-Err g c =
@@ -32,7 +32,7 @@ decline-requires-in-Err g c =
           c.requires.at.follows)
           c.in_ok-ask.ensures.logged c.in_ok-ask.ensures.writes (λ i. key.Budget (c.prefix.ensures i))
           (ap (table.on_funds r c.args.card.now c.args.day.now)
-          (ap (table.request_funds r.transaction c.args.id.now c.args.account.now) (sym (c.budget_in-budget.ensures ∙ ap typed.budget_in c.latest.ensures)) ∙ sym c.request_funds.ensures.funds ∙ c.in-Err.is));
+          (ap (table.request_funds r.transaction c.args.id.now c.args.account.now) (read_as typed.budget_in c.latest.ensures c.budget_in-budget.ensures refl) ∙ sym c.request_funds.ensures.funds ∙ c.in-Err.is));
     }
 
 pub returns-in_err-ask : goal.returns-in_err-ask

@@ -3,7 +3,7 @@ use Rattle.rows.specs.ReversalTable as table
 use Rattle.rows.specs.declared.row_key.RowKey.TheVariants as key
 use Rattle.rows.specs.Typed as typed
 use Rattle.std.specs.List.{list_all}
-use Rattle.rules.proofs.FollowingLaws.{looked_as, kinds_more}
+use Rattle.rules.proofs.FollowingLaws.{read_as, looked_as, kinds_more}
 use Rattle.rules.proofs.StageLaws.{unread_at, stops_asking}
 use Rattle.rules.proofs.reversal.decide_by_account.Goals as goal
 
@@ -13,7 +13,7 @@ ask-requires g c = unread_at (key.Account c.args.id) c.requires.at refl
 pub decide_on_paid-requires-clause-follows : goal.decide_on_paid-requires-clause-follows
 decide_on_paid-requires-clause-follows g c =
     looked_as _ _ _ _ _ _ _ _ _ _ c.requires.at.follows c.in_ok-ask.ensures.logged c.in_ok-ask.ensures.writes refl
-    (ap (table.on_paid c.args.reversal.now c.args.kept.now) (ap (option_map _) (sym (c.account_in.ensures ∙ ap typed.account_in c.latest.ensures)) ∙ sym c.account_funds-paid.ensures))
+    (ap (table.on_paid c.args.reversal.now c.args.kept.now) (ap (option_map _) (read_as typed.account_in c.latest.ensures c.account_in.ensures refl) ∙ sym c.account_funds-paid.ensures))
 
 pub decide_on_paid-requires-clause-days : goal.decide_on_paid-requires-clause-days
 decide_on_paid-requires-clause-days g c = ap (λ kinds. list_all (λ kind. not (1 == kind)) kinds) (kinds_more _ _ _ _ _ c.requires.at.kinds c.in_ok-ask.ensures.logged)

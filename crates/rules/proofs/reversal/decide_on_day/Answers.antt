@@ -1,8 +1,8 @@
-use Rattle.std.proofs.Common.{refl, sym, ap, ◌∙◌}
+use Rattle.std.proofs.Common.{refl, ap}
 use Rattle.rows.specs.ReversalTable as table
 use Rattle.rows.specs.declared.row_key.RowKey.TheVariants as key
 use Rattle.rows.specs.Typed as typed
-use Rattle.rules.proofs.FollowingLaws.{unread, looked_as}
+use Rattle.rules.proofs.FollowingLaws.{read_as, unread, looked_as}
 use Rattle.rules.proofs.StageLaws.{goes_on, stops_asking, answers_with_none}
 use Rattle.rules.proofs.reversal.decide_on_day.Goals as goal
 
@@ -13,7 +13,7 @@ pub reverse_request-requires : goal.reverse_request-requires
 reverse_request-requires g c = record {
   follows =
       looked_as _ _ _ _ _ _ _ _ _ _ c.requires.follows c.in_ok-ask.ensures.logged c.in_ok-ask.ensures.writes (λ i. key.Velocity (c.card.ensures.card i) (c.day.ensures i))
-      (ap (table.on_original_day c.args.reversal.now c.args.kept.now c.args.paid.now) (sym (c.velocity_in.ensures ∙ ap typed.velocity_in c.latest.ensures) ∙ c.in-Some.is));
+      (ap (table.on_original_day c.args.reversal.now c.args.kept.now c.args.paid.now) (read_as typed.velocity_in c.latest.ensures c.velocity_in.ensures c.in-Some.is));
 }
 
 pub returns-in_err-ask : goal.returns-in_err-ask
@@ -24,5 +24,5 @@ returns-in-None g c =
     goes_on c.in_ok-ask.ensures.book
     (answers_with_none
     (looked_as _ _ _ _ _ _ _ _ _ _ c.requires.follows c.in_ok-ask.ensures.logged c.in_ok-ask.ensures.writes (λ i. key.Velocity (c.card.ensures.card i) (c.day.ensures i))
-    (ap (table.on_original_day c.args.reversal.now c.args.kept.now c.args.paid.now) (sym (c.velocity_in.ensures ∙ ap typed.velocity_in c.latest.ensures) ∙ c.in-None.is)))
+    (ap (table.on_original_day c.args.reversal.now c.args.kept.now c.args.paid.now) (read_as typed.velocity_in c.latest.ensures c.velocity_in.ensures c.in-None.is)))
     c.unchanged.ensures)
