@@ -175,19 +175,11 @@ pub concluded_local : (frame : Frame) (reads : Reads) (writes : Writes) (reply :
 concluded_local frame reads writes reply done look agrees =
     subst (λ (d : Decided). ComesTo d reads writes reply) (sym (done look agrees)) (refl, refl, read_is_among reads)
 
--- ---- with one row put
+-- ---- with one row put, or none
 
 -- a row that is put first
 pub first_put : (writes now : Writes) (key : RowKey) (value : RowVal) (entry : RowKey × RowVal) → writes ≡ [] → now ≡ put writes key value → (key, value) ≡ entry → now ≡ entry ∷ []
 first_put writes now key value entry none is same = is ∙ ap (λ (ws : Writes). put ws key value) none ∙ ap (λ (e : RowKey × RowVal). e ∷ []) same
-
--- the plan is an answer that puts one row, which is put, and the answer is given
-pub concluded_with_one : {S : Type 0} (frame : Frame) (old new : Recording S) (key : RowKey) (value : RowVal) (reply given : ReplyBody) (entry : RowKey × RowVal)
-    → Follows frame old.reads old.writes (Answer reply (entry ∷ [])) → new ≡ record old { writes = put old.writes key value } → (key, value) ≡ entry → given ≡ reply
-    → Concludes frame new.reads new.writes given
-concluded_with_one {S = S} frame old new key value reply given entry follows is same gives =
-    concluded frame old.reads new.reads old.writes new.writes reply given (entry ∷ []) follows (ap (λ (r : Recording S). r.reads) is)
-    (first_put old.writes new.writes key value entry follows.unput (ap (λ (r : Recording S). r.writes) is) same) gives
 
 -- an answer that puts nothing
 pub concluded_with_none : {S : Type 0} (frame : Frame) (rows : Recording S) (reply given : ReplyBody)

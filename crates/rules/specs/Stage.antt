@@ -1,4 +1,4 @@
--- What a stage of a decision comes to: it decides the message from here on, over any source of rows.
+-- A stage of a decision, from where it stands to the end: what it returns, and what it does to the recorder.
 use Rattle.std.specs.Prelude.{◌≡◌, ◌⊎◌, Option, Result, IfOk, IfErr, IfSome}
 use Rattle.iso8583.specs.declared.advice.Advice.{Advice}
 use Rattle.iso8583.specs.declared.message.Message.TheVariants as message
@@ -18,9 +18,9 @@ use Rattle.view.specs.Recording.{Recording, IsStopOf}
 use Rattle.view.specs.declared.stop.Stop.{Stop}
 use Rattle.view.specs.declared.stop.Stop.TheVariants.{OutOfMemory}
 
--- over what a source of rows answers, and the book behind it where that is known
+-- over a source of rows: what it answers, and the book behind it where that is known
 module _ {S : Type 0} (answers : S → RowKey → Result (Option RowVal) Stop → S → Type 0) (book_of : S → Option Rows) where
-  -- the message is decided by its table or the decision stops, by what is returned and the recorder before and after
+  -- the body is decided by its table, or the decision stops
   pub record DecidesByTable {T : Type 0} (frame : Frame) (reply : T → ReplyBody) (old new : Recording S) (result : Result T Stop) : Type 0 where
     -- what is returned is the table's reply, and the rows that are put are the table's
     pub done : IfOk result (λ value. Concludes frame new.reads new.writes (reply value))
@@ -33,6 +33,7 @@ module _ {S : Type 0} (answers : S → RowKey → Result (Option RowVal) Stop �
     -- the book stays
     pub book : book_of new.source ≡ book_of old.source
 
+  -- the same of each kind of message; of a request a stage returns the verdict, and of the others the reply
   abbrev pub DecidesRequest : Request → Recording S → Recording S → Result Verdict Stop → Type 0
   DecidesRequest request = DecidesByTable (Good (message.Request request)) (reply_to_request request)
 
