@@ -2,12 +2,12 @@
 use Rattle.std.specs.Prelude.{Result, Ok, codes}
 use Rattle.iso8583.specs.declared.identity.Identity.{Identity}
 use Rattle.serde_json.specs.Data.{Data}
-use Rattle.book_json_laws.specs.Fields.{amount_at, optional_identity_at, paid_at, pan_at, processing_at, stamp_at, stan_at}
-use Rattle.book_json_laws.specs.Steps.{◌>>=◌}
-use Rattle.book_json_laws.specs.declared.book_version.BookVersion.{BookVersion}
-use Rattle.book_json_laws.specs.declared.text_fault.TextFault.{TextFault}
-use Rattle.book_json_laws.specs.declared.original_entry.OriginalEntry.{OriginalEntry}
-use Rattle.book_json_laws.specs.declared.part.Part.TheVariants as part
+use Rattle.book_laws.specs.Fields.{amount_at, optional_identity_at, paid_at, pan_at, processing_at, stamp_at, stan_at}
+use Rattle.book_laws.specs.Steps.{◌>>=◌}
+use Rattle.book_laws.specs.declared.book_version.BookVersion.{BookVersion}
+use Rattle.book_laws.specs.declared.text_fault.TextFault.{TextFault}
+use Rattle.book_laws.specs.declared.original_entry.OriginalEntry.{OriginalEntry}
+use Rattle.book_laws.specs.declared.part.Part.TheVariants as part
 use Rattle.book_entries.specs.declared.originals.OriginalFront.{OriginalFront}
 
 -- an identity and its original: what was read first, and then the fields behind it

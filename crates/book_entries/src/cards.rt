@@ -2,14 +2,14 @@
 
 ghost use Rattle.std.specs.Prelude.{◌≡◌};
 ghost use Rattle.serde_json.specs.View.{view};
-ghost use Rattle.book_json_laws.specs.Cards.{card_of, old_card_of};
+ghost use Rattle.book_laws.specs.Cards.{card_of, old_card_of};
 
 use crate::fields::{balance_at, count_at, currency_at, expiry_at, has_keys, pan_at};
 use crate::null_fields::{account_id_at, optional_account_id_at};
 use crate::word_fields::status_at;
-use book_json_laws::{OldCard, Part, TextFault};
+use book_laws::{OldCard, Part, TextFault};
 use iso8583::Pan;
-use rows::{CardAccounts, CardRow};
+use issuer_rows::{CardAccounts, CardRow};
 use serde_json::Value;
 
 const CARD_KEYS: [&str; 8] = [
@@ -24,7 +24,7 @@ const CARD_KEYS: [&str; 8] = [
 ];
 
 /// A card and its number.
-#[tactic(auto, unfolding(book_json_laws::specs::Cards::card_of))]
+#[tactic(auto, unfolding(book_laws::specs::Cards::card_of))]
 pub(crate) fn card_of(entry: &Value) -> Result<(Pan, CardRow), TextFault>
     ensures { result ≡ card_of (view entry.now) }
 {
@@ -65,7 +65,7 @@ const OLD_CARD_KEYS: [&str; 8] = [
 ];
 
 /// A card of versions 1 and 2.
-#[tactic(auto, unfolding(book_json_laws::specs::Cards::old_card_of))]
+#[tactic(auto, unfolding(book_laws::specs::Cards::old_card_of))]
 pub fn old_card_of(entry: &Value) -> Result<OldCard, TextFault>
     ensures { result ≡ old_card_of (view entry.now) }
 {

@@ -1,9 +1,9 @@
 //! Days, budgets, marks and accounts from their entries.
 
 ghost use Rattle.std.specs.Prelude.{◌≡◌, IfOk};
-ghost use Rattle.rows.specs.RowVal.{IsOfKind};
+ghost use Rattle.issuer_rows.specs.RowVal.{IsOfKind};
 ghost use Rattle.serde_json.specs.View.{view};
-ghost use Rattle.book_json_laws.specs.Entries.{day_of, budget_of, mark_of, account_of};
+ghost use Rattle.book_laws.specs.Entries.{day_of, budget_of, mark_of, account_of};
 
 use crate::fields::{
     acquirer_at, balance_at, count_at, currency_at, day_at, has_keys, pan_at, prefix_at, stamp_at,
@@ -11,15 +11,15 @@ use crate::fields::{
 };
 use crate::null_fields::{account_id_at, identity_at};
 use crate::word_fields::{kind_at, mode_at};
-use book_json_laws::{Part, TextFault};
+use book_laws::{Part, TextFault};
 use iso8583::Identity;
-use rows::{AccountRow, BudgetRow, Mark, RowKey, RowVal, VelocityRow};
+use issuer_rows::{AccountRow, BudgetRow, Mark, RowKey, RowVal, VelocityRow};
 use serde_json::Value;
 
 const DAY_KEYS: [&str; 4] = ["count", "day", "pan", "sum"];
 
 /// What was spent with a card on a day.
-#[tactic(auto, unfolding(book_json_laws::specs::Entries::day_of))]
+#[tactic(auto, unfolding(book_laws::specs::Entries::day_of))]
 pub(crate) fn day_of(entry: &Value) -> Result<(RowKey, RowVal), TextFault>
     ensures value { result ≡ day_of (view entry.now) }
     ensures kind { IfOk result (λ row. IsOfKind row.0 row.1) }
@@ -38,7 +38,7 @@ pub(crate) fn day_of(entry: &Value) -> Result<(RowKey, RowVal), TextFault>
 const BUDGET_KEYS: [&str; 4] = ["cap", "left", "mode", "prefix"];
 
 /// A stand-in budget.
-#[tactic(auto, unfolding(book_json_laws::specs::Entries::budget_of))]
+#[tactic(auto, unfolding(book_laws::specs::Entries::budget_of))]
 pub(crate) fn budget_of(entry: &Value) -> Result<(RowKey, RowVal), TextFault>
     ensures value { result ≡ budget_of (view entry.now) }
     ensures kind { IfOk result (λ row. IsOfKind row.0 row.1) }
@@ -57,7 +57,7 @@ pub(crate) fn budget_of(entry: &Value) -> Result<(RowKey, RowVal), TextFault>
 const MARK_KEYS: [&str; 6] = ["acquirer", "kind", "pan", "reversal", "stamp", "trace"];
 
 /// An original whose reversal came ahead of it.
-#[tactic(auto, unfolding(book_json_laws::specs::Entries::mark_of))]
+#[tactic(auto, unfolding(book_laws::specs::Entries::mark_of))]
 pub(crate) fn mark_of(entry: &Value) -> Result<(RowKey, RowVal), TextFault>
     ensures value { result ≡ mark_of (view entry.now) }
     ensures kind { IfOk result (λ row. IsOfKind row.0 row.1) }
@@ -87,7 +87,7 @@ pub(crate) fn mark_of(entry: &Value) -> Result<(RowKey, RowVal), TextFault>
 const ACCOUNT_KEYS: [&str; 3] = ["available", "currency", "id"];
 
 /// An account.
-#[tactic(auto, unfolding(book_json_laws::specs::Entries::account_of))]
+#[tactic(auto, unfolding(book_laws::specs::Entries::account_of))]
 pub(crate) fn account_of(entry: &Value) -> Result<(RowKey, RowVal), TextFault>
     ensures value { result ≡ account_of (view entry.now) }
     ensures kind { IfOk result (λ row. IsOfKind row.0 row.1) }

@@ -2,14 +2,14 @@
 
 ghost use Rattle.std.specs.Prelude.{◌≡◌, map};
 ghost use Rattle.serde_json.specs.View.{view};
-ghost use Rattle.book_json_laws.specs.Fields.{has_keys, number_at, text_at, balance_at, amount_at, count_at, currency_at, expiry_at, pan_at, prefix_at, day_at, action_at, processing_at, acquirer_at, stan_at, stamp_at};
-ghost use Rattle.book_json_laws.specs.Steps.{Gives};
+ghost use Rattle.book_laws.specs.Fields.{has_keys, number_at, text_at, balance_at, amount_at, count_at, currency_at, expiry_at, pan_at, prefix_at, day_at, action_at, processing_at, acquirer_at, stan_at, stamp_at};
+ghost use Rattle.book_laws.specs.Steps.{Gives};
 
-use book_json_laws::{Part, TextFault};
+use book_laws::{Part, TextFault};
 use iso8583::{
     Acquirer, Action, Amount, Currency, Day, Digits, LocalStamp, Pan, PanPrefix, Processing, Stan,
 };
-use rows::{Balance, Count, Expiry};
+use issuer_rows::{Balance, Count, Expiry};
 use serde_json::Value;
 
 /// Whether the value is an object with exactly these keys, which stand in byte order.
@@ -29,7 +29,7 @@ pub fn has_keys(entry: &Value, keys: &[&str]) -> bool
     rest.is_empty()
 }
 
-/// A whole number from 0 to 2^64 - 1.
+/// The whole number at this key of an object, from 0 to 2^64 - 1. Any other value, or none, is `Shape`.
 pub fn number_at(part: Part, entry: &Value, key: &str) -> Result<u64, TextFault>
     ensures { result ≡ number_at part key.now (view entry.now) }
 {

@@ -1,15 +1,15 @@
 //! The row that an entry of a list is.
 
 ghost use Rattle.std.specs.Prelude.{◌≡◌, IfOk};
-ghost use Rattle.rows.specs.RowVal.{IsOfKind};
+ghost use Rattle.issuer_rows.specs.RowVal.{IsOfKind};
 ghost use Rattle.serde_json.specs.View.{view};
-ghost use Rattle.book_json_laws.specs.Lists.{entry_of, card_row_of};
+ghost use Rattle.book_laws.specs.Lists.{entry_of, card_row_of};
 
 use crate::cards::card_of;
 use crate::entries::{account_of, budget_of, day_of, mark_of};
 use crate::originals::original_of;
-use book_json_laws::{BookVersion, RowList, TextFault};
-use rows::{RowKey, RowVal};
+use book_laws::{BookVersion, RowList, TextFault};
+use issuer_rows::{RowKey, RowVal};
 use serde_json::Value;
 
 fn card_row_of(entry: &Value) -> Result<(RowKey, RowVal), TextFault>

@@ -2,11 +2,11 @@
 
 ghost use Rattle.std.specs.Prelude.{◌≡◌};
 ghost use Rattle.serde_json.specs.View.{view};
-ghost use Rattle.book_json_laws.specs.Fields.{value_at, account_id_of, account_id_at, optional_account_id_at, approval_of, optional_approval_at, identity_of, identity_at, optional_identity_at};
-ghost use Rattle.book_json_laws.specs.Steps.{Gives};
+ghost use Rattle.book_laws.specs.Fields.{value_at, account_id_of, account_id_at, optional_account_id_at, approval_of, optional_approval_at, identity_of, identity_at, optional_identity_at};
+ghost use Rattle.book_laws.specs.Steps.{Gives};
 
 use crate::fields::{acquirer_at, has_keys, stamp_at, stan_at};
-use book_json_laws::{Part, TextFault};
+use book_laws::{Part, TextFault};
 use iso8583::{AccountId, Approval, Identity};
 use serde_json::Value;
 
@@ -64,7 +64,7 @@ pub(crate) fn optional_approval_at(
 
 const IDENTITY_KEYS: [&str; 3] = ["acquirer", "stamp", "trace"];
 
-#[tactic(auto, unfolding(book_json_laws::specs::Fields::identity_of))]
+#[tactic(auto, unfolding(book_laws::specs::Fields::identity_of))]
 fn identity_of(part: Part, value: &Value) -> Result<Identity, TextFault>
     ensures { result ≡ identity_of part (view value.now) }
 {

@@ -1,10 +1,10 @@
 //! Originals that were decided, from their entries.
 
 ghost use Rattle.std.specs.Prelude.{◌≡◌, IfOk};
-ghost use Rattle.rows.specs.RowVal.{IsOfKind};
+ghost use Rattle.issuer_rows.specs.RowVal.{IsOfKind};
 ghost use Rattle.serde_json.specs.View.{view};
-ghost use Rattle.book_json_laws.specs.Fields.{has_keys};
-ghost use Rattle.book_json_laws.specs.Originals.{original_keys, paying_account_at, original_entry_of, original_of};
+ghost use Rattle.book_laws.specs.Fields.{has_keys};
+ghost use Rattle.book_laws.specs.Originals.{original_keys, paying_account_at, original_entry_of, original_of};
 ghost use Rattle.book_entries.specs.OriginalFronts.{original_from};
 
 use crate::fields::{
@@ -12,9 +12,9 @@ use crate::fields::{
 };
 use crate::null_fields::{optional_account_id_at, optional_approval_at, optional_identity_at};
 use crate::word_fields::{kind_at, paid_at};
-use book_json_laws::{BookVersion, OriginalEntry, Part, TextFault};
+use book_laws::{BookVersion, OriginalEntry, Part, TextFault};
 use iso8583::{AccountId, Acquirer, Action, Amount, Approval, Identity, OriginalKind};
-use rows::{RowKey, RowVal};
+use issuer_rows::{RowKey, RowVal};
 use serde_json::Value;
 
 const OLD_KEYS: [&str; 12] = [
@@ -83,7 +83,7 @@ pub(crate) struct OriginalFront {
     pub(crate) kind: OriginalKind,
 }
 
-#[tactic(auto, unfolding(book_json_laws::specs::Originals::original_entry_of))]
+#[tactic(auto, unfolding(book_laws::specs::Originals::original_entry_of))]
 fn original_front_of(version: BookVersion, entry: &Value) -> Result<OriginalFront, TextFault>
     ensures { original_entry_of version (view entry.now) ≡ original_from version result (view entry.now) }
 {
@@ -136,7 +136,7 @@ fn original_entry_of(
 }
 
 /// An original's row.
-#[tactic(auto, unfolding(book_json_laws::specs::Originals::original_of))]
+#[tactic(auto, unfolding(book_laws::specs::Originals::original_of))]
 pub(crate) fn original_of(
     version: BookVersion,
     entry: &Value,

@@ -2,13 +2,13 @@
 
 ghost use Rattle.std.specs.Prelude.{◌≡◌};
 ghost use Rattle.serde_json.specs.View.{view};
-ghost use Rattle.book_json_laws.specs.Fields.{status_at, mode_at, kind_at, paid_at};
-ghost use Rattle.book_json_laws.specs.Words.{status_of, mode_of, kind_of, card_paid_of, account_paid_of, paid_of};
+ghost use Rattle.book_laws.specs.Fields.{status_at, mode_at, kind_at, paid_at};
+ghost use Rattle.book_laws.specs.Words.{status_of, mode_of, kind_of, card_paid_of, account_paid_of, paid_of};
 
 use crate::fields::text_at;
-use book_json_laws::{BookVersion, Paid, Part, TextFault};
+use book_laws::{BookVersion, Paid, Part, TextFault};
 use iso8583::OriginalKind;
-use rows::{BudgetMode, CardStatus};
+use issuer_rows::{BudgetMode, CardStatus};
 use serde_json::Value;
 
 /// The status that a word says.

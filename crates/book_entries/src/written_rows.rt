@@ -1,17 +1,17 @@
 //! Rows from entries in the form in which they are written.
 
 ghost use Rattle.std.specs.Prelude.{IfSome};
-ghost use Rattle.rows.specs.RowVal.{IsOfKind};
+ghost use Rattle.issuer_rows.specs.RowVal.{IsOfKind};
 
 use crate::originals::OriginalFront;
 use crate::word_fields::{account_paid_of, kind_of, mode_of, status_of};
 use crate::written_text::WrittenText;
-use book_json_laws::{OriginalEntry, RowList};
+use book_laws::{OriginalEntry, RowList};
 use iso8583::{
     AccountId, Acquirer, Action, Amount, Approval, Currency, Day, Digits, Identity, LocalStamp,
     OriginalKind, Pan, PanPrefix, Processing, Stan,
 };
-use rows::{
+use issuer_rows::{
     AccountRow, Balance, BudgetRow, CardAccounts, CardRow, Count, Expiry, Kept, Mark, RowKey,
     RowVal, VelocityRow,
 };

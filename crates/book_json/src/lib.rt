@@ -8,6 +8,6 @@ mod share;
 mod shares;
 mod written;
 
-pub use book_json_laws::{JsonFault, Part};
+pub use book_laws::{JsonFault, Part};
 pub use book_text::write_book;
 pub use reading::read_book;

@@ -2,23 +2,23 @@
 
 ghost use Rattle.std.specs.Prelude.{◌≡◌, None, IfErr};
 ghost use Rattle.std.specs.FinMap as map;
-ghost use Rattle.rows.specs.RowVal.{IsOfKind};
+ghost use Rattle.issuer_rows.specs.RowVal.{IsOfKind};
 ghost use Rattle.serde_json.specs.View.{view, items_view};
-ghost use Rattle.book_json_laws.specs.Cards.{migrated_card};
-ghost use Rattle.book_json_laws.specs.Lists.{has_old_cards, with_row, with_rows, add_entry, add_entries, add_list};
-ghost use Rattle.book_json_laws.specs.Steps.{GivesOrMemory};
-ghost use Rattle.book_json_laws.specs.declared.row_list.RowList.TheVariants.{Cards};
+ghost use Rattle.book_laws.specs.Cards.{migrated_card};
+ghost use Rattle.book_laws.specs.Lists.{has_old_cards, with_row, with_rows, add_entry, add_entries, add_list};
+ghost use Rattle.book_laws.specs.Steps.{GivesOrMemory};
+ghost use Rattle.book_laws.specs.declared.row_list.RowList.TheVariants.{Cards};
 
 use book_entries::{entry_of, old_card_of};
-use book_json_laws::{BookVersion, OldCard, RowList, TextFault, own_account};
-use rows::{Book, RowKey, RowVal};
+use book_laws::{BookVersion, OldCard, RowList, TextFault, own_account};
+use issuer_rows::{Book, RowKey, RowVal};
 use serde_json::Value;
 
-/// Puts a row into the book, unless an earlier entry has its key.
+/// Writes a row to the book, unless an earlier entry has its key.
 fn put_new(list: RowList, key: RowKey, val: RowVal, book: &mut Book) -> Result<(), TextFault>
     requires { IsOfKind key val }
     ensures gives { GivesOrMemory (λ _. book.new) result (with_row list book.old (key, val)) }
-    // Memory is wanted for a row that isn't there alone.
+    // Only a row that isn't there takes memory.
     ensures full { IfErr result (λ fault. fault ≡ TextFault.OutOfMemory → map.get book.old key ≡ None) }
 {
     if book.get(&key).is_some() {
@@ -28,7 +28,7 @@ fn put_new(list: RowList, key: RowKey, val: RowVal, book: &mut Book) -> Result<(
     Ok(())
 }
 
-/// Puts a card of versions 1 and 2 into the book, and its own account.
+/// Writes a card of versions 1 and 2 to the book, and its own account.
 fn put_old_card(card: &OldCard, book: &mut Book) -> Result<(), TextFault>
     ensures { GivesOrMemory (λ _. book.new) result (with_rows Cards book.old (migrated_card card.now)) }
 {
@@ -53,7 +53,7 @@ fn has_old_cards(version: BookVersion, list: RowList) -> bool
     }
 }
 
-/// Puts an entry's rows into the book.
+/// Writes an entry's rows to the book.
 fn add_entry(
     version: BookVersion,
     list: RowList,
@@ -70,7 +70,7 @@ fn add_entry(
     put_new(list, key, val, book)
 }
 
-/// Puts the rows of entries into the book.
+/// Writes the rows of entries to the book.
 fn add_entries(
     version: BookVersion,
     list: RowList,
@@ -85,8 +85,8 @@ fn add_entries(
     Ok(())
 }
 
-/// Puts the rows of a list of the top object into the book, if the version has it.
-#[tactic(auto, unfolding(book_json_laws::specs::Lists::add_list))]
+/// Writes the rows of a list of the top object to the book, if the version has it.
+#[tactic(auto, unfolding(book_laws::specs::Lists::add_list))]
 pub(crate) fn add_list(
     version: BookVersion,
     list: RowList,

@@ -2,15 +2,14 @@
 
 ghost use Rattle.std.specs.Prelude.{◌≡◌};
 ghost use Rattle.serde_json.specs.View.{view};
-ghost use Rattle.book_json_laws.specs.Reading.{version_of_keys, version_of, add_lists, all_lists, book_of, reading, IsAnswer};
-ghost use Rattle.book_json_laws.specs.Steps.{GivesOrMemory};
+ghost use Rattle.book_laws.specs.Reading.{version_of_keys, version_of, add_lists, all_lists, book_of, reading, IsAnswer};
+ghost use Rattle.book_laws.specs.Steps.{GivesOrMemory};
 
 use crate::lists::add_list;
 use crate::written::read_written;
-use book_check::check_book;
 use book_entries::{has_keys, number_at};
-use book_json_laws::{BookVersion, JsonFault, Part, RowList, TextFault};
-use rows::Book;
+use book_laws::{BookVersion, JsonFault, Part, RowList, TextFault, check_book};
+use issuer_rows::Book;
 use serde_json::Value;
 use std::alloc::Global;
 use std::thread::Threads;
@@ -66,7 +65,7 @@ fn version_of(top: &Value) -> Result<BookVersion, TextFault>
     }
 }
 
-/// Puts the rows of lists of the top object into the book.
+/// Writes the rows of lists of the top object to the book.
 fn add_lists(
     version: BookVersion,
     lists: &[RowList],
@@ -82,7 +81,7 @@ fn add_lists(
 }
 
 /// The book that a JSON value is.
-#[tactic(auto, unfolding(book_json_laws::specs::Reading::book_of))]
+#[tactic(auto, unfolding(book_laws::specs::Reading::book_of))]
 fn book_of(alloc: Global, top: &Value) -> Result<Book, TextFault>
     ensures { GivesOrMemory (λ book. book) result (book_of (view top.now)) }
 {
@@ -123,11 +122,16 @@ fn book_of_bytes<R: Threads>(rt: &R, alloc: Global, bytes: &[u8]) -> Result<Book
 ///
 /// # Errors
 ///
-/// The first fault of this order: the text is no JSON (`Syntax`); the top object has the keys of no version (`Shape`); the
-/// version isn't a number (`Shape`) or not that of the keys (`Range`); then the lists in the order of their parts, and in
-/// each entry its keys (`Shape`), its fields in the order of their keys (`Shape` for another kind of value, `Range` for one
-/// outside its range), whether an original can be (`Range`), and whether an earlier entry has its row (`Shape`); then what
-/// `check_book` answers (`Invalid`). Or memory ran out (`OutOfMemory`).
+/// The first fault of this order:
+/// - The text is no JSON (`Syntax`).
+/// - The top object has the keys of no version (`Shape`).
+/// - The version isn't a number (`Shape`), or not that of the keys (`Range`).
+/// - An entry is wrong; the lists are read in the order of their parts. In an entry come first its keys (`Shape`), then its fields in the
+///   order of their keys (`Shape` for another kind of value, `Range` for one outside its range), then whether an original can be (`Range`),
+///   then whether an earlier entry has its row (`Shape`).
+/// - `check_book` finds a fault (`Invalid`).
+///
+/// Or memory ran out (`OutOfMemory`).
 pub fn read_book<R: Threads>(rt: &R, alloc: Global, bytes: &[u8]) -> Result<Book, JsonFault>
     ensures { IsAnswer (reading bytes.now) result }
 {

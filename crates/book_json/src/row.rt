@@ -1,6 +1,6 @@
-ghost use Rattle.rows.specs.RowVal.{IsOfKind};
+ghost use Rattle.issuer_rows.specs.RowVal.{IsOfKind};
 
-use rows::{RowKey, RowVal};
+use issuer_rows::{RowKey, RowVal};
 
 /// A row of a book's text.
 #[derive(Clone, Copy)]

@@ -1,8 +1,8 @@
 use crate::row::Row;
 use book_entries::{WrittenText, row_of};
-use book_json_laws::RowList;
+use book_laws::RowList;
+use issuer_rows::Book;
 use json::{Reader, Scratch};
-use rows::Book;
 use std::alloc::{AllocError, Global};
 
 // About how many bytes the entry of a row takes at least: room for so many rows is made at once.
@@ -40,7 +40,7 @@ impl<'a> Share<'a> {
         }
     }
 
-    /// Puts the rows into the book. Answers whether they were read.
+    /// Writes the rows to the book. Returns whether they were read.
     pub(crate) fn put_into(self, book: &mut Book) -> Result<bool, AllocError> {
         let Some(rows) = self.rows? else {
             return Ok(false);

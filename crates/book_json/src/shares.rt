@@ -1,7 +1,7 @@
 //! A book's text in shares, which several threads read.
 
 use crate::share::Share;
-use book_json_laws::RowList;
+use book_laws::RowList;
 use json::Scratch;
 use memchr::memmem;
 use rayon::current_num_threads;

@@ -1,12 +1,12 @@
 //! A book from its text in the form in which books are written.
 
 ghost use Rattle.std.specs.Prelude.{◌≡◌, Ok, IfOk, IfSome};
-ghost use Rattle.book_json_laws.specs.Reading.{reading};
+ghost use Rattle.book_laws.specs.Reading.{reading};
 
 use crate::share::Share;
 use crate::shares::{read_shares, shares_of};
 use book_text::write_book;
-use rows::Book;
+use issuer_rows::Book;
 use std::alloc::{AllocError, Global};
 use std::thread::Threads;
 

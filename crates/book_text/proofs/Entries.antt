@@ -6,14 +6,14 @@ use Rattle.json.specs.Json.{Json, null, boolean, number, string, array, object, 
 use Rattle.json.specs.Print.{ends}
 use Rattle.json.specs.Token.{Token}
 use Rattle.json.specs.Tree.{json_tokens, items_tokens, members_tokens}
-use Rattle.rows.specs.declared.row_key.RowKey.{RowKey}
-use Rattle.rows.specs.declared.row_val.RowVal.{RowVal}
+use Rattle.issuer_rows.specs.declared.row_key.RowKey.{RowKey}
+use Rattle.issuer_rows.specs.declared.row_val.RowVal.{RowVal}
 use Rattle.serde_json.specs.Data.{Data}
 use Rattle.serde_json.specs.Written.{outline, items_outline}
-use Rattle.book_json_laws.specs.Parts.{is_in}
-use Rattle.book_json_laws.specs.Text.{tokens_of, entry_data, items_data, rows_of}
-use Rattle.book_json_laws.specs.declared.row_list.RowList.{RowList}
-use Rattle.book_json_laws.proofs.WrittenTokens.{rest_tokens}
+use Rattle.book_laws.specs.Parts.{is_in}
+use Rattle.book_laws.specs.Text.{tokens_of, entry_data, items_data, rows_of}
+use Rattle.book_laws.specs.declared.row_list.RowList.{RowList}
+use Rattle.book_laws.proofs.WrittenTokens.{rest_tokens}
 use Rattle.book_text.specs.Left.{ends_after, tokens_of_entries, entries_tokens}
 
 -- ---- a value just ended behind its tokens

@@ -6,13 +6,13 @@ use Rattle.json.specs.Print.{print, print_from}
 use Rattle.json.specs.Token.{Token, null, begin_object, begin_array, end_array, key}
 use Rattle.json.specs.Written.{Written}
 use Rattle.json.proofs.Printed.Tokens.{print_from-append}
-use Rattle.rows.specs.declared.row_key.RowKey.{RowKey}
-use Rattle.rows.specs.declared.row_val.RowVal.{RowVal}
-use Rattle.book_json_laws.specs.Parts.{list_key}
-use Rattle.book_json_laws.specs.Text.{Adds}
-use Rattle.book_json_laws.specs.declared.row_list.RowList.{RowList}
-use Rattle.book_json_laws.specs.declared.row_list.RowList.TheVariants.{Cards, Days, Budgets, Originals, Ahead, Accounts}
-use Rattle.book_json_laws.proofs.WrittenTokens.{rest_tokens}
+use Rattle.issuer_rows.specs.declared.row_key.RowKey.{RowKey}
+use Rattle.issuer_rows.specs.declared.row_val.RowVal.{RowVal}
+use Rattle.book_laws.specs.Parts.{list_key}
+use Rattle.book_laws.specs.Text.{Adds}
+use Rattle.book_laws.specs.declared.row_list.RowList.{RowList}
+use Rattle.book_laws.specs.declared.row_list.RowList.TheVariants.{Cards, Days, Budgets, Originals, Ahead, Accounts}
+use Rattle.book_laws.proofs.WrittenTokens.{rest_tokens}
 use Rattle.book_text.specs.Left.{row_of, rows_listed, text_of_rows, text_left, tokens_left, tokens_behind, entries_tokens, ends_after, skipped_if}
 use Rattle.book_text.specs.Pieces.{next_list, between, last_tokens}
 use Rattle.book_text.specs.declared.listed_row.ListedRow.{ListedRow}
@@ -24,7 +24,7 @@ pub text_of_written : {before after : Written} {ts : List Token} (text : List �
 text_of_written {after = after} {ts = ts} text is adds empty none =
     is ∙ ap (λ (b : List ℕ). b ++ print after.tokens) (adds.kept ∙ empty) ∙ ap print (adds.written ∙ ap (λ (us : List Token). us ++ ts) none)
 
--- behind `null` a comma is put as behind an entry
+-- behind `null` a comma is appended as behind an entry
 null_skipped : (ts : List Token) → drop 4 (print (null ∷ ts)) ≡ print_from true ts
 unfolding print_from
 null_skipped ts = refl

@@ -3,14 +3,14 @@ use Rattle.std.specs.Prelude.{ℕ, List, ◌++◌, Bool, true, false, codes, map
 use Rattle.json.specs.Print.{print, print_from, ends}
 use Rattle.json.specs.Token.{Token}
 use Rattle.json.specs.Tree.{items_tokens, members_tokens}
-use Rattle.rows.specs.declared.row_key.RowKey.{RowKey}
-use Rattle.rows.specs.declared.row_val.RowVal.{RowVal}
+use Rattle.issuer_rows.specs.declared.row_key.RowKey.{RowKey}
+use Rattle.issuer_rows.specs.declared.row_val.RowVal.{RowVal}
 use Rattle.serde_json.specs.Data.{Members, member, no_members}
 use Rattle.serde_json.specs.Written.{items_outline, members_outline}
-use Rattle.book_json_laws.specs.Parts.{list_key}
-use Rattle.book_json_laws.specs.Text.{numeral, tokens_of, entry_data, items_data, rows_of, list_data}
-use Rattle.book_json_laws.specs.declared.row_list.RowList.{RowList}
-use Rattle.book_json_laws.specs.declared.row_list.RowList.TheVariants.{Cards, Days, Budgets, Originals, Ahead, Accounts}
+use Rattle.book_laws.specs.Parts.{list_key}
+use Rattle.book_laws.specs.Text.{numeral, tokens_of, entry_data, items_data, rows_of, list_data}
+use Rattle.book_laws.specs.declared.row_list.RowList.{RowList}
+use Rattle.book_laws.specs.declared.row_list.RowList.TheVariants.{Cards, Days, Budgets, Originals, Ahead, Accounts}
 use Rattle.book_text.specs.Top.{top_data}
 use Rattle.book_text.specs.declared.listed_row.ListedRow.{ListedRow}
 

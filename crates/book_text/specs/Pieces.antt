@@ -1,9 +1,9 @@
 -- What stands between the lists of a book's text, and behind the last one.
 use Rattle.std.specs.Prelude.{List, [], ◌∷◌, Option, Some, None, codes, decimal}
 use Rattle.json.specs.Token.{Token, key, number, begin_array, end_array, end_object}
-use Rattle.book_json_laws.specs.Parts.{list_key}
-use Rattle.book_json_laws.specs.declared.row_list.RowList.{RowList}
-use Rattle.book_json_laws.specs.declared.row_list.RowList.TheVariants.{Cards, Days, Budgets, Originals, Ahead, Accounts}
+use Rattle.book_laws.specs.Parts.{list_key}
+use Rattle.book_laws.specs.declared.row_list.RowList.{RowList}
+use Rattle.book_laws.specs.declared.row_list.RowList.TheVariants.{Cards, Days, Budgets, Originals, Ahead, Accounts}
 
 -- the list behind a list
 abbrev pub next_list : RowList → Option RowList

@@ -1,13 +1,13 @@
 -- The top object of a book's text, over its sorted rows; for private clauses.
 use Rattle.std.specs.Prelude.{List, [], ◌∷◌, codes}
 use Rattle.std.specs.List.{AllByRecursion}
-use Rattle.rows.specs.declared.row_key.RowKey.{RowKey}
-use Rattle.rows.specs.declared.row_val.RowVal.{RowVal}
+use Rattle.issuer_rows.specs.declared.row_key.RowKey.{RowKey}
+use Rattle.issuer_rows.specs.declared.row_val.RowVal.{RowVal}
 use Rattle.serde_json.specs.Data.{Data, object}
-use Rattle.book_json_laws.specs.Parts.{list_key}
-use Rattle.book_json_laws.specs.Text.{ReadsBack, numeral, members, rows_of, list_data}
-use Rattle.book_json_laws.specs.declared.row_list.RowList.{RowList}
-use Rattle.book_json_laws.specs.declared.row_list.RowList.TheVariants.{Cards, Days, Budgets, Originals, Ahead, Accounts}
+use Rattle.book_laws.specs.Parts.{list_key}
+use Rattle.book_laws.specs.Text.{ReadsBack, numeral, members, rows_of, list_data}
+use Rattle.book_laws.specs.declared.row_list.RowList.{RowList}
+use Rattle.book_laws.specs.declared.row_list.RowList.TheVariants.{Cards, Days, Budgets, Originals, Ahead, Accounts}
 
 -- the top object of the book that has these rows
 abbrev pub top_data : List (RowKey × RowVal) → Data

@@ -6,21 +6,21 @@ ghost use Rattle.iso8583.specs.Class.{IsDigits};
 ghost use Rattle.iso8583.specs.Number.{fixed_digits};
 ghost use Rattle.iso8583.specs.Padded.{HasDigits};
 ghost use Rattle.json.specs.Token.{key as key_token, string as string_token, number as number_token};
-ghost use Rattle.rows.specs.Expiry.{IsExpiry};
-ghost use Rattle.book_json_laws.specs.Ranges.{AreDigits, IsIdentity, IsAccountId, IsApproval};
-ghost use Rattle.book_json_laws.specs.Text.{Adds, tokens_of, optional_data, account_id_data, approval_data, identity_data};
-ghost use Rattle.book_json_laws.specs.Words.{status_word, mode_word, kind_word, paid_word};
+ghost use Rattle.issuer_rows.specs.Expiry.{IsExpiry};
+ghost use Rattle.book_laws.specs.Ranges.{AreDigits, IsIdentity, IsAccountId, IsApproval};
+ghost use Rattle.book_laws.specs.Text.{Adds, tokens_of, optional_data, account_id_data, approval_data, identity_data};
+ghost use Rattle.book_laws.specs.Words.{status_word, mode_word, kind_word, paid_word};
 
 use crate::tokens::{
     begin_object, bytes_field, end_object, key, null_field, number_field, text_field,
 };
-use book_json_laws::Paid;
+use book_laws::Paid;
 use iso8583::{
     AccountId, Acquirer, Action, Amount, Approval, Currency, Day, Digits, Identity, LocalStamp,
     OriginalKind, Pan, PanPrefix, Processing, Stan,
 };
+use issuer_rows::{Balance, BudgetMode, CardStatus, Count, Expiry};
 use json::Writer;
-use rows::{Balance, BudgetMode, CardStatus, Count, Expiry};
 use std::alloc::AllocError;
 
 pub(crate) fn balance_field(
@@ -172,7 +172,7 @@ pub(crate) fn optional_account_id_field(
     }
 }
 
-#[tactic(auto, using(book_json_laws::proofs::Characters::alphanumeric_utf8))]
+#[tactic(auto, using(book_laws::proofs::Characters::alphanumeric_utf8))]
 fn approval_field(out: &mut Writer, name: &str, code: Approval) -> Result<(), AllocError>
     ensures text { OnOk result (Adds out.old out.new (key_token name.now ∷ string_token code.0 ∷ [])) }
     ensures range { IsApproval code }

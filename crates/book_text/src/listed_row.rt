@@ -1,9 +1,9 @@
 ghost use Rattle.std.specs.Prelude.{◌≡◌};
-ghost use Rattle.rows.specs.RowVal.{IsOfKind};
-ghost use Rattle.book_json_laws.specs.Parts.{list_of};
+ghost use Rattle.issuer_rows.specs.RowVal.{IsOfKind};
+ghost use Rattle.book_laws.specs.Parts.{list_of};
 
-use book_json_laws::RowList;
-use rows::{RowKey, RowVal, SortedRows};
+use book_laws::RowList;
+use issuer_rows::{RowKey, RowVal, SortedRows};
 use std::alloc::{AllocError, Global};
 
 /// A row of a book, where it stands, and the list of the text that it stands in: so it isn't looked at for each list.
@@ -18,9 +18,9 @@ pub struct ListedRow<'a> {
 
 impl<'a> ListedRow<'a> {
     ghost use Rattle.std.specs.Prelude.{◌≡◌, IfOk};
-    ghost use Rattle.rows.specs.Book.{AllOfKind};
-    ghost use Rattle.rows.specs.RowVal.{IsOfKind};
-    ghost use Rattle.book_json_laws.specs.Parts.{is_in};
+    ghost use Rattle.issuer_rows.specs.Book.{AllOfKind};
+    ghost use Rattle.issuer_rows.specs.RowVal.{IsOfKind};
+    ghost use Rattle.book_laws.specs.Parts.{is_in};
     ghost use Rattle.book_text.specs.Left.{row_of, rows_listed};
 
     // The row with its list.
@@ -35,7 +35,7 @@ impl<'a> ListedRow<'a> {
         }
     }
 
-    /// The rows with their lists, in their order.
+    /// The rows with their lists, in their order. It fails only where memory runs out.
     pub fn all(alloc: Global, rows: &'a SortedRows<'_>) -> Result<Vec<ListedRow<'a>>, AllocError>
         requires { AllOfKind rows.now }
         ensures { IfOk result (λ listed. rows_listed listed.items ≡ rows.now) }

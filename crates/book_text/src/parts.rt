@@ -3,14 +3,14 @@
 ghost use Rattle.std.specs.Prelude.{◌≡◌, ◌∷◌, [], ◌||◌, codes, decimal, drop, IfOk};
 ghost use Rattle.json.specs.Print.{print, print_from};
 ghost use Rattle.json.specs.Token.{key as key_token, number as number_token, begin_array as begin_array_token, end_array as end_array_token, end_object as end_object_token};
-ghost use Rattle.book_json_laws.specs.Parts.{list_key};
+ghost use Rattle.book_laws.specs.Parts.{list_key};
 ghost use Rattle.book_text.specs.Left.{rows_listed, entries_tokens, ends_after, skipped_if};
 ghost use Rattle.book_text.specs.Pieces.{next_list, between, last_tokens};
 
 use crate::listed_row::ListedRow;
 use crate::tokens::{end_array, null};
 use crate::writing::{end_book, open_list, write_rows};
-use book_json_laws::RowList;
+use book_laws::RowList;
 use json::Writer;
 use std::alloc::AllocError;
 use std::mem;
@@ -25,8 +25,8 @@ pub fn emptied(text: &mut Vec<u8>) -> Vec<u8>
     emptied
 }
 
-/// The entries of those of the rows that stand in the list, and whether an entry of the list is written then. Where one was before,
-/// the text begins with `null`: the writer puts a comma behind a value, and that one is skipped.
+/// The entries of those of the rows that stand in the list, and whether an entry of the list is written then. Where one was before, the
+/// text begins with `null`: the writer appends a comma behind a value, and that one is skipped. It fails only where memory runs out.
 pub fn rows_piece(
     text: Vec<u8>,
     later: bool,
@@ -52,7 +52,7 @@ pub fn skipped_if(later: bool) -> usize
     if later { "null".len() } else { 0 }
 }
 
-/// What stands between the last entry of a list and the first of the next one.
+/// What stands between the last entry of a list and the first of the next one. It fails only where memory runs out.
 pub fn piece_between(text: Vec<u8>, next: RowList) -> Result<Vec<u8>, AllocError>
     requires { text.items ≡ [] }
     ensures { IfOk result (λ piece. piece.items ≡ print (between next)) }
@@ -63,7 +63,7 @@ pub fn piece_between(text: Vec<u8>, next: RowList) -> Result<Vec<u8>, AllocError
     Ok(out.into_inner())
 }
 
-/// What stands behind the last entry of the last list.
+/// What stands behind the last entry of the last list. It fails only where memory runs out.
 pub fn last_piece(text: Vec<u8>) -> Result<Vec<u8>, AllocError>
     requires { text.items ≡ [] }
     ensures { IfOk result (λ piece. piece.items ≡ print last_tokens) }

@@ -2,14 +2,14 @@
 
 ghost use Rattle.std.specs.Prelude.{◌∷◌, [], OnOk, IfSome, codes};
 ghost use Rattle.json.specs.Token.{key as key_token, string as string_token};
-ghost use Rattle.rows.specs.declared.row_key.RowKey.TheVariants as key;
-ghost use Rattle.rows.specs.declared.row_val.RowVal.TheVariants as val;
-ghost use Rattle.rows.specs.RowVal.{IsOfKind};
-ghost use Rattle.book_json_laws.specs.Originals.{entry_of_kept};
-ghost use Rattle.book_json_laws.specs.Parts.{list_of};
-ghost use Rattle.book_json_laws.specs.Ranges.{IsAccountId, IsOriginalEntry};
-ghost use Rattle.book_json_laws.specs.Text.{Adds, ReadsBack, tokens_of, optional_data, account_id_data, card_data, day_data, budget_data, original_data, mark_data, account_data, entry_data};
-ghost use Rattle.book_json_laws.specs.declared.row_list.RowList.TheVariants.{Cards, Days, Budgets, Originals, Ahead, Accounts};
+ghost use Rattle.issuer_rows.specs.declared.row_key.RowKey.TheVariants as key;
+ghost use Rattle.issuer_rows.specs.declared.row_val.RowVal.TheVariants as val;
+ghost use Rattle.issuer_rows.specs.RowVal.{IsOfKind};
+ghost use Rattle.book_laws.specs.Originals.{entry_of_kept};
+ghost use Rattle.book_laws.specs.Parts.{list_of};
+ghost use Rattle.book_laws.specs.Ranges.{IsAccountId, IsOriginalEntry};
+ghost use Rattle.book_laws.specs.Text.{Adds, ReadsBack, tokens_of, optional_data, account_id_data, card_data, day_data, budget_data, original_data, mark_data, account_data, entry_data};
+ghost use Rattle.book_laws.specs.declared.row_list.RowList.TheVariants.{Cards, Days, Budgets, Originals, Ahead, Accounts};
 
 use crate::field_writers::{
     account_id_field, acquirer_field, action_field, amount_field, balance_field, count_field,
@@ -18,10 +18,12 @@ use crate::field_writers::{
     pan_field, prefix_field, processing_field, stamp_field, stan_field, status_field,
 };
 use crate::tokens::{begin_object, end_object};
-use book_json_laws::OriginalEntry;
+use book_laws::OriginalEntry;
 use iso8583::{AccountId, Day, Identity, Pan, PanPrefix};
+use issuer_rows::{
+    AccountRow, BudgetRow, CardAccounts, CardRow, Kept, Mark, RowKey, RowVal, VelocityRow,
+};
 use json::Writer;
-use rows::{AccountRow, BudgetRow, CardAccounts, CardRow, Kept, Mark, RowKey, RowVal, VelocityRow};
 use std::alloc::AllocError;
 
 // The account that pays where a message names none.

@@ -2,11 +2,12 @@
 
 ghost use Rattle.std.specs.Prelude.{◌≡◌, ◌∷◌, [], decimal, OnOk, IsUtf8};
 ghost use Rattle.json.specs.Token.{begin_object, end_object, begin_array, end_array, null as null_token, key as key_token, string as string_token, number as number_token};
-ghost use Rattle.book_json_laws.specs.Text.{Adds};
+ghost use Rattle.book_laws.specs.Text.{Adds};
 
 use json::Writer;
 use std::alloc::AllocError;
 
+/// Writes the opening brace of an object. It fails only where memory runs out.
 pub fn begin_object(out: &mut Writer) -> Result<(), AllocError>
     ensures { OnOk result (Adds out.old out.new (begin_object ∷ [])) }
 {

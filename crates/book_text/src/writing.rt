@@ -2,18 +2,18 @@
 
 ghost use Rattle.std.specs.Prelude.{◌≡◌, ◌∷◌, [], Bool, ◌||◌, Ok, OnOk, IfOk, IsTrue, codes, decimal};
 ghost use Rattle.json.specs.Token.{key as key_token, number as number_token, begin_array as begin_array_token, end_object as end_object_token};
-ghost use Rattle.book_json_laws.specs.Parts.{list_key, is_in};
-ghost use Rattle.book_json_laws.specs.Reading.{reading};
-ghost use Rattle.book_json_laws.specs.Text.{Adds, ReadsBack, tokens_of, entry_data, list_data, book_text};
+ghost use Rattle.book_laws.specs.Parts.{list_key, is_in};
+ghost use Rattle.book_laws.specs.Reading.{reading};
+ghost use Rattle.book_laws.specs.Text.{Adds, ReadsBack, tokens_of, entry_data, list_data, book_text};
 ghost use Rattle.book_text.specs.Left.{row_of, rows_listed, entries_tokens, ends_after};
 ghost use Rattle.book_text.specs.Top.{top_data, IsReadBack, AreReadBack};
 
 use crate::listed_row::ListedRow;
 use crate::row_writers::write_entry;
 use crate::tokens::{begin_array, begin_object, end_array, end_object, key, number_field};
-use book_json_laws::RowList;
+use book_laws::RowList;
+use issuer_rows::Book;
 use json::Writer;
-use rows::Book;
 use std::alloc::{AllocError, Global};
 
 // Writes the entry of a row that stands in the list.
@@ -26,7 +26,7 @@ fn write_listed(out: &mut Writer, list: RowList, row: &ListedRow<'_>) -> Result<
     Ok(())
 }
 
-/// Writes the entries of those of the rows that stand in the list. Answers whether there is one.
+/// Writes the entries of those of the rows that stand in the list. Returns whether there is one.
 pub(crate) fn write_rows(
     out: &mut Writer,
     list: RowList,
@@ -46,7 +46,7 @@ pub(crate) fn write_rows(
     Ok(has_some)
 }
 
-/// Begins a list.
+/// Begins a list: its key and its opening bracket. It fails only where memory runs out.
 pub fn open_list(out: &mut Writer, list: RowList) -> Result<(), AllocError>
     ensures { OnOk result (Adds out.old out.new (key_token (list_key list) ∷ begin_array_token ∷ [])) }
 {
@@ -101,8 +101,8 @@ fn room_for(alloc: Global, rows: usize) -> Result<Vec<u8>, AllocError>
     Ok(text)
 }
 
-/// The text of a book: JSON of version 3, without spaces, the keys of each object in byte order and the rows of each list
-/// in the order of their keys. It is read again as the book.
+/// The text of a book: JSON of version 3, without spaces, the keys of each object in byte order and the rows of each list in the order of
+/// their keys. It is read again as the book. It fails only where memory runs out.
 pub fn write_book(alloc: Global, book: &Book) -> Result<Vec<u8>, AllocError>
     ensures text { IfOk result (λ text. text.items ≡ book_text book.now) }
     ensures back { IfOk result (λ text. reading text.items ≡ Ok book.now) }

@@ -102,7 +102,7 @@ impl Action {
         }
     }
 
-    /// The code as a number.
+    /// The code as a number, 0 to 999.
     pub fn code(&self) -> u16
         ensures value { result ≡ self.now }
         ensures bound { result < 1000 }

@@ -5,7 +5,7 @@ use crate::action::Action;
 use crate::function_code::FunctionCode;
 use crate::transaction::Transaction;
 
-/// Authorization advice, 1120, or its repeat, 1121 (ISO 8583:1993): the acquirer tells what it decided for the issuer.
+/// Authorization advice, 1120, or its repeat, 1121 (ISO 8583:1993): the acquirer reports what it decided for the issuer.
 #[derive(Clone, Copy)]
 pub struct Advice {
     /// Whether it is a repeat.

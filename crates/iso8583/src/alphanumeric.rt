@@ -6,7 +6,7 @@ use crate::class::is_alphanumeric;
 use crate::digits::Digits;
 use std::marker::Model;
 
-/// A text of `N` letters, digits and spaces (anp).
+/// A text of `N` letters, digits and spaces, in ASCII (ISO 8583:1993: anp).
 #[derive(Clone, Copy, PartialEq, Eq)]
 pub struct Alphanumeric<const N: usize> {
     bytes: [u8; N],
@@ -47,7 +47,7 @@ impl<const N: usize> Alphanumeric<N> {
         Alphanumeric { bytes }
     }
 
-    /// Digits are letters, digits and spaces.
+    /// The text of these digits, which are letters, digits and spaces too.
     #[tactic(auto, using(crate::proofs::NumberLaws::alphanumeric_digits))]
     pub fn of_digits(digits: Digits<N>) -> Self
         ensures { result ≡ digits.entry }

@@ -48,7 +48,7 @@ impl Amount {
         }
     }
 
-    /// Minor units.
+    /// The amount in minor units, 0 to 999,999,999,999.
     pub fn minor(&self) -> u64
         ensures value { result ≡ self.now }
         ensures bound { result < 10 ^ 12 }

@@ -14,7 +14,7 @@ use crate::order::order;
 use std::cmp::Ordering;
 use std::marker::Model;
 
-/// A text of `N` digits.
+/// A text of `N` digits, in ASCII (ISO 8583:1993: n).
 #[derive(Clone, Copy)]
 pub struct Digits<const N: usize> {
     bytes: [u8; N],

@@ -34,7 +34,7 @@ impl Pan {
         self.0.as_str()
     }
 
-    /// The first six digits.
+    /// The first six digits, which name the issuer (ISO/IEC 7812-1).
     pub fn prefix(&self) -> PanPrefix
         ensures { result ≡ record { 0 = take 6 self.now.0 } }
     {

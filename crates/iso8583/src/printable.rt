@@ -5,7 +5,7 @@ ghost use Rattle.iso8583.specs.Class.{IsPrintable};
 use crate::class::is_printable;
 use std::marker::Model;
 
-/// A text of `N` printable characters, 0x20 to 0x7E (ans).
+/// A text of `N` printable characters, 0x20 to 0x7E (ISO 8583:1993: ans).
 #[derive(Clone, Copy, PartialEq, Eq)]
 pub struct Printable<const N: usize> {
     bytes: [u8; N],

@@ -38,7 +38,7 @@ pub struct Transaction {
 }
 
 impl Transaction {
-    /// What names the message.
+    /// What names the message: elements 32, 11 and 12.
     pub fn identity(&self) -> Identity
         ensures { result ≡ record { acquirer = self.now.acquirer; stan = self.now.stan; stamp = self.now.stamp } }
     {

@@ -1,8 +1,8 @@
 //! `switch`: decides card messages for an issuer.
 #![tactic(auto)]
 
-use commands::{Fault, Printer, act, print_fault};
-use files::HostFiles;
+use app_commands::{Fault, Printer, act, print_fault};
+use file_devices::HostFiles;
 use std::alloc::{AllocError, Global};
 use std::io::ErrorKind;
 use std::process::ExitCode;
@@ -12,7 +12,7 @@ fn main(rt: HostRuntime) -> ExitCode {
     let mut files = HostFiles::new(&rt, rt.alloc());
     let mut out = Printer::new(rt.stdout());
     let mut err = Printer::new(rt.stderr());
-    let status = match words_of(&rt) {
+    let status = match arguments_of(&rt) {
         Ok(words) => act(&rt, rt.alloc(), &mut files, &words, &mut out, &mut err),
         Err(fault) => {
             print_fault(&fault, &mut err);
@@ -23,7 +23,7 @@ fn main(rt: HostRuntime) -> ExitCode {
 }
 
 // The words that the program was started with.
-fn words_of(rt: &HostRuntime) -> Result<Vec<String>, Fault> {
+fn arguments_of(rt: &HostRuntime) -> Result<Vec<String>, Fault> {
     match env::args(rt) {
         Ok(words) => Ok(words.collect(rt.alloc())?),
         Err(error) => Err(unread(rt.alloc(), &error)?),

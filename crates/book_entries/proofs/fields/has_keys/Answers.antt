@@ -2,8 +2,8 @@ use Rattle.std.proofs.Common.{map, ap, sym, ◌∙◌, Option, false}
 use Rattle.std.specs.Prelude.{option_map, unwrap_or}
 use Rattle.serde_json.specs.Data.{Members}
 use Rattle.serde_json.specs.View.{members_view}
-use Rattle.book_json_laws.specs.Fields.{are_keys}
-use Rattle.book_json_laws.proofs.ListLemmas.{no_more}
+use Rattle.book_laws.specs.Fields.{are_keys}
+use Rattle.book_laws.proofs.ListLemmas.{no_more}
 use Rattle.book_entries.proofs.fields.has_keys.Goals as goal
 
 pub returns : goal.returns

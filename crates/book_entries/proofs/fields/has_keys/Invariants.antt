@@ -1,6 +1,6 @@
 use Rattle.std.proofs.Common.{◌≡◌, map}
 use Rattle.serde_json.specs.View.{members_view}
-use Rattle.book_json_laws.specs.Fields.{are_keys}
+use Rattle.book_laws.specs.Fields.{are_keys}
 use Rattle.book_entries.proofs.fields.has_keys.Given as goal
 
 -- what is left of the members has what is left of the keys, exactly where all have all

@@ -1,7 +1,7 @@
 use Rattle.std.proofs.Common.{sym, ◌∙◌, arith}
 use Rattle.std.proofs.lemmas.List.{drop_all}
 use Rattle.std.proofs.lemmas.Result.{err_from_is_err_and}
-use Rattle.book_json_laws.proofs.ListLemmas.{here, stays, also, goes_on, entries_at, none_left}
+use Rattle.book_laws.proofs.ListLemmas.{here, stays, also, goes_on, entries_at, none_left}
 use Rattle.book_json.proofs.lists.add_entries.Goals as goal
 
 pub returns-in_err-add_entry : goal.returns-in_err-add_entry

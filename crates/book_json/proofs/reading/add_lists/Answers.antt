@@ -2,8 +2,8 @@ use Rattle.std.proofs.Common.{sym, ◌∙◌, arith}
 use Rattle.std.proofs.lemmas.List.{drop_all, drop_more}
 use Rattle.std.proofs.lemmas.Result.{err_from_is_err_and}
 use Rattle.serde_json.specs.View.{view}
-use Rattle.book_json_laws.proofs.ListLemmas.{stays, also, goes_on, lists_at, no_list_left}
-use Rattle.book_json_laws.specs.declared.row_list.RowList.TheVariants.{Cards}
+use Rattle.book_laws.proofs.ListLemmas.{stays, also, goes_on, lists_at, no_list_left}
+use Rattle.book_laws.specs.declared.row_list.RowList.TheVariants.{Cards}
 use Rattle.book_json.proofs.reading.add_lists.Goals as goal
 
 pub returns-in_err-add_list : goal.returns-in_err-add_list

@@ -1,6 +1,6 @@
 use Rattle.std.proofs.Common.{sym, subst, true≢false, ◌∙◌}
-use Rattle.book_json_laws.specs.Steps.{GivesOrMemory}
-use Rattle.book_json_laws.proofs.Readings.{read_value, read_none}
+use Rattle.book_laws.specs.Steps.{GivesOrMemory}
+use Rattle.book_laws.proofs.Readings.{read_value, read_none}
 use Rattle.serde_json.specs.View.{view}
 use Rattle.book_json.proofs.reading.book_of_text.Goals as goal
 

@@ -1,5 +1,5 @@
 use Rattle.std.proofs.lemmas.Result.{err_from_is_err_and}
-use Rattle.book_json_laws.proofs.Readings.{answers_fault}
+use Rattle.book_laws.proofs.Readings.{answers_fault}
 use Rattle.book_json.proofs.reading.read_book.Goals as goal
 
 pub returns-in_err-book : goal.returns-in_err-book

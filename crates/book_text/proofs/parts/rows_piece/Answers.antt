@@ -1,7 +1,7 @@
 use Rattle.std.proofs.Common.{subst, ◌∙◌}
 use Rattle.json.specs.Written.{Written}
-use Rattle.book_json_laws.specs.Text.{Adds}
-use Rattle.book_json_laws.proofs.WrittenTokens.{then}
+use Rattle.book_laws.specs.Text.{Adds}
+use Rattle.book_laws.proofs.WrittenTokens.{then}
 use Rattle.book_text.specs.Left.{rows_listed, entries_tokens}
 use Rattle.book_text.proofs.Printing.{text_of_written, text_behind_null, text_of_first}
 use Rattle.book_text.proofs.parts.rows_piece.Goals as goal

@@ -1,5 +1,5 @@
-use Rattle.book_json_laws.proofs.WrittenTokens.{then}
-use Rattle.book_json_laws.proofs.RowsAgain.{budget_again}
+use Rattle.book_laws.proofs.WrittenTokens.{then}
+use Rattle.book_laws.proofs.RowsAgain.{budget_again}
 use Rattle.book_text.proofs.row_writers.write_budget.Goals as goal
 
 pub returns-clause-text : goal.returns-clause-text

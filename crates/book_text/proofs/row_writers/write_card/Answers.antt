@@ -1,5 +1,5 @@
-use Rattle.book_json_laws.proofs.WrittenTokens.{then}
-use Rattle.book_json_laws.proofs.RowsAgain.{card_again}
+use Rattle.book_laws.proofs.WrittenTokens.{then}
+use Rattle.book_laws.proofs.RowsAgain.{card_again}
 use Rattle.book_text.proofs.row_writers.write_card.Goals as goal
 
 pub returns-clause-text : goal.returns-clause-text

@@ -1,8 +1,8 @@
 use Rattle.std.proofs.Common.{subst, ◌≡◌, Some}
-use Rattle.book_json_laws.specs.Originals.{kept_of}
-use Rattle.book_json_laws.specs.Ranges.{IsOriginalEntry}
-use Rattle.book_json_laws.specs.declared.original_entry.OriginalEntry.{OriginalEntry}
-use Rattle.book_json_laws.proofs.OriginalsAgain.{original_again}
+use Rattle.book_laws.specs.Originals.{kept_of}
+use Rattle.book_laws.specs.Ranges.{IsOriginalEntry}
+use Rattle.book_laws.specs.declared.original_entry.OriginalEntry.{OriginalEntry}
+use Rattle.book_laws.proofs.OriginalsAgain.{original_again}
 use Rattle.book_text.proofs.row_writers.write_kept.Goals as goal
 
 pub returns-clause-back : goal.returns-clause-back

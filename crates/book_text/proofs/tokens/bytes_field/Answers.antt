@@ -1,4 +1,4 @@
-use Rattle.book_json_laws.proofs.WrittenTokens.{is_ok_from_cases}
+use Rattle.book_laws.proofs.WrittenTokens.{is_ok_from_cases}
 use Rattle.book_text.proofs.tokens.bytes_field.Goals as goal
 
 pub unwrap-requires : goal.unwrap-requires

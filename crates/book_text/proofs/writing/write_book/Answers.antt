@@ -5,12 +5,12 @@ use Rattle.json.specs.Lex.{tokens}
 use Rattle.json.specs.Print.{print}
 use Rattle.json.specs.Token.{Token}
 use Rattle.json.specs.Written.{Written}
-use Rattle.rows.specs.Fold.{Rows}
-use Rattle.rows.specs.declared.row_key.RowKey.{RowKey}
-use Rattle.rows.specs.declared.row_val.RowVal.{RowVal}
-use Rattle.book_json_laws.specs.Text.{Adds, tokens_of, book_data}
-use Rattle.book_json_laws.proofs.BookAgain.{AreReadBack as BookIsReadBack, text_again}
-use Rattle.book_json_laws.proofs.WrittenTokens.{printed}
+use Rattle.issuer_rows.specs.Fold.{Rows}
+use Rattle.issuer_rows.specs.declared.row_key.RowKey.{RowKey}
+use Rattle.issuer_rows.specs.declared.row_val.RowVal.{RowVal}
+use Rattle.book_laws.specs.Text.{Adds, tokens_of, book_data}
+use Rattle.book_laws.proofs.BookAgain.{AreReadBack as BookIsReadBack, text_again}
+use Rattle.book_laws.proofs.WrittenTokens.{printed}
 use Rattle.book_text.specs.Left.{rows_listed}
 use Rattle.book_text.specs.Top.{top_data, AreReadBack}
 use Rattle.book_text.proofs.writing.write_book.Goals as goal

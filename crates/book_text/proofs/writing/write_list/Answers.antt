@@ -1,8 +1,8 @@
 use Rattle.std.proofs.Common.{◌∷◌, [], List, ap, sym, subst, ◌∙◌, append-nil}
 use Rattle.json.specs.Token.{Token, key as key_token, begin_array}
-use Rattle.book_json_laws.specs.Parts.{list_key}
-use Rattle.book_json_laws.specs.Text.{Adds}
-use Rattle.book_json_laws.proofs.WrittenTokens.{rest_tokens, then}
+use Rattle.book_laws.specs.Parts.{list_key}
+use Rattle.book_laws.specs.Text.{Adds}
+use Rattle.book_laws.proofs.WrittenTokens.{rest_tokens, then}
 use Rattle.book_text.specs.Left.{rows_listed}
 use Rattle.book_text.proofs.Entries.{rest_split}
 use Rattle.book_text.proofs.writing.write_list.Goals as goal

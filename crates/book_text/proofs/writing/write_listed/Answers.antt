@@ -1,7 +1,7 @@
 use Rattle.std.proofs.Common.{subst}
-use Rattle.book_json_laws.specs.Text.{ReadsBack}
-use Rattle.book_json_laws.specs.declared.row_list.RowList.{RowList}
-use Rattle.book_json_laws.proofs.ListNames.{list_told}
+use Rattle.book_laws.specs.Text.{ReadsBack}
+use Rattle.book_laws.specs.declared.row_list.RowList.{RowList}
+use Rattle.book_laws.proofs.ListNames.{list_told}
 use Rattle.book_text.proofs.writing.write_listed.Goals as goal
 
 pub returns-clause-back : goal.returns-clause-back

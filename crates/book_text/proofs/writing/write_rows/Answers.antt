@@ -3,9 +3,9 @@ use Rattle.std.proofs.lemmas.List.{drop_more, drop_all}
 use Rattle.std.specs.List.{AllByRecursion}
 use Rattle.json.specs.Token.{Token}
 use Rattle.json.specs.Written.{Written}
-use Rattle.rows.specs.declared.row_key.RowKey.{RowKey}
-use Rattle.rows.specs.declared.row_val.RowVal.{RowVal}
-use Rattle.book_json_laws.specs.Text.{ReadsBack, entry_data, rows_of}
+use Rattle.issuer_rows.specs.declared.row_key.RowKey.{RowKey}
+use Rattle.issuer_rows.specs.declared.row_val.RowVal.{RowVal}
+use Rattle.book_laws.specs.Text.{ReadsBack, entry_data, rows_of}
 use Rattle.book_text.specs.Left.{row_of, rows_listed, tokens_of_entries, entries_tokens, ends_after}
 use Rattle.book_text.specs.Top.{IsReadBack}
 use Rattle.book_text.specs.declared.listed_row.ListedRow.{ListedRow}

@@ -1,4 +1,4 @@
-use Rattle.book_json_laws.proofs.WrittenTokens.{then}
+use Rattle.book_laws.proofs.WrittenTokens.{then}
 use Rattle.book_text.proofs.writing.write_top.Goals as goal
 
 pub returns-clause-text : goal.returns-clause-text

@@ -1,5 +1,5 @@
 use Rattle.std.proofs.Common.{◌≡◌, ◌++◌}
-use Rattle.rows.specs.Book.{AllOfKind}
+use Rattle.issuer_rows.specs.Book.{AllOfKind}
 use Rattle.book_text.specs.Left.{rows_listed}
 use Rattle.book_text.proofs.listed_row.ListedRow.all.Given as goal
 

@@ -1,0 +1,4 @@
+pub mod LineLemmas
+pub mod PlainLemmas
+pub mod ArgumentLemmas
+pub mod PlainSteps

@@ -1,0 +1,154 @@
+-- What words ask for, subcommand by subcommand.
+use Rattle.std.specs.Prelude.{◌&&◌, ℕ, List, Option, Some, None, codes, nat_lt, option_map, option_and_then, string_bytes, if◌then◌else◌}
+use Rattle.std.specs.Str.{bytes_eq}
+use Rattle.clap.specs.Walk.{Row, Text, byte_or_zero, first_of}
+use Rattle.engine_workers.specs.declared.engine.Engine.{Engine}
+use Rattle.engine_workers.specs.declared.engine.Engine.TheVariants.{Locked, Split}
+use Rattle.file_listing.specs.Bodies.{body_of}
+use Rattle.app_arguments.specs.declared.command.Command.{Command}
+use Rattle.app_arguments.specs.declared.command.Command.TheVariants.{Help, Version, One, Serial, Run, RunWithJournal, Blocks, Audit, AuditBlocks, Show, Pack}
+use Rattle.app_arguments.specs.declared.asked.BatchArguments.{BatchArguments}
+use Rattle.file_devices.specs.declared.batch_names.BatchNames.{BatchNames}
+
+-- the names of the files of a batch or of blocks: what is read, and what is written
+pub record Names : Type 0 where
+  pub book : Text
+  pub batch : Text
+  pub replies : Text
+  pub new_book : Text
+
+-- help; the version; one body on the sample book; a batch, one message after another, or by so many workers of an engine, or with a
+-- journal; blocks by so many workers of an engine; an audit of a batch, against a journal or without, or of blocks; what a file
+-- holds; a batch of a text
+pub data Asked : Type 0 where
+  help : Text → Asked
+  version : Asked
+  one : List ℕ → Asked
+  serial : Names → Asked
+  run : Names → ℕ → Engine → Asked
+  run_with_journal : Names → ℕ → Text → Asked
+  blocks : Names → ℕ → Engine → Asked
+  audit : Names → Option Text → Asked
+  audit_blocks : Names → Asked
+  show : Text → Asked
+  pack : Text → Text → Asked
+
+-- a number of workers, 1 to 64
+abbrev pub worker_count : Text → Option ℕ
+worker_count text = let n = byte_or_zero text in if nat_lt 0 n && nat_lt n 65 then Some n else None
+
+-- the number behind `--workers`
+abbrev pub workers_in : List Row → Option ℕ
+workers_in rows = option_and_then worker_count (first_of (codes "workers") rows)
+
+-- the engine of this name
+abbrev pub engine_named : Text → Option Engine
+engine_named text = if bytes_eq text (codes "locked") then Some Locked else (if bytes_eq text (codes "split") then Some Split else None)
+
+-- the engine behind `--engine`
+abbrev pub engine_in : List Row → Option Engine
+engine_in rows = option_and_then engine_named (first_of (codes "engine") rows)
+
+-- the words BOOK, this one, REPLIES and NEWBOOK
+abbrev pub names_in : Text → List Row → Option Names
+names_in input rows =
+    option_and_then (λ book.
+    option_and_then (λ batch.
+    option_and_then (λ replies.
+    option_map (λ new_book. record { book = book; batch = batch; replies = replies; new_book = new_book })
+    (first_of (codes "NEWBOOK") rows))
+    (first_of (codes "REPLIES") rows))
+    (first_of input rows))
+    (first_of (codes "BOOK") rows)
+
+-- the body behind `one`
+abbrev pub one_in : List Row → Option Asked
+one_in rows = option_map one (option_and_then body_of (first_of (codes "FRAME") rows))
+
+-- the files behind `serial`
+abbrev pub serial_in : List Row → Option Asked
+serial_in rows = option_map serial (names_in (codes "BATCH") rows)
+
+-- a run by this engine, or with this journal, which the locked engine alone keeps
+abbrev pub run_by : Names → ℕ → Engine → Option Text → Option Asked
+run_by names workers engine None = Some (run names workers engine)
+run_by names workers Locked (Some journal) = Some (run_with_journal names workers journal)
+run_by names workers Split (Some journal) = None
+
+-- the files, the workers and the engine behind `run`, and the journal
+abbrev pub run_in : List Row → Option Asked
+run_in rows =
+    option_and_then (λ names.
+    option_and_then (λ workers.
+    option_and_then (λ engine. run_by names workers engine (first_of (codes "journal") rows))
+    (engine_in rows))
+    (workers_in rows))
+    (names_in (codes "BATCH") rows)
+
+-- the files, the workers and the engine behind `blocks`
+abbrev pub blocks_in : List Row → Option Asked
+blocks_in rows =
+    option_and_then (λ names.
+    option_and_then (λ workers.
+    option_map (blocks names workers)
+    (engine_in rows))
+    (workers_in rows))
+    (names_in (codes "FILE") rows)
+
+-- the files behind `audit`, and the journal
+abbrev pub audit_in : List Row → Option Asked
+audit_in rows = option_map (λ names. audit names (first_of (codes "journal") rows)) (names_in (codes "BATCH") rows)
+
+-- the files behind `audit-blocks`
+abbrev pub audit_blocks_in : List Row → Option Asked
+audit_blocks_in rows = option_map audit_blocks (names_in (codes "FILE") rows)
+
+-- the file behind `show`
+abbrev pub show_in : List Row → Option Asked
+show_in rows = option_map show (first_of (codes "FILE") rows)
+
+-- the text and the batch behind `pack`
+abbrev pub pack_in : List Row → Option Asked
+pack_in rows = option_and_then (λ text. option_map (pack text) (first_of (codes "BATCH") rows)) (first_of (codes "TEXT") rows)
+
+-- what a subcommand of this name with these words asks for
+abbrev pub asked : Text × List Row → Option Asked
+asked (name, rows) =
+    if bytes_eq name (codes "one") then one_in rows
+    else (if bytes_eq name (codes "run") then run_in rows
+    else (if bytes_eq name (codes "serial") then serial_in rows
+    else (if bytes_eq name (codes "blocks") then blocks_in rows
+    else (if bytes_eq name (codes "audit") then audit_in rows
+    else (if bytes_eq name (codes "audit-blocks") then audit_blocks_in rows
+    else (if bytes_eq name (codes "show") then show_in rows
+    else (if bytes_eq name (codes "pack") then pack_in rows else None)))))))
+
+abbrev pub names_of : BatchNames → Names
+names_of names = record {
+  book = string_bytes names.book;
+  batch = string_bytes names.batch;
+  replies = string_bytes names.replies;
+  new_book = string_bytes names.new_book;
+}
+
+abbrev pub names_of_arguments : BatchArguments → Names
+names_of_arguments words = record {
+  book = words.book.now;
+  batch = words.batch.now;
+  replies = words.replies.now;
+  new_book = words.new_book.now;
+}
+
+-- what a command does
+abbrev pub asked_of : Command → Asked
+asked_of (Help text) = help (string_bytes text)
+asked_of Version = version
+asked_of (One body) = one body.items
+asked_of (Serial names) = serial (names_of names)
+asked_of (Run names workers engine) = run (names_of names) workers engine
+asked_of (RunWithJournal names workers journal) = run_with_journal (names_of names) workers (string_bytes journal)
+asked_of (Blocks names workers engine) = blocks (names_of names) workers engine
+asked_of (Audit names journal) = audit (names_of names) (option_map string_bytes journal)
+asked_of (AuditBlocks names) = audit_blocks (names_of names)
+asked_of (Show file) = show (string_bytes file)
+asked_of (Pack text batch) = pack (string_bytes text) (string_bytes batch)

@@ -1,0 +1,4 @@
+pub mod Asked
+pub mod CommandLine
+pub mod Plainly
+pub mod Arguments

@@ -1,0 +1,316 @@
+ghost use Rattle.std.specs.Prelude.{◌≡◌, IfOk, codes, map, option_map, option_and_then, string_bytes};
+ghost use Rattle.clap.specs.Matches.{found_of};
+ghost use Rattle.clap.specs.Simple.{subcommand_rows_of};
+ghost use Rattle.clap.specs.Values.{kind_of};
+ghost use Rattle.clap.specs.Walk.{first_of, rows_of};
+ghost use Rattle.app_arguments.specs.Asked.{asked, asked_of, audit_blocks_in, audit_in, blocks_in, engine_in, names_in, names_of, names_of_arguments, one_in, pack_in, run_by, run_in, serial_in, show_in, workers_in};
+ghost use Rattle.app_arguments.specs.Arguments.{IsRead, IsReadAs, IsReadOfKind};
+
+use crate::command::Command;
+use crate::command_line::command_line;
+use crate::line_fault::LineFault;
+use clap::error::ErrorKind;
+use clap::{ArgMatches, Error};
+use engine_workers::{Engine, Workers};
+use file_devices::BatchNames;
+use file_listing::body_of_digits;
+use std::alloc::{AllocError, Global};
+
+/// Reads the program's words, of which the first is its name. Words that are no command are a usage fault.
+pub fn read_arguments(alloc: Global, words: &[String]) -> Result<Command, LineFault>
+    ensures { IsRead (map string_bytes words.now) result }
+{
+    match command_line(alloc)?.try_get_matches_from(words) {
+        Ok(matches) => command_or_fault(alloc, &matches),
+        Err(error) => request_of(alloc, &error),
+    }
+}
+
+// The command that the words ask for, or that they ask for nothing.
+fn command_or_fault(alloc: Global, matches: &ArgMatches<'_>) -> Result<Command, LineFault>
+    ensures { IsReadAs (option_and_then asked (subcommand_rows_of matches.now)) result }
+{
+    match command_of(alloc, matches)? {
+        Some(command) => Ok(command),
+        None => Err(LineFault::Usage(String::from_str(alloc, wrong_word(matches))?)),
+    }
+}
+
+// The command that the words ask for.
+fn command_of(alloc: Global, matches: &ArgMatches<'_>) -> Result<Option<Command>, AllocError>
+    ensures { IfOk result (λ command. option_map asked_of command ≡ option_and_then asked (subcommand_rows_of matches.now)) }
+{
+    match matches.subcommand() {
+        Some((name, words)) => command_named(alloc, name, words),
+        None => Ok(None),
+    }
+}
+
+// The command that a subcommand of this name asks for.
+fn command_named(
+    alloc: Global,
+    name: &str,
+    words: &ArgMatches<'_>,
+) -> Result<Option<Command>, AllocError>
+    ensures { IfOk result (λ command. option_map asked_of command ≡ asked (name.now, rows_of (found_of words.now))) }
+{
+    match name {
+        "one" => one_of(alloc, words),
+        "run" => run_of(alloc, words),
+        "serial" => serial_of(alloc, words),
+        "blocks" => blocks_of(alloc, words),
+        "audit" => audit_of(alloc, words),
+        "audit-blocks" => audit_blocks_of(alloc, words),
+        "show" => show_of(alloc, words),
+        "pack" => pack_of(alloc, words),
+        _ => Ok(None),
+    }
+}
+
+// What is wrong with words that have their form but ask for nothing.
+fn wrong_word(matches: &ArgMatches<'_>) -> &'static str {
+    match matches.subcommand() {
+        Some(("one", _)) => "FRAME is 1 to 512 pairs of hexadecimal digits",
+        Some((_, deciding)) => wrong_setting(deciding),
+        None => "see --help",
+    }
+}
+
+// What is wrong with the settings of a subcommand that decides.
+fn wrong_setting(deciding: &ArgMatches<'_>) -> &'static str {
+    if engine_of(deciding).is_none() {
+        return "--engine is locked or split";
+    }
+    if workers_of(deciding).is_none() {
+        return "--workers is a number from 1 to 64";
+    }
+    "--journal asks for --engine locked: the split engine keeps no journal"
+}
+
+// The word of this name.
+fn word<'a>(matches: &ArgMatches<'a>, id: &str) -> Option<&'a str>
+    ensures { option_map (λ s. s.now) result ≡ first_of id.now (rows_of (found_of matches.now)) }
+{
+    matches.get_str(id)
+}
+
+// The body behind `one`.
+fn one_of(alloc: Global, matches: &ArgMatches<'_>) -> Result<Option<Command>, AllocError>
+    ensures { IfOk result (λ command. option_map asked_of command ≡ one_in (rows_of (found_of matches.now))) }
+{
+    let Some(frame) = word(matches, "FRAME") else {
+        return Ok(None);
+    };
+    match body_of_digits(alloc, frame.as_bytes())? {
+        Some(body) => Ok(Some(Command::One(body))),
+        None => Ok(None),
+    }
+}
+
+// The files behind `serial`.
+fn serial_of(alloc: Global, matches: &ArgMatches<'_>) -> Result<Option<Command>, AllocError>
+    ensures { IfOk result (λ command. option_map asked_of command ≡ serial_in (rows_of (found_of matches.now))) }
+{
+    match names_of(alloc, matches, "BATCH")? {
+        Some(names) => Ok(Some(Command::Serial(names))),
+        None => Ok(None),
+    }
+}
+
+// The files, the workers and the engine behind `run`, and the journal.
+fn run_of(alloc: Global, matches: &ArgMatches<'_>) -> Result<Option<Command>, AllocError>
+    ensures { IfOk result (λ command. option_map asked_of command ≡ run_in (rows_of (found_of matches.now))) }
+{
+    let Some(names) = names_of(alloc, matches, "BATCH")? else {
+        return Ok(None);
+    };
+    let Some(workers) = workers_of(matches) else {
+        return Ok(None);
+    };
+    let Some(engine) = engine_of(matches) else {
+        return Ok(None);
+    };
+    let journal = journal_of(alloc, matches)?;
+    Ok(run_by(names, workers, engine, journal))
+}
+
+// A run by this engine. The split engine keeps no journal.
+fn run_by(
+    names: BatchNames,
+    workers: Workers,
+    engine: Engine,
+    journal: Option<String>,
+) -> Option<Command>
+    ensures { option_map asked_of result ≡ run_by (names_of names) workers engine (option_map string_bytes journal) }
+{
+    match journal {
+        None => Some(Command::Run {
+            names,
+            workers,
+            engine,
+        }),
+        Some(journal) => match engine {
+            Engine::Locked => Some(Command::RunWithJournal {
+                names,
+                workers,
+                journal,
+            }),
+            Engine::Split => None,
+        },
+    }
+}
+
+// The files, the workers and the engine behind `blocks`.
+fn blocks_of(alloc: Global, matches: &ArgMatches<'_>) -> Result<Option<Command>, AllocError>
+    ensures { IfOk result (λ command. option_map asked_of command ≡ blocks_in (rows_of (found_of matches.now))) }
+{
+    let Some(names) = names_of(alloc, matches, "FILE")? else {
+        return Ok(None);
+    };
+    let Some(workers) = workers_of(matches) else {
+        return Ok(None);
+    };
+    match engine_of(matches) {
+        Some(engine) => Ok(Some(Command::Blocks {
+            names,
+            workers,
+            engine,
+        })),
+        None => Ok(None),
+    }
+}
+
+// The files behind `audit`, and the journal.
+fn audit_of(alloc: Global, matches: &ArgMatches<'_>) -> Result<Option<Command>, AllocError>
+    ensures { IfOk result (λ command. option_map asked_of command ≡ audit_in (rows_of (found_of matches.now))) }
+{
+    let Some(names) = names_of(alloc, matches, "BATCH")? else {
+        return Ok(None);
+    };
+    Ok(Some(Command::Audit {
+        names,
+        journal: journal_of(alloc, matches)?,
+    }))
+}
+
+// The files behind `audit-blocks`.
+fn audit_blocks_of(alloc: Global, matches: &ArgMatches<'_>) -> Result<Option<Command>, AllocError>
+    ensures { IfOk result (λ command. option_map asked_of command ≡ audit_blocks_in (rows_of (found_of matches.now))) }
+{
+    match names_of(alloc, matches, "FILE")? {
+        Some(names) => Ok(Some(Command::AuditBlocks(names))),
+        None => Ok(None),
+    }
+}
+
+// The file behind `show`.
+fn show_of(alloc: Global, matches: &ArgMatches<'_>) -> Result<Option<Command>, AllocError>
+    ensures { IfOk result (λ command. option_map asked_of command ≡ show_in (rows_of (found_of matches.now))) }
+{
+    match word(matches, "FILE") {
+        Some(file) => Ok(Some(Command::Show(String::from_str(alloc, file)?))),
+        None => Ok(None),
+    }
+}
+
+// The text and the batch behind `pack`.
+fn pack_of(alloc: Global, matches: &ArgMatches<'_>) -> Result<Option<Command>, AllocError>
+    ensures { IfOk result (λ command. option_map asked_of command ≡ pack_in (rows_of (found_of matches.now))) }
+{
+    let Some(text) = word(matches, "TEXT") else {
+        return Ok(None);
+    };
+    let Some(batch) = word(matches, "BATCH") else {
+        return Ok(None);
+    };
+    Ok(Some(Command::Pack {
+        text: String::from_str(alloc, text)?,
+        batch: String::from_str(alloc, batch)?,
+    }))
+}
+
+// The engine behind `--engine`.
+fn engine_of(matches: &ArgMatches<'_>) -> Option<Engine>
+    ensures { result ≡ engine_in (rows_of (found_of matches.now)) }
+{
+    match word(matches, "engine")? {
+        "locked" => Some(Engine::Locked),
+        "split" => Some(Engine::Split),
+        _ => None,
+    }
+}
+
+// The number behind `--workers`.
+fn workers_of(matches: &ArgMatches<'_>) -> Option<Workers>
+    ensures { result ≡ workers_in (rows_of (found_of matches.now)) }
+{
+    let text = word(matches, "workers")?;
+    let count = text.parse::<u8>().unwrap_or(0);
+    Workers::new(u32::from(count))
+}
+
+// The name behind `--journal`.
+fn journal_of(alloc: Global, matches: &ArgMatches<'_>) -> Result<Option<String>, AllocError>
+    ensures { IfOk result (λ name. option_map string_bytes name ≡ first_of (codes "journal") (rows_of (found_of matches.now))) }
+{
+    match word(matches, "journal") {
+        Some(name) => Ok(Some(String::from_str(alloc, name)?)),
+        None => Ok(None),
+    }
+}
+
+// The names behind a subcommand that decides or audits what the word of this name holds.
+fn names_of(
+    alloc: Global,
+    matches: &ArgMatches<'_>,
+    input: &str,
+) -> Result<Option<BatchNames>, AllocError>
+    ensures { IfOk result (λ names. option_map names_of names ≡ names_in input.now (rows_of (found_of matches.now))) }
+{
+    let Some(words) = batch_arguments(matches, input) else {
+        return Ok(None);
+    };
+    Ok(Some(BatchNames {
+        book: String::from_str(alloc, words.book)?,
+        batch: String::from_str(alloc, words.batch)?,
+        replies: String::from_str(alloc, words.replies)?,
+        new_book: String::from_str(alloc, words.new_book)?,
+    }))
+}
+
+// The words BOOK, BATCH or FILE, REPLIES and NEWBOOK.
+#[derive(Drop)]
+struct BatchArguments<'a> {
+    book: &'a str,
+    batch: &'a str,
+    replies: &'a str,
+    new_book: &'a str,
+}
+
+fn batch_arguments<'a>(matches: &ArgMatches<'a>, input: &str) -> Option<BatchArguments<'a>>
+    ensures { option_map names_of_arguments result ≡ names_in input.now (rows_of (found_of matches.now)) }
+{
+    Some(BatchArguments {
+        book: word(matches, "BOOK")?,
+        batch: word(matches, input)?,
+        replies: word(matches, "REPLIES")?,
+        new_book: word(matches, "NEWBOOK")?,
+    })
+}
+
+// Help or the version that was asked for is a command; all else that the words' reader says is a fault, in its words.
+fn request_of(alloc: Global, error: &Error) -> Result<Command, LineFault>
+    ensures { IsReadOfKind (kind_of error.now) result }
+{
+    match error.kind() {
+        ErrorKind::DisplayHelp => Ok(Command::Help(text_of(alloc, error)?)),
+        ErrorKind::DisplayVersion => Ok(Command::Version),
+        ErrorKind::OutOfMemory => Err(LineFault::OutOfMemory),
+        _ => Err(LineFault::Usage(text_of(alloc, error)?)),
+    }
+}
+
+// What the words' reader says, without the end of its last line.
+fn text_of(alloc: Global, error: &Error) -> Result<String, AllocError> {
+    String::from_str(alloc, error.to_string(alloc)?.trim_end())
+}

@@ -1,0 +1,60 @@
+use engine_workers::{Engine, Workers};
+use file_devices::BatchNames;
+
+/// What the words ask for.
+#[derive(Drop)]
+pub enum Command {
+    /// Print this help.
+    Help(String),
+    /// Print the program's version.
+    Version,
+    /// Decide this one body on the sample book.
+    One(Vec<u8>),
+    /// Decide a batch one message after another.
+    Serial(BatchNames),
+    /// Decide a batch by several workers.
+    Run {
+        /// The names of its files.
+        names: BatchNames,
+        /// How many workers decide.
+        workers: Workers,
+        /// How they share their work.
+        engine: Engine,
+    },
+    /// Decide a batch by several workers under one lock, and keep the run's journal.
+    RunWithJournal {
+        /// The names of its files.
+        names: BatchNames,
+        /// How many workers decide.
+        workers: Workers,
+        /// The name of the file for the journal.
+        journal: String,
+    },
+    /// Decide blocks, one after another, each by several workers. The batch is their file.
+    Blocks {
+        /// The names of their files.
+        names: BatchNames,
+        /// How many workers decide.
+        workers: Workers,
+        /// How they share their work.
+        engine: Engine,
+    },
+    /// Compare replies and book of a batch with what deciding it comes to.
+    Audit {
+        /// The names of its files.
+        names: BatchNames,
+        /// The name of the file of a journal, if that is to be played.
+        journal: Option<String>,
+    },
+    /// Compare replies and book of blocks with what deciding them comes to. The batch is their file.
+    AuditBlocks(BatchNames),
+    /// Show what the file of this name holds.
+    Show(String),
+    /// Make a batch of a text of bodies.
+    Pack {
+        /// The name of the text's file.
+        text: String,
+        /// The name of the batch's file.
+        batch: String,
+    },
+}

@@ -1,0 +1,252 @@
+ghost use Rattle.std.specs.Prelude.{◌≡◌, IfOk, codes};
+ghost use Rattle.clap.specs.Simple.{app_of, with_subcommand};
+ghost use Rattle.app_arguments.specs.CommandLine.{IsLine, IsWord, audit_blocks_line, audit_line, blocks_line, command_line, files_line, one_line, operand, pack_line, program_line, run_line, serial_line, setting, setting_or, show_line, with_engine};
+
+use clap::{Arg, Command};
+use std::alloc::{AllocError, Global};
+
+// What the program's help says behind its subcommands.
+const AFTER_HELP: &str =
+    "Exit status: 0 done, 1 fault, 2 words that are no command, 3 an audit found a difference.
+
+A fault is printed on standard error as what it is of and its number there:
+  file 1     a file can't be opened or read
+  file 2     a file can't be made or written
+  book N     BOOK or NEWBOOK is no book: 1 no JSON, 2 another shape, 3 a value out of range, 4 not sound; 5 out of memory
+  batch N    BATCH, FILE or REPLIES is none: 1 other letters, 2 another version, 3 more than 65,536 bodies, 4 a body of
+             0 or over 512 bytes, 5 it ends within a field, 6 a byte after its end, 9 a body is no reply, 10 more than
+             1,000 blocks; 7 a device failed, 8 out of memory
+  journal N  the journal is none: 1 a line is no entry, 2 a decision asks for a row that was not logged; 3 out of memory
+  text N     line N of TEXT is no body
+  memory 1   memory ran out
+Behind a fault of `blocks` a line `kept M` says that NEWBOOK is the book after the first M blocks, whose replies were
+written.";
+
+/// The words that the program has.
+pub(crate) fn command_line<'a>(alloc: Global) -> Result<Command<'a>, AllocError>
+    ensures { IfOk result (λ command. app_of command ≡ command_line) }
+{
+    let one = with_line(Ok(program_line(alloc)), one_line(alloc));
+    let run = with_line(one, run_line(alloc));
+    let serial = with_line(run, serial_line(alloc));
+    let blocks = with_line(serial, blocks_line(alloc));
+    let audit = with_line(blocks, audit_line(alloc));
+    let audit_blocks = with_line(audit, audit_blocks_line(alloc));
+    let show = with_line(audit_blocks, show_line(alloc));
+    with_line(show, pack_line(alloc))
+}
+
+// The program's own line, without its subcommands.
+fn program_line<'a>(alloc: Global) -> Command<'a>
+    ensures { IsLine program_line result }
+{
+    Command::new(alloc, "switch")
+        .about("Decides ISO 8583:1993 card messages for an issuer")
+        .version("0.1.0")
+        .after_help(AFTER_HELP)
+        .subcommand_required(true)
+        .arg_required_else_help(true)
+}
+
+// The line with one more subcommand, where memory didn't run out while either was made.
+fn with_line<'a>(
+    line: Result<Command<'a>, AllocError>,
+    subcommand: Result<Command<'a>, AllocError>,
+) -> Result<Command<'a>, AllocError>
+    ensures { (app sub_app : _) → IfOk line.entry (IsLine app) → IfOk subcommand.entry (IsLine sub_app) → IfOk result (IsLine (with_subcommand app sub_app.top)) }
+{
+    line?.subcommand(subcommand?)
+}
+
+// `one FRAME`.
+fn one_line<'a>(alloc: Global) -> Result<Command<'a>, AllocError>
+    ensures { IfOk result (IsLine one_line) }
+{
+    let frame = operand(
+        alloc,
+        "FRAME",
+        "The body of a message: 1 to 512 pairs of hexadecimal digits",
+    );
+    Command::new(alloc, "one")
+        .about("Decides one message on the sample book, and prints its reply in hexadecimal")
+        .arg(frame)
+}
+
+// `run BOOK BATCH REPLIES NEWBOOK [--workers N] [--engine ENGINE] [--journal FILE]`.
+fn run_line<'a>(alloc: Global) -> Result<Command<'a>, AllocError>
+    ensures { IfOk result (IsLine run_line) }
+{
+    let files = batch_line(
+        alloc,
+        "run",
+        "Decides a batch on several threads; the answers are those of deciding one message after another",
+    )?;
+    with_engine(alloc, files)?.arg(journal_setting(
+        alloc,
+        "Puts the run's journal into this file: a line for each thing that a worker asked of the core; the locked engine alone keeps one",
+    ))
+}
+
+// `serial BOOK BATCH REPLIES NEWBOOK`.
+fn serial_line<'a>(alloc: Global) -> Result<Command<'a>, AllocError>
+    ensures { IfOk result (IsLine serial_line) }
+{
+    batch_line(alloc, "serial", "Decides a batch one message after another")
+}
+
+// `blocks BOOK FILE REPLIES NEWBOOK [--workers N] [--engine ENGINE]`.
+fn blocks_line<'a>(alloc: Global) -> Result<Command<'a>, AllocError>
+    ensures { IfOk result (IsLine blocks_line) }
+{
+    let files = block_file_line(
+        alloc,
+        "blocks",
+        "Decides blocks, each on the book after those before it, and answers each before the next is read; a fault keeps the blocks that were answered",
+    )?;
+    with_engine(alloc, files)
+}
+
+// `audit BOOK BATCH REPLIES NEWBOOK [--journal FILE]`.
+fn audit_line<'a>(alloc: Global) -> Result<Command<'a>, AllocError>
+    ensures { IfOk result (IsLine audit_line) }
+{
+    let files = batch_line(
+        alloc,
+        "audit",
+        "Decides a batch one message after another, and says what differs first: same, count differs, reply I differs, row KEY differs",
+    )?;
+    files.arg(journal_setting(
+        alloc,
+        "Plays the journal of a run in this file, and compares with what it comes to",
+    ))
+}
+
+// `audit-blocks BOOK FILE REPLIES NEWBOOK`.
+fn audit_blocks_line<'a>(alloc: Global) -> Result<Command<'a>, AllocError>
+    ensures { IfOk result (IsLine audit_blocks_line) }
+{
+    block_file_line(
+        alloc,
+        "audit-blocks",
+        "Decides blocks one message after another, and says what differs first: same, count differs, block B reply I differs, row KEY differs",
+    )
+}
+
+// `show FILE`.
+fn show_line<'a>(alloc: Global) -> Result<Command<'a>, AllocError>
+    ensures { IfOk result (IsLine show_line) }
+{
+    let line = Command::new(alloc, "show").about(
+        "Prints a line for each message: its place, type, amount and trace number; or for each reply: its place, type, action, approval code and trace number",
+    );
+    line.arg(operand(alloc, "FILE", "A batch, or a file of replies"))
+}
+
+// `pack TEXT BATCH`.
+fn pack_line<'a>(alloc: Global) -> Result<Command<'a>, AllocError>
+    ensures { IfOk result (IsLine pack_line) }
+{
+    let line = Command::new(alloc, "pack").about(
+        "Makes a batch of bodies that are written in hexadecimal",
+    );
+    let text = line.arg(operand(
+        alloc,
+        "TEXT",
+        "One body a line, in hexadecimal digits; empty lines and lines that begin with # are passed over",
+    ))?;
+    text.arg(operand(alloc, "BATCH", "The file for the batch"))
+}
+
+// A subcommand with the operands of a batch.
+fn batch_line<'a>(alloc: Global, name: &'a str, about: &'a str) -> Result<Command<'a>, AllocError>
+    ensures { IfOk result (IsLine (files_line name.now (codes "BATCH"))) }
+{
+    files_line(
+        alloc,
+        name,
+        about,
+        "BATCH",
+        "The batch: I83B, version 1, the number of bodies, and each behind its length",
+        "Its replies: I83R, version 1, their number, and each behind its length",
+    )
+}
+
+// A subcommand with the operands of blocks.
+fn block_file_line<'a>(
+    alloc: Global,
+    name: &'a str,
+    about: &'a str,
+) -> Result<Command<'a>, AllocError>
+    ensures { IfOk result (IsLine (files_line name.now (codes "FILE"))) }
+{
+    files_line(
+        alloc,
+        name,
+        about,
+        "FILE",
+        "The blocks: I83M, version 1, their number, and of each the number of its bodies, and each behind its length",
+        "Their replies: I83T, version 1, the number of blocks, and of each the number of its replies, and each behind its length",
+    )
+}
+
+// A subcommand with the book that is decided on, what is decided, its replies, and the book after it.
+fn files_line<'a>(
+    alloc: Global,
+    name: &'a str,
+    about: &'a str,
+    input: &'a str,
+    input_help: &'a str,
+    replies_help: &'a str,
+) -> Result<Command<'a>, AllocError>
+    ensures { IfOk result (IsLine (files_line name.now input.now)) }
+{
+    let line = Command::new(alloc, name).about(about);
+    let book = line.arg(operand(alloc, "BOOK", "The book before: JSON of version 1, 2 or 3"))?;
+    let batch = book.arg(operand(alloc, input, input_help))?;
+    let replies = batch.arg(operand(alloc, "REPLIES", replies_help))?;
+    replies.arg(operand(alloc, "NEWBOOK", "The book after it: JSON of version 3"))
+}
+
+// A subcommand that decides, with `[--workers N] [--engine ENGINE]`.
+fn with_engine<'a>(alloc: Global, line: Command<'a>) -> Result<Command<'a>, AllocError>
+    ensures { (app : _) → IsLine app line.entry → IfOk result (IsLine (with_engine app)) }
+{
+    let workers = setting(
+        alloc,
+        "workers",
+        "N",
+        "How many threads may decide: 1 to 64",
+    );
+    let counted = line.arg(workers.default_value("4"))?;
+    let engine = setting(
+        alloc,
+        "engine",
+        "ENGINE",
+        "How they share their work: locked, all of it under one lock; split, each row, message and commit under a lock of its own, and of a long batch only what takes long to decide",
+    );
+    counted.arg(engine.default_value("locked"))
+}
+
+// `--journal FILE`.
+fn journal_setting<'a>(alloc: Global, help: &'a str) -> Arg<'a>
+    ensures { IsWord (setting (codes "journal")) result }
+{
+    setting(alloc, "journal", "FILE", help)
+}
+
+// `--NAME VALUE`.
+fn setting<'a>(alloc: Global, name: &'a str, value: &'a str, help: &'a str) -> Arg<'a>
+    ensures { IsWord (setting name.now) result }
+{
+    Arg::new(alloc, name)
+        .long(name)
+        .value_name(value)
+        .help(help)
+}
+
+// An operand, which has to be there.
+fn operand<'a>(alloc: Global, id: &'a str, help: &'a str) -> Arg<'a>
+    ensures { IsWord (operand id.now) result }
+{
+    Arg::new(alloc, id).required(true).help(help)
+}

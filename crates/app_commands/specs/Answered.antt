@@ -1,0 +1,193 @@
+-- What the program does for its words.
+use Rattle.std.specs.Prelude.{◌≡◌, ◌≢◌, ◌⊎◌, ℕ, List, [], ◌∷◌, ◌++◌, Option, Some, None, codes, string_bytes}
+use Rattle.app_runs.specs.Answers.{IsAnswerInDigits}
+use Rattle.app_runs.specs.SampleBook.{sample_rows}
+use Rattle.app_audit.specs.Texts.{audit_text, block_audit_text}
+use Rattle.app_audit.specs.declared.audited.Audit.{Audit}
+use Rattle.app_audit.specs.declared.audited.Audit.TheVariants as found
+use Rattle.app_audit.specs.declared.block_audit.BlockAudit.{BlockAudit}
+use Rattle.app_audit.specs.declared.block_audit.BlockAudit.TheVariants as block_found
+use Rattle.file_batch_laws.specs.declared.batch_fault.BatchFault.{BatchFault}
+use Rattle.app_jobs.specs.AuditedBlocks.{AreBlocksAudited}
+use Rattle.app_jobs.specs.DecidedBlocks.{AreBlocksDecided, AreBlocksKept}
+use Rattle.app_jobs.specs.BlockFaults.{IsBlockAuditingFault, IsBlocksFault}
+use Rattle.file_devices.specs.Failing.{HasFailed, HasRefused}
+use Rattle.app_jobs.specs.Audited.{IsAudited}
+use Rattle.app_jobs.specs.Decided.{Holding, IsDecided}
+use Rattle.app_jobs.specs.Faults.{IsAuditingFault, IsDecidingFault}
+use Rattle.app_jobs.specs.JournalFaults.{IsJournalAuditingFault}
+use Rattle.app_jobs.specs.Journaled.{IsAuditedWithJournal}
+use Rattle.app_runs.specs.Journaled.{IsDecidedWithJournal}
+use Rattle.app_jobs.specs.Packed.{IsPacked, IsPackingFault}
+use Rattle.app_jobs.specs.Shown.{IsShowingFault, IsShown}
+use Rattle.app_jobs.specs.declared.job_fault.JobFault.{JobFault}
+use Rattle.app_jobs.specs.declared.job_fault.JobFault.TheVariants.{Batch}
+use Rattle.app_arguments.specs.Asked.{Asked, Names, help, version, one, serial, run, run_with_journal, blocks, audit, audit_blocks, show, pack}
+use Rattle.app_arguments.specs.Arguments.{Asks, IsUsageFault}
+use Rattle.app_commands.specs.Fault.{status_of, text_of}
+use Rattle.app_commands.specs.Printed.{Prints, PrintsLine, decided_in_blocks, numbered}
+use Rattle.app_commands.specs.declared.fault.Fault.{Fault}
+use Rattle.app_commands.specs.declared.fault.Fault.TheVariants.{Usage, OutOfMemory, Job, Halted}
+use Rattle.app_commands.specs.declared.report.Report.{Report}
+use Rattle.app_commands.specs.declared.report.Report.TheVariants as report
+
+-- what is printed of what was done
+abbrev pub text_of_report : Report → List ℕ
+text_of_report (report.Help text) = string_bytes text ++ 10 ∷ []
+text_of_report report.Version = codes "switch 0.1.0" ++ 10 ∷ []
+text_of_report (report.Answer text) = string_bytes text ++ 10 ∷ []
+text_of_report (report.Decided count) = numbered (codes "decided") count ++ 10 ∷ []
+text_of_report (report.DecidedBlocks count) = decided_in_blocks count.messages count.blocks ++ 10 ∷ []
+text_of_report (report.Packed count) = numbered (codes "packed") count ++ 10 ∷ []
+text_of_report (report.Audited found text) = text.items ++ 10 ∷ []
+text_of_report (report.AuditedBlocks found text) = text.items ++ 10 ∷ []
+text_of_report (report.Lines text) = text.items
+
+abbrev pub status_of_audit : Audit → ℕ
+status_of_audit found.Same = 0
+status_of_audit found.CountDiffers = 3
+status_of_audit (found.ReplyDiffers place) = 3
+status_of_audit (found.BookDiffers key) = 3
+
+abbrev pub status_of_block_audit : BlockAudit → ℕ
+status_of_block_audit block_found.Same = 0
+status_of_block_audit block_found.CountDiffers = 3
+status_of_block_audit (block_found.ReplyDiffers block index) = 3
+status_of_block_audit (block_found.BookDiffers key) = 3
+
+-- 0, or 3 for an audit that found a difference
+abbrev pub status_of_report : Report → ℕ
+status_of_report (report.Audited found text) = status_of_audit found
+status_of_report (report.AuditedBlocks found text) = status_of_block_audit found
+status_of_report told = 0
+
+-- The report is of what was asked for, and that is done. It is help, or the version; the answer to a body on the sample book; that a
+-- batch was decided, or blocks were, where the files hold what that comes to, and the journal of the run where one was asked for; what an
+-- audit found, in words; the lines of a file; or that a text was packed.
+abbrev pub IsDoneAs : Type 0 → Holding → Holding → Asked → Report → Type 0
+IsDoneAs known old new (help text) (report.Help told) = string_bytes told ≡ text
+IsDoneAs known old new version report.Version = Unit {0}
+IsDoneAs known old new (one body) (report.Answer text) = IsAnswerInDigits sample_rows body (string_bytes text)
+IsDoneAs known old new (serial names) (report.Decided count) =
+    IsDecided known old new names.book names.batch names.replies names.new_book count
+IsDoneAs known old new (run names workers engine) (report.Decided count) =
+    IsDecided known old new names.book names.batch names.replies names.new_book count
+IsDoneAs known old new (run_with_journal names workers journal) (report.Decided count) =
+    IsDecidedWithJournal known old new names.book names.batch names.replies names.new_book journal count
+IsDoneAs known old new (blocks names workers engine) (report.DecidedBlocks count) =
+    AreBlocksDecided known old new names.book names.batch names.replies names.new_book count.blocks count.messages
+IsDoneAs known old new (audit names None) (report.Audited found text) =
+    IsAudited old names.book names.batch names.replies names.new_book found × (text.items ≡ audit_text found)
+IsDoneAs known old new (audit names (Some journal)) (report.Audited found text) =
+    IsAuditedWithJournal old names.book names.batch names.replies names.new_book journal found × (text.items ≡ audit_text found)
+IsDoneAs known old new (audit_blocks names) (report.AuditedBlocks found text) =
+    AreBlocksAudited old names.book names.batch names.replies names.new_book found × (text.items ≡ block_audit_text found)
+IsDoneAs known old new (show file) (report.Lines text) = (bytes : List ℕ) → old file bytes → IsShown bytes text.items
+IsDoneAs known old new (pack text batch) (report.Packed count) = IsPacked known old new text batch count
+IsDoneAs known old new what told = ⊥
+
+-- Some first blocks are kept, so many, and the files hold what these come to; behind them this fault came.
+abbrev pub IsHaltedAs : Type 0 → Holding → Holding → Asked → JobFault → ℕ → Type 0
+IsHaltedAs known old new (blocks names workers engine) fault kept =
+    (why : BatchFault) × (fault ≡ Batch why) × AreBlocksKept known old new names.book names.batch names.replies names.new_book why kept
+IsHaltedAs known old new what fault kept = ⊥
+
+-- the file of the new book, where it is not that of the replies, holds what it held
+abbrev pub IsBookAsItWas : Holding → Holding → Names → Type 0
+IsBookAsItWas old new names = names.new_book ≢ names.replies → (held : List ℕ) → old names.new_book held → new names.new_book held
+
+-- What is asked for is not done with the files, or not to its end. An older book under the name of the new one is not lost, where that is
+-- the name of no other file that is written.
+abbrev pub IsUndone : Holding → Holding → Asked → Type 0
+IsUndone old new (help text) = ⊥
+IsUndone old new version = ⊥
+IsUndone old new (one body) = ⊥
+IsUndone old new (serial names) = IsBookAsItWas old new names
+IsUndone old new (run names workers engine) = IsBookAsItWas old new names
+IsUndone old new (run_with_journal names workers journal) = names.new_book ≢ journal → IsBookAsItWas old new names
+IsUndone old new (blocks names workers engine) = IsBookAsItWas old new names
+IsUndone old new what = Unit {0}
+
+-- the file of this name is none of those that are written for what is asked for
+abbrev pub Spares : Asked → List ℕ → Type 0
+Spares (serial names) file = (file ≢ names.replies) × (file ≢ names.new_book)
+Spares (run names workers engine) file = (file ≢ names.replies) × (file ≢ names.new_book)
+Spares (run_with_journal names workers journal) file = (file ≢ names.replies) × (file ≢ names.new_book) × (file ≢ journal)
+Spares (blocks names workers engine) file = (file ≢ names.replies) × (file ≢ names.new_book)
+Spares (pack text batch) file = file ≢ batch
+Spares what file = Unit {0}
+
+-- what may fail of files: a call of one that is read, or of one that is written; or a name is refused
+pub record Failing : Type 1 where
+  pub reading : Type 0
+  pub writing : Type 0
+  pub refused : Type 0
+
+-- such calls are counted, and refusals known, so
+abbrev pub failing : {I O X : Type 0} → (I → ℕ) → (O → ℕ) → (X → List ℕ → Type 0) → Failing
+failing inputs outputs refuses = record { reading = HasFailed inputs; writing = HasFailed outputs; refused = HasRefused refuses }
+
+-- Why what is asked for is not done, as the files were: the first fault of what they held, in the order of reading; a call that failed;
+-- or out of memory.
+abbrev pub IsJobFault : Holding → Failing → Asked → JobFault → Type 0
+IsJobFault old devices (help text) fault = ⊥
+IsJobFault old devices version fault = ⊥
+IsJobFault old devices (one body) fault = ⊥
+IsJobFault old devices (serial names) fault = IsDecidingFault old names.book names.batch devices.reading devices.writing devices.refused fault
+IsJobFault old devices (run names workers engine) fault = IsDecidingFault old names.book names.batch devices.reading devices.writing devices.refused fault
+IsJobFault old devices (run_with_journal names workers journal) fault =
+    IsDecidingFault old names.book names.batch devices.reading devices.writing devices.refused fault
+IsJobFault old devices (blocks names workers engine) fault = IsBlocksFault old names.book names.batch devices.reading devices.writing devices.refused fault
+IsJobFault old devices (audit names None) fault = IsAuditingFault old names.book names.batch names.replies names.new_book devices.reading fault
+IsJobFault old devices (audit names (Some journal)) fault =
+    IsJournalAuditingFault old names.book names.batch names.replies names.new_book journal devices.reading fault
+IsJobFault old devices (audit_blocks names) fault = IsBlockAuditingFault old names.book names.batch names.replies names.new_book devices.reading fault
+IsJobFault old devices (show file) fault = IsShowingFault old file devices.reading fault
+IsJobFault old devices (pack text batch) fault = IsPackingFault old text devices.reading devices.writing devices.refused fault
+
+-- What is asked for has this fault: memory ran out; or it isn't done with the files, or blocks are done in part, for why that is.
+abbrev pub IsFaultIn : Type 0 → Holding → Holding → Failing → Asked → Fault → Type 0
+IsFaultIn known old new devices what (Usage text) = ⊥
+IsFaultIn known old new devices what OutOfMemory = Unit {0}
+IsFaultIn known old new devices what (Job fault) = IsUndone old new what × IsJobFault old devices what fault
+IsFaultIn known old new devices what (Halted fault kept) = IsHaltedAs known old new what fault kept × IsJobFault old devices what fault
+
+-- the report is of what the words ask for
+abbrev pub IsAskedFor : Type 0 → Holding → Holding → List (List ℕ) → Report → Type 0
+IsAskedFor known old new words told = (what : Asked) × Asks words what × IsDoneAs known old new what told
+
+-- the words have this fault: they are no command, memory ran out, or what they ask for has it
+abbrev pub IsFaultOf : Type 0 → Holding → Holding → Failing → List (List ℕ) → Fault → Type 0
+IsFaultOf known old new devices words (Usage text) = IsUsageFault words
+IsFaultOf known old new devices words OutOfMemory = Unit {0}
+IsFaultOf known old new devices words fault = (what : Asked) × Asks words what × IsFaultIn known old new devices what fault
+
+-- the file of this name is none of those that are written for what the words ask for
+abbrev pub AreSparing : List (List ℕ) → List ℕ → Type 0
+AreSparing words file = (what : Asked) → Asks words what → Spares what file
+
+-- what is printed on standard output and on standard error, before and after
+pub record Pages : Type 0 where
+  pub out : Option (List ℕ)
+  pub err : Option (List ℕ)
+
+-- what is asked for is done, and reported on standard output, nothing goes to standard error, and the status is the report's
+pub record IsDone (known : Type 0) (old_files new_files : Holding) (words : List (List ℕ)) (old new : Pages) (status : ℕ) : Type 0 where
+  pub told : Report
+  pub asked : IsAskedFor known old_files new_files words told
+  pub out : Prints old.out new.out (text_of_report told)
+  pub err : new.err ≡ old.err
+  pub by_report : status ≡ status_of_report told
+
+-- the fault is a line of standard error, or two, nothing goes to standard output, and the status is the fault's
+pub record IsRefused (known : Type 0) (old_files new_files : Holding) (devices : Failing) (words : List (List ℕ)) (old new : Pages) (status : ℕ) : Type 0 where
+  pub fault : Fault
+  pub has : IsFaultOf known old_files new_files devices words fault
+  pub out : new.out ≡ old.out
+  pub err : PrintsLine old.err new.err (text_of fault)
+  pub by_fault : status ≡ status_of fault
+
+-- the words are done or refused
+abbrev pub IsActed : Type 0 → Holding → Holding → Failing → List (List ℕ) → Pages → Pages → ℕ → Type 0
+IsActed known old_files new_files devices words old new status =
+    IsDone known old_files new_files words old new status ⊎ IsRefused known old_files new_files devices words old new status

@@ -1,0 +1,200 @@
+ghost use Rattle.std.specs.Prelude.{◌≡◌, MatchResult, ℕ, List, None, Some, option_map, string_bytes};
+ghost use Rattle.app_arguments.specs.Asked.{asked_of, audit, audit_blocks, blocks, names_of, one, pack, run, run_with_journal, serial, show};
+ghost use Rattle.app_commands.specs.Answered.{IsDoneAs, IsFaultIn, Spares, failing};
+
+use crate::fault::Fault;
+use crate::report::Report;
+use app_arguments::Command;
+use app_audit::{audit_text, block_audit_text};
+use app_jobs::{
+    audit_batch, audit_batch_with_journal, audit_block_files, pack_batch, serial_batch, show_file,
+};
+use app_runs::{decide_one, run_batch, run_batch_with_journal, run_blocks};
+use engine_workers::{Engine, Workers};
+use file_devices::{BatchNames, Files};
+use std::alloc::Global;
+use std::sync::Wait;
+use std::thread::Threads;
+use std::time::Clock;
+
+/// Does what the command asks for.
+pub(crate) fn done<R: Clock + Threads + Wait + Sync, F: Files>(
+    rt: &R,
+    alloc: Global,
+    files: &mut F,
+    command: Command,
+) -> Result<Report, Fault>
+    ensures done { MatchResult result
+        (IsDoneAs (F.is_known files.old) (F.holds files.old) (F.holds files.new) (asked_of command))
+        (IsFaultIn (F.is_known files.old) (F.holds files.old) (F.holds files.new) (failing F.Input.failures F.Output.failures F.refuses) (asked_of command)) }
+    ensures others { (other held : List ℕ) → Spares (asked_of command) other → F.holds files.old other held → F.holds files.new other held }
+{
+    match command {
+        Command::Help(text) => Ok(Report::Help(text)),
+        Command::Version => Ok(Report::Version),
+        Command::One(body) => Ok(Report::Answer(decide_one(rt, alloc, &body)?)),
+        Command::Serial(names) => serial(rt, alloc, files, &names),
+        Command::Run {
+            names,
+            workers,
+            engine,
+        } => run(rt, alloc, files, &names, workers, engine),
+        Command::RunWithJournal {
+            names,
+            workers,
+            journal,
+        } => run_with_journal(rt, alloc, files, &names, workers, journal.as_str()),
+        Command::Blocks {
+            names,
+            workers,
+            engine,
+        } => blocks(rt, alloc, files, &names, workers, engine),
+        Command::Audit { names, journal } => match journal {
+            Some(journal) => audited_with_journal(rt, alloc, files, &names, journal.as_str()),
+            None => audited(rt, alloc, files, &names),
+        },
+        Command::AuditBlocks(names) => audited_blocks(rt, alloc, files, &names),
+        Command::Show(file) => show(alloc, files, file.as_str()),
+        Command::Pack { text, batch } => pack(alloc, files, text.as_str(), batch.as_str()),
+    }
+}
+
+// A batch is decided one message after another.
+fn serial<R: Threads + Wait + Sync, F: Files>(
+    rt: &R,
+    alloc: Global,
+    files: &mut F,
+    names: &BatchNames,
+) -> Result<Report, Fault>
+    ensures done { MatchResult result
+        (IsDoneAs (F.is_known files.old) (F.holds files.old) (F.holds files.new) (serial (names_of names.now)))
+        (IsFaultIn (F.is_known files.old) (F.holds files.old) (F.holds files.new) (failing F.Input.failures F.Output.failures F.refuses) (serial (names_of names.now))) }
+    ensures others { (other held : List ℕ) → Spares (serial (names_of names.now)) other → F.holds files.old other held → F.holds files.new other held }
+{
+    let count = serial_batch(rt, alloc, files, names)?;
+    Ok(Report::Decided(count))
+}
+
+// A batch is decided by several workers of this engine.
+fn run<R: Clock + Threads + Wait + Sync, F: Files>(
+    rt: &R,
+    alloc: Global,
+    files: &mut F,
+    names: &BatchNames,
+    workers: Workers,
+    engine: Engine,
+) -> Result<Report, Fault>
+    ensures done { MatchResult result
+        (IsDoneAs (F.is_known files.old) (F.holds files.old) (F.holds files.new) (run (names_of names.now) workers engine))
+        (IsFaultIn (F.is_known files.old) (F.holds files.old) (F.holds files.new) (failing F.Input.failures F.Output.failures F.refuses) (run (names_of names.now) workers engine)) }
+    ensures others { (other held : List ℕ) → Spares (run (names_of names.now) workers engine) other → F.holds files.old other held → F.holds files.new other held }
+{
+    let count = run_batch(rt, alloc, files, names, workers, engine)?;
+    Ok(Report::Decided(count))
+}
+
+// A batch is decided by several workers under one lock, and the run's journal is kept.
+fn run_with_journal<R: Clock + Threads + Wait + Sync, F: Files>(
+    rt: &R,
+    alloc: Global,
+    files: &mut F,
+    names: &BatchNames,
+    workers: Workers,
+    journal: &str,
+) -> Result<Report, Fault>
+    ensures done { MatchResult result
+        (IsDoneAs (F.is_known files.old) (F.holds files.old) (F.holds files.new) (run_with_journal (names_of names.now) workers journal.now))
+        (IsFaultIn (F.is_known files.old) (F.holds files.old) (F.holds files.new) (failing F.Input.failures F.Output.failures F.refuses) (run_with_journal (names_of names.now) workers journal.now)) }
+    ensures others { (other held : List ℕ) → Spares (run_with_journal (names_of names.now) workers journal.now) other → F.holds files.old other held → F.holds files.new other held }
+{
+    let count = run_batch_with_journal(rt, alloc, files, names, workers, journal)?;
+    Ok(Report::Decided(count))
+}
+
+// Blocks are decided, one after another, each by several workers of this engine.
+fn blocks<R: Clock + Threads + Wait + Sync, F: Files>(
+    rt: &R,
+    alloc: Global,
+    files: &mut F,
+    names: &BatchNames,
+    workers: Workers,
+    engine: Engine,
+) -> Result<Report, Fault>
+    ensures done { MatchResult result
+        (IsDoneAs (F.is_known files.old) (F.holds files.old) (F.holds files.new) (blocks (names_of names.now) workers engine))
+        (IsFaultIn (F.is_known files.old) (F.holds files.old) (F.holds files.new) (failing F.Input.failures F.Output.failures F.refuses) (blocks (names_of names.now) workers engine)) }
+    ensures others { (other held : List ℕ) → Spares (blocks (names_of names.now) workers engine) other → F.holds files.old other held → F.holds files.new other held }
+{
+    let count = run_blocks(rt, alloc, files, names, workers, engine)?;
+    Ok(Report::DecidedBlocks(count))
+}
+
+// A batch is compared with what deciding it comes to.
+fn audited<R: Threads, F: Files>(
+    rt: &R,
+    alloc: Global,
+    files: &F,
+    names: &BatchNames,
+) -> Result<Report, Fault>
+    ensures { MatchResult result
+        (IsDoneAs (F.is_known files.now) (F.holds files.now) (F.holds files.now) (audit (names_of names.now) None))
+        (IsFaultIn (F.is_known files.now) (F.holds files.now) (F.holds files.now) (failing F.Input.failures F.Output.failures F.refuses) (audit (names_of names.now) None)) }
+{
+    let found = audit_batch(rt, alloc, files, names)?;
+    let text = audit_text(alloc, &found)?;
+    Ok(Report::Audited(found, text))
+}
+
+// A batch is compared with what a journal plays to.
+fn audited_with_journal<R: Threads, F: Files>(
+    rt: &R,
+    alloc: Global,
+    files: &F,
+    names: &BatchNames,
+    journal: &str,
+) -> Result<Report, Fault>
+    ensures { MatchResult result
+        (IsDoneAs (F.is_known files.now) (F.holds files.now) (F.holds files.now) (audit (names_of names.now) (Some journal.now)))
+        (IsFaultIn (F.is_known files.now) (F.holds files.now) (F.holds files.now) (failing F.Input.failures F.Output.failures F.refuses) (audit (names_of names.now) (Some journal.now))) }
+{
+    let found = audit_batch_with_journal(rt, alloc, files, names, journal)?;
+    let text = audit_text(alloc, &found)?;
+    Ok(Report::Audited(found, text))
+}
+
+// Blocks are compared with what deciding them comes to.
+fn audited_blocks<R: Threads, F: Files>(
+    rt: &R,
+    alloc: Global,
+    files: &F,
+    names: &BatchNames,
+) -> Result<Report, Fault>
+    ensures { MatchResult result
+        (IsDoneAs (F.is_known files.now) (F.holds files.now) (F.holds files.now) (audit_blocks (names_of names.now)))
+        (IsFaultIn (F.is_known files.now) (F.holds files.now) (F.holds files.now) (failing F.Input.failures F.Output.failures F.refuses) (audit_blocks (names_of names.now))) }
+{
+    let found = audit_block_files(rt, alloc, files, names)?;
+    let text = block_audit_text(alloc, &found)?;
+    Ok(Report::AuditedBlocks(found, text))
+}
+
+// A file is shown.
+fn show<F: Files>(alloc: Global, files: &F, file: &str) -> Result<Report, Fault>
+    ensures { MatchResult result
+        (IsDoneAs (F.is_known files.now) (F.holds files.now) (F.holds files.now) (show file.now))
+        (IsFaultIn (F.is_known files.now) (F.holds files.now) (F.holds files.now) (failing F.Input.failures F.Output.failures F.refuses) (show file.now)) }
+{
+    let text = show_file(alloc, files, file)?;
+    Ok(Report::Lines(text))
+}
+
+// A text is packed.
+fn pack<F: Files>(alloc: Global, files: &mut F, text: &str, batch: &str) -> Result<Report, Fault>
+    ensures done { MatchResult result
+        (IsDoneAs (F.is_known files.old) (F.holds files.old) (F.holds files.new) (pack text.now batch.now))
+        (IsFaultIn (F.is_known files.old) (F.holds files.old) (F.holds files.new) (failing F.Input.failures F.Output.failures F.refuses) (pack text.now batch.now)) }
+    ensures others { (other held : List ℕ) → Spares (pack text.now batch.now) other → F.holds files.old other held → F.holds files.new other held }
+{
+    let count = pack_batch(alloc, files, text, batch)?;
+    Ok(Report::Packed(count))
+}

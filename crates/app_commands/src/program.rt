@@ -1,0 +1,111 @@
+ghost use Rattle.std.specs.Prelude.{◌≡◌, ◌≤◌, ℕ, List, map, MatchResult, string_bytes};
+ghost use Rattle.app_commands.specs.Answered.{AreSparing, IsActed, IsAskedFor, IsFaultOf, failing, status_of_report, text_of_report};
+ghost use Rattle.app_commands.specs.Fault.{text_of};
+ghost use Rattle.app_commands.specs.declared.fault.Fault.TheVariants.{Halted};
+ghost use Rattle.app_commands.specs.Printed.{printed, Prints, PrintsLine};
+
+use crate::doing::done;
+use crate::fault::Fault;
+use crate::printer::Printer;
+use crate::report::Report;
+use app_arguments::read_arguments;
+use app_audit::{Audit, BlockAudit};
+use app_jobs::JobFault;
+use file_devices::Files;
+use std::alloc::Global;
+use std::io::Write;
+use std::sync::Wait;
+use std::thread::Threads;
+use std::time::Clock;
+
+/// Does what the words say over these files, and returns the exit status: 0 done, 1 fault, 2 words that are no command, 3 an audit that
+/// found a difference. What is asked for goes to the first printer, a fault's text to the second; what a writer doesn't take is dropped.
+pub fn act<R: Clock + Threads + Wait + Sync, F: Files, O: Write, E: Write>(
+    rt: &R,
+    alloc: Global,
+    files: &mut F,
+    words: &[String],
+    out: &mut Printer<O>,
+    err: &mut Printer<E>,
+) -> u8
+    ensures status { result ≤ 3 }
+    ensures acted { IsActed (F.is_known files.old) (F.holds files.old) (F.holds files.new) (failing F.Input.failures F.Output.failures F.refuses) (map string_bytes words.now)
+        (record { out = printed O.contents out.old; err = printed E.contents err.old })
+        (record { out = printed O.contents out.new; err = printed E.contents err.new }) result }
+    // A file that is none of those that are written for what the words ask for stays as it was.
+    ensures others { (other held : List ℕ) → AreSparing (map string_bytes words.now) other → F.holds files.old other held → F.holds files.new other held }
+{
+    match answer(rt, alloc, files, words) {
+        Ok(report) => {
+            print_report(&report, out);
+            status_of(&report)
+        }
+        Err(fault) => {
+            print_fault(&fault, err);
+            fault.status()
+        }
+    }
+}
+
+// What is asked for.
+fn answer<R: Clock + Threads + Wait + Sync, F: Files>(
+    rt: &R,
+    alloc: Global,
+    files: &mut F,
+    words: &[String],
+) -> Result<Report, Fault>
+    ensures answered { MatchResult result
+        (IsAskedFor (F.is_known files.old) (F.holds files.old) (F.holds files.new) (map string_bytes words.now))
+        (IsFaultOf (F.is_known files.old) (F.holds files.old) (F.holds files.new) (failing F.Input.failures F.Output.failures F.refuses) (map string_bytes words.now)) }
+    ensures others { (other held : List ℕ) → AreSparing (map string_bytes words.now) other → F.holds files.old other held → F.holds files.new other held }
+{
+    let command = read_arguments(alloc, words)?;
+    done(rt, alloc, files, command)
+}
+
+// 0 where the words are done, 3 for an audit that found a difference.
+fn status_of(report: &Report) -> u8
+    ensures { result ≡ status_of_report report.now }
+{
+    match report {
+        Report::Audited(Audit::Same, _) | Report::AuditedBlocks(BlockAudit::Same, _) => 0,
+        Report::Audited(..) | Report::AuditedBlocks(..) => 3,
+        _ => 0,
+    }
+}
+
+fn print_report<W: Write>(report: &Report, out: &mut Printer<W>)
+    ensures { Prints (printed W.contents out.old) (printed W.contents out.new) (text_of_report report.now) }
+{
+    match report {
+        Report::Help(text) | Report::Answer(text) => out.line(text.as_bytes()),
+        Report::Version => out.line(b"switch 0.1.0"),
+        Report::Decided(count) => out.numbered("decided", *count as u64),
+        Report::DecidedBlocks(count) => {
+            out.decided(u64::from(count.messages), u64::from(count.blocks));
+        }
+        Report::Packed(count) => out.numbered("packed", *count as u64),
+        Report::Audited(_, text) | Report::AuditedBlocks(_, text) => out.line(text),
+        Report::Lines(text) => out.text(text),
+    }
+}
+
+/// Prints the line of a fault, as `act` does for its own: what it is of and its number there, or what is wrong with the words.
+pub fn print_fault<W: Write>(fault: &Fault, err: &mut Printer<W>)
+    ensures { PrintsLine (printed W.contents err.old) (printed W.contents err.new) (text_of fault.now) }
+{
+    match fault {
+        Fault::Usage(text) => err.line(text.as_bytes()),
+        Fault::OutOfMemory => err.line(b"memory 1"),
+        Fault::Job(fault) => err.numbered(fault.part(), fault.number() as u64),
+        Fault::Halted(fault, kept) => print_halt(fault, *kept, err),
+    }
+}
+
+// The line of a fault, and how many blocks are kept.
+fn print_halt<W: Write>(fault: &JobFault, kept: u32, err: &mut Printer<W>)
+    ensures { PrintsLine (printed W.contents err.old) (printed W.contents err.new) (text_of (Halted fault.now kept)) }
+{
+    let kept = ("kept", u64::from(kept));
+    err.numbered_twice((fault.part(), fault.number() as u64), kept);
+}

@@ -1,0 +1,96 @@
+-- What a halt of blocks leaves in a file that was empty.
+use Rattle.std.proofs.Common.{◌≡◌, ℕ, ◌+◌, List, [], ◌++◌, refl, sym, ◌∙◌, inl, inr, arith, Result, Ok, Err, IfErr, IsTrue}
+use Rattle.std.proofs.lemmas.List.{append-nil}
+use Rattle.file_blocks.specs.Blocks.{StopsBefore, StopsInHead, StopsInBlocks}
+use Rattle.file_batch_laws.specs.BatchFault.{failures_at, is_of_bytes}
+use Rattle.file_batch_laws.specs.Blocks.{block_replies_magic, block_text, blocks_text, replies_to_blocks, rows_after_blocks}
+use Rattle.file_batch_laws.specs.Files.{head_text}
+use Rattle.file_batch_laws.specs.declared.batch_fault.BatchFault.{BatchFault}
+use Rattle.file_batch_laws.specs.declared.batch_fault.BatchFault.TheVariants.{Magic, Version, Count, Length, Ended, Trailing, Device, OutOfMemory, Body, Blocks}
+use Rattle.issuer_rows.specs.Fold.{Rows, replies_to}
+use Rattle.app_jobs.specs.DecidedBlocks.{AreFirstAnswered}
+use Rattle.app_jobs.specs.Decided.{Holding}
+
+pub before_head : (known : Type 0) (old new : Holding) (batch replies : List ℕ) (rows after : Rows) (fault : BatchFault) (count : ℕ)
+    (reads : Type 0) (bytes written : List ℕ) (same : Type 0)
+    → ((held : List ℕ) → old batch held → reads × (bytes ≡ held)) → (known → new replies written) → (known → same → written ≡ [])
+    → StopsBefore rows after count reads bytes fault same
+    → AreFirstAnswered known old new batch replies rows after fault count
+before_head known old new batch replies rows after fault count reads bytes written same opened closed empty h =
+    record {
+      blocks = [];
+      number = h.0;
+      total = 0;
+      book = h.1;
+      read = λ held o. inl refl;
+      fails = λ held o t. inl (refl, rw (← (opened held o).1) (h.3 (opened held o).0 t));
+      answered = λ k. (written, closed k, inl (refl, head_text block_replies_magic 0, rw (empty k h.2) refl));
+    }
+
+pub in_head : (known : Type 0) (old new : Holding) (batch replies : List ℕ) (rows after : Rows) (fault : BatchFault) (count : ℕ)
+    (reads : Type 0) (bytes : List ℕ) (puts : Type 0) (start written : List ℕ) (failed : Type 0)
+    → (known → new replies written) → (known → puts) → (known → start ≡ []) → (failed → ¬ IsTrue (is_of_bytes fault))
+    → StopsInHead rows after count reads bytes puts start written failed
+    → AreFirstAnswered known old new batch replies rows after fault count
+in_head known old new batch replies rows after fault count reads bytes puts start written failed closed put empty device h =
+    record {
+      blocks = [];
+      number = h.0;
+      total = h.3;
+      book = h.1;
+      read = λ held o. inl refl;
+      fails = λ held o t. absurd (device h.2 t);
+      answered = λ k.
+          let part = h.6 (put k) in
+          (written, closed k, inl (refl, part.1, rw (part.2, empty k) part.3));
+    }
+
+pub behind_head : (known : Type 0) (old new : Holding) (batch replies : List ℕ) (rows after : Rows) (fault : BatchFault) (count : ℕ)
+    (reads : Type 0) (bytes : List ℕ) (puts : Type 0) (start written : List ℕ) (failed : Type 0)
+    → ((held : List ℕ) → old batch held → reads × (bytes ≡ held)) → (known → new replies written) → (known → puts) → (known → start ≡ [])
+    → StopsInBlocks rows after count reads bytes puts start written fault failed
+    → AreFirstAnswered known old new batch replies rows after fault count
+behind_head known old new batch replies rows after fault count reads bytes puts start written failed opened closed put empty h =
+    let kept = h.3.kept in
+    record {
+      blocks = kept.blocks;
+      number = sym kept.number;
+      total = h.0;
+      book = kept.book;
+      read = λ held o. inr (h.1, h.3.left, rw (← (opened held o).1) (h.2 (opened held o).0), kept.read (opened held o).0);
+      fails = λ held o t. inr (
+        h.1,
+        h.3.left,
+        rw (← (opened held o).1) (h.2 (opened held o).0),
+        kept.read (opened held o).0,
+        rw kept.number (h.3.fails (opened held o).0 t),
+      );
+      answered = λ k. (
+        written,
+        closed k,
+        inr (elim h.3.begun [
+          | inl none ↦ ([], [], block_text (replies_to (rows_after_blocks rows kept.blocks) []), none (put k) ∙ (kept.put (put k) ∙ rw (empty k) (sym (append-nil (head_text block_replies_magic h.0 ++ blocks_text (replies_to_blocks rows kept.blocks))))), refl)
+          | inr begun ↦
+              let part = begun.4 (put k) in
+              (begun.1, part.0, part.1, rw (part.2, kept.put (put k), empty k) refl, rw (← kept.book) part.3)
+        ]),
+      );
+    }
+
+-- one device alone failed, so that the fault is of no bytes
+pub device_alone : (fault : BatchFault) (reading putting : ℕ) → reading + putting ≡ failures_at fault 0 → putting ≡ 1 → ¬ IsTrue (is_of_bytes fault)
+device_alone Magic reading putting sum one of_bytes = absurd (omega (arith, sum, one))
+device_alone Version reading putting sum one of_bytes = absurd (omega (arith, sum, one))
+device_alone Count reading putting sum one of_bytes = absurd (omega (arith, sum, one))
+device_alone Length reading putting sum one of_bytes = absurd (omega (arith, sum, one))
+device_alone Ended reading putting sum one of_bytes = absurd (omega (arith, sum, one))
+device_alone Trailing reading putting sum one of_bytes = absurd (omega (arith, sum, one))
+device_alone Device reading putting sum one of_bytes = absurd cc
+device_alone OutOfMemory reading putting sum one of_bytes = absurd cc
+device_alone (Body i) reading putting sum one of_bytes = absurd (omega (arith, sum, one))
+device_alone Blocks reading putting sum one of_bytes = absurd (omega (arith, sum, one))
+
+-- what follows from two facts of an error
+pub from_both : {T E : Type 0} (r : Result T E) (P Q S : E → Type 0) → ((e : E) → P e → Q e → S e) → IfErr r P → IfErr r Q → IfErr r S
+from_both (Ok x) P Q S follows p q = tt
+from_both (Err e) P Q S follows p q = follows e p q

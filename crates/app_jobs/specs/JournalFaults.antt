@@ -1,0 +1,64 @@
+-- Why an audit with a journal finds nothing.
+use Rattle.std.specs.Prelude.{◌≡◌, ◌⊎◌, ℕ, List}
+use Rattle.file_batch_laws.specs.Frames.{IsBatchOf}
+use Rattle.stm_journal_text.specs.Logged.{IsFirstUnlogged, greatest}
+use Rattle.stm_journal_text.specs.Journal.{AreEntries, IsFirstWrongLine, journal_text}
+use Rattle.stm_journal_text.specs.declared.entry.Entry.{Entry}
+use Rattle.stm_journal_text.specs.declared.replay_fault.ReplayFault.{ReplayFault}
+use Rattle.stm_journal_text.specs.declared.replay_fault.ReplayFault.TheVariants as replay
+use Rattle.issuer_rows.specs.Fold.{Rows}
+use Rattle.issuer_rows.specs.declared.frame.Frame.{Frame}
+use Rattle.stm_core_laws.specs.Play.{opening_play}
+use Rattle.app_jobs.specs.Decided.{Holding, IsBookOf}
+use Rattle.app_jobs.specs.Faults.{IsFaultInOrder}
+use Rattle.app_jobs.specs.declared.job_fault.JobFault.{JobFault}
+use Rattle.app_jobs.specs.declared.job_fault.JobFault.TheVariants.{Unreadable, Unwritable, Book, Batch, Journal, Text, OutOfMemory}
+
+-- what is held is no journal: its first wrong line; or memory ran out
+abbrev pub IsWrongJournal : (List ℕ → Type 0) → ReplayFault → Type 0
+IsWrongJournal held (replay.Line n) = (bytes : List ℕ) → held bytes → IsFirstWrongLine bytes n
+IsWrongJournal held (replay.Unlogged n) = ⊥
+IsWrongJournal held replay.OutOfMemory = Unit {0}
+
+-- Why the file of this name gives no journal: its first wrong line; a call on it failed; or memory ran out.
+abbrev pub IsJournalFault : Holding → List ℕ → Type 0 → JobFault → Type 0
+IsJournalFault old name read_failed (Journal fault) = IsWrongJournal (old name) fault
+IsJournalFault old name read_failed Unreadable = (bytes : List ℕ) → old name bytes → read_failed
+IsJournalFault old name read_failed OutOfMemory = Unit {0}
+IsJournalFault old name read_failed Unwritable = ⊥
+IsJournalFault old name read_failed (Book fault) = ⊥
+IsJournalFault old name read_failed (Batch fault) = ⊥
+IsJournalFault old name read_failed (Text line) = ⊥
+
+-- Played on the book and the batch, the entry of this number is the journal's first whose decision asks for a row that wasn't logged.
+pub record IsUnloggedIn (old : Holding) (book batch journal : List ℕ) (number : ℕ) : Type 0 where
+  pub rows : Rows
+  pub frames : List Frame
+  pub entries : List Entry
+  pub opening : IsBookOf old book rows
+  pub messages : (bytes : List ℕ) → old batch bytes → IsBatchOf bytes frames
+  pub are : AreEntries entries
+  pub logged : (bytes : List ℕ) → old journal bytes → bytes ≡ journal_text entries
+  pub first : IsFirstUnlogged (opening_play rows frames greatest) entries number
+
+-- why the journal isn't played: a decision asks for a row that wasn't logged; or memory ran out
+abbrev pub IsUnplayed : Holding → List ℕ → List ℕ → List ℕ → ReplayFault → Type 0
+IsUnplayed old book batch journal (replay.Unlogged n) = IsUnloggedIn old book batch journal n
+IsUnplayed old book batch journal (replay.Line n) = ⊥
+IsUnplayed old book batch journal replay.OutOfMemory = Unit {0}
+
+abbrev pub IsPlayingFault : Holding → List ℕ → List ℕ → List ℕ → JobFault → Type 0
+IsPlayingFault old book batch journal (Journal fault) = IsUnplayed old book batch journal fault
+IsPlayingFault old book batch journal Unreadable = ⊥
+IsPlayingFault old book batch journal Unwritable = ⊥
+IsPlayingFault old book batch journal (Book fault) = ⊥
+IsPlayingFault old book batch journal (Batch fault) = ⊥
+IsPlayingFault old book batch journal (Text line) = ⊥
+IsPlayingFault old book batch journal OutOfMemory = ⊥
+
+-- Why an audit with a journal finds nothing: what an audit may lack, in its order; then the first wrong line of the journal, or a call
+-- on its file that failed; then that it isn't played.
+abbrev pub IsJournalAuditingFault : Holding → List ℕ → List ℕ → List ℕ → List ℕ → List ℕ → Type 0 → JobFault → Type 0
+IsJournalAuditingFault old book batch replies new_book journal read_failed fault =
+    IsFaultInOrder old book batch replies new_book read_failed
+    (IsJournalFault old journal read_failed fault ⊎ IsPlayingFault old book batch journal fault) fault

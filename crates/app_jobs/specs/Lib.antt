@@ -1,0 +1,11 @@
+pub mod Audited
+pub mod AuditedBlocks
+pub mod BlockFaults
+pub mod Decided
+pub mod DecidedBlocks
+pub mod Faults
+pub mod JobFault
+pub mod JournalFaults
+pub mod Journaled
+pub mod Packed
+pub mod Shown

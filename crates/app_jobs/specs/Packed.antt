@@ -1,0 +1,47 @@
+-- What a file holds after bodies were packed into a batch.
+use Rattle.std.specs.Prelude.{◌≡◌, ◌⊎◌, ℕ, List, Ok, Err, IsTrue, length}
+use Rattle.file_batch_laws.specs.BatchFault.{is_of_bytes}
+use Rattle.file_batch_laws.specs.Files.{batch_text}
+use Rattle.file_batch_laws.specs.declared.batch_fault.BatchFault.TheVariants.{Count, Device}
+use Rattle.file_listing.specs.Bodies.{HasTooMany, bodies_of}
+use Rattle.app_jobs.specs.Decided.{Holding}
+use Rattle.app_jobs.specs.declared.job_fault.JobFault.{JobFault}
+use Rattle.app_jobs.specs.declared.job_fault.JobFault.TheVariants.{Unreadable, Unwritable, Book, Batch, Journal, Text, OutOfMemory}
+
+-- The file of the batch holds the bodies that the text has, so many, where it is known what files hold.
+pub record IsPacked (known : Type 0) (old new : Holding) (text batch : List ℕ) (count : ℕ) : Type 0 where
+  pub bodies : List (List ℕ)
+  pub lines : (bytes : List ℕ) → old text bytes → bodies_of bytes ≡ Ok bodies
+  pub counted : count ≡ length bodies
+  pub packed : known → new batch (batch_text bodies)
+
+-- the text of this name, where its bytes are known, has some bodies
+abbrev pub IsSomeText : Holding → List ℕ → Type 0
+IsSomeText old name = (bodies : List (List ℕ)) × ((bytes : List ℕ) → old name bytes → bodies_of bytes ≡ Ok bodies)
+
+-- Why the text of this name gives no bodies: its first wrong line; it has more than a batch may have; a call on it failed; or memory
+-- ran out.
+abbrev pub IsTextFault : Holding → List ℕ → Type 0 → JobFault → Type 0
+IsTextFault old name read_failed (Text line) = (bytes : List ℕ) → old name bytes → bodies_of bytes ≡ Err line
+IsTextFault old name read_failed (Batch fault) =
+    (fault ≡ Count) × ((bytes : List ℕ) → old name bytes → HasTooMany bytes)
+IsTextFault old name read_failed Unreadable = (bytes : List ℕ) → old name bytes → read_failed
+IsTextFault old name read_failed OutOfMemory = Unit {0}
+IsTextFault old name read_failed Unwritable = ⊥
+IsTextFault old name read_failed (Book fault) = ⊥
+IsTextFault old name read_failed (Journal fault) = ⊥
+
+-- why bodies are not written to a file: a call on it failed or was refused; or memory ran out
+abbrev pub IsUnwritten : Type 0 → Type 0 → JobFault → Type 0
+IsUnwritten put_failed refused (Batch fault) = (¬ IsTrue (is_of_bytes fault)) × (fault ≡ Device → put_failed ⊎ refused)
+IsUnwritten put_failed refused Unwritable = refused
+IsUnwritten put_failed refused OutOfMemory = Unit {0}
+IsUnwritten put_failed refused Unreadable = ⊥
+IsUnwritten put_failed refused (Book fault) = ⊥
+IsUnwritten put_failed refused (Journal fault) = ⊥
+IsUnwritten put_failed refused (Text line) = ⊥
+
+-- Why a text is not packed: what it lacks; or, where it has bodies, that they are not written to the file of the batch.
+abbrev pub IsPackingFault : Holding → List ℕ → Type 0 → Type 0 → Type 0 → JobFault → Type 0
+IsPackingFault old text read_failed put_failed refused fault =
+    IsTextFault old text read_failed fault ⊎ (IsSomeText old text × IsUnwritten put_failed refused fault)

@@ -1,0 +1,26 @@
+//! What is done with the files of a book and its batches, from their bytes to their bytes.
+#![tactic(auto)]
+
+mod auditing;
+mod auditing_blocks;
+mod block_count;
+mod deciding;
+mod deciding_blocks;
+mod halt;
+mod job_fault;
+mod opening;
+mod packing;
+mod serial;
+mod showing;
+
+pub use auditing::{audit_batch, audit_batch_with_journal};
+pub use auditing_blocks::audit_block_files;
+pub use block_count::BlockCount;
+pub use deciding::{decide_batch, put_book};
+pub use deciding_blocks::decide_blocks;
+pub use halt::Halt;
+pub use job_fault::{JobFault, fault_of_closing};
+pub use opening::open_book;
+pub use packing::pack_batch;
+pub use serial::serial_batch;
+pub use showing::show_file;

@@ -1,0 +1,85 @@
+ghost use Rattle.std.specs.Prelude.{◌≡◌, ◌≤◌, ℕ, List, IfOk, IfErr, length};
+ghost use Rattle.file_batch_laws.specs.Frames.{IsBatchOf};
+ghost use Rattle.file_batch_laws.specs.Replies.{IsReplyFileOf};
+ghost use Rattle.file_devices.specs.Failing.{HasFailed};
+ghost use Rattle.stm_journal_text.specs.Journal.{AreEntries, journal_text};
+ghost use Rattle.app_jobs.specs.Decided.{IsBookOf};
+ghost use Rattle.app_jobs.specs.Faults.{IsBatchFault, IsBookFault, IsReplyFileFault};
+ghost use Rattle.app_jobs.specs.JournalFaults.{IsJournalFault};
+
+use crate::job_fault::JobFault;
+use book_json::read_book;
+use file_batch::{BatchFault, read_batch, read_replies};
+use file_devices::{Files, read_file};
+use issuer_rows::{Book, Frame, ReplyBody};
+use std::alloc::Global;
+use std::thread::Threads;
+use stm_journal_text::{Entry, read_journal};
+
+/// The book of the file of this name. It fails with the first fault of the book, where a call on the file fails, or where memory runs out.
+pub fn open_book<R: Threads, F: Files>(
+    rt: &R,
+    alloc: Global,
+    files: &F,
+    name: &str,
+) -> Result<Book, JobFault>
+    ensures book { IfOk result (IsBookOf (F.holds files.now) name.now) }
+    ensures fault { IfErr result (IsBookFault (F.holds files.now) name.now (HasFailed F.Input.failures)) }
+{
+    let text = read_file(alloc, files, name)?;
+    match read_book(rt, alloc, &text) {
+        Ok(book) => Ok(book),
+        Err(fault) => Err(JobFault::Book(fault)),
+    }
+}
+
+/// The messages of the batch of this name.
+pub(crate) fn open_batch<F: Files>(
+    alloc: Global,
+    files: &F,
+    name: &str,
+) -> Result<Vec<Frame>, JobFault>
+    ensures count { IfOk result (λ frames. length frames.items ≤ 65536) }
+    ensures fault { IfErr result (IsBatchFault (F.holds files.now) name.now (HasFailed F.Input.failures) ⊥ ⊥) }
+    ensures frames { (bytes : List ℕ) → F.holds files.now name.now bytes → IfOk result (λ frames. IsBatchOf bytes frames.items) }
+{
+    let mut input = files.open(name)?;
+    match read_batch(alloc, &mut input) {
+        Ok(frames) => Ok(frames),
+        Err(fault) => Err(JobFault::Batch(fault)),
+    }
+}
+
+/// The replies of the file of this name. A device that fails is an unreadable file.
+pub(crate) fn open_replies<F: Files>(
+    alloc: Global,
+    files: &F,
+    name: &str,
+) -> Result<Vec<ReplyBody>, JobFault>
+    ensures fault { IfErr result (IsReplyFileFault (F.holds files.now) name.now (HasFailed F.Input.failures)) }
+    ensures replies { (bytes : List ℕ) → F.holds files.now name.now bytes → IfOk result (λ replies. IsReplyFileOf bytes replies.items) }
+{
+    let mut input = files.open(name)?;
+    match read_replies(alloc, &mut input) {
+        Ok(replies) => Ok(replies),
+        Err(BatchFault::Device) => Err(JobFault::Unreadable),
+        Err(fault) => Err(JobFault::Batch(fault)),
+    }
+}
+
+/// The entries of the journal of this name.
+pub(crate) fn open_journal<F: Files>(
+    alloc: Global,
+    files: &F,
+    name: &str,
+) -> Result<Vec<Entry>, JobFault>
+    ensures are { IfOk result (λ entries. AreEntries entries.items) }
+    ensures fault { IfErr result (IsJournalFault (F.holds files.now) name.now (HasFailed F.Input.failures)) }
+    ensures entries { (bytes : List ℕ) → F.holds files.now name.now bytes → IfOk result (λ entries. bytes ≡ journal_text entries.items) }
+{
+    let text = read_file(alloc, files, name)?;
+    match read_journal(alloc, &text) {
+        Ok(entries) => Ok(entries),
+        Err(fault) => Err(JobFault::Journal(fault)),
+    }
+}

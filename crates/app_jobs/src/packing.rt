@@ -1,0 +1,64 @@
+ghost use Rattle.std.specs.Prelude.{◌≡◌, ◌≢◌, ℕ, List, Ok, IfOk, IfErr, OnOk};
+ghost use Rattle.file_batch.specs.Bodies.{bytes_of};
+ghost use Rattle.file_batch_laws.specs.Files.{AreBodies, batch_text};
+ghost use Rattle.file_devices.specs.Failing.{HasFailed, HasRefused};
+ghost use Rattle.file_listing.specs.Bodies.{bodies_of};
+ghost use Rattle.app_jobs.specs.Packed.{IsPacked, IsPackingFault, IsTextFault, IsUnwritten};
+
+use crate::job_fault::{JobFault, fault_of_closing};
+use file_batch::write_batch;
+use file_devices::{Files, read_file};
+use file_listing::read_bodies;
+use std::alloc::Global;
+
+/// Makes a batch file of the bodies of a text: one a line, in hexadecimal digits. Returns how many there are. It fails where the text
+/// can't be read, or has a wrong line or more than 65,536 bodies; where the file of the batch can't be made or written; or where memory
+/// runs out.
+pub fn pack_batch<F: Files>(
+    alloc: Global,
+    files: &mut F,
+    text: &str,
+    batch: &str,
+) -> Result<usize, JobFault>
+    ensures packed { IfOk result (IsPacked (F.is_known files.old) (F.holds files.old) (F.holds files.new) text.now batch.now) }
+    ensures fault { IfErr result (IsPackingFault (F.holds files.old) text.now (HasFailed F.Input.failures) (HasFailed F.Output.failures) (HasRefused F.refuses)) }
+    // Other files stay as they were.
+    ensures others { (other held : List ℕ) → other ≢ batch.now → F.holds files.old other held → F.holds files.new other held }
+{
+    let bodies = open_text(alloc, files, text)?;
+    put_batch(alloc, files, batch, &bodies)?;
+    Ok(bodies.len())
+}
+
+// The bodies of the text of this name.
+fn open_text<F: Files>(alloc: Global, files: &F, name: &str) -> Result<Vec<Vec<u8>>, JobFault>
+    ensures fit { IfOk result (λ bodies. AreBodies (bytes_of bodies.items)) }
+    ensures fault { IfErr result (IsTextFault (F.holds files.now) name.now (HasFailed F.Input.failures)) }
+    ensures bodies { IfOk result (λ bodies. (bytes : List ℕ) → F.holds files.now name.now bytes → bodies_of bytes ≡ Ok (bytes_of bodies.items)) }
+{
+    let lines = read_file(alloc, files, name)?;
+    let bodies = read_bodies(alloc, &lines)?;
+    Ok(bodies)
+}
+
+// Writes these bodies to the batch of this name.
+fn put_batch<F: Files>(
+    alloc: Global,
+    files: &mut F,
+    name: &str,
+    bodies: &[Vec<u8>],
+) -> Result<(), JobFault>
+    requires { AreBodies (bytes_of bodies.now) }
+    ensures put { OnOk result (F.is_known files.old → F.holds files.new name.now (batch_text (bytes_of bodies.now))) }
+    ensures fault { IfErr result (IsUnwritten (HasFailed F.Output.failures) (HasRefused F.refuses)) }
+    ensures others { (other held : List ℕ) → other ≢ name.now → F.holds files.old other held → F.holds files.new other held }
+{
+    let mut output = files.create(name)?;
+    let written = write_batch(alloc, bodies, &mut output);
+    let closed = files.close(name, output);
+    match (written, closed) {
+        (Ok(()), Ok(())) => Ok(()),
+        (Ok(()), Err(fault)) => Err(fault_of_closing(fault)),
+        (Err(fault), _) => Err(JobFault::Batch(fault)),
+    }
+}

@@ -1,0 +1,31 @@
+-- What one body is answered, from bytes to bytes.
+use Rattle.std.specs.Prelude.{◌≡◌, ℕ, List, Err}
+use Rattle.hex.specs.Hex.{encode_lower}
+use Rattle.iso_laws.specs.Messages.{Spells}
+use Rattle.iso_laws.specs.Reading.{reading}
+use Rattle.iso_laws.specs.Replies.{reply_spelling}
+use Rattle.iso_laws.specs.Types.{taken_in}
+use Rattle.issuer_rows.specs.Fold.{Rows, reply_of}
+use Rattle.issuer_rows.specs.FrameFault.{fault_body}
+use Rattle.issuer_rows.specs.declared.frame.Frame.{Frame}
+use Rattle.issuer_rows.specs.declared.frame.Frame.TheVariants.{Good, Bad}
+use Rattle.issuer_rows.specs.declared.reply_body.ReplyBody.{ReplyBody}
+use Rattle.issuer_rows.specs.declared.reply_body.ReplyBody.TheVariants.{Reply, Fault}
+
+-- the body spells this message, or it spells none and has this fault before all others
+abbrev pub IsFrameOf : List ℕ → Frame → Type 0
+IsFrameOf body (Good message) = Spells body message
+IsFrameOf body (Bad fault) = reading taken_in body ≡ Err fault
+
+-- a reply's spelling, or how a fault is answered
+abbrev pub answer_text : ReplyBody → List ℕ
+answer_text (Reply reply) = reply_spelling reply
+answer_text (Fault fault) = fault_body fault
+
+-- the text answers the body as the decision table does on these rows
+abbrev pub IsAnswerTo : Rows → List ℕ → List ℕ → Type 0
+IsAnswerTo rows body text = (frame : Frame) × IsFrameOf body frame × (text ≡ answer_text (reply_of rows frame))
+
+-- the text is that answer in hexadecimal, in small letters
+abbrev pub IsAnswerInDigits : Rows → List ℕ → List ℕ → Type 0
+IsAnswerInDigits rows body text = (reply : List ℕ) × IsAnswerTo rows body reply × (text ≡ encode_lower reply)

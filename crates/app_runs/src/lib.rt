@@ -1,0 +1,16 @@
+//! Batches and block files decided by an engine, from the files' bytes to their bytes.
+#![tactic(auto)]
+
+mod answers;
+mod hexadecimal;
+mod running;
+mod running_blocks;
+mod sample;
+mod tracing;
+
+pub use answers::answer_on;
+pub use hexadecimal::decide_one;
+pub use running::{decide_by, run_batch};
+pub use running_blocks::run_blocks;
+pub use sample::sample_book;
+pub use tracing::run_batch_with_journal;

@@ -1,0 +1,66 @@
+ghost use Rattle.std.specs.Prelude.{◌≡◌, ◌≢◌, ◌≤◌, ℕ, List, IfOk, IfErr, OnErr, length, string_bytes};
+ghost use Rattle.file_batch.specs.Processing.{AnswersFold};
+ghost use Rattle.file_devices.specs.Failing.{HasFailed, HasRefused};
+ghost use Rattle.app_jobs.specs.Decided.{IsDecided};
+ghost use Rattle.app_jobs.specs.Faults.{HoldsSameOrNothing, IsDecidingFault, IsOfBytes};
+
+use app_jobs::{JobFault, decide_batch};
+use engine_locked::run;
+use engine_split::run_split;
+use engine_workers::{Engine, NoHook, Workers};
+use file_devices::{BatchNames, Files};
+use issuer_fold::RunOutcome;
+use issuer_rows::{Book, Frame};
+use issuer_rules::Shipped;
+use std::alloc::{AllocError, Global};
+use std::sync::Wait;
+use std::thread::Threads;
+use std::time::Clock;
+
+/// Decides a batch by so many workers of an engine, files to files. Whatever their number and the engine, the files hold what deciding
+/// one message after another comes to. Returns how many messages were decided. Its faults are those of
+/// [`decide_batch`](app_jobs::decide_batch).
+pub fn run_batch<R: Clock + Threads + Wait + Sync, F: Files>(
+    rt: &R,
+    alloc: Global,
+    files: &mut F,
+    names: &BatchNames,
+    workers: Workers,
+    engine: Engine,
+) -> Result<usize, JobFault>
+    ensures decided { IfOk result (IsDecided (F.is_known files.old) (F.holds files.old) (F.holds files.new)
+        (string_bytes names.now.book) (string_bytes names.now.batch) (string_bytes names.now.replies) (string_bytes names.now.new_book)) }
+    ensures fault { IfErr result (IsDecidingFault (F.holds files.old) (string_bytes names.now.book) (string_bytes names.now.batch)
+        (HasFailed F.Input.failures) (HasFailed F.Output.failures) (HasRefused F.refuses)) }
+    ensures kept { OnErr result (string_bytes names.now.new_book ≢ string_bytes names.now.replies → (held : List ℕ)
+        → F.holds files.old (string_bytes names.now.new_book) held → F.holds files.new (string_bytes names.now.new_book) held) }
+    ensures unanswered { IfErr result (λ fault. IsOfBytes fault → F.is_known files.old
+        → HoldsSameOrNothing (F.holds files.old) (F.holds files.new) (string_bytes names.now.replies)) }
+    ensures others { (other held : List ℕ) → other ≢ string_bytes names.now.replies → other ≢ string_bytes names.now.new_book
+        → F.holds files.old other held → F.holds files.new other held }
+    ensures known { F.is_known files.old → F.is_known files.new }
+{
+    let decide = |book: &Book, frames: &[Frame]| -> Result<RunOutcome, AllocError>
+        requires { length frames.now ≤ 65536 }
+        ensures { AnswersFold book.entry.now frames.entry.now result }
+    { decide_by(rt, alloc, book, frames, workers, engine) };
+    decide_batch(rt, alloc, files, names, &decide)
+}
+
+/// Decides a batch of at most 65,536 bodies on a book by so many workers of an engine. It fails only where memory runs out.
+pub fn decide_by<R: Clock + Threads + Wait + Sync>(
+    rt: &R,
+    alloc: Global,
+    book: &Book,
+    frames: &[Frame],
+    workers: Workers,
+    engine: Engine,
+) -> Result<RunOutcome, AllocError>
+    requires { length frames.now ≤ 65536 }
+    ensures { AnswersFold book.now frames.now result }
+{
+    match engine {
+        Engine::Locked => run(rt, alloc, book, frames, workers, &Shipped, &NoHook),
+        Engine::Split => run_split(rt, alloc, book, frames, workers, &Shipped, &NoHook),
+    }
+}

@@ -1,2 +1,0 @@
-pub mod BlockFaults
-pub mod FirstBlocks

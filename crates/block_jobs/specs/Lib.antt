@@ -1,3 +1,0 @@
-pub mod Audited
-pub mod Decided
-pub mod Faults

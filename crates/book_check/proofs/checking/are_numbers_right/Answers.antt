@@ -1,9 +1,0 @@
-use Rattle.std.proofs.Common.{◌≡◌, rules}
-use Rattle.rows.proofs.BookLaws.{all_pass_shuffled}
-use Rattle.book_check.specs.CheckBook.{has_right_number}
-use Rattle.book_check.proofs.checking.are_numbers_right.Goals as goal
-
-pub loop-key-init : goal.loop-key-init
-loop-key-init c =
-    let same : c.into_iter-key-iterator.result ≡ c.rows-key-items.result = search rules in
-    rw same (all_pass_shuffled (λ row. has_right_number row.0) _ _ c.rows-key-items.ensures)

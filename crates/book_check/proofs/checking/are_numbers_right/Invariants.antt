@@ -1,7 +1,0 @@
-use Rattle.std.proofs.Common.{◌≡◌}
-use Rattle.std.specs.List.{list_all}
-use Rattle.book_check.specs.CheckBook.{has_right_number, are_numbers_right}
-use Rattle.book_check.proofs.checking.are_numbers_right.Given as goal
-
-abbrev pub invariant-loop-key : goal.invariant-loop-key
-invariant-loop-key l = list_all (λ row. has_right_number row.0) l.key-iterator ≡ are_numbers_right l.book

@@ -1,7 +1,0 @@
-use Rattle.std.proofs.Common.{◌↔◌}
-use Rattle.std.specs.FinMap as map
-use Rattle.book_check.specs.CheckBook.{AreRowsInRange}
-use Rattle.book_check.proofs.checking.are_rows_in_range.Given as goal
-
-abbrev pub invariant-loop-key : goal.invariant-loop-key
-invariant-loop-key l = AreRowsInRange l.book l.key-iterator ↔ AreRowsInRange l.book (map.entries l.book)

@@ -1,9 +1,0 @@
-use Rattle.std.proofs.Common.{◌≡◌, rules}
-use Rattle.rows.proofs.BookLaws.{all_pass_shuffled}
-use Rattle.book_check.specs.CheckBook.{has_accounts}
-use Rattle.book_check.proofs.checking.have_accounts.Goals as goal
-
-pub loop-val-init : goal.loop-val-init
-loop-val-init c =
-    let same : c.into_iter-val-iterator.result ≡ c.rows-val-items.result = search rules in
-    rw same (all_pass_shuffled (λ row. has_accounts c.args.book.now row.1) _ _ c.rows-val-items.ensures)

@@ -1,0 +1,171 @@
+-- A book's text is read again as the book.
+use Rattle.std.proofs.Common.{◌≡◌, ℕ, ◌≤◌, Bool, true, false, ◌||◌, List, [], ◌∷◌, Option, Some, Ok, Result, option_and_then, refl, sym, ap, ◌∙◌, append-nil, arith}
+use Rattle.std.proofs.lemmas.Bool.{false≢true}
+use Rattle.std.specs.FinMap as map
+use Rattle.std.specs.List.{AllByRecursion}
+use Rattle.std.specs.Str.{IsUtf8}
+use Rattle.json.proofs.Printed.Trees.{value-json_tokens}
+use Rattle.json.specs.Json as json
+use Rattle.json.specs.Lex.{tokens}
+use Rattle.json.specs.Token.{Token}
+use Rattle.json.specs.Tree.{items_depth, depth}
+use Rattle.issuer_rows.specs.Fold.{Rows}
+use Rattle.issuer_rows.specs.RowKey.{key_cmp}
+use Rattle.issuer_rows.specs.declared.row_key.RowKey.{RowKey}
+use Rattle.issuer_rows.specs.declared.row_val.RowVal.{RowVal}
+use Rattle.issuer_rows.specs.declared.row_val.RowVal.TheVariants as val
+use Rattle.serde_json.proofs.Numbers.{number_of-decimal}
+use Rattle.serde_json.specs.Data.{Data}
+use Rattle.serde_json.specs.Read.{of_json, read, max_depth}
+use Rattle.serde_json.specs.Written.{outline, items_outline}
+use Rattle.book_laws.proofs.Readings.{read_value}
+use Rattle.book_laws.proofs.RoundTrip.{Row, HasThose, items_again, items_flat, list_added, all_there, sorted_apart, kept_none}
+use Rattle.book_laws.specs.Lists.{add_entries, add_list}
+use Rattle.book_laws.specs.Parts.{is_in}
+use Rattle.book_laws.specs.Reading.{add_lists, all_lists, book_of, reading}
+use Rattle.book_laws.specs.Steps.{◌>>=◌}
+use Rattle.book_laws.specs.Text.{ReadsBack, tokens_of, rows_of, items_data, book_data}
+use Rattle.book_laws.specs.declared.book_version.BookVersion.TheVariants.{Three}
+use Rattle.book_laws.specs.declared.row_list.RowList.{RowList}
+use Rattle.book_laws.specs.declared.row_list.RowList.TheVariants.{Cards, Days, Budgets, Originals, Ahead, Accounts}
+use Rattle.book_laws.specs.declared.text_fault.TextFault.{TextFault}
+
+-- the rows of a list are read again
+abbrev pub IsReadBack : Rows → RowList → Type 0
+IsReadBack rows list = AllByRecursion (ReadsBack list) (rows_of list (map.entries rows))
+
+-- those of each list
+pub record AreReadBack (rows : Rows) : Type 0 where
+  pub accounts : IsReadBack rows Accounts
+  pub ahead : IsReadBack rows Ahead
+  pub budgets : IsReadBack rows Budgets
+  pub cards : IsReadBack rows Cards
+  pub days : IsReadBack rows Days
+  pub originals : IsReadBack rows Originals
+
+-- ---- the JSON value
+
+data_again : (rows : Rows) → AreReadBack rows → of_json (outline (book_data rows)) ≡ Some (book_data rows)
+data_again rows h =
+    rw (
+      items_again Accounts _ h.accounts,
+      items_again Ahead _ h.ahead,
+      items_again Budgets _ h.budgets,
+      items_again Cards _ h.cards,
+      items_again Days _ h.days,
+      items_again Originals _ h.originals,
+      number_of-decimal 3 (omega arith),
+    ) refl
+
+data_depth : (rows : Rows) → AreReadBack rows → depth (outline (book_data rows)) ≤ 4
+data_depth rows h =
+    omega (arith, items_flat Accounts _ h.accounts, items_flat Ahead _ h.ahead, items_flat Budgets _ h.budgets, items_flat Cards _ h.cards, items_flat Days _ h.days, items_flat Originals _ h.originals)
+
+-- what serde_json reads of the text is the value
+read_again : (rows : Rows) (text : List ℕ) → AreReadBack rows → tokens text ≡ tokens_of (book_data rows) → read text ≡ Some (book_data rows)
+read_again rows text h is =
+    let deep = data_depth rows h in
+    ap (λ (o : Option (json.Json × List Token)). option_and_then of_json (option_and_then (λ p. json.if_last p.0 p.1) o))
+    (ap (json.value max_depth) (is ∙ sym (append-nil _)) ∙ value-json_tokens (outline (book_data rows)) max_depth [] (omega (arith, deep)))
+    ∙ data_again rows h
+
+-- ---- the lists, each behind those that are read before it
+
+done_1 : Row → Bool
+done_1 row = is_in Cards row.1 || false
+
+done_2 : Row → Bool
+done_2 row = is_in Days row.1 || done_1 row
+
+done_3 : Row → Bool
+done_3 row = is_in Budgets row.1 || done_2 row
+
+done_4 : Row → Bool
+done_4 row = is_in Originals row.1 || done_3 row
+
+done_5 : Row → Bool
+done_5 row = is_in Ahead row.1 || done_4 row
+
+done_6 : Row → Bool
+done_6 row = is_in Accounts row.1 || done_5 row
+
+apart_2 : (row : Row) → is_in Days row.1 ≡ true → done_1 row ≡ false
+unfolding done_1
+apart_2 (k, val.Velocity v) h = refl
+apart_2 (k, v) h = absurd (false≢true h)
+
+apart_3 : (row : Row) → is_in Budgets row.1 ≡ true → done_2 row ≡ false
+unfolding done_1 done_2
+apart_3 (k, val.Budget v) h = refl
+apart_3 (k, v) h = absurd (false≢true h)
+
+apart_4 : (row : Row) → is_in Originals row.1 ≡ true → done_3 row ≡ false
+unfolding done_1 done_2 done_3
+apart_4 (k, val.Kept v) h = refl
+apart_4 (k, v) h = absurd (false≢true h)
+
+apart_5 : (row : Row) → is_in Ahead row.1 ≡ true → done_4 row ≡ false
+unfolding done_1 done_2 done_3 done_4
+apart_5 (k, val.Ahead v) h = refl
+apart_5 (k, v) h = absurd (false≢true h)
+
+apart_6 : (row : Row) → is_in Accounts row.1 ≡ true → done_5 row ≡ false
+unfolding done_1 done_2 done_3 done_4 done_5
+apart_6 (k, val.Account v) h = refl
+apart_6 (k, v) h = absurd (false≢true h)
+
+-- each row is in a list
+each_row : (row : Row) → done_6 row ≡ true
+unfolding done_1 done_2 done_3 done_4 done_5 done_6
+each_row (k, val.Card v) = refl
+each_row (k, val.Velocity v) = refl
+each_row (k, val.Budget v) = refl
+each_row (k, val.Kept v) = refl
+each_row (k, val.Ahead v) = refl
+each_row (k, val.Account v) = refl
+
+next_list : (list : RowList) (lists : List RowList) (top : Data) (m after : Rows) → add_list Three list top m ≡ Ok after → add_lists Three (list ∷ lists) top m ≡ add_lists Three lists top after
+unfolding add_lists
+next_list list lists top m after e = ap (λ (r : Result Rows TextFault). r >>= add_lists Three lists top) e
+
+last_list : (top : Data) (m : Rows) → add_lists Three [] top m ≡ Ok m
+unfolding add_lists
+last_list top m = refl
+
+-- the list of the top object
+of_top : (rows m : Rows) (list : RowList) → add_list Three list (book_data rows) m ≡ add_entries Three list (items_data (rows_of list (map.entries rows))) m
+unfolding add_list
+of_top rows m Cards = refl
+of_top rows m Days = refl
+of_top rows m Budgets = refl
+of_top rows m Originals = refl
+of_top rows m Ahead = refl
+of_top rows m Accounts = refl
+
+lists_again : (rows : Rows) → AreReadBack rows → add_lists Three all_lists (book_data rows) map.empty ≡ Ok rows
+unfolding done_1 done_2 done_3 done_4 done_5 done_6
+lists_again rows h =
+    let es = map.entries rows in
+    let apart = sorted_apart es (map.entries_sorted rows) in
+    let cards = list_added Cards es (λ _. false) map.empty apart h.cards (λ row is. refl) (λ q. map.get-empty key_cmp q ∙ sym (kept_none q _)) in
+    let days = list_added Days es done_1 cards.0 apart h.days apart_2 cards.2 in
+    let budgets = list_added Budgets es done_2 days.0 apart h.budgets apart_3 days.2 in
+    let originals = list_added Originals es done_3 budgets.0 apart h.originals apart_4 budgets.2 in
+    let ahead = list_added Ahead es done_4 originals.0 apart h.ahead apart_5 originals.2 in
+    let accounts = list_added Accounts es done_5 ahead.0 apart h.accounts apart_6 ahead.2 in
+    next_list Cards _ _ _ cards.0 (of_top rows _ Cards ∙ cards.1)
+    ∙ next_list Days _ _ _ days.0 (of_top rows _ Days ∙ days.1)
+    ∙ next_list Budgets _ _ _ budgets.0 (of_top rows _ Budgets ∙ budgets.1)
+    ∙ next_list Originals _ _ _ originals.0 (of_top rows _ Originals ∙ originals.1)
+    ∙ next_list Ahead _ _ _ ahead.0 (of_top rows _ Ahead ∙ ahead.1)
+    ∙ next_list Accounts _ _ _ accounts.0 (of_top rows _ Accounts ∙ accounts.1)
+    ∙ last_list (book_data rows) accounts.0
+    ∙ ap (λ (m : Rows). Ok m) (all_there rows accounts.0 done_6 each_row accounts.2)
+
+book_again : (rows : Rows) → AreReadBack rows → book_of (book_data rows) ≡ Ok rows
+unfolding book_of
+book_again rows h = lists_again rows h
+
+-- the text of a book whose rows are read again is read as the book
+pub text_again : (rows : Rows) (text : List ℕ) → AreReadBack rows → IsUtf8 text → tokens text ≡ tokens_of (book_data rows) → reading text ≡ Ok rows
+text_again rows text h utf8 is = read_value text (book_data rows) utf8 (read_again rows text h is) ∙ book_again rows h

@@ -1,0 +1,13 @@
+pub mod Cards
+pub mod CheckBook
+pub mod Entries
+pub mod Fields
+pub mod JsonFault
+pub mod Lists
+pub mod Originals
+pub mod Parts
+pub mod Ranges
+pub mod Reading
+pub mod Steps
+pub mod Text
+pub mod Words

@@ -1,0 +1,204 @@
+-- The text of a book, version 3: compact JSON, the keys of each object in byte order, the rows of each list in key order.
+use Rattle.std.specs.Prelude.{◌≡◌, ◌≤◌, ℕ, List, [], ◌∷◌, ◌++◌, Option, Some, None, Ok, codes}
+use Rattle.std.specs.List.{filter}
+use Rattle.std.specs.FinMap as map
+use Rattle.iso8583.specs.Number.{fixed_digits}
+use Rattle.iso8583.specs.declared.account_id.AccountId.{AccountId}
+use Rattle.iso8583.specs.declared.approval.Approval.{Approval}
+use Rattle.iso8583.specs.declared.identity.Identity.{Identity}
+use Rattle.iso8583.specs.declared.pan.Pan.{Pan}
+use Rattle.iso8583.specs.declared.pan_prefix.PanPrefix.{PanPrefix}
+use Rattle.json.specs.Token.{Token}
+use Rattle.json.specs.Tree.{json_tokens, depth}
+use Rattle.json.specs.Written.{Written}
+use Rattle.issuer_rows.specs.Fold.{Rows}
+use Rattle.issuer_rows.specs.declared.account_row.AccountRow.{AccountRow}
+use Rattle.issuer_rows.specs.declared.budget_row.BudgetRow.{BudgetRow}
+use Rattle.issuer_rows.specs.declared.card_row.CardRow.{CardRow}
+use Rattle.issuer_rows.specs.declared.mark.Mark.{Mark}
+use Rattle.issuer_rows.specs.declared.row_key.RowKey.{RowKey}
+use Rattle.issuer_rows.specs.declared.row_key.RowKey.TheVariants as key
+use Rattle.issuer_rows.specs.declared.row_val.RowVal.{RowVal}
+use Rattle.issuer_rows.specs.declared.row_val.RowVal.TheVariants as val
+use Rattle.issuer_rows.specs.declared.velocity_row.VelocityRow.{VelocityRow}
+use Rattle.serde_json.specs.Data.{Data, null, number, unsigned, string, array, object, Items, no_items, item, Members, no_members, member}
+use Rattle.serde_json.specs.Read.{of_json}
+use Rattle.serde_json.specs.Written.{compact_text, outline}
+use Rattle.book_laws.specs.Lists.{entry_of}
+use Rattle.book_laws.specs.Originals.{entry_of_kept}
+use Rattle.book_laws.specs.Parts.{list_key, is_in}
+use Rattle.book_laws.specs.Words.{status_word, mode_word, kind_word, paid_word}
+use Rattle.book_laws.specs.declared.book_version.BookVersion.TheVariants.{Three}
+use Rattle.book_laws.specs.declared.original_entry.OriginalEntry.{OriginalEntry}
+use Rattle.book_laws.specs.declared.row_list.RowList.{RowList}
+use Rattle.book_laws.specs.declared.row_list.RowList.TheVariants.{Cards, Days, Budgets, Originals, Ahead, Accounts}
+
+-- a number
+abbrev pub numeral : ℕ → Data
+numeral n = number (unsigned n)
+
+-- members, each with its key
+abbrev pub members : List (List ℕ × Data) → Members
+members [] = no_members
+members (m ∷ ms) = member m.0 m.1 (members ms)
+
+-- null where there is nothing
+abbrev pub optional_data : {A : Type 0} → (A → Data) → Option A → Data
+optional_data data_of None = null
+optional_data data_of (Some x) = data_of x
+
+-- the name of an account
+abbrev pub account_id_data : AccountId → Data
+account_id_data id = string id.0
+
+-- an approval code
+abbrev pub approval_data : Approval → Data
+approval_data code = string code.0
+
+-- the identity of a reversal
+abbrev pub identity_data : Identity → Data
+identity_data identity =
+    object (members (
+    (codes "acquirer", string identity.acquirer.0)
+    ∷ (codes "stamp", string identity.stamp)
+    ∷ (codes "trace", string identity.stan.0)
+    ∷ []))
+
+-- ---- entries
+
+-- a card
+abbrev pub card_data : Pan → CardRow → Data
+card_data pan card =
+    object (members (
+    (codes "account", account_id_data card.accounts.first)
+    ∷ (codes "approvals", numeral card.approvals)
+    ∷ (codes "day_amount", numeral card.day_amount)
+    ∷ (codes "day_count", numeral card.day_count)
+    ∷ (codes "expiry", string card.expiry)
+    ∷ (codes "pan", string pan.0)
+    ∷ (codes "second", optional_data account_id_data card.accounts.second)
+    ∷ (codes "status", string (status_word card.status))
+    ∷ []))
+
+-- what was spent with a card on a day
+abbrev pub day_data : Pan → List ℕ → VelocityRow → Data
+day_data pan day row =
+    object (members (
+    (codes "count", numeral row.count)
+    ∷ (codes "day", string day)
+    ∷ (codes "pan", string pan.0)
+    ∷ (codes "sum", numeral row.sum)
+    ∷ []))
+
+-- a stand-in budget
+abbrev pub budget_data : PanPrefix → BudgetRow → Data
+budget_data prefix row =
+    object (members (
+    (codes "cap", numeral row.cap)
+    ∷ (codes "left", numeral row.left)
+    ∷ (codes "mode", string (mode_word row.mode))
+    ∷ (codes "prefix", string prefix.0)
+    ∷ []))
+
+-- an original that was decided
+abbrev pub original_data : Identity → OriginalEntry → Data
+original_data identity e =
+    object (members (
+    (codes "account", optional_data account_id_data e.account)
+    ∷ (codes "acquirer", string identity.acquirer.0)
+    ∷ (codes "action", string (fixed_digits 3 e.action))
+    ∷ (codes "amount", numeral e.amount)
+    ∷ (codes "approval", optional_data approval_data e.approval)
+    ∷ (codes "kind", string (kind_word e.kind))
+    ∷ (codes "paid", string (paid_word e.paid))
+    ∷ (codes "pan", string e.pan.0)
+    ∷ (codes "processing", string e.processing.0)
+    ∷ (codes "reversed", optional_data identity_data e.reversed)
+    ∷ (codes "stamp", string identity.stamp)
+    ∷ (codes "stay", numeral e.stay)
+    ∷ (codes "trace", string identity.stan.0)
+    ∷ []))
+
+-- an original whose reversal came ahead of it
+abbrev pub mark_data : Identity → Mark → Data
+mark_data identity mark =
+    object (members (
+    (codes "acquirer", string identity.acquirer.0)
+    ∷ (codes "kind", string (kind_word mark.kind))
+    ∷ (codes "pan", string mark.card.0)
+    ∷ (codes "reversal", identity_data mark.reversal)
+    ∷ (codes "stamp", string identity.stamp)
+    ∷ (codes "trace", string identity.stan.0)
+    ∷ []))
+
+-- an account
+abbrev pub account_data : AccountId → AccountRow → Data
+account_data id row =
+    object (members (
+    (codes "available", numeral row.available)
+    ∷ (codes "currency", string row.currency.0)
+    ∷ (codes "id", account_id_data id)
+    ∷ []))
+
+-- the entry of a row; a book has no row whose value is not of its key's kind
+abbrev pub entry_data : RowKey → RowVal → Data
+entry_data (key.Card pan) (val.Card row) = card_data pan row
+entry_data (key.Velocity pan day) (val.Velocity row) = day_data pan day row
+entry_data (key.Budget prefix) (val.Budget row) = budget_data prefix row
+entry_data (key.Original identity) (val.Kept k) = original_data identity (entry_of_kept k)
+entry_data (key.Original identity) (val.Ahead mark) = mark_data identity mark
+entry_data (key.Account id) (val.Account row) = account_data id row
+entry_data _ _ = null
+
+-- ---- lists and the book
+
+-- the entries of rows
+abbrev pub items_data : List (RowKey × RowVal) → Items
+items_data [] = no_items
+items_data (row ∷ rows) = item (entry_data row.0 row.1) (items_data rows)
+
+-- the rows of a list
+abbrev pub rows_of : RowList → List (RowKey × RowVal) → List (RowKey × RowVal)
+rows_of list rows = filter (λ row. is_in list row.1) rows
+
+-- a list
+abbrev pub list_data : RowList → List (RowKey × RowVal) → Data
+list_data list rows = array (items_data (rows_of list rows))
+
+-- a list as a member of the top object
+abbrev pub list_member : RowList → Rows → List ℕ × Data
+list_member list rows = (list_key list, list_data list (map.entries rows))
+
+-- the top object
+abbrev pub book_data : Rows → Data
+book_data rows =
+    object (members (
+    list_member Accounts rows
+    ∷ list_member Ahead rows
+    ∷ list_member Budgets rows
+    ∷ list_member Cards rows
+    ∷ list_member Days rows
+    ∷ list_member Originals rows
+    ∷ (codes "version", numeral 3)
+    ∷ []))
+
+-- the text of a book
+abbrev pub book_text : Rows → List ℕ
+book_text rows = compact_text (book_data rows)
+
+-- ---- for private clauses: what is written, token by token
+
+-- these tokens were written behind the old ones
+pub record Adds (old new : Written) (added : List Token) : Type 0 where
+  pub kept : new.before ≡ old.before
+  pub written : new.tokens ≡ old.tokens ++ added
+
+-- the tokens of a value
+abbrev pub tokens_of : Data → List Token
+tokens_of d = json_tokens (outline d)
+
+-- an entry that is read again as its row: its numbers are whole and fit, and its fields are in range
+pub record ReadsBack (list : RowList) (row : RowKey × RowVal) : Type 0 where
+  pub value : of_json (outline (entry_data row.0 row.1)) ≡ Some (entry_data row.0 row.1)
+  pub depth : depth (outline (entry_data row.0 row.1)) ≤ 2
+  pub entry : entry_of Three list (entry_data row.0 row.1) ≡ Ok row

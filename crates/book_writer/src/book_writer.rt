@@ -1,0 +1,91 @@
+use crate::listing::Listing;
+use crate::of_rows::OfRows;
+use crate::pieces::BookPieces;
+use crate::sheets::Sheets;
+use crate::sorting::Sorting;
+use rayon::current_num_threads;
+use std::alloc::AllocError;
+use std::sync::{OnceLock, Wait};
+use std::thread;
+use std::thread::Threads;
+
+// Of fewer rows no thread but the one that takes the pieces makes text.
+const MANY: usize = 2048;
+
+/// What the threads share that make a book's text.
+#[derive(Drop)]
+pub struct BookWriter<'s, 'a, B: OfRows> {
+    sorting: &'s Sorting<'a, B>,
+    listing: OnceLock<Option<Listing<'s, B>>>,
+    sheets: Sheets<B>,
+}
+
+impl<'s, 'a, B: OfRows> BookWriter<'s, 'a, B> {
+    ghost use Rattle.std.specs.Prelude.{◌≡◌, IfOk};
+    ghost use Rattle.std.specs.FinMap as map;
+    ghost use Rattle.issuer_rows.specs.Fold.{Rows};
+    ghost use Rattle.book_laws.specs.Text.{book_text};
+    ghost use Rattle.book_writer.specs.Rest.{rest_of};
+
+    /// A writer for the text of these rows. It fails only where memory runs out.
+    pub fn new(sorting: &'s Sorting<'a, B>) -> Result<BookWriter<'s, 'a, B>, AllocError> {
+        Ok(BookWriter {
+            sorting,
+            listing: OnceLock::new(),
+            sheets: Sheets::new(sorting.alloc())?,
+        })
+    }
+
+    // The listing of the rows, unless memory ran out. The first thread that needs it makes it, and others wait.
+    fn listing<R: Wait>(&self, rt: &R) -> Option<&Listing<'s, B>> {
+        self.listing.get_or_init(rt, || self.list(rt)).as_ref()
+    }
+
+    // Lists the rows.
+    fn list<R: Wait>(&self, rt: &R) -> Option<Listing<'s, B>> {
+        let rows = self.sorting.rows(rt)?;
+        Listing::new(self.sorting.alloc(), rows).ok()
+    }
+
+    // Sorts and lists the rows if nobody did, and writes sheets ahead until all are written or the writer is closed.
+    fn help<R: Wait>(&self, rt: &R) {
+        if let Some(listing) = self.listing(rt) {
+            self.sheets.help(rt, listing);
+        }
+    }
+
+    /// How many threads are to help the one that takes the pieces: none where the rows are few.
+    pub fn helpers<R: Threads>(&self, rt: &R) -> usize {
+        if self.sorting.len() < MANY {
+            return 0;
+        }
+        current_num_threads(rt) - 1
+    }
+
+    /// The text of the book that has these rows. No piece is made yet. It fails only where memory runs out.
+    pub fn pieces<'d, R: Wait>(&'d self, rt: &'d R) -> Result<BookPieces<'d, R, B>, AllocError>
+        ensures { IfOk result (λ pieces. (book : Rows) → B.rows ≡ map.entries book → rest_of pieces.left ≡ book_text book) }
+    {
+        match self.listing(rt) {
+            Some(listing) => Ok(BookPieces::new(rt, self.sorting.alloc(), listing, &self.sheets)),
+            None => Err(AllocError),
+        }
+    }
+
+    /// Ends the help of other threads.
+    pub fn close(&self) {
+        self.sheets.close();
+    }
+}
+
+impl<B: OfRows + Send + Sync> BookWriter<'_, '_, B> {
+    /// Helps whoever takes the pieces, in so many threads, this one among them, until the writer is closed.
+    pub fn help_in<R: Threads + Wait + Sync>(&self, rt: &R, threads: usize) {
+        thread::scope(thread::scope_env(), rt, move |scope| {
+            for _ in 1..threads {
+                let _ = scope.spawn(move || self.help(rt));
+            }
+            self.help(rt);
+        });
+    }
+}

@@ -1,9 +1,0 @@
-use Rattle.codec.proofs.Others.{all_texts, some_here, none_here}
-use Rattle.codec.proofs.message.request_of.Goals as goal
-
-pub returns-clause-texts : goal.returns-clause-texts
-returns-clause-texts c =
-    let y = c.args.body.now in
-    let form = c.requires.form in
-    all_texts c.transaction_of.result c.args.front.now c.args.body.now _ _ _ _ _ _ c.transaction_of.ensures.texts
-    (some_here y.function c.in-Some.function _ c.in-Some.is c.function.ensures) (none_here y.original_amount form.original_amount) (none_here y.approval form.approval) (none_here y.action form.action) (none_here y.original form.original) c.account.ensures.value

@@ -1,5 +1,0 @@
-use Rattle.codec_laws.proofs.BitsFaults.{secondary_bitmap}
-use Rattle.codec_laws.proofs.laws.names_a_secondary_bitmap.Goals as goal
-
-pub returns : goal.returns
-returns c = secondary_bitmap

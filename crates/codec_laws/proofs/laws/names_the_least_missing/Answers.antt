@@ -1,5 +1,0 @@
-use Rattle.codec_laws.proofs.NamedElements.{least_missing}
-use Rattle.codec_laws.proofs.laws.names_the_least_missing.Goals as goal
-
-pub returns : goal.returns
-returns c = least_missing

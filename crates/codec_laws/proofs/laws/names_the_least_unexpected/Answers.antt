@@ -1,5 +1,0 @@
-use Rattle.codec_laws.proofs.NamedElements.{least_unexpected}
-use Rattle.codec_laws.proofs.laws.names_the_least_unexpected.Goals as goal
-
-pub returns : goal.returns
-returns c = least_unexpected

@@ -1,0 +1,5 @@
+use Rattle.engine_workers.specs.Started.{IsStarted}
+use Rattle.engine_split.proofs.together.fn.work_together.scope.Given as goal
+
+abbrev pub invariant-loop-number : goal.invariant-loop-number
+invariant-loop-number g l = IsStarted l.started l._number

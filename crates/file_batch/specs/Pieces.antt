@@ -1,0 +1,34 @@
+-- The pieces in which a batch goes from the thread that reads it to the one that decides it, and back.
+use Rattle.std.specs.Prelude.{◌≡◌, List, ℕ, ◌++◌, length}
+use Rattle.std.specs.List.{flat_map}
+use Rattle.rtrb.specs.Ring.{sent, received, IsPair}
+use Rattle.issuer_rows.specs.Fold.{Rows, rows_after, replies_to}
+use Rattle.issuer_rows.specs.declared.frame.Frame.{Frame}
+use Rattle.issuer_rows.specs.declared.reply_body.ReplyBody.{ReplyBody}
+use Rattle.file_batch.specs.InOrder.{texts_of}
+use Rattle.file_batch.specs.declared.piece.Piece.{Piece}
+use Rattle.file_batch.specs.declared.reader.Reader.{Reader}
+use Rattle.file_batch.specs.declared.decider.Decider.{Decider}
+
+-- the frames of pieces, one behind another
+abbrev pub frames_in : List Piece → List Frame
+frames_in pieces = flat_map (λ piece. piece.frames.items) pieces
+
+-- the replies in them
+abbrev pub replies_in : List Piece → List ReplyBody
+replies_in pieces = flat_map (λ piece. piece.replies.items) pieces
+
+-- what came in is decided one after another on this book, and the replies to it are handed back
+abbrev pub HasDecided : Rows → Decider → Type 0
+HasDecided book decider =
+    (decider.prefix.book ≡ rows_after book (frames_in (received decider.inbound)))
+    × (decider.prefix.count ≡ length (frames_in (received decider.inbound)))
+    × (replies_in (sent decider.outbound) ≡ replies_to book (frames_in (received decider.inbound)))
+
+-- the texts of the replies that came back stand behind this head
+abbrev pub HasTold : List ℕ → Reader → Type 0
+HasTold head reader = reader.out.items ≡ head ++ texts_of (replies_in (received reader.inbound))
+
+-- what the one hands over comes to the other, both ways
+abbrev pub AreJoined : Reader → Decider → Type 0
+AreJoined reader decider = IsPair reader.outbound decider.inbound × IsPair decider.outbound reader.inbound

@@ -1,0 +1,118 @@
+ghost use Rattle.std.specs.Prelude.{◌≡◌, ◌+◌, ◌<◌, ◌≤◌, ◌^◌, [], length, vec_len, IfOk, OnOk};
+ghost use Rattle.file_batch_laws.specs.BatchFault.{failures_after};
+ghost use Rattle.file_batch_laws.specs.Reading.{GivesWhole, bodies_at, ended};
+ghost use Rattle.file_batch_laws.specs.Frames.{IsFrameOf, GivesFrames, GivesBatch};
+ghost use Rattle.file_batch.specs.InOrder.{GivesInto};
+ghost use Rattle.file_batch.specs.Window.{ahead};
+
+use crate::window::Window;
+use file_batch_laws::BatchFault;
+use file_devices::Source;
+use iso_codec::decode;
+use issuer_rows::{Frame, FrameFault};
+use std::alloc::Global;
+
+// The message that the body spells, or the fault of a body that spells none.
+fn frame_of(body: &[u8]) -> Frame
+    ensures { IsFrameOf body.now result }
+{
+    match decode(body) {
+        Ok(message) => Frame::Good(message),
+        Err(fault) => match FrameFault::new(fault) {
+            Some(fault) => Frame::Bad(fault),
+            None => unreachable!(),
+        },
+    }
+}
+
+impl Window {
+    /// Sees that nothing is left. A byte that is left is `Trailing`.
+    pub fn read_end<R: Source>(&mut self, source: &mut R) -> Result<(), BatchFault>
+        requires room { R.failures source.old + 1 < 2 ^ 64 }
+        ensures failures { R.failures source.new ≡ failures_after result (R.failures source.old) }
+        ensures known { R.is_known source.old → R.is_known source.new }
+        ensures gives { R.is_known source.old → GivesWhole (λ _. tt) result (ended (ahead self.old (R.remaining source.old))) }
+        ensures end { OnOk result (R.is_known source.old → R.remaining source.new ≡ []) }
+    {
+        match self.make_ready(source) {
+            Ok(()) => Err(BatchFault::Trailing),
+            Err(BatchFault::Ended) => Ok(()),
+            Err(fault) => Err(fault),
+        }
+    }
+
+    /// Reads the frames of the next bodies, so many, over the memory of others.
+    pub(crate) fn read_into<R: Source>(
+        &mut self,
+        source: &mut R,
+        count: u32,
+        frames: &mut Vec<Frame>,
+    ) -> Result<(), BatchFault>
+        requires room { R.failures source.old + 1 < 2 ^ 64 }
+        ensures failures { R.failures source.new ≡ failures_after result (R.failures source.old) }
+        ensures known { R.is_known source.old → R.is_known source.new }
+        ensures count { OnOk result (vec_len frames.new ≡ count) }
+        ensures gives { R.is_known source.old → GivesInto result frames.new.items
+            (ahead self.new (R.remaining source.new)) (bodies_at count (ahead self.old (R.remaining source.old))) }
+    {
+        frames.clear();
+        for _ in 0..count {
+            self.read_body(source)?;
+            frames.push(frame_of(&self.field))?;
+        }
+        Ok(())
+    }
+
+    /// Reads the frames of the next bodies, so many, in order: of each the message that it spells, or its fault. A body whose
+    /// length is outside 1 to 512 is `Length`.
+    pub fn read_frames<R: Source>(
+        &mut self,
+        alloc: Global,
+        source: &mut R,
+        count: u32,
+    ) -> Result<Vec<Frame>, BatchFault>
+        requires room { R.failures source.old + 1 < 2 ^ 64 }
+        ensures failures { R.failures source.new ≡ failures_after result (R.failures source.old) }
+        ensures known { R.is_known source.old → R.is_known source.new }
+        ensures count { IfOk result (λ frames. vec_len frames ≡ count) }
+        ensures gives { R.is_known source.old → GivesFrames result
+            (ahead self.new (R.remaining source.new)) (bodies_at count (ahead self.old (R.remaining source.old))) }
+    {
+        let mut frames = Vec::new(alloc);
+        self.read_into(source, count, &mut frames)?;
+        Ok(frames)
+    }
+
+    fn read_file<R: Source>(
+        &mut self,
+        alloc: Global,
+        source: &mut R,
+    ) -> Result<Vec<Frame>, BatchFault>
+        requires room { R.failures source.old + 1 < 2 ^ 64 }
+        ensures failures { R.failures source.new ≡ failures_after result (R.failures source.old) }
+        ensures known { R.is_known source.old → R.is_known source.new }
+        ensures count { IfOk result (λ frames. length frames.items ≤ 65536) }
+        ensures gives { R.is_known source.old → GivesBatch result (ahead self.old (R.remaining source.old)) }
+        ensures end { OnOk result (R.is_known source.old → R.remaining source.new ≡ []) }
+    {
+        let count = self.read_head(source, b"I83B")?;
+        let frames = self.read_frames(alloc, source, count)?;
+        self.read_end(source)?;
+        Ok(frames)
+    }
+}
+
+/// Reads a batch file, all of the source: `I83B`, version 1, the number of bodies, and each behind its length. Returns a frame for each
+/// body, in order, or the first fault in reading order. The source is at its end then. `Device` is the fault exactly where a call of the
+/// source failed; and memory can run out.
+pub fn read_batch<R: Source>(alloc: Global, source: &mut R) -> Result<Vec<Frame>, BatchFault>
+    requires room { R.failures source.old + 1 < 2 ^ 64 }
+    ensures failures { R.failures source.new ≡ failures_after result (R.failures source.old) }
+    ensures known { R.is_known source.old → R.is_known source.new }
+    ensures count { IfOk result (λ frames. length frames.items ≤ 65536) }
+    ensures gives { R.is_known source.old → GivesBatch result (R.remaining source.old) }
+    ensures end { OnOk result (R.is_known source.old → R.remaining source.new ≡ []) }
+{
+    let mut window = Window::new(alloc)?;
+    window.read_file(alloc, source)
+}

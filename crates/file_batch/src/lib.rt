@@ -1,0 +1,27 @@
+//! Batch files and reply files, read and written over sources and sinks that can fail.
+#![tactic(auto)]
+
+mod bodies;
+mod decider;
+mod fields;
+mod frames;
+mod handing;
+mod in_order;
+mod piece;
+mod processing;
+mod reader;
+mod replies;
+mod reply_reading;
+mod signals;
+mod window;
+mod writing;
+
+pub use bodies::write_batch;
+pub use file_batch_laws::BatchFault;
+pub use frames::read_batch;
+pub use in_order::{Answered, Decided, decide_in_order};
+pub use processing::process;
+pub use replies::{add_reply, write_replies};
+pub use reply_reading::read_replies;
+pub use window::Window;
+pub use writing::{add_head, add_long, put_all};

@@ -1,0 +1,48 @@
+-- Faults of files: their numbers, and which of them are of the bytes alone.
+use Rattle.std.specs.Prelude.{ℕ, ◌+◌, Bool, true, false, Result, Ok, Err}
+use Rattle.file_batch_laws.specs.declared.batch_fault.BatchFault.{BatchFault}
+use Rattle.file_batch_laws.specs.declared.batch_fault.BatchFault.TheVariants.{Magic, Version, Count, Length, Ended, Trailing, Device, OutOfMemory, Body, Blocks}
+
+-- which fault it is, from 1 to 10
+abbrev pub number_of_fault : BatchFault → ℕ
+number_of_fault Magic = 1
+number_of_fault Version = 2
+number_of_fault Count = 3
+number_of_fault Length = 4
+number_of_fault Ended = 5
+number_of_fault Trailing = 6
+number_of_fault Device = 7
+number_of_fault OutOfMemory = 8
+number_of_fault (Body i) = 9
+number_of_fault Blocks = 10
+
+-- a fault that the bytes alone determine
+abbrev pub is_of_bytes : BatchFault → Bool
+is_of_bytes Magic = true
+is_of_bytes Version = true
+is_of_bytes Count = true
+is_of_bytes Length = true
+is_of_bytes Ended = true
+is_of_bytes Trailing = true
+is_of_bytes Device = false
+is_of_bytes OutOfMemory = false
+is_of_bytes (Body i) = true
+is_of_bytes Blocks = true
+
+-- how often calls of a device failed after a fault: once more exactly where the fault is the device's
+abbrev pub failures_at : BatchFault → ℕ → ℕ
+failures_at Magic failures = failures
+failures_at Version failures = failures
+failures_at Count failures = failures
+failures_at Length failures = failures
+failures_at Ended failures = failures
+failures_at Trailing failures = failures
+failures_at Device failures = failures + 1
+failures_at OutOfMemory failures = failures
+failures_at (Body i) failures = failures
+failures_at Blocks failures = failures
+
+-- the same of a result
+abbrev pub failures_after : {X : Type 0} → Result X BatchFault → ℕ → ℕ
+failures_after (Ok x) failures = failures
+failures_after (Err e) failures = failures_at e failures

@@ -1,0 +1,10 @@
+use Rattle.file_blocks.proofs.blocks.read_block_count.Goals as goal
+
+pub returns-in_err-count-clause-known : goal.returns-in_err-count-clause-known
+returns-in_err-count-clause-known g c = c.read_long.ensures.known
+
+pub returns-then-count-gt1000-clause-known : goal.returns-then-count-gt1000-clause-known
+returns-then-count-gt1000-clause-known g c = c.read_long.ensures.known
+
+pub returns-clause-known : goal.returns-clause-known
+returns-clause-known g c = c.read_long.ensures.known

@@ -1,0 +1,70 @@
+-- Blocks that are decided one after another.
+use Rattle.std.specs.Prelude.{◌≡◌, ◌⊎◌, ◌+◌, ℕ, List, ◌++◌, length, Ok, Err, IsTrue}
+use Rattle.issuer_rows.specs.Fold.{Rows, rows_after, replies_to}
+use Rattle.issuer_rows.specs.declared.frame.Frame.{Frame}
+use Rattle.file_batch_laws.specs.BatchFault.{is_of_bytes}
+use Rattle.file_batch_laws.specs.Blocks.{IsBlock, AreBlocks, IsBlockFileOf, FailsBehind, block_replies_text, block_head_at, blocks_magic, block_replies_magic, block_text, blocks_text, rows_after_blocks, replies_to_blocks, messages_in}
+use Rattle.file_batch_laws.specs.Files.{head_text}
+use Rattle.file_batch_laws.specs.declared.batch_fault.BatchFault.{BatchFault}
+use Rattle.file_batch.specs.Writing.{AppendsPart}
+use Rattle.file_blocks.specs.declared.kept_blocks.KeptBlocks.{KeptBlocks}
+
+-- These blocks were decided, each on the rows after those before it: so many blocks and messages, and the rows after them. Where the
+-- bytes are known they were read as these blocks; where it is known what was written, their replies were, and nothing else.
+pub record AreDecided (opening rows : Rows) (count messages : ℕ) (reads : Type 0) (bytes left : List ℕ) (puts : Type 0) (old new : List ℕ) : Type 0 where
+  pub blocks : List (List Frame)
+  pub number : length blocks ≡ count
+  pub all : messages_in blocks ≡ messages
+  pub book : rows ≡ rows_after_blocks opening blocks
+  pub read : reads → AreBlocks bytes blocks left
+  pub put : puts → new ≡ old ++ blocks_text (replies_to_blocks opening blocks)
+
+-- one block more was read and decided on these rows, the sink failed, and a beginning of its replies was written
+abbrev pub BeginsBlock : Rows → Type 0 → List ℕ → Type 0 → List ℕ → List ℕ → Type 0 → Type 0
+BeginsBlock rows reads bytes puts old new failed =
+    failed × (block : List Frame) × (left : List ℕ) × (reads → IsBlock bytes block left) × (puts → AppendsPart old new (block_text (replies_to rows block)))
+
+-- So many blocks are kept, whose replies were written whole, with the rows after them; then reading stopped with the fault, or memory or
+-- a device failed. Behind their replies nothing was written, or, where the sink failed, a beginning of the next block's replies.
+pub record StopsBehind (total : ℕ) (opening rows : Rows) (count : ℕ) (reads : Type 0) (bytes : List ℕ) (puts : Type 0) (old new : List ℕ) (fault : BatchFault) (failed : Type 0) : Type 0 where
+  pub messages : ℕ
+  pub left : List ℕ
+  pub mid : List ℕ
+  pub kept : AreDecided opening rows count messages reads bytes left puts old mid
+  pub fails : reads → IsTrue (is_of_bytes fault) → FailsBehind total count left fault
+  pub begun : (puts → new ≡ mid) ⊎ BeginsBlock rows reads left puts mid new failed
+
+-- The head can't be read, or memory ran out: nothing is kept and nothing was written.
+abbrev pub StopsBefore : Rows → Rows → ℕ → Type 0 → List ℕ → BatchFault → Type 0 → Type 0
+StopsBefore opening rows count reads bytes fault same =
+    (count ≡ 0) × (rows ≡ opening) × same × (reads → IsTrue (is_of_bytes fault) → block_head_at blocks_magic bytes ≡ Err fault)
+
+-- The head was read, and the sink failed while it took its own head: nothing is kept.
+abbrev pub StopsInHead : Rows → Rows → ℕ → Type 0 → List ℕ → Type 0 → List ℕ → List ℕ → Type 0 → Type 0
+StopsInHead opening rows count reads bytes puts old new failed =
+    (count ≡ 0) × (rows ≡ opening) × failed × (total : ℕ) × (behind : List ℕ)
+    × (reads → block_head_at blocks_magic bytes ≡ Ok (total, behind)) × (puts → AppendsPart old new (head_text block_replies_magic total))
+
+-- The head was read, and the sink has its own head, with the input's number of blocks, and what is behind it.
+abbrev pub StopsInBlocks : Rows → Rows → ℕ → Type 0 → List ℕ → Type 0 → List ℕ → List ℕ → BatchFault → Type 0 → Type 0
+StopsInBlocks opening rows count reads bytes puts old new fault failed =
+    (total : ℕ) × (behind : List ℕ) × (reads → block_head_at blocks_magic bytes ≡ Ok (total, behind))
+    × StopsBehind total opening rows count reads behind puts (old ++ head_text block_replies_magic total) new fault failed
+
+-- One block was read, decided and answered: one block more is kept, its messages, and the book after it; and its replies were written.
+pub record IsAnswered (before after : KeptBlocks) (reads : Type 0) (bytes left : List ℕ) (puts : Type 0) (old new : List ℕ) : Type 0 where
+  pub block : List Frame
+  pub number : after.blocks ≡ before.blocks + 1
+  pub all : after.messages ≡ before.messages + length block
+  pub book : after.book ≡ rows_after before.book block
+  pub read : reads → IsBlock bytes block left
+  pub put : puts → new ≡ old ++ block_text (replies_to before.book block)
+
+-- All blocks of a block file were read, decided and answered: so many blocks and messages, the rows after them, and a whole reply file.
+pub record AreAllDecided (opening rows : Rows) (count messages : ℕ) (reads : Type 0) (bytes : List ℕ) (puts : Type 0) (old new : List ℕ) : Type 0 where
+  pub blocks : List (List Frame)
+  pub number : count ≡ length blocks
+  pub all : messages ≡ messages_in blocks
+  pub book : rows ≡ rows_after_blocks opening blocks
+  pub read : reads → IsBlockFileOf bytes blocks
+  pub put : puts → new ≡ old ++ block_replies_text (replies_to_blocks opening blocks)

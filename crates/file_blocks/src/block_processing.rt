@@ -1,0 +1,90 @@
+ghost use Rattle.std.specs.Prelude.{◌≡◌, ◌⊎◌, ◌+◌, ◌<◌, ◌≤◌, ◌^◌, [], length, IfOk, IfErr, OnOk};
+ghost use Rattle.file_batch_laws.specs.BatchFault.{failures_at};
+ghost use Rattle.file_blocks.specs.Blocks.{AreAllDecided, StopsBefore, StopsInHead, StopsInBlocks};
+ghost use Rattle.file_batch.specs.Processing.{AnswersFold};
+
+use crate::kept_blocks::KeptBlocks;
+use file_batch_laws::BatchFault;
+use file_devices::{Sink, Source};
+use issuer_fold::RunOutcome;
+use issuer_rows::{Book, Frame};
+use std::alloc::{AllocError, Global};
+
+/// What deciding all blocks of a block file came to.
+#[derive(Drop)]
+pub struct BlocksOutcome {
+    /// How many blocks it has.
+    pub blocks: u32,
+    /// How many messages they have together.
+    pub messages: u32,
+    /// The book after all of them.
+    pub book: Book,
+}
+
+/// Why not all blocks were decided and answered, and what is kept.
+#[derive(Drop)]
+pub struct Halted {
+    /// How many blocks are kept: those whose replies were written whole.
+    pub blocks: u32,
+    /// The book after these.
+    pub book: Book,
+    /// Why no further block is kept.
+    pub fault: BatchFault,
+}
+
+/// Reads a block file, decides each block on the book after those before it, and writes each block's replies before the next is read. The
+/// block file is `I83M`, version 1, the number of blocks, at most 1,000, and for each block its count and its bodies as in a batch; the
+/// replies are `I83T` and the like. `decide` has to return the fold. A fault while the head is read leaves the sink as it was. One while
+/// a block is read or decided leaves the head and the replies of the kept blocks. One while writing leaves a beginning of the text. A
+/// byte after the last block is `Trailing`, with all blocks kept. `Device` is the fault exactly where a call of the source or of the sink
+/// failed.
+pub fn process_blocks<R: Source, W: Sink, E: Fn(&Book, &[Frame]) -> Result<RunOutcome, AllocError>>(
+    alloc: Global,
+    book: Book,
+    source: &mut R,
+    sink: &mut W,
+    decide: &E,
+) -> Result<BlocksOutcome, Halted>
+    requires source { R.failures source.old + 1 < 2 ^ 64 }
+    requires sink { W.failures sink.old + 1 < 2 ^ 64 }
+    // It may be called with a block, and what it returns is the fold.
+    requires called { (rows : _) (frames : _) → length frames.now ≤ 65536 → E.pre decide.now rows frames }
+    requires fold { (rows : _) (frames : _) (answer : _) → E.post decide.now rows frames answer → AnswersFold rows.now frames.now answer }
+    ensures none_failed { OnOk result (R.failures source.new + W.failures sink.new ≡ R.failures source.old + W.failures sink.old) }
+    ensures failed { IfErr result (λ halted. R.failures source.new + W.failures sink.new ≡ failures_at halted.fault (R.failures source.old + W.failures sink.old)) }
+    ensures known { W.is_known sink.old → W.is_known sink.new }
+    ensures end { OnOk result (R.is_known source.old → R.remaining source.new ≡ []) }
+    ensures ok { IfOk result (λ outcome. AreAllDecided book outcome.book outcome.blocks outcome.messages
+        (R.is_known source.old) (R.remaining source.old) (W.is_known sink.old) (W.written sink.old) (W.written sink.new)) }
+    // A fault before the own head, in it, or behind it.
+    ensures halted { IfErr result (λ halted.
+        StopsBefore book halted.book halted.blocks (R.is_known source.old) (R.remaining source.old) halted.fault (sink.new ≡ sink.old)
+        ⊎ (StopsInHead book halted.book halted.blocks (R.is_known source.old) (R.remaining source.old)
+        (W.is_known sink.old) (W.written sink.old) (W.written sink.new) (W.failures sink.new ≡ W.failures sink.old + 1)
+        ⊎ StopsInBlocks book halted.book halted.blocks (R.is_known source.old) (R.remaining source.old)
+        (W.is_known sink.old) (W.written sink.old) (W.written sink.new) halted.fault (W.failures sink.new ≡ W.failures sink.old + 1))) }
+{
+    let mut kept = KeptBlocks {
+        blocks: 0,
+        messages: 0,
+        book,
+    };
+    let processed = kept.process(alloc, source, sink, decide);
+    let KeptBlocks {
+        blocks,
+        messages,
+        book,
+    } = kept;
+    match processed {
+        Ok(()) => Ok(BlocksOutcome {
+            blocks,
+            messages,
+            book,
+        }),
+        Err(fault) => Err(Halted {
+            blocks,
+            book,
+            fault,
+        }),
+    }
+}

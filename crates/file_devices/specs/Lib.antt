@@ -1,0 +1,3 @@
+pub mod Devices
+pub mod Failing
+pub mod Held

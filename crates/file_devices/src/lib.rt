@@ -1,0 +1,31 @@
+//! Sources and sinks of bytes, whose calls can fail: those of readers and writers, and ones in memory that fail at a stated call; and
+//! bytes that are made piece by piece.
+#![tactic(auto)]
+
+mod batch_names;
+mod broken;
+mod failing;
+mod files;
+mod host;
+mod memory;
+mod pieces;
+mod read_fault;
+mod reading;
+mod sink;
+mod source;
+mod whole;
+mod write_fault;
+
+pub use batch_names::BatchNames;
+pub use broken::Broken;
+pub use failing::{FailingSink, FailingSource};
+pub use files::Files;
+pub use host::HostFiles;
+pub use memory::MemoryFiles;
+pub use pieces::Pieces;
+pub use read_fault::ReadFault;
+pub use reading::read_file;
+pub use sink::{IntoWrite, Sink};
+pub use source::{FromRead, Source};
+pub use whole::Whole;
+pub use write_fault::WriteFault;

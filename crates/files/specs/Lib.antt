@@ -1,2 +1,0 @@
-pub mod Failing
-pub mod Held

@@ -1,0 +1,22 @@
+//! Messages and replies of ISO 8583:1993 from bytes and into bytes.
+#![tactic(auto)]
+
+mod bitmap;
+mod body;
+mod closing;
+mod codes;
+mod decoding;
+mod fields;
+mod front;
+mod header;
+mod message;
+mod opening;
+mod reply;
+mod side;
+mod texts;
+mod types;
+mod value_test;
+mod values;
+
+pub use decoding::{decode, decode_reply};
+pub use iso_encoder::{ROOM, encode, encode_reply};

@@ -1,0 +1,105 @@
+//! The values of every message and of every reply are in range: their types keep them there, and looking at
+//! them says so. Nothing is done with what is seen.
+
+ghost use Rattle.iso_laws.specs.Contents.{IsTransaction};
+ghost use Rattle.iso_laws.specs.Messages.{IsMessage, IsOriginal, IsScope, IsAccount};
+ghost use Rattle.iso_laws.specs.Replies.{IsAnswer, IsReply};
+
+use iso8583::{
+    AccountId, Answer, Message, OriginalRef, Reply, ReversalScope, Transaction, Verdict,
+};
+
+fn transaction_in_range(transaction: &Transaction)
+    ensures { IsTransaction transaction.now }
+{
+    let _ = transaction.pan.0.as_slice();
+    let _ = transaction.processing.0.as_slice();
+    let _ = transaction.amount.minor();
+    let _ = transaction.transmission.0.as_slice();
+    let _ = transaction.stan.0.as_slice();
+    let _ = transaction.stamp.as_slice();
+    let _ = transaction.acquirer.0.as_slice();
+    if let Some(retrieval) = &transaction.retrieval {
+        let _ = retrieval.0.as_slice();
+    }
+    let _ = transaction.terminal.0.as_slice();
+    let _ = transaction.currency.0.as_slice();
+}
+
+fn scope_in_range(scope: &ReversalScope)
+    ensures { IsScope scope.now }
+{
+    if let ReversalScope::Partial(amount) = scope {
+        let _ = amount.minor();
+    }
+}
+
+fn original_in_range(original: &OriginalRef)
+    ensures { IsOriginal original.now }
+{
+    let _ = original.identity.stan.0.as_slice();
+    let _ = original.identity.stamp.as_slice();
+    let _ = original.identity.acquirer.0.as_slice();
+}
+
+fn account_in_range(account: &Option<AccountId>)
+    ensures { IsAccount account.now }
+{
+    if let Some(account) = account {
+        let _ = account.0.as_slice();
+    }
+}
+
+fn answer_in_range(answer: &Answer)
+    ensures { IsAnswer answer.now }
+{
+    match answer {
+        Answer::Request(Verdict::Approved(code), account) => {
+            let _ = code.0.as_slice();
+            account_in_range(account);
+        }
+        Answer::Request(Verdict::Declined(code), account) => {
+            let _ = code.action().code();
+            account_in_range(account);
+        }
+        Answer::Advice(action, account) => {
+            let _ = action.code();
+            account_in_range(account);
+        }
+        Answer::Reversal(action) => {
+            let _ = action.code();
+        }
+    }
+}
+
+/// Every message's values are in range.
+pub(crate) fn message_in_range(message: &Message)
+    ensures { IsMessage message.now }
+{
+    match message {
+        Message::Request(request) => {
+            transaction_in_range(&request.transaction);
+            let _ = request.function.0.as_slice();
+            account_in_range(&request.account);
+        }
+        Message::Advice(advice) => {
+            transaction_in_range(&advice.transaction);
+            let _ = advice.function.0.as_slice();
+            let _ = advice.action.code();
+            account_in_range(&advice.account);
+        }
+        Message::Reversal(reversal) => {
+            transaction_in_range(&reversal.transaction);
+            scope_in_range(&reversal.scope);
+            original_in_range(&reversal.original);
+        }
+    }
+}
+
+/// Every reply's values are in range.
+pub(crate) fn reply_in_range(reply: &Reply)
+    ensures { IsReply reply.now }
+{
+    transaction_in_range(&reply.transaction);
+    answer_in_range(&reply.answer);
+}

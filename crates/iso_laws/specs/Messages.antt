@@ -1,0 +1,83 @@
+-- The messages that are taken in, and how each is spelled.
+use Rattle.std.specs.Prelude.{◌≡◌, ℕ, ◌<◌, ◌^◌, List, ◌++◌, Option, Some, None, IfSome, option_map, if◌then◌else◌, codes}
+use Rattle.iso8583.specs.Number.{fixed_digits}
+use Rattle.iso8583.specs.declared.account_id.AccountId.{AccountId}
+use Rattle.iso8583.specs.declared.message.Message.{Message}
+use Rattle.iso8583.specs.declared.message.Message.TheVariants as message
+use Rattle.iso8583.specs.declared.original_ref.OriginalRef.{OriginalRef}
+use Rattle.iso8583.specs.declared.reversal_scope.ReversalScope.{ReversalScope}
+use Rattle.iso8583.specs.declared.reversal_scope.ReversalScope.TheVariants.{Full, Partial}
+use Rattle.iso_laws.specs.declared.element.Element.TheVariants as element
+use Rattle.iso_laws.specs.declared.mti.Mti.{Mti}
+use Rattle.iso_laws.specs.declared.mti.Mti.TheVariants as mti
+use Rattle.iso_laws.specs.Elements.{IsText, original_text, twelve_zeros}
+use Rattle.iso_laws.specs.Contents.{Content, content, content_fields, IsTransaction}
+use Rattle.iso8583.specs.declared.transaction.Transaction.{Transaction}
+use Rattle.iso_laws.specs.Spelling.{Field, spelling}
+
+-- a message's type, by its kind and whether it is a repeat
+abbrev pub mti_of : Message → Mti
+mti_of (message.Request m) = if m.repeat then mti.RequestRepeat else mti.Request
+mti_of (message.Advice m) = if m.repeat then mti.AdviceRepeat else mti.Advice
+mti_of (message.Reversal m) = if m.repeat then mti.ReversalRepeat else mti.Reversal
+
+-- the elements that its reply repeats
+abbrev pub transaction_of : Message → Transaction
+transaction_of (message.Request m) = m.transaction
+transaction_of (message.Advice m) = m.transaction
+transaction_of (message.Reversal m) = m.transaction
+
+-- elements 24 and 30 of a reversal
+abbrev pub scope_function : ReversalScope → List ℕ
+scope_function Full = codes "400"
+scope_function (Partial amount) = codes "401"
+
+-- element 30, of a partial reversal alone: the original's amount, and twelve zeros
+abbrev pub scope_amount : ReversalScope → Option (List ℕ)
+scope_amount Full = None
+scope_amount (Partial amount) = Some (fixed_digits 12 amount ++ twelve_zeros)
+
+-- element 102, if it is there
+abbrev pub account_text : Option AccountId → Option (List ℕ)
+account_text account = option_map (λ a. a.0) account
+
+-- the texts of a message: beside its transaction those of elements 24, 30, 38, 39, 56 and 102
+abbrev pub content_of : Message → Content
+content_of (message.Request m) = content m.transaction (Some m.function.0) None None None None (account_text m.account)
+content_of (message.Advice m) =
+    content m.transaction (Some m.function.0) None None (Some (fixed_digits 3 m.action)) None (account_text m.account)
+content_of (message.Reversal m) =
+    content m.transaction (Some (scope_function m.scope)) (scope_amount m.scope) None None (Some (original_text m.original)) None
+
+-- the elements of a message, in rising number
+abbrev pub fields_of : Message → List Field
+fields_of m = content_fields (content_of m)
+
+-- the one spelling of a message
+abbrev pub message_spelling : Message → List ℕ
+message_spelling m = spelling (mti_of m) (fields_of m)
+
+-- the original's amount has at most twelve digits
+abbrev pub IsScope : ReversalScope → Type 0
+IsScope Full = Unit {0}
+IsScope (Partial amount) = amount < 10 ^ 12
+
+-- trace number, date and time, and acquirer of an original are such texts
+pub record IsOriginal (o : OriginalRef) : Type 0 where
+  pub stan : IsText element.Stan o.identity.stan.0
+  pub stamp : IsText element.Stamp o.identity.stamp
+  pub acquirer : IsText element.Acquirer o.identity.acquirer.0
+
+-- the account is such a text, if it is there
+abbrev pub IsAccount : Option AccountId → Type 0
+IsAccount account = IfSome account (λ a. IsText element.Account a.0)
+
+-- every message that there is: the ranges of the values' types
+abbrev pub IsMessage : Message → Type 0
+IsMessage (message.Request m) = IsTransaction m.transaction × IsText element.Function m.function.0 × IsAccount m.account
+IsMessage (message.Advice m) = IsTransaction m.transaction × IsText element.Function m.function.0 × (m.action < 10 ^ 3) × IsAccount m.account
+IsMessage (message.Reversal m) = IsTransaction m.transaction × IsScope m.scope × IsOriginal m.original
+
+-- the bytes are the spelling of a message
+abbrev pub Spells : List ℕ → Message → Type 0
+Spells bytes m = IsMessage m × (bytes ≡ message_spelling m)

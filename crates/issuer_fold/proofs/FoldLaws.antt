@@ -1,0 +1,50 @@
+-- One more row that is written, and one more body that is decided.
+use Rattle.std.proofs.Common.{◌≡◌, ℕ, suc, ◌+◌, ◌-◌, ◌<◌, List, [], ◌∷◌, ◌++◌, take, drop, length, get_or, slice_get, Some, refl, sym, ap, ◌∙◌, add-one, take-append-drop, arith}
+use Rattle.std.proofs.lemmas.List.{take_all, length-drop}
+use Rattle.std.proofs.Math.Seq.{drop-cons}
+use Rattle.std.proofs.lemmas.Option.{slice_get_within, get_or_from_slice_get}
+use Rattle.std.specs.FinMap as map
+use Rattle.issuer_rows.specs.Fold.{Rows, overlay, reply_of, rows_after_one, rows_after, replies_to}
+use Rattle.issuer_rows.specs.Plan.{Writes}
+use Rattle.issuer_rows.specs.declared.frame.Frame.{Frame}
+use Rattle.issuer_rows.specs.declared.row_key.RowKey.{RowKey}
+use Rattle.issuer_rows.specs.declared.row_val.RowVal.{RowVal}
+
+-- what is left begins with the item at this place
+pub left_at : {X : Type 0} (xs : List X) (i : ℕ) (x : X) → slice_get xs i ≡ Some x → drop i xs ≡ x ∷ drop (i + 1) xs
+left_at xs i x at = rw add-one (drop-cons xs i x (slice_get_within xs i x at) ∙ ap (λ y. y ∷ drop (suc i) xs) (get_or_from_slice_get xs i x x at))
+
+-- the same of an item that a loop is at
+pub left_in_turn : {X : Type 0} (xs : List X) (i : ℕ) (x : X) → i < length xs → x ≡ get_or xs i x → drop i xs ≡ x ∷ drop (i + 1) xs
+left_in_turn xs i x lt at = rw add-one (drop-cons xs i x lt ∙ ap (λ y. y ∷ drop (suc i) xs) (sym at))
+
+-- the rows that are left are written after the one at this place
+pub overlay-drop : (rows : Rows) (writes : Writes) (i : ℕ) (w : RowKey × RowVal) → slice_get writes i ≡ Some w
+    → overlay (map.insert rows w.0 w.1) (drop (i + 1) writes) ≡ overlay rows (drop i writes)
+overlay-drop rows writes i w at = sym (ap (overlay rows) (left_at writes i w at))
+
+-- what is behind this place, as a slice's rest says it
+pub rest_is : {X : Type 0} (xs : List X) (i : ℕ) → take (length xs - i) (drop i xs) ≡ drop i xs
+rest_is xs i = take_all (length xs - i) (drop i xs) (omega (arith, length-drop i xs))
+
+-- the bodies of two lists, one list after the other
+pub rows_after-append : (rows : Rows) (front back : List Frame) → rows_after rows (front ++ back) ≡ rows_after (rows_after rows front) back
+rows_after-append rows [] back = refl
+rows_after-append rows (frame ∷ front) back = rows_after-append (rows_after_one rows frame) front back
+
+pub replies_to-append : (rows : Rows) (front back : List Frame) → replies_to rows (front ++ back) ≡ replies_to rows front ++ replies_to (rows_after rows front) back
+replies_to-append rows [] back = refl
+replies_to-append rows (frame ∷ front) back = ap (λ replies. reply_of rows frame ∷ replies) (replies_to-append (rows_after_one rows frame) front back)
+
+-- the first bodies, and then the rest
+pub rows_after-split : (rows : Rows) (frames : List Frame) (k : ℕ) → rows_after (rows_after rows (take k frames)) (drop k frames) ≡ rows_after rows frames
+rows_after-split rows frames k = sym (rows_after-append rows (take k frames) (drop k frames)) ∙ ap (rows_after rows) (take-append-drop k frames)
+
+pub replies_to-split : (rows : Rows) (frames : List Frame) (k : ℕ)
+    → replies_to rows (take k frames) ++ replies_to (rows_after rows (take k frames)) (drop k frames) ≡ replies_to rows frames
+replies_to-split rows frames k = sym (replies_to-append rows (take k frames) (drop k frames)) ∙ ap (replies_to rows) (take-append-drop k frames)
+
+-- one reply for each body
+pub length-replies_to : (rows : Rows) (frames : List Frame) → length (replies_to rows frames) ≡ length frames
+length-replies_to rows [] = refl
+length-replies_to rows (frame ∷ frames) = ap suc (length-replies_to (rows_after_one rows frame) frames)

@@ -1,0 +1,13 @@
+//! Bodies decided one after another, in the order of their arrival.
+#![tactic(auto)]
+
+mod plain_rows;
+mod prefix;
+mod putting;
+mod run_outcome;
+mod serial;
+
+pub use plain_rows::PlainRows;
+pub use prefix::{Prefix, put_all};
+pub use run_outcome::RunOutcome;
+pub use serial::decide_all_by;

@@ -1,0 +1,151 @@
+ghost use Rattle.std.specs.Prelude.{◌≡◌, ◌+◌, ◌<◌, ◌^◌, [], ◌∷◌, ◌++◌, vec_len, vec_capacity, Some, IfOk, IfErr, OnOk, OnErr};
+ghost use Rattle.issuer_rows.specs.Agreement.{IsLocal};
+ghost use Rattle.issuer_rows.specs.Fold.{overlay, reply_of, rows_after_one};
+ghost use Rattle.issuer_view.specs.Recording.{AgreesWithBook};
+
+use crate::putting::put_all_or_none;
+use issuer_rows::{Book, CardPlaces, Frame, Places, ReplyBody};
+use issuer_view::{Execution, ReadSet, Stop, WriteSet};
+use std::alloc::{AllocError, Global};
+
+// How many rows a book has at most for each body of a batch, so that finding its cards' rows at once is worth it.
+const FEW_ROWS: usize = 8;
+
+/// The first bodies of a batch, decided: how many they are, the book after them, and their replies.
+#[derive(Drop)]
+pub struct Prefix {
+    /// How many bodies are decided.
+    pub count: u32,
+    /// The book after them.
+    pub book: Book,
+    /// Their replies, in the order of arrival.
+    pub replies: Vec<ReplyBody>,
+    // Where the rows of the book's cards were found last.
+    cards: CardPlaces,
+}
+
+impl Prefix {
+    /// A prefix of no body, on this book.
+    pub fn new(alloc: Global, book: Book) -> Prefix
+        ensures count { result.count ≡ 0 }
+        ensures book { result.book ≡ book }
+        ensures replies { result.replies.items ≡ [] }
+    {
+        Prefix::of(alloc, 0, book, Vec::new(alloc))
+    }
+
+    /// So many bodies are decided, with this book after them, and with these replies.
+    pub fn of(alloc: Global, count: u32, book: Book, replies: Vec<ReplyBody>) -> Prefix
+        ensures count { result.count ≡ count }
+        ensures book { result.book ≡ book }
+        ensures replies { result.replies.items ≡ replies.items }
+    {
+        Prefix {
+            count,
+            book,
+            replies,
+            cards: CardPlaces::new(alloc),
+        }
+    }
+
+    /// Makes room for the rows of so many more bodies. Where they are many for the book, the rows of its cards are found at once. It
+    /// fails only where memory runs out; the prefix is the same either way.
+    pub fn make_ready(&mut self, bodies: usize) -> Result<(), AllocError>
+        ensures count { self.new.count ≡ self.old.count }
+        ensures book { self.new.book ≡ self.old.book }
+        ensures replies { self.new.replies.items ≡ self.old.replies.items }
+    {
+        self.book.reserve(bodies)?;
+        if self.book.len() <= bodies.saturating_mul(FEW_ROWS) {
+            self.cards.find_all(&self.book)?;
+        }
+        Ok(())
+    }
+
+    // Where the rows may stand that the first bodies ask for, as many as there are places.
+    pub(crate) fn look_ahead(&self, frames: &[Frame], ahead: &mut [Places]) {
+        self.cards.look_ahead(&self.book, frames, ahead);
+    }
+
+    /// Where the rows may stand that a body asks for: a hint alone.
+    pub fn places_of(&self, frame: &Frame) -> Places {
+        self.cards.places_of(frame)
+    }
+
+    /// One more body, as it was executed: its reply, and the rows that it writes, each where it was found. It fails only where memory
+    /// runs out, and nothing is changed then.
+    pub fn extend(&mut self, execution: &Execution, places: &mut Places) -> Result<(), AllocError>
+        requires { self.old.count + 1 < 2 ^ 32 }
+        ensures count { OnOk result (self.new.count ≡ self.old.count + 1) }
+        ensures book { OnOk result (self.new.book ≡ overlay self.old.book execution.now.writes) }
+        ensures replies { OnOk result (self.new.replies.items ≡ self.old.replies.items ++ execution.now.reply ∷ []) }
+        ensures kept { OnErr result ((self.new.count ≡ self.old.count) × (self.new.book ≡ self.old.book) × (self.new.replies.items ≡ self.old.replies.items)) }
+    {
+        self.replies.reserve(1)?;
+        put_all_or_none(&mut self.book, execution.writes(), places)?;
+        push_copy(&mut self.replies, execution.reply());
+        self.cards.note(execution.frame(), places);
+        self.count += 1;
+        Ok(())
+    }
+
+    // One more body, as it was decided by rows that are those of the book. What was read is for the clauses alone.
+    pub(crate) fn append(
+        &mut self,
+        frame: &Frame,
+        decided: &Result<ReplyBody, Stop>,
+        reads: &ReadSet,
+        writes: &WriteSet,
+        places: &mut Places,
+    ) -> Result<(), AllocError>
+        requires room { self.old.count + 1 < 2 ^ 32 }
+        requires local { IfOk decided.now (λ reply. IsLocal frame.now reads.now writes.now reply) }
+        requires agrees { AgreesWithBook (Some self.old.book) reads.now }
+        requires stops { IfErr decided.now (λ stop. stop ≡ Stop.OutOfMemory) }
+        ensures count { OnOk result (self.new.count ≡ self.old.count + 1) }
+        ensures book { OnOk result (self.new.book ≡ rows_after_one self.old.book frame.now) }
+        ensures replies { OnOk result (self.new.replies.items ≡ self.old.replies.items ++ reply_of self.old.book frame.now ∷ []) }
+    {
+        let _ = reads;
+        match decided {
+            Ok(reply) => {
+                self.replies.reserve(1)?;
+                put_near(&mut self.book, writes, places)?;
+                push_copy(&mut self.replies, reply);
+                self.cards.note(frame, places);
+                self.count += 1;
+                Ok(())
+            }
+            Err(Stop::OutOfMemory) => Err(AllocError),
+            Err(_) => unreachable!(),
+        }
+    }
+}
+
+// Appends a copy of an item to a list that has room for it.
+fn push_copy<T: Copy>(items: &mut Vec<T>, item: &T)
+    requires { vec_len items.old < vec_capacity items.old }
+    ensures { items.new.items ≡ items.old.items ++ item.now ∷ [] }
+{
+    items.push_reserved(*item);
+}
+
+/// The book with these rows written, one after another. It fails only where memory runs out, and the book is gone then.
+pub fn put_all(book: Book, writes: &WriteSet) -> Result<Book, AllocError>
+    ensures { IfOk result (λ after. after ≡ overlay book writes.now) }
+{
+    let mut after = book;
+    put_near(&mut after, writes, &mut Places::new())?;
+    Ok(after)
+}
+
+// Writes these rows, one after another, each where it was found.
+fn put_near(book: &mut Book, writes: &WriteSet, places: &mut Places) -> Result<(), AllocError>
+    ensures { OnOk result (book.new ≡ overlay book.old writes.now) }
+{
+    for index in 0..writes.len() {
+        let (key, row) = writes.row(index);
+        book.put_copy_near(key, row, places)?;
+    }
+    Ok(())
+}

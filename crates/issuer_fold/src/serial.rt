@@ -1,0 +1,85 @@
+ghost use Rattle.std.specs.Prelude.{◌≡◌, ◌+◌, ◌<◌, ◌≤◌, ◌^◌, ◌∷◌, [], ◌++◌, drop, length, IfOk, OnOk};
+ghost use Rattle.issuer_rows.specs.Fold.{rows_after, replies_to, rows_after_one, reply_of};
+
+use crate::plain_rows::PlainRows;
+use crate::prefix::Prefix;
+use issuer_rows::{Frame, Places};
+use issuer_view::{Decide, ReadSet, Recorder, WriteSet};
+use std::alloc::{AllocError, Global};
+
+// For how many bodies the rows are looked at ahead at once.
+const AHEAD: usize = 16;
+
+impl Prefix {
+    // Decides one more body, whose rows may stand at these places, over the memory of two sets, which are handed back.
+    fn decide_one<F: Decide>(
+        &mut self,
+        frame: &Frame,
+        decision: &F,
+        places: Places,
+        reads: ReadSet,
+        writes: WriteSet,
+    ) -> Result<(ReadSet, WriteSet), AllocError>
+        requires room { self.old.count + 1 < 2 ^ 32 }
+        ensures count { OnOk result (self.new.count ≡ self.old.count + 1) }
+        ensures book { OnOk result (self.new.book ≡ rows_after_one self.old.book frame.now) }
+        ensures replies { OnOk result (self.new.replies.items ≡ self.old.replies.items ++ reply_of self.old.book frame.now ∷ []) }
+    {
+        let mut recorder = Recorder::over(PlainRows::near(&self.book, places), reads, writes);
+        let decided = decision.decide(frame, &mut recorder);
+        let (source, reads, writes) = recorder.into_parts();
+        let mut places = source.into_places();
+        self.append(frame, &decided, &reads, &writes, &mut places)?;
+        Ok((reads, writes))
+    }
+
+    /// Decides these bodies too, one after another, by any local decision. It fails only where memory runs out, and the prefix is of no
+    /// use then.
+    pub fn decide_each<F: Decide>(
+        &mut self,
+        alloc: Global,
+        frames: &[Frame],
+        decision: &F,
+    ) -> Result<(), AllocError>
+        requires room { self.old.count + length frames.now < 2 ^ 32 }
+        ensures count { OnOk result (self.new.count ≡ self.old.count + length frames.now) }
+        ensures book { OnOk result (self.new.book ≡ rows_after self.old.book frames.now) }
+        ensures replies { OnOk result (self.new.replies.items ≡ self.old.replies.items ++ replies_to self.old.book frames.now) }
+    {
+        self.make_ready(frames.len())?;
+        self.replies.reserve(frames.len())?;
+        let mut reads = ReadSet::new(alloc);
+        let mut writes = WriteSet::new(alloc);
+        let mut ahead = [Places::new(); AHEAD];
+        let mut index: usize = 0;
+        for frame in frames {
+            if index % AHEAD == 0 {
+                self.look_ahead(frames.get(index..).unwrap_or(&[]), &mut ahead);
+            }
+            let places = ahead[index % AHEAD];
+            (reads, writes) = self.decide_one(frame, decision, places, reads, writes)?;
+            index = index.wrapping_add(1);
+        }
+        Ok(())
+    }
+}
+
+/// Decides the bodies that a prefix leaves, one after another, by any local decision. It fails only where memory runs out, and the prefix
+/// is gone then.
+pub fn decide_all_by<F: Decide>(
+    alloc: Global,
+    prefix: Prefix,
+    frames: &[Frame],
+    decision: &F,
+) -> Result<Prefix, AllocError>
+    requires count { prefix.count ≤ length frames.now }
+    requires frames { length frames.now ≤ 65536 }
+    ensures count { IfOk result (λ after. after.count ≡ length frames.now) }
+    ensures book { IfOk result (λ after. after.book ≡ rows_after prefix.book (drop prefix.count frames.now)) }
+    ensures replies { IfOk result (λ after. after.replies.items ≡ prefix.replies.items ++ replies_to prefix.book (drop prefix.count frames.now)) }
+{
+    let mut after = prefix;
+    let rest = &frames[after.count as usize..];
+    after.decide_each(alloc, rest, decision)?;
+    Ok(after)
+}

@@ -1,0 +1,62 @@
+-- What becomes of an advice whose identity wasn't seen: it is acknowledged without liability, or accepted and paid.
+use Rattle.std.proofs.Common.{◌≡◌, Bool, true, false, if◌then◌else◌, ◌==◌, [], ◌∷◌, Option, Some, None, ◌⊎◌, inl, inr, refl}
+use Rattle.iso8583.specs.declared.account_id.AccountId.{AccountId}
+use Rattle.iso8583.specs.declared.advice.Advice.{Advice}
+use Rattle.issuer_rows.specs.AdviceTable.{accepted_writes, reply_to_advice, kept_of_advice, acknowledged, advice_funds, advice_on_funds, advice_on_account, advice_on_named, advice_on_card, fresh_advice}
+use Rattle.issuer_rows.specs.CardAccounts.{account_of}
+use Rattle.issuer_rows.specs.Facts.{identity_of, is_same_currency}
+use Rattle.issuer_rows.specs.Plan.{Plan, Lookup, Writes, Decided, carried_out}
+use Rattle.issuer_rows.specs.Typed.{card_in, budget_in, account_in}
+use Rattle.issuer_rows.specs.declared.account_row.AccountRow.{AccountRow}
+use Rattle.issuer_rows.specs.declared.card_row.CardRow.{CardRow}
+use Rattle.issuer_rows.specs.declared.funds.Funds.{Funds}
+use Rattle.issuer_rows.specs.declared.original_outcome.OriginalOutcome.TheVariants as outcome
+use Rattle.issuer_rows.specs.declared.reply_body.ReplyBody.{ReplyBody}
+use Rattle.issuer_rows.specs.declared.row_key.RowKey.TheVariants as key
+use Rattle.issuer_laws.proofs.Funding.{CanPay, IsCover, advice_cover}
+
+-- 900, which is kept
+pub record Acknowledges (a : Advice) (reply_is : ReplyBody) (writes_are : Writes) : Type 0 where
+  pub reply : reply_is ≡ reply_to_advice a 900
+  pub writes : writes_are ≡ (key.Original (identity_of a.transaction), kept_of_advice a (outcome.Acknowledged 900 None)) ∷ []
+
+-- 901: the original is kept, and what pays has as much less
+pub record Accepts (a : Advice) (look : Lookup) (reply_is : ReplyBody) (writes_are : Writes) : Type 0 where
+  pub paying : Funds
+  pub pays : CanPay look a.transaction paying
+  pub reply : reply_is ≡ reply_to_advice a 901
+  pub writes : writes_are ≡ accepted_writes a paying
+
+-- the one or the other
+abbrev pub IsTakenFresh : Advice → Lookup → Decided → Type 0
+IsTakenFresh a look d = Acknowledges a d.reply d.writes ⊎ Accepts a look d.reply d.writes
+
+acknowledging : (a : Advice) (look : Lookup) → IsTakenFresh a look (carried_out (acknowledged a) look)
+acknowledging a look = inl (record { reply = refl; writes = refl })
+
+either_way : (a : Advice) (look : Lookup) (b : Bool) (p q : Plan) → IsTakenFresh a look (carried_out p look) → IsTakenFresh a look (carried_out q look) → IsTakenFresh a look (carried_out (if b then p else q) look)
+either_way a look true p q h k = h
+either_way a look false p q h k = k
+
+ways_on_funds : (a : Advice) (look : Lookup) (found : Option Funds) → IsCover look a.transaction found → IsTakenFresh a look (carried_out (advice_on_funds a found) look)
+ways_on_funds a look None h = acknowledging a look
+ways_on_funds a look (Some paying) pays = inr (record { paying = paying; pays = pays; reply = refl; writes = refl })
+
+ways_on_account : (a : Advice) (look : Lookup) (id : AccountId) (account : Option AccountRow) → account_in (look (key.Account id)) ≡ account → IsTakenFresh a look (carried_out (advice_on_account a id account) look)
+ways_on_account a look id None e = acknowledging a look
+ways_on_account a look id (Some account) e =
+    either_way a look (is_same_currency a.transaction.currency account.currency) _ (acknowledged a)
+    (ways_on_funds a look (advice_funds a.transaction id account (budget_in (look _))) (advice_cover look a.transaction id account _ e refl))
+    (acknowledging a look)
+
+ways_on_named : (a : Advice) (look : Lookup) (named : Option AccountId) → IsTakenFresh a look (carried_out (advice_on_named a named) look)
+ways_on_named a look None = acknowledging a look
+ways_on_named a look (Some id) = ways_on_account a look id (account_in (look (key.Account id))) refl
+
+ways_on_card : (a : Advice) (look : Lookup) (card : Option CardRow) → IsTakenFresh a look (carried_out (advice_on_card a card) look)
+ways_on_card a look None = acknowledging a look
+ways_on_card a look (Some card) = ways_on_named a look (account_of card.accounts a.account)
+
+-- what becomes of such an advice
+pub fresh_ways : (a : Advice) (look : Lookup) → IsTakenFresh a look (carried_out (fresh_advice a) look)
+fresh_ways a look = either_way a look (a.action == 0) _ (acknowledged a) (ways_on_card a look (card_in (look _))) (acknowledging a look)

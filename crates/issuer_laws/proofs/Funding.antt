@@ -1,0 +1,95 @@
+-- What pays for a message: its row was found, has as much, and is of its card's prefix.
+use Rattle.std.proofs.Common.{◌≡◌, ℕ, ◌<◌, ◌≤◌, true, false, if◌then◌else◌, nat_lt, nat_le, ◌&&◌, ◌||◌, Option, Some, None, Result, Ok, Err, refl, arith}
+use Rattle.std.proofs.lemmas.Bool.Decides.{nat_tests}
+use Rattle.iso8583.specs.declared.account_id.AccountId.{AccountId}
+use Rattle.iso8583.specs.declared.pan.Pan.{Pan}
+use Rattle.iso8583.specs.declared.transaction.Transaction.{Transaction}
+use Rattle.issuer_rows.specs.AdviceTable.{advice_funds, account_if_covered, budget_by_mode}
+use Rattle.issuer_rows.specs.Facts.{prefix_of}
+use Rattle.issuer_rows.specs.Funds.{balance_of}
+use Rattle.issuer_rows.specs.Plan.{Lookup}
+use Rattle.issuer_rows.specs.RequestTable.{request_funds, account_funds, budget_funds, by_mode}
+use Rattle.issuer_rows.specs.Typed.{account_in, budget_in}
+use Rattle.issuer_rows.specs.declared.account_row.AccountRow.{AccountRow}
+use Rattle.issuer_rows.specs.declared.budget_mode.BudgetMode.{BudgetMode}
+use Rattle.issuer_rows.specs.declared.budget_mode.BudgetMode.TheVariants as mode
+use Rattle.issuer_rows.specs.declared.budget_row.BudgetRow.{BudgetRow}
+use Rattle.issuer_rows.specs.declared.funds.Funds.{Funds}
+use Rattle.issuer_rows.specs.declared.funds.Funds.TheVariants as funds
+use Rattle.issuer_rows.specs.declared.row_key.RowKey.TheVariants as key
+
+-- the funds' row stands in the book
+abbrev pub IsFound : Lookup → Funds → Type 0
+IsFound look (funds.Account id row) = account_in (look (key.Account id)) ≡ Some row
+IsFound look (funds.Budget prefix row) = budget_in (look (key.Budget prefix)) ≡ Some row
+
+-- a budget is that of the card's prefix
+abbrev pub IsOfCard : Pan → Funds → Type 0
+IsOfCard pan (funds.Account id row) = Unit {0}
+IsOfCard pan (funds.Budget prefix row) = prefix ≡ prefix_of pan
+
+-- funds that may pay for a message
+pub record CanPay (look : Lookup) (t : Transaction) (paying : Funds) : Type 0 where
+  pub found : IsFound look paying
+  pub of_card : IsOfCard t.pan paying
+  pub covered : t.amount ≤ balance_of paying
+
+-- what a request is paid from, or refused for
+abbrev pub IsSource : Lookup → Transaction → Result Funds ℕ → Type 0
+IsSource look t (Ok paying) = CanPay look t paying
+IsSource look t (Err action) = 0 < action
+
+from_account : (look : Lookup) (t : Transaction) (id : AccountId) (account : AccountRow) → account_in (look (key.Account id)) ≡ Some account → IsSource look t (account_funds t id account)
+from_account look t id account e =
+    elim (nat_lt account.available t.amount) as (λ b. nat_lt account.available t.amount ≡ b → IsSource look t (if b then Err 116 else Ok (funds.Account id account))) [
+      | true ↦ λ short. omega arith
+      | false ↦ λ enough. record { found = e; of_card = tt; covered = grind (arith, nat_tests) }
+    ] refl
+
+not_over : (a b n m : ℕ) → (nat_lt a n || nat_lt b m) ≡ false → m ≤ b
+not_over a b n m e = grind (arith, nat_tests)
+
+from_budget : (look : Lookup) (t : Transaction) (budget : BudgetRow) → budget_in (look (key.Budget (prefix_of t.pan))) ≡ Some budget → IsSource look t (budget_funds t budget)
+from_budget look t budget e =
+    elim (nat_lt budget.cap t.amount || nat_lt budget.left t.amount) as (λ b. (nat_lt budget.cap t.amount || nat_lt budget.left t.amount) ≡ b → IsSource look t (if b then Err 907 else Ok (funds.Budget (prefix_of t.pan) budget))) [
+      | true ↦ λ over. omega arith
+      | false ↦ λ within. record { found = e; of_card = refl; covered = not_over budget.cap budget.left t.amount t.amount within }
+    ] refl
+
+by_mode_source : (look : Lookup) (t : Transaction) (m : BudgetMode) (budget account : Result Funds ℕ) → IsSource look t budget → IsSource look t account → IsSource look t (by_mode m budget account)
+by_mode_source look t mode.StandIn budget account b a = b
+by_mode_source look t mode.Direct budget account b a = a
+
+-- what pays for a request can pay
+pub request_source : (look : Lookup) (t : Transaction) (id : AccountId) (account : AccountRow) (budget : Option BudgetRow) → account_in (look (key.Account id)) ≡ Some account → budget_in (look (key.Budget (prefix_of t.pan))) ≡ budget → IsSource look t (request_funds t id account budget)
+request_source look t id account None e f = from_account look t id account e
+request_source look t id account (Some budget) e f =
+    by_mode_source look t budget.mode (budget_funds t budget) (account_funds t id account) (from_budget look t budget f) (from_account look t id account e)
+
+-- what an advice is paid from, if anything pays
+abbrev pub IsCover : Lookup → Transaction → Option Funds → Type 0
+IsCover look t (Some paying) = CanPay look t paying
+IsCover look t None = Unit {0}
+
+account_cover : (look : Lookup) (t : Transaction) (id : AccountId) (account : AccountRow) → account_in (look (key.Account id)) ≡ Some account → IsCover look t (account_if_covered t id account)
+account_cover look t id account e =
+    elim (nat_le t.amount account.available) as (λ b. nat_le t.amount account.available ≡ b → IsCover look t (if b then Some (funds.Account id account) else None)) [
+      | true ↦ λ enough. record { found = e; of_card = tt; covered = grind (arith, nat_tests) }
+      | false ↦ λ short. tt
+    ] refl
+
+both_within : (n a m b : ℕ) → (nat_le n a && nat_le m b) ≡ true → m ≤ b
+both_within n a m b e = grind (arith, nat_tests)
+
+mode_cover : (look : Lookup) (m : BudgetMode) (t : Transaction) (budget : BudgetRow) (else_so : Option Funds) → budget_in (look (key.Budget (prefix_of t.pan))) ≡ Some budget → IsCover look t else_so → IsCover look t (budget_by_mode m t budget else_so)
+mode_cover look mode.StandIn t budget else_so f h =
+    elim (nat_le t.amount budget.cap && nat_le t.amount budget.left) as (λ b. (nat_le t.amount budget.cap && nat_le t.amount budget.left) ≡ b → IsCover look t (if b then Some (funds.Budget (prefix_of t.pan) budget) else else_so)) [
+      | true ↦ λ within. record { found = f; of_card = refl; covered = both_within t.amount budget.cap t.amount budget.left within }
+      | false ↦ λ over. h
+    ] refl
+mode_cover look mode.Direct t budget else_so f h = h
+
+-- what pays for an advice can pay
+pub advice_cover : (look : Lookup) (t : Transaction) (id : AccountId) (account : AccountRow) (budget : Option BudgetRow) → account_in (look (key.Account id)) ≡ Some account → budget_in (look (key.Budget (prefix_of t.pan))) ≡ budget → IsCover look t (advice_funds t id account budget)
+advice_cover look t id account None e f = account_cover look t id account e
+advice_cover look t id account (Some budget) e f = mode_cover look budget.mode t budget (account_if_covered t id account) f (account_cover look t id account e)

@@ -1,0 +1,13 @@
+pub mod AdviceWays
+pub mod Backings
+pub mod Balanced
+pub mod Conserved
+pub mod Duplicate
+pub mod Funding
+pub mod Keys
+pub mod Repeated
+pub mod RequestWays
+pub mod ReversalWays
+pub mod Reversing
+pub mod Sums
+pub mod Undone

@@ -1,0 +1,14 @@
+-- Money that is neither made nor lost.
+use Rattle.std.specs.Prelude.{◌≡◌}
+use Rattle.iso8583.specs.declared.account_id.AccountId.{AccountId}
+use Rattle.iso8583.specs.declared.pan_prefix.PanPrefix.{PanPrefix}
+use Rattle.issuer_rows.specs.Backing.{backing_of_account, backing_of_prefix}
+use Rattle.issuer_rows.specs.Fold.{Rows}
+
+-- every account's backing is as before
+abbrev pub KeepsAccounts : Rows → Rows → Type 0
+KeepsAccounts before after = (id : AccountId) → backing_of_account after id ≡ backing_of_account before id
+
+-- every prefix's backing is as before
+abbrev pub KeepsPrefixes : Rows → Rows → Type 0
+KeepsPrefixes before after = (prefix : PanPrefix) → backing_of_prefix after prefix ≡ backing_of_prefix before prefix

@@ -1,0 +1,5 @@
+pub mod Conserved
+pub mod Duplicate
+pub mod Messages
+pub mod Repeated
+pub mod Undone

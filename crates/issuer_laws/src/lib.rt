@@ -1,0 +1,9 @@
+//! Laws of the decision tables about messages that come again: a repeat is answered alike, and a second reversal of an
+//! original is a duplicate.
+#![tactic(auto)]
+
+mod money_laws;
+mod repeat_laws;
+
+pub use money_laws::{a_full_reversal_undoes_its_original, every_decision_keeps_backing};
+pub use repeat_laws::{a_repeat_is_answered_alike, a_second_reversal_is_a_duplicate};

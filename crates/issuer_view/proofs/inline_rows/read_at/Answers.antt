@@ -1,0 +1,27 @@
+use Rattle.std.proofs.Common.{◌≡◌, ◌+◌, take, set, None, Option, OnOk, IfSome, sym, ap, subst}
+use Rattle.std.specs.FinMap as map
+use Rattle.issuer_rows.specs.Fold.{Rows}
+use Rattle.issuer_rows.specs.RowVal.{IsOfKind}
+use Rattle.issuer_rows.specs.declared.row_val.RowVal.{RowVal}
+use Rattle.issuer_view.specs.Recording.{answer_of}
+use Rattle.issuer_view.specs.RowSets.{latest}
+use Rattle.issuer_view.proofs.ListLaws.{on_ok}
+use Rattle.issuer_view.proofs.LogLaws.{latest_set}
+use Rattle.issuer_view.proofs.inline_rows.read_at.Goals as goal
+
+-- what was read last is what the source wrote
+written : (g : _) (c : goal.After-read_into g) → c.read_into.new.row ≡ latest (take (c.args.place + 1) (set c.args.rows.now c.args.place (c.args.key.now, c.read_into.new.row)))
+written g c = sym (latest_set None c.args.rows.now c.args.place (c.args.key.now, c.read_into.new.row) c.requires)
+
+pub returns-clause-ok : goal.returns-clause-ok
+returns-clause-ok g c = on_ok c.read_into.result (ap (λ (row : Option RowVal). set c.args.rows.now c.args.place (c.args.key.now, row)) (written g c))
+
+pub returns-clause-answers : goal.returns-clause-answers
+returns-clause-answers g c = subst (λ (row : Option RowVal). g.S.RowSource.answers c.args.source.now c.args.key.now (answer_of c.read_into.result row) c.read_into.new.self) (written g c) c.read_into.ensures.answers
+
+pub returns-clause-kind : goal.returns-clause-kind
+returns-clause-kind g c = subst (λ (row : Option RowVal). OnOk c.read_into.result (IfSome row (IsOfKind c.args.key.now))) (written g c) c.read_into.ensures.kind
+
+pub returns-clause-known : goal.returns-clause-known
+returns-clause-known g c =
+    subst (λ (row : Option RowVal). OnOk c.read_into.result (IfSome (g.S.RowSource.book c.args.source.now) (λ (rows : Rows). row ≡ map.get rows c.args.key.now))) (written g c) c.read_into.ensures.known

@@ -1,7 +1,0 @@
-use Rattle.std.proofs.Common.{[]}
-use Rattle.journal_laws.proofs.Playing.{IsPlayed-start}
-use Rattle.journal.proofs.untraced.Untraced.with_limits.Goals as goal
-
-pub invariant_of-result : goal.invariant_of-result
-invariant_of-result c =
-    record { entries = []; played = IsPlayed-start c.args.book.now c.args.frames.now c.args.limits c.in_ok-with_limits.field-0 c.in_ok-with_limits.ensures }

@@ -1,3 +1,0 @@
-pub mod Answers
-pub mod Logged
-pub mod Plays

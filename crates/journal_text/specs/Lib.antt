@@ -1,4 +1,0 @@
-pub mod Journal
-pub mod Marks
-pub mod ReplayFault
-pub mod Texts

@@ -1,2 +1,0 @@
-pub mod AgreementLaws
-pub mod LedgerLaws

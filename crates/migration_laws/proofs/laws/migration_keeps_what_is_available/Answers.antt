@@ -1,5 +1,0 @@
-use Rattle.migration_laws.proofs.Migrating.{keeps_available}
-use Rattle.migration_laws.proofs.laws.migration_keeps_what_is_available.Goals as goal
-
-pub returns : goal.returns
-returns c = keeps_available

@@ -1,2 +1,0 @@
-pub mod Conserved
-pub mod Undone

@@ -1,5 +1,0 @@
-use Rattle.mvmem.proofs.RowLaws.{row_within}
-use Rattle.mvmem.proofs.chains.Chains.counted_below.Goals as goal
-
-pub counted_at-requires : goal.counted_at-requires
-counted_at-requires c = row_within _ _ _ c.in-Some.ensures.found

@@ -1,4 +1,0 @@
-use Rattle.mvmem.proofs.chains.Chains.number_among.Given as goal
-
-abbrev pub invariant-loop-number : goal.invariant-loop-number
-invariant-loop-number l = Unit {0}

@@ -1,5 +1,0 @@
-use Rattle.mvmem.proofs.Loops.{Estimating}
-use Rattle.mvmem.proofs.mv_mem.estimate_all.Given as goal
-
-abbrev pub invariant-loop-place : goal.invariant-loop-place
-invariant-loop-place l = Estimating l.fn.chains l.chains l.list.numbers l.index l.place

@@ -1,5 +1,0 @@
-use Rattle.mvmem.proofs.Laid.{Laying}
-use Rattle.mvmem.proofs.mv_mem.lay_over.Given as goal
-
-abbrev pub invariant-loop-number : goal.invariant-loop-number
-invariant-loop-number l = Laying l.chains l.index l.fn.book l.book l.number

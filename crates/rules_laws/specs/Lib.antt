@@ -1,3 +1,0 @@
-pub mod Duplicate
-pub mod Messages
-pub mod Repeated

@@ -1,6 +1,0 @@
-use Rattle.std.proofs.Common.{take}
-use Rattle.speccore_laws.specs.Log.{AreLogged}
-use Rattle.speccore.proofs.log.Log.has_logged.Given as goal
-
-abbrev pub invariant-loop-index : goal.invariant-loop-index
-invariant-loop-index l = AreLogged l.self (take l.index l.reads)

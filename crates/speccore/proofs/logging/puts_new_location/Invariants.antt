@@ -1,8 +1,0 @@
-use Rattle.std.proofs.Common.{◌≡◌, ℕ, ◌<◌, Some, IsSome, slice_get}
-use Rattle.rows.specs.declared.row_key.RowKey.{RowKey}
-use Rattle.rows.specs.declared.row_val.RowVal.{RowVal}
-use Rattle.mvmem.specs.Entries.{held}
-use Rattle.speccore.proofs.logging.puts_new_location.Given as goal
-
-abbrev pub invariant-loop-place : goal.invariant-loop-place
-invariant-loop-place l = (k : ℕ) (write : RowKey × RowVal) → k < l.place → slice_get l.writes k ≡ Some write → IsSome (held l.memory.entries write.0 l.index)

@@ -1,5 +1,0 @@
-use Rattle.speccore_laws.proofs.Unique.{unique-Step}
-use Rattle.speccore_laws.proofs.laws.steps_are_determined.Goals as goal
-
-pub returns : goal.returns
-returns c = unique-Step

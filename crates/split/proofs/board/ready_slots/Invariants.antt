@@ -1,6 +1,0 @@
-use Rattle.std.proofs.Common.{◌≡◌, length}
-use Rattle.split.proofs.board.ready_slots.Given as goal
-
--- as many slots as turns
-abbrev pub invariant-loop : goal.invariant-loop
-invariant-loop l = length l.slots.items ≡ l.counter

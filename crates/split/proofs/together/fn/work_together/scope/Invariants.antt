@@ -1,5 +1,0 @@
-use Rattle.workers.specs.Started.{IsStarted}
-use Rattle.split.proofs.together.fn.work_together.scope.Given as goal
-
-abbrev pub invariant-loop-number : goal.invariant-loop-number
-invariant-loop-number g l = IsStarted l.started l._number

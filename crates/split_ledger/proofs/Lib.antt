@@ -1,0 +1,3 @@
+pub mod AgreementLaws
+pub mod LedgerLaws
+mod StepLaws

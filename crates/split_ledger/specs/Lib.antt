@@ -1,0 +1,3 @@
+pub mod CursorRule
+pub mod Progress
+pub mod Standing

@@ -1,0 +1,11 @@
+pub mod Carries
+pub mod Changed
+pub mod Validations
+pub mod Committed
+pub mod Finished
+pub mod Logs
+pub mod Members
+pub mod Overlay
+pub mod Reached
+pub mod Shelves
+pub mod Unique

@@ -1,0 +1,9 @@
+use Rattle.std.proofs.Common.{sym, subst}
+use Rattle.stm_journal_text.proofs.Playing.{IsPlayed-start}
+use Rattle.stm_journal_text.specs.Plays.{IsPlayed}
+use Rattle.stm_journal.proofs.traced.Traced.with_limits.Goals as goal
+
+pub invariant_of-result : goal.invariant_of-result
+invariant_of-result c =
+    subst (IsPlayed c.in_ok-with_limits.field-0) (sym c.new.ensures.items)
+    (IsPlayed-start c.args.book.now c.args.frames.now c.args.limits c.in_ok-with_limits.field-0 c.in_ok-with_limits.ensures)

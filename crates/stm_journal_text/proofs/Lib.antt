@@ -1,0 +1,13 @@
+pub mod Anyway
+pub mod Back
+pub mod Decided
+pub mod EventTexts
+pub mod First
+pub mod KeyTexts
+pub mod Lines
+pub mod Marks
+pub mod Numbers
+pub mod OneAnswer
+pub mod OneCall
+pub mod OneEntry
+pub mod Playing

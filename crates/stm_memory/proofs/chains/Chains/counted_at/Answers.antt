@@ -1,0 +1,32 @@
+use Rattle.std.proofs.Common.{◌≡◌, Option, Some, length, ap, sym, subst, ◌∙◌}
+use Rattle.stm_memory.proofs.RowLaws.{chain_here, seen_of_kind}
+use Rattle.std.specs.Option.{option_copied}
+use Rattle.stm_memory.specs.Chains.{Chain, Chains, found, links_in, row_at, seen_of, stands, AreInOrder}
+use Rattle.stm_memory.specs.Resolves.{IsNearestBelow, IsWithinDigitsOf, Resolves}
+use Rattle.issuer_rows.specs.declared.row_key.RowKey.{RowKey}
+use Rattle.issuer_view.specs.RowSets.{value_in}
+use Rattle.stm_memory.proofs.chains.Chains.counted_at.Goals as goal
+
+-- the row's chain
+chain_is : (c : goal.After-counted_below) (row : RowKey) → row_at c.args.self.now c.args.number ≡ Some row → Some c.in-Some.chain.now ≡ value_in c.self.inside.rows.entries row
+chain_is c row at =
+    sym (chain_here c.self.inside.rows.entries c.args.number (c.in-Some.field-0-0.now, c.in-Some.chain.now) row (sym c.in-Some.ensures.entry) c.in-Some.ensures.value (ap (λ (es : Chains). row_at es c.args.number) c.self.view_is ∙ at))
+
+seen_inside : (c : goal.After-counted_below) (row : RowKey) → row_at c.args.self.now c.args.number ≡ Some row → Resolves (stands c.self.inside.rows.entries) row c.args.index (seen_of (option_copied c.counted_below.result.0))
+seen_inside c row at = subst (λ (o : Option Chain). IsNearestBelow (found (links_in o)) c.args.index (seen_of (option_copied c.counted_below.result.0))) (chain_is c row at) c.counted_below.ensures.seen
+
+pub returns-clause-seen : goal.returns-clause-seen
+returns-clause-seen c row at = subst (λ (es : Chains). Resolves (stands es) row c.args.index (seen_of (option_copied c.counted_below.result.0))) c.self.view_is (seen_inside c row at)
+
+pub returns-clause-kind : goal.returns-clause-kind
+returns-clause-kind c row at = seen_of_kind c.self.inside.rows.entries row c.args.index (seen_of (option_copied c.counted_below.result.0)) c.self.invariant (seen_inside c row at)
+
+pub returns-clause-comparisons : goal.returns-clause-comparisons
+returns-clause-comparisons c row at =
+    subst (λ (es : Chains). IsWithinDigitsOf c.counted_below.result.1 (length (links_in (value_in es row)))) c.self.view_is
+    (subst (λ (o : Option Chain). IsWithinDigitsOf c.counted_below.result.1 (length (links_in o))) (chain_is c row at) c.counted_below.ensures.comparisons)
+
+pub returns-clause-order : goal.returns-clause-order
+returns-clause-order c row at =
+    subst (λ (es : Chains). AreInOrder (links_in (value_in es row))) c.self.view_is
+    (subst (λ (o : Option Chain). AreInOrder (links_in o)) (chain_is c row at) c.counted_below.ensures.order)

@@ -1,7 +1,0 @@
-use Rattle.std.proofs.Common.{◌≡◌, drop}
-use Rattle.view.specs.RowSets.{value_in}
-use Rattle.view.proofs.few.place_of.Given as goal
-
--- what the rows that are left say of the row is what all of them say
-abbrev pub invariant-loop-place : goal.invariant-loop-place
-invariant-loop-place g l = value_in (drop l.place l.rows) l.key ≡ value_in l.rows l.key

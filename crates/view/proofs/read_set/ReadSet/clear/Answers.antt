@@ -1,7 +1,0 @@
-use Rattle.std.proofs.Common.{Option, refl}
-use Rattle.rows.specs.declared.row_val.RowVal.{RowVal}
-use Rattle.view.proofs.ListLaws.{once_none}
-use Rattle.view.proofs.read_set.ReadSet.clear.Goals as goal
-
-pub invariant_of-self : goal.invariant_of-self
-invariant_of-self c = rw (c.clear.ensures, c.clear-2.ensures) (tt, once_none (Option RowVal), λ _. refl)

@@ -1,4 +1,0 @@
-pub mod LineLemmas
-pub mod PlainLemmas
-pub mod WordsLemmas
-pub mod PlainSteps

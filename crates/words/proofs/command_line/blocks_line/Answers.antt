@@ -1,4 +1,0 @@
-use Rattle.words.proofs.command_line.blocks_line.Goals as goal
-
-pub returns : goal.returns
-returns c = c.with_engine.ensures _ c.in_ok-files.ensures
