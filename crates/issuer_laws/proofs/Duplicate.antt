@@ -36,119 +36,29 @@ use Rattle.issuer_rows.specs.declared.row_val.RowVal.{RowVal}
 use Rattle.issuer_rows.specs.declared.row_val.RowVal.TheVariants as val
 use Rattle.issuer_rows.specs.declared.velocity_row.VelocityRow.{VelocityRow}
 use Rattle.issuer_laws.proofs.AdviceWays as advice
-use Rattle.issuer_laws.proofs.Keys.{get-other, get-fresh, texts_same, same_or_other}
-use Rattle.issuer_laws.proofs.Repeated.{funds_other, original_stands}
+use Rattle.issuer_laws.proofs.Keys.{texts_same, original_stands, Outcomes, comes_to}
+use Rattle.issuer_laws.proofs.Permanent.{rest_fresh, has_reversal, same_kind, stays_kept}
 use Rattle.issuer_laws.proofs.RequestWays as request
 use Rattle.issuer_laws.proofs.ReversalWays.{IsReversalDecided, day_put, reversal_ways}
 use Rattle.issuer_laws.specs.Duplicate.{IsAnotherReversal, IsDuplicate, SecondIsDuplicate}
 use Rattle.issuer_laws.specs.Messages.{reversal_frame, HasAction}
-
--- an original that is there has no reversal
-abbrev IsOpen : Option OriginalRow → Type 0
-IsOpen None = Unit {0}
-IsOpen (Some (original.Ahead mark)) = Unit {0}
-IsOpen (Some (original.Kept k)) = reversal_of_outcome k.outcome ≡ None
-
--- nothing is written; or the row of an original that had no reversal, and rows of other kinds
-abbrev PutsOpen : Lookup → Writes → Type 0
-PutsOpen look ws = (ws ≡ []) ⊎ ((identity : Identity) × (v : RowVal) × (rest : Writes) × (ws ≡ (key.Original identity, v) ∷ rest) × IsFresh 3 rest × IsOpen (original_in (look (key.Original identity))))
-
-one_open : (look : Lookup) (identity : Identity) (v : RowVal) (rest ws : Writes) (row : Option OriginalRow) → ws ≡ (key.Original identity, v) ∷ rest → IsFresh 3 rest → original_in (look (key.Original identity)) ≡ row → IsOpen row → PutsOpen look ws
-one_open look identity v rest ws row e fresh was open_so = inr (identity, v, rest, e, fresh, subst IsOpen (sym was) open_so)
-
-either : (look : Lookup) (b : Bool) (p q : Plan) → PutsOpen look (carried_out p look).writes → PutsOpen look (carried_out q look).writes → PutsOpen look (carried_out (if b then p else q) look).writes
-either look true p q x y = x
-either look false p q x y = y
-
-request_open : (look : Lookup) (r : Request) (row : Option OriginalRow) → original_in (look (key.Original (identity_of r.transaction))) ≡ row → PutsOpen look (carried_out (on_original r row) look).writes
-request_open look r None e =
-    elim (request.fresh_ways r look) [
-      | inl d ↦ one_open look (identity_of r.transaction) _ [] _ None d.writes tt e tt
-      | inr a ↦ one_open look (identity_of r.transaction) _ _ _ None a.writes (refl, (refl, (funds_other a.paying, tt))) e tt
-    ]
-request_open look r (Some (original.Ahead mark)) e =
-    either look (is_marked mark r.transaction kind.Request) _ _
-    (one_open look (identity_of r.transaction) (kept_of_request r (outcome.Declined 914 (Some mark.reversal))) [] _ (Some (original.Ahead mark)) refl tt e tt) (inl refl)
-request_open look r (Some (original.Kept k)) e = either look (r.repeat && is_of_same k r.transaction kind.Request) _ _ (inl refl) (inl refl)
-
-advice_open : (look : Lookup) (a : Advice) (row : Option OriginalRow) → original_in (look (key.Original (identity_of a.transaction))) ≡ row → PutsOpen look (carried_out (advice_on_original a row) look).writes
-advice_open look a None e =
-    elim (advice.fresh_ways a look) [
-      | inl d ↦ one_open look (identity_of a.transaction) _ [] _ None d.writes tt e tt
-      | inr w ↦ one_open look (identity_of a.transaction) _ _ _ None w.writes (funds_other w.paying, tt) e tt
-    ]
-advice_open look a (Some (original.Ahead mark)) e =
-    either look (is_marked mark a.transaction kind.Advice) _ _
-    (one_open look (identity_of a.transaction) (kept_of_advice a (outcome.Acknowledged 900 (Some mark.reversal))) [] _ (Some (original.Ahead mark)) refl tt e tt) (inl refl)
-advice_open look a (Some (original.Kept k)) e = either look (a.repeat && is_of_same k a.transaction kind.Advice) _ _ (inl refl) (inl refl)
-
--- of the rows that a reversal writes, the original alone is of its kind
-rest_fresh : (v : Reversal) (k : KeptOriginal) (paid : Funds) (day : Option VelocityRow) → IsFresh 3 (day_put v k day ++ refunded v k paid ∷ [])
-rest_fresh v k (funds.Account id row) None = (refl, tt)
-rest_fresh v k (funds.Budget prefix row) None = (refl, tt)
-rest_fresh v k (funds.Account id row) (Some day) = (refl, (refl, tt))
-rest_fresh v k (funds.Budget prefix row) (Some day) = (refl, (refl, tt))
-
-reversal_open : (look : Lookup) (v : Reversal) → PutsOpen look (carried_out (reversal_plan v) look).writes
-reversal_open look v =
-    elim (reversal_ways v look) [
-      | inl w ↦ inl w.writes
-      | inr w1 ↦ elim w1 [
-        | inl w ↦ one_open look v.original.identity _ [] _ None w.writes tt w.none tt
-        | inr w2 ↦ elim w2 [
-          | inl w ↦ inl w.writes
-          | inr w3 ↦ elim w3 [
-            | inl w ↦ one_open look v.original.identity _ [] _ (Some (original.Kept w.kept)) w.writes tt w.names.stands w.names.reversal
-            | inr s ↦ one_open look v.original.identity _ _ _ (Some (original.Kept s.kept)) s.writes (rest_fresh v s.kept s.paid s.day) s.names.stands s.names.reversal
-          ]
-        ]
-      ]
-    ]
-
-puts_open : (look : Lookup) (frame : Frame) → PutsOpen look (decision look frame).writes
-unfolding decision
-puts_open look (Good (message.Request r)) = request_open look r _ refl
-puts_open look (Good (message.Advice a)) = advice_open look a _ refl
-puts_open look (Good (message.Reversal v)) = reversal_open look v
-puts_open look (Bad fault) = inl refl
+use Rattle.issuer_laws.specs.Permanent.{IsKeptAt, Continues}
 
 -- the original of this identity, which has this reversal, stands in the book
 record HasReversal (rows : Rows) (identity : Identity) (k : KeptOriginal) (by : Identity) : Type 0 where
-  stands : original_in (map.get rows (key.Original identity)) ≡ Some (original.Kept k)
+  stands : IsKeptAt rows identity k
   reversal : reversal_of_outcome k.outcome ≡ Some by
 
--- it isn't open
-not_open : (k : KeptOriginal) (by : Identity) → reversal_of_outcome k.outcome ≡ Some by → IsOpen (Some (original.Kept k)) → ⊥
-not_open k by s n = absurd (cc)
-
--- a row that a decision writes leaves it there
-stays_put : (rows : Rows) (ws : Writes) (identity : Identity) (k : KeptOriginal) (by : Identity) → HasReversal rows identity k by → PutsOpen (map.get rows) ws → original_in (map.get (overlay rows ws) (key.Original identity)) ≡ original_in (map.get rows (key.Original identity))
-stays_put rows ws identity k by h (inl e) = ap (λ (w : Writes). original_in (map.get (overlay rows w) (key.Original identity))) e
-stays_put rows ws identity k by h (inr p) =
-    elim (same_or_other (key.Original identity) (key.Original p.0)) [
-      | inl same ↦ absurd (not_open k by h.reversal (subst IsOpen (ap (λ (q : RowKey). original_in (map.get rows q)) (sym same) ∙ h.stands) p.5))
-      | inr other ↦ ap original_in (ap (λ (w : Writes). map.get (overlay rows w) (key.Original identity)) p.3 ∙ get-fresh (map.insert rows (key.Original p.0) p.1) p.2 (key.Original identity) p.4 ∙ get-other rows (key.Original p.0) p.1 (key.Original identity) other)
-    ]
+-- one that has a reversal isn't reversed again
+as_before : (k later : KeptOriginal) (by : Identity) → reversal_of_outcome k.outcome ≡ Some by → Continues k later → later ≡ k
+as_before k later by s (inl same) = same
+as_before k later by s (inr reversed) = let none = reversed.unreversed in absurd (cc)
 
 -- whatever comes, it stays
 stays : (frames : List Frame) (rows : Rows) (identity : Identity) (k : KeptOriginal) (by : Identity) → HasReversal rows identity k by → HasReversal (rows_after rows frames) identity k by
-stays [] rows identity k by h = h
-stays (frame ∷ frames) rows identity k by h =
-    stays frames (rows_after_one rows frame) identity k by
-    (record { stands = stays_put rows (writes_of rows frame) identity k by h (puts_open (map.get rows) frame) ∙ h.stands; reversal = h.reversal })
-
--- an original that is reversed has this reversal, and is of the same kind
-has_reversal : (o : OriginalOutcome) (by : Identity) (n : ℕ) → reversal_of_outcome (settled_outcome o by n) ≡ Some by
-has_reversal (outcome.Approved code payment) by n = refl
-has_reversal (outcome.Declined action other) by n = refl
-has_reversal (outcome.Accepted payment) by n = refl
-has_reversal (outcome.Acknowledged action other) by n = refl
-
-same_kind : (o : OriginalOutcome) (by : Identity) (n : ℕ) → kind_of_outcome (settled_outcome o by n) ≡ kind_of_outcome o
-same_kind (outcome.Approved code payment) by n = refl
-same_kind (outcome.Declined action other) by n = refl
-same_kind (outcome.Accepted payment) by n = refl
-same_kind (outcome.Acknowledged action other) by n = refl
+stays frames rows identity k by h =
+    let kept = stays_kept frames rows identity k h.stands in
+    record { stands = subst (IsKeptAt (rows_after rows frames) identity) (as_before k kept.0 by h.reversal kept.2) kept.1; reversal = h.reversal }
 
 still_named : (v : Reversal) (k : KeptOriginal) (by : Identity) (n : ℕ) → is_named v k ≡ true → is_named v (settled k by n) ≡ true
 still_named v k by n e = ap (λ (o : OriginalKind). is_same_card k.card v.transaction.pan && is_same_kind o v.original.kind) (same_kind k.outcome by n) ∙ e
@@ -207,13 +117,6 @@ named_again v w k h e = ap (λ (p : Pan). is_same_card k.card p && is_same_kind 
 no_repeat : (b c : Bool) → c ≡ false → (b && c) ≡ false
 no_repeat true c e = e
 no_repeat false c e = refl
-
--- reply and rows that a plan comes to
-abbrev Outcomes : Type 0
-Outcomes = ReplyBody × Writes
-
-abbrev comes_to : Plan → Lookup → Outcomes
-comes_to p look = ((carried_out p look).reply, (carried_out p look).writes)
 
 duplicate_comes : (look : Lookup) (w : Reversal) (k : KeptOriginal) (by : Identity) → original_in (look (key.Original w.original.identity)) ≡ Some (original.Kept k) → reversal_of_outcome k.outcome ≡ Some by → is_named w k ≡ true → is_same_identity by (identity_of w.transaction) ≡ false → comes_to (reversal_plan w) look ≡ (reply_to_reversal w 913, [])
 duplicate_comes look w k by stands reversal named other =

@@ -7,9 +7,14 @@ use Rattle.std.specs.Ordering.{is_eq}
 use Rattle.std.specs.Cmp.{tied_itself}
 use Rattle.issuer_rows.proofs.KeyLaws.{key_cmp_total, key_cmp_antisymmetric, key_eq_decides}
 use Rattle.issuer_rows.proofs.PutsOnce.{IsFresh, not_another}
+use Rattle.iso8583.specs.declared.identity.Identity.{Identity}
 use Rattle.issuer_rows.specs.Fold.{Rows, overlay}
-use Rattle.issuer_rows.specs.Plan.{Writes}
+use Rattle.issuer_rows.specs.Funds.{key_of_funds}
+use Rattle.issuer_rows.specs.Plan.{Plan, Lookup, Writes, carried_out}
 use Rattle.issuer_rows.specs.RowKey.{kind_of, key_cmp, key_eq, text_eq}
+use Rattle.issuer_rows.specs.Typed.{original_in}
+use Rattle.issuer_rows.specs.declared.funds.Funds.{Funds}
+use Rattle.issuer_rows.specs.declared.reply_body.ReplyBody.{ReplyBody}
 use Rattle.issuer_rows.specs.declared.row_key.RowKey.{RowKey}
 use Rattle.issuer_rows.specs.declared.row_val.RowVal.{RowVal}
 
@@ -63,3 +68,21 @@ same_or_other a b =
       | true ↦ λ e. inl ((key_eq_decides a b).0 e)
       | false ↦ λ e. inr (λ same. false≢true (sym e ∙ (key_eq_decides a b).1 same))
     ] refl
+
+-- the row that pays is no original
+pub funds_other : (f : Funds) → IsTrue (not (3 == kind_of (key_of_funds f)))
+funds_other (Funds.Account id row) = refl
+funds_other (Funds.Budget prefix row) = refl
+
+-- the original's row, where it is written with rows of other kinds
+pub original_stands : (rows : Rows) (identity : Identity) (v : RowVal) (writes rest : Writes) → writes ≡ (RowKey.Original identity, v) ∷ rest → IsFresh 3 rest → original_in (map.get (overlay rows writes) (RowKey.Original identity)) ≡ original_in (Some v)
+original_stands rows identity v writes rest e fresh =
+    ap (λ (ws : Writes). original_in (map.get (overlay rows ws) (RowKey.Original identity))) e
+    ∙ ap original_in (get-fresh (map.insert rows (RowKey.Original identity) v) rest (RowKey.Original identity) fresh ∙ get-put rows (RowKey.Original identity) v)
+
+-- reply and rows that a plan comes to
+abbrev pub Outcomes : Type 0
+Outcomes = ReplyBody × Writes
+
+abbrev pub comes_to : Plan → Lookup → Outcomes
+comes_to p look = ((carried_out p look).reply, (carried_out p look).writes)

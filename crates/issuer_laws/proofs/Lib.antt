@@ -5,6 +5,7 @@ pub mod Conserved
 pub mod Duplicate
 pub mod Funding
 pub mod Keys
+pub mod Permanent
 pub mod Repeated
 pub mod RequestWays
 pub mod ReversalWays

@@ -1,16 +1,33 @@
 -- A message that is sent again.
-use Rattle.std.specs.Prelude.{◌≡◌, true, []}
+use Rattle.std.specs.Prelude.{◌≡◌, true, List, [], Option, Some, None, IsTrue}
+use Rattle.std.specs.FinMap as map
 use Rattle.iso8583.specs.declared.advice.Advice.{Advice}
+use Rattle.iso8583.specs.declared.original_kind.OriginalKind.{OriginalKind}
 use Rattle.iso8583.specs.declared.request.Request.{Request}
-use Rattle.issuer_rows.specs.Facts.{identity_of}
-use Rattle.issuer_rows.specs.Fold.{Rows, reply_of, writes_of, rows_after_one}
+use Rattle.iso8583.specs.declared.transaction.Transaction.{Transaction}
+use Rattle.issuer_rows.specs.Facts.{identity_of, is_marked}
+use Rattle.issuer_rows.specs.Fold.{Rows, reply_of, writes_of, rows_after_one, rows_after}
+use Rattle.issuer_rows.specs.Typed.{original_in}
 use Rattle.issuer_rows.specs.declared.frame.Frame.{Frame}
-use Rattle.issuer_laws.specs.Messages.{request_frame, advice_frame, IsUnseen}
+use Rattle.issuer_rows.specs.declared.original_row.OriginalRow.{OriginalRow}
+use Rattle.issuer_rows.specs.declared.row_key.RowKey.{RowKey}
+use Rattle.issuer_laws.specs.Messages.{request_frame, advice_frame}
 
--- the second body, right after the first, gets the first's reply, and writes nothing
-abbrev pub GetsSameReply : Rows → Frame → Frame → Type 0
-GetsSameReply rows first second =
-    (reply_of (rows_after_one rows first) second ≡ reply_of rows first) × (writes_of (rows_after_one rows first) second ≡ [])
+-- a row of an identity leaves it to this message: there is none, or it is the mark of a reversal that came ahead and names its card and kind
+abbrev pub IsLeftTo : Transaction → OriginalKind → Option OriginalRow → Type 0
+IsLeftTo t k None = Unit {0}
+IsLeftTo t k (Some (OriginalRow.Ahead mark)) = IsTrue (is_marked mark t k)
+IsLeftTo t k (Some (OriginalRow.Kept kept)) = ⊥
+
+-- the message is the first of its identity: none was decided, and a reversal that came ahead is its own
+abbrev pub IsFirst : Rows → Transaction → OriginalKind → Type 0
+IsFirst rows t k = IsLeftTo t k (original_in (map.get rows (RowKey.Original (identity_of t))))
+
+-- the second body, after the first and those between, gets the first's reply, and writes nothing
+abbrev pub GetsSameReply : Rows → Frame → List Frame → Frame → Type 0
+GetsSameReply rows first between second =
+    let later = rows_after (rows_after_one rows first) between in
+    (reply_of later second ≡ reply_of rows first) × (writes_of later second ≡ [])
 
 -- the request's repeat, 1101
 abbrev pub repeat_of_request : Request → Request
@@ -20,10 +37,12 @@ repeat_of_request r = record r { repeat = true }
 abbrev pub repeat_of_advice : Advice → Advice
 repeat_of_advice a = record a { repeat = true }
 
--- a request whose identity wasn't seen, and its repeat
-abbrev pub RequestIsAnsweredAlike : Rows → Request → Type 0
-RequestIsAnsweredAlike rows r = IsUnseen rows (identity_of r.transaction) → GetsSameReply rows (request_frame r) (request_frame (repeat_of_request r))
+-- a request that is the first of its identity, whatever comes behind it, its own reversal too, and its repeat
+abbrev pub RequestIsAnsweredAlike : Rows → Request → List Frame → Type 0
+RequestIsAnsweredAlike rows r between =
+    IsFirst rows r.transaction OriginalKind.Request → GetsSameReply rows (request_frame r) between (request_frame (repeat_of_request r))
 
--- an advice whose identity wasn't seen, and its repeat
-abbrev pub AdviceIsAnsweredAlike : Rows → Advice → Type 0
-AdviceIsAnsweredAlike rows a = IsUnseen rows (identity_of a.transaction) → GetsSameReply rows (advice_frame a) (advice_frame (repeat_of_advice a))
+-- an advice that is the first of its identity, whatever comes behind it, its own reversal too, and its repeat
+abbrev pub AdviceIsAnsweredAlike : Rows → Advice → List Frame → Type 0
+AdviceIsAnsweredAlike rows a between =
+    IsFirst rows a.transaction OriginalKind.Advice → GetsSameReply rows (advice_frame a) between (advice_frame (repeat_of_advice a))

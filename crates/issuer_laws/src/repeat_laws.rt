@@ -1,21 +1,31 @@
 ghost use Rattle.std.specs.Prelude.{List};
 ghost use Rattle.iso8583.specs.declared.advice.Advice.{Advice};
+ghost use Rattle.iso8583.specs.declared.identity.Identity.{Identity};
 ghost use Rattle.iso8583.specs.declared.request.Request.{Request};
 ghost use Rattle.iso8583.specs.declared.reversal.Reversal.{Reversal};
 ghost use Rattle.issuer_rows.specs.Fold.{Rows};
+ghost use Rattle.issuer_rows.specs.Kept.{KeptOriginal};
 ghost use Rattle.issuer_rows.specs.declared.frame.Frame.{Frame};
 ghost use Rattle.issuer_laws.specs.Duplicate.{SecondIsDuplicate};
+ghost use Rattle.issuer_laws.specs.Permanent.{Continues, IsSameOriginal, StaysKept};
 ghost use Rattle.issuer_laws.specs.Repeated.{RequestIsAnsweredAlike, AdviceIsAnsweredAlike};
 
-/// A request or an advice whose identity wasn't seen before, and then its repeat (1101, 1121): the repeat gets the same
-/// reply, the approval code too, and changes nothing.
+/// A request or an advice that is the first of its identity, then any other messages, its own reversal too, and then its
+/// repeat (1101, 1121): the repeat gets the same reply, the approval code too, and changes nothing.
 pub fn a_repeat_is_answered_alike()
-    ensures request { (rows : Rows) (r : Request) → RequestIsAnsweredAlike rows r }
-    ensures advice { (rows : Rows) (a : Advice) → AdviceIsAnsweredAlike rows a }
+    ensures request { (rows : Rows) (r : Request) (between : List Frame) → RequestIsAnsweredAlike rows r between }
+    ensures advice { (rows : Rows) (a : Advice) (between : List Frame) → AdviceIsAnsweredAlike rows a between }
 {}
 
 /// After a reversal that was answered 400, and whatever else came after it: another reversal of the same original, with an
 /// identity of its own, is answered 913, duplicate transmission, and changes nothing.
 pub fn a_second_reversal_is_a_duplicate()
     ensures { (rows : Rows) (first second : Reversal) (between : List Frame) → SecondIsDuplicate rows first between second }
+{}
+
+/// An original that is kept is never lost, whatever comes: it stays as it is, or it is reversed, once. Its card, amount,
+/// processing code, action and approval code never change.
+pub fn an_original_is_kept_for_good()
+    ensures stays { (rows : Rows) (identity : Identity) (k : KeptOriginal) (frames : List Frame) → StaysKept rows identity k frames }
+    ensures same { (before after : KeptOriginal) → Continues before after → IsSameOriginal before after }
 {}
