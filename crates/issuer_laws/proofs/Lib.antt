@@ -3,6 +3,7 @@ pub mod Backings
 pub mod Balanced
 pub mod Conserved
 pub mod Duplicate
+pub mod Echoed
 pub mod Funding
 pub mod Keys
 pub mod Permanent

@@ -49,6 +49,7 @@ pub record Repeats (v : Reversal) (look : Lookup) (reply_is : ReplyBody) (writes
   pub by : Identity
   pub names : Names v look kept (Some by)
   pub own : is_same_identity by (identity_of v.transaction) ≡ true
+  pub reply : reply_is ≡ reply_to_reversal v 400
   pub writes : writes_are ≡ []
 
 -- 400, of an original that isn't posted
@@ -56,12 +57,23 @@ pub record SettlesUnposted (v : Reversal) (look : Lookup) (reply_is : ReplyBody)
   pub kept : KeptOriginal
   pub names : Names v look kept None
   pub unposted : payment_of_outcome kept.outcome ≡ None
+  pub reply : reply_is ≡ reply_to_reversal v 400
   pub writes : writes_are ≡ original_put v (val.Kept (settled kept (identity_of v.transaction) 0)) ∷ []
 
 -- what is written of the day, if the original was spent on one
 abbrev pub day_put : Reversal → KeptOriginal → Option VelocityRow → Writes
 day_put v k None = []
 day_put v k (Some day) = (day_key v k, val.Velocity (spent_less v k day)) ∷ []
+
+-- the day of the original stands in the book, and has what is given back
+pub record HasDay (v : Reversal) (look : Lookup) (k : KeptOriginal) (day : VelocityRow) : Type 0 where
+  pub stands : velocity_in (look (day_key v k)) ≡ Some day
+  pub enough : day_is_short v k day ≡ false
+
+-- the same, if the original was spent on a day
+abbrev pub IsDayFound : Reversal → Lookup → KeptOriginal → Option VelocityRow → Type 0
+IsDayFound v look k None = Unit {0}
+IsDayFound v look k (Some day) = HasDay v look k day
 
 -- 400, of an original that is posted
 pub record SettlesPosted (v : Reversal) (look : Lookup) (reply_is : ReplyBody) (writes_are : Writes) : Type 0 where
@@ -74,6 +86,8 @@ pub record SettlesPosted (v : Reversal) (look : Lookup) (reply_is : ReplyBody) (
   pub of_card : IsOfCard kept.card paid
   pub payer : payer_of paid ≡ payment.payer
   pub day : Option VelocityRow
+  pub day_found : IsDayFound v look kept day
+  pub reply : reply_is ≡ reply_to_reversal v 400
   pub writes : writes_are ≡ reversed_original v kept ∷ (day_put v kept day ++ refunded v kept paid ∷ [])
 
 -- one of these
@@ -105,8 +119,8 @@ record IsPaid (v : Reversal) (look : Lookup) (k : KeptOriginal) (paid : Funds) :
   of_card : IsOfCard k.card paid
   payer : payer_of paid ≡ payment.payer
 
-settling : (v : Reversal) (look : Lookup) (k : KeptOriginal) (paid : Funds) (day : Option VelocityRow) (reply : ReplyBody) → IsPaid v look k paid → IsReversalDecided v look reply (reversed_original v k ∷ (day_put v k day ++ refunded v k paid ∷ []))
-settling v look k paid day reply h = inr (inr (inr (inr (record {
+settling : (v : Reversal) (look : Lookup) (k : KeptOriginal) (paid : Funds) (day : Option VelocityRow) → IsPaid v look k paid → IsDayFound v look k day → IsReversalDecided v look (reply_to_reversal v 400) (reversed_original v k ∷ (day_put v k day ++ refunded v k paid ∷ []))
+settling v look k paid day h found = inr (inr (inr (inr (record {
   kept = k;
   names = h.names;
   payment = h.payment;
@@ -116,19 +130,21 @@ settling v look k paid day reply h = inr (inr (inr (inr (record {
   of_card = h.of_card;
   payer = h.payer;
   day = day;
+  day_found = found;
+  reply = refl;
   writes = refl;
 }))))
 
 ways_of_kind : (v : Reversal) (look : Lookup) (o : OriginalKind) (k : KeptOriginal) (paid : Funds) → IsPaid v look k paid → IsWay v look (by_kind o v k paid)
 ways_of_kind v look kind.Advice k paid h =
-    either_way v look (is_overfull v k paid) _ _ (λ full. refusing v look 909 (λ e. absurd (omega arith))) (λ room. settling v look k paid None _ h)
+    either_way v look (is_overfull v k paid) _ _ (λ full. refusing v look 909 (λ e. absurd (omega arith))) (λ room. settling v look k paid None h tt)
 ways_of_kind v look kind.Request k paid h =
-    elim (velocity_in (look (day_key v k))) as (λ day. IsWay v look (on_original_day v k paid day)) [
-      | None ↦ refusing v look 914 (λ e. absurd (omega arith))
+    elim (velocity_in (look (day_key v k))) as (λ day. velocity_in (look (day_key v k)) ≡ day → IsWay v look (on_original_day v k paid day)) [
+      | None ↦ λ none. refusing v look 914 (λ e. absurd (omega arith))
       | Some day ↦
-          either_way v look (is_overfull v k paid) _ _ (λ full. refusing v look 909 (λ e. absurd (omega arith)))
-          (λ room. either_way v look (day_is_short v k day) _ _ (λ short. refusing v look 909 (λ e. absurd (omega arith))) (λ enough. settling v look k paid (Some day) _ h))
-    ]
+          λ stands. either_way v look (is_overfull v k paid) _ _ (λ full. refusing v look 909 (λ e. absurd (omega arith)))
+          (λ room. either_way v look (day_is_short v k day) _ _ (λ short. refusing v look 909 (λ e. absurd (omega arith))) (λ enough. settling v look k paid (Some day) h (record { stands = stands; enough = enough })))
+    ] refl
 
 -- what is known where the payer is
 record IsPosted (v : Reversal) (look : Lookup) (k : KeptOriginal) (p : Payer) : Type 0 where
@@ -153,7 +169,7 @@ ways_of_payer v look k payer.Budget h =
     ] refl
 
 ways_of_payment : (v : Reversal) (look : Lookup) (k : KeptOriginal) (payment : Option Payment) → Names v look k None → payment_of_outcome k.outcome ≡ payment → IsWay v look (on_payment v k payment)
-ways_of_payment v look k None h e = inr (inr (inr (inl (record { kept = k; names = h; unposted = e; writes = refl }))))
+ways_of_payment v look k None h e = inr (inr (inr (inl (record { kept = k; names = h; unposted = e; reply = refl; writes = refl }))))
 ways_of_payment v look k (Some payment) h e =
     either_way v look (is_wrong_part v.scope v.transaction.amount k.amount) _ _ (λ wrong. refusing v look 110 (λ e. absurd (omega arith)))
     (λ right. ways_of_payer v look k payment.payer (record { names = h; payment = payment; posted = e; payer = refl }))
@@ -162,7 +178,7 @@ ways_of_reversal : (v : Reversal) (look : Lookup) (k : KeptOriginal) (by : Optio
 ways_of_reversal v look k None h = ways_of_payment v look k (payment_of_outcome k.outcome) h refl
 ways_of_reversal v look k (Some by) h =
     either_way v look (v.repeat && is_same_identity by (identity_of v.transaction)) _ _
-    (λ again. inr (inr (inl (record { kept = k; by = by; names = h; own = second v.repeat _ again; writes = refl }))))
+    (λ again. inr (inr (inl (record { kept = k; by = by; names = h; own = second v.repeat _ again; reply = refl; writes = refl }))))
     (λ other. refusing v look 913 (λ e. absurd (omega arith)))
 
 ways_of_row : (v : Reversal) (look : Lookup) (row : Option OriginalRow) → original_in (look (key.Original v.original.identity)) ≡ row → IsWay v look (on_reversed v row)

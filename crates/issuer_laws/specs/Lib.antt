@@ -1,5 +1,6 @@
 pub mod Conserved
 pub mod Duplicate
+pub mod Echoed
 pub mod Messages
 pub mod Permanent
 pub mod Repeated

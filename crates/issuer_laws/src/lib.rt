@@ -8,4 +8,5 @@ mod repeat_laws;
 pub use money_laws::{a_full_reversal_undoes_its_original, every_decision_keeps_backing};
 pub use repeat_laws::{
     a_repeat_is_answered_alike, a_second_reversal_is_a_duplicate, an_original_is_kept_for_good,
+    each_reply_repeats_its_message,
 };

@@ -3,10 +3,11 @@ ghost use Rattle.iso8583.specs.declared.advice.Advice.{Advice};
 ghost use Rattle.iso8583.specs.declared.identity.Identity.{Identity};
 ghost use Rattle.iso8583.specs.declared.request.Request.{Request};
 ghost use Rattle.iso8583.specs.declared.reversal.Reversal.{Reversal};
-ghost use Rattle.issuer_rows.specs.Fold.{Rows};
+ghost use Rattle.issuer_rows.specs.Fold.{Rows, replies_to};
 ghost use Rattle.issuer_rows.specs.Kept.{KeptOriginal};
 ghost use Rattle.issuer_rows.specs.declared.frame.Frame.{Frame};
 ghost use Rattle.issuer_laws.specs.Duplicate.{SecondIsDuplicate};
+ghost use Rattle.issuer_laws.specs.Echoed.{EchoEach};
 ghost use Rattle.issuer_laws.specs.Permanent.{Continues, IsSameOriginal, StaysKept};
 ghost use Rattle.issuer_laws.specs.Repeated.{RequestIsAnsweredAlike, AdviceIsAnsweredAlike};
 
@@ -28,4 +29,10 @@ pub fn a_second_reversal_is_a_duplicate()
 pub fn an_original_is_kept_for_good()
     ensures stays { (rows : Rows) (identity : Identity) (k : KeptOriginal) (frames : List Frame) → StaysKept rows identity k frames }
     ensures same { (before after : KeptOriginal) → Continues before after → IsSameOriginal before after }
+{}
+
+/// The reply at each place of a batch is that of the message at the same place: of the type that answers its type, with its card,
+/// amount, times, trace, acquirer, terminal and currency, and the account that it names; of a body that is no message it is the fault.
+pub fn each_reply_repeats_its_message()
+    ensures { (rows : Rows) (frames : List Frame) → EchoEach frames (replies_to rows frames) }
 {}
