@@ -1,6 +1,7 @@
 pub mod AdviceWays
 pub mod Backings
 pub mod Balanced
+pub mod Cards
 pub mod Conserved
 pub mod Duplicate
 pub mod Echoed
@@ -13,3 +14,4 @@ pub mod ReversalWays
 pub mod Reversing
 pub mod Sums
 pub mod Undone
+pub mod Written

@@ -28,13 +28,19 @@ pub record Declines (r : Request) (reply_is : ReplyBody) (writes_are : Writes) :
   pub reply : reply_is ≡ reply_to_request r (verdict.Declined action)
   pub writes : writes_are ≡ (key.Original (identity_of r.transaction), kept_of_request r (outcome.Declined action None)) ∷ []
 
+-- what was spent on the request's day
+abbrev pub spent_by : Request → Lookup → VelocityRow
+spent_by r look = spent_in (velocity_in (look (key.Velocity r.transaction.pan (day_of r.transaction.stamp))))
+
 -- 000: the original is kept, card and day rise, and what pays has as much less
 pub record Approves (r : Request) (look : Lookup) (reply_is : ReplyBody) (writes_are : Writes) : Type 0 where
   pub card : CardRow
+  pub stands : card_in (look (key.Card r.transaction.pan)) ≡ Some card
+  pub within : refused_by_limits r card (spent_by r look) ≡ None
   pub paying : Funds
   pub pays : CanPay look r.transaction paying
   pub reply : reply_is ≡ reply_to_request r (verdict.Approved (approval_code card))
-  pub writes : writes_are ≡ approved_writes r card (spent_in (velocity_in (look (key.Velocity r.transaction.pan (day_of r.transaction.stamp))))) paying
+  pub writes : writes_are ≡ approved_writes r card (spent_by r look) paying
 
 -- the one or the other
 abbrev pub IsDecidedFresh : Request → Lookup → Decided → Type 0
@@ -87,34 +93,35 @@ card_usable r card =
     status_usable card.status _
     (either_usable (nat_lt (number_of card.expiry) (number_of (month_of r.transaction.stamp))) (Err 101) _ (omega arith) (named_usable (account_of card.accounts r.account)))
 
-unless : (r : Request) (look : Lookup) (refused : Option ℕ) (next : Plan) → IsRefusal refused → IsDecidedFresh r look (carried_out next look) → IsDecidedFresh r look (carried_out (unless_refused r refused next) look)
+unless : (r : Request) (look : Lookup) (refused : Option ℕ) (next : Plan) → IsRefusal refused → (refused ≡ None → IsDecidedFresh r look (carried_out next look)) → IsDecidedFresh r look (carried_out (unless_refused r refused next) look)
 unless r look (Some action) next positive h = declining r look action positive
-unless r look None next positive h = h
+unless r look None next positive h = h refl
 
-ways_on_funds : (r : Request) (look : Lookup) (card : CardRow) (found : Result Funds ℕ) → IsSource look r.transaction found → IsDecidedFresh r look (carried_out (on_funds r card (spent_in (velocity_in (look (key.Velocity r.transaction.pan (day_of r.transaction.stamp))))) found) look)
-ways_on_funds r look card (Err action) positive = declining r look action positive
-ways_on_funds r look card (Ok paying) pays = inr (record { card = card; paying = paying; pays = pays; reply = refl; writes = refl })
+ways_on_funds : (r : Request) (look : Lookup) (card : CardRow) (found : Result Funds ℕ) → card_in (look (key.Card r.transaction.pan)) ≡ Some card → refused_by_limits r card (spent_by r look) ≡ None → IsSource look r.transaction found → IsDecidedFresh r look (carried_out (on_funds r card (spent_by r look) found) look)
+ways_on_funds r look card (Err action) stands within positive = declining r look action positive
+ways_on_funds r look card (Ok paying) stands within pays =
+    inr (record { card = card; stands = stands; within = within; paying = paying; pays = pays; reply = refl; writes = refl })
 
 either_way : (r : Request) (look : Lookup) (b : Bool) (p q : Plan) → IsDecidedFresh r look (carried_out p look) → IsDecidedFresh r look (carried_out q look) → IsDecidedFresh r look (carried_out (if b then p else q) look)
 either_way r look true p q h k = h
 either_way r look false p q h k = k
 
-ways_on_account : (r : Request) (look : Lookup) (card : CardRow) (id : AccountId) (account : Option AccountRow) → account_in (look (key.Account id)) ≡ account → IsDecidedFresh r look (carried_out (on_account r card id account) look)
-ways_on_account r look card id None e = declining r look 909 (omega arith)
-ways_on_account r look card id (Some account) e =
+ways_on_account : (r : Request) (look : Lookup) (card : CardRow) (id : AccountId) (account : Option AccountRow) → card_in (look (key.Card r.transaction.pan)) ≡ Some card → account_in (look (key.Account id)) ≡ account → IsDecidedFresh r look (carried_out (on_account r card id account) look)
+ways_on_account r look card id None stands e = declining r look 909 (omega arith)
+ways_on_account r look card id (Some account) stands e =
     either_way r look (is_same_currency r.transaction.currency account.currency) _ (declined_request r 100)
-    (unless r look (refused_by_limits r card (spent_in (velocity_in (look _)))) _ (limits_refusal r card _)
-    (ways_on_funds r look card (request_funds r.transaction id account (budget_in (look _))) (request_source look r.transaction id account _ e refl)))
+    (unless r look (refused_by_limits r card (spent_by r look)) _ (limits_refusal r card _)
+    (λ within. ways_on_funds r look card (request_funds r.transaction id account (budget_in (look _))) stands within (request_source look r.transaction id account _ e refl)))
     (declining r look 100 (omega arith))
 
-ways_on_usable : (r : Request) (look : Lookup) (card : CardRow) (usable : Result AccountId ℕ) → IsUsable usable → IsDecidedFresh r look (carried_out (on_usable r card usable) look)
-ways_on_usable r look card (Ok id) h = ways_on_account r look card id (account_in (look (key.Account id))) refl
-ways_on_usable r look card (Err action) positive = declining r look action positive
+ways_on_usable : (r : Request) (look : Lookup) (card : CardRow) (usable : Result AccountId ℕ) → card_in (look (key.Card r.transaction.pan)) ≡ Some card → IsUsable usable → IsDecidedFresh r look (carried_out (on_usable r card usable) look)
+ways_on_usable r look card (Ok id) stands h = ways_on_account r look card id (account_in (look (key.Account id))) stands refl
+ways_on_usable r look card (Err action) stands positive = declining r look action positive
 
-ways_on_card : (r : Request) (look : Lookup) (card : Option CardRow) → IsDecidedFresh r look (carried_out (on_card r card) look)
-ways_on_card r look None = declining r look 118 (omega arith)
-ways_on_card r look (Some card) = ways_on_usable r look card (usable_account r card) (card_usable r card)
+ways_on_card : (r : Request) (look : Lookup) (card : Option CardRow) → card_in (look (key.Card r.transaction.pan)) ≡ card → IsDecidedFresh r look (carried_out (on_card r card) look)
+ways_on_card r look None e = declining r look 118 (omega arith)
+ways_on_card r look (Some card) e = ways_on_usable r look card (usable_account r card) e (card_usable r card)
 
 -- what becomes of such a request
 pub fresh_ways : (r : Request) (look : Lookup) → IsDecidedFresh r look (carried_out (fresh_request r) look)
-fresh_ways r look = unless r look (refused_unseen r) _ (unseen_refusal r) (ways_on_card r look (card_in (look (key.Card r.transaction.pan))))
+fresh_ways r look = unless r look (refused_unseen r) _ (unseen_refusal r) (λ seen. ways_on_card r look (card_in (look (key.Card r.transaction.pan))) refl)

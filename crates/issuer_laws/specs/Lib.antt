@@ -1,3 +1,4 @@
+pub mod Cards
 pub mod Conserved
 pub mod Duplicate
 pub mod Echoed

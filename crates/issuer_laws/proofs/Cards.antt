@@ -1,0 +1,265 @@
+-- A card's row changes in its approvals alone, which rise, and no day passes its card's limits.
+use Rattle.std.proofs.Common.{◌≡◌, ℕ, ◌+◌, ◌-◌, ◌≤◌, Bool, true, false, if◌then◌else◌, nat_lt, nat_le, not, ◌==◌, ◌&&◌, List, [], ◌∷◌, ◌++◌, Option, Some, None, IsTrue, ◌⊎◌, inl, inr, refl, sym, ap, ◌∙◌, subst, arith}
+use Rattle.std.proofs.lemmas.Bool.Decides.{nat_tests}
+use Rattle.std.specs.FinMap as map
+use Rattle.iso8583.specs.declared.advice.Advice.{Advice}
+use Rattle.iso8583.specs.declared.message.Message.{Message}
+use Rattle.iso8583.specs.declared.original_kind.OriginalKind.{OriginalKind}
+use Rattle.iso8583.specs.declared.pan.Pan.{Pan}
+use Rattle.iso8583.specs.declared.request.Request.{Request}
+use Rattle.iso8583.specs.declared.reversal.Reversal.{Reversal}
+use Rattle.iso8583.specs.declared.reversal_scope.ReversalScope.{ReversalScope}
+use Rattle.issuer_rows.proofs.PutsOnce.{IsFresh}
+use Rattle.issuer_rows.specs.AdviceTable.{advice_on_original}
+use Rattle.issuer_rows.specs.Decision.{decision}
+use Rattle.issuer_rows.specs.Facts.{day_of, is_marked, is_of_same}
+use Rattle.issuer_rows.specs.Fold.{Rows, overlay, writes_of, rows_after_one, rows_after}
+use Rattle.issuer_rows.specs.Funds.{key_of_funds}
+use Rattle.issuer_rows.specs.Kept.{KeptOriginal}
+use Rattle.issuer_rows.specs.Plan.{Plan, Lookup, Writes, carried_out}
+use Rattle.issuer_rows.specs.RequestTable.{on_original, refused_by_limits, approved_card, spent_more}
+use Rattle.issuer_rows.specs.ReversalTable.{reversal_plan, reversed_original, refunded, count_left, spent_less}
+use Rattle.issuer_rows.specs.RowKey.{kind_of}
+use Rattle.issuer_rows.specs.Typed.{card_in, velocity_in, spent_in}
+use Rattle.issuer_rows.specs.declared.card_row.CardRow.{CardRow}
+use Rattle.issuer_rows.specs.declared.frame.Frame.{Frame}
+use Rattle.issuer_rows.specs.declared.funds.Funds.{Funds}
+use Rattle.issuer_rows.specs.declared.original_row.OriginalRow.{OriginalRow}
+use Rattle.issuer_rows.specs.declared.reply_body.ReplyBody.{ReplyBody}
+use Rattle.issuer_rows.specs.declared.row_key.RowKey.{RowKey}
+use Rattle.issuer_rows.specs.declared.row_val.RowVal.{RowVal}
+use Rattle.issuer_rows.specs.declared.velocity_row.VelocityRow.{VelocityRow}
+use Rattle.issuer_laws.proofs.AdviceWays as advice
+use Rattle.issuer_laws.proofs.Keys.{get-fresh}
+use Rattle.issuer_laws.proofs.RequestWays as request
+use Rattle.issuer_laws.proofs.ReversalWays.{SettlesPosted, IsDayFound, day_put, reversal_ways}
+use Rattle.issuer_laws.proofs.Written.{WritesOne, value_behind}
+use Rattle.issuer_laws.specs.Cards.{IsCardAt, IsSameCard, StaysCard, IsWithin, IsWithinLimits}
+use Rattle.issuer_laws.specs.Undone.{spent_on}
+
+-- what is written of cards: nothing, or that one that is there has one approval more
+record WritesCard (look : Lookup) (ws : Writes) : Type 0 where
+  pan : Pan
+  card : CardRow
+  stands : card_in (look (RowKey.Card pan)) ≡ Some card
+  one : WritesOne 0 ws (RowKey.Card pan) (RowVal.Card (approved_card card))
+
+-- a day within its card's limits; or a day of which less was spent than before
+record IsApprovedDay (look : Lookup) (pan : Pan) (row : VelocityRow) : Type 0 where
+  card : CardRow
+  stands : card_in (look (RowKey.Card pan)) ≡ Some card
+  within : IsWithin card row
+
+record IsLesserDay (look : Lookup) (pan : Pan) (day : List ℕ) (row : VelocityRow) : Type 0 where
+  before : VelocityRow
+  stands : velocity_in (look (RowKey.Velocity pan day)) ≡ Some before
+  count : row.count ≤ before.count
+  sum : row.sum ≤ before.sum
+
+-- what is written of days: nothing, or one
+record WritesDay (look : Lookup) (ws : Writes) : Type 0 where
+  pan : Pan
+  day : List ℕ
+  row : VelocityRow
+  one : WritesOne 1 ws (RowKey.Velocity pan day) (RowVal.Velocity row)
+  change : IsApprovedDay look pan row ⊎ IsLesserDay look pan day row
+
+-- both
+record ChangesCards (look : Lookup) (ws : Writes) : Type 0 where
+  cards : IsFresh 0 ws ⊎ WritesCard look ws
+  days : IsFresh 1 ws ⊎ WritesDay look ws
+
+-- neither
+leaves : (look : Lookup) (ws writes : Writes) → writes ≡ ws → IsFresh 0 ws → IsFresh 1 ws → ChangesCards look writes
+leaves look ws writes e cards days = subst (ChangesCards look) (sym e) (record { cards = inl cards; days = inl days })
+
+leaves_two : (f : Funds) → IsTrue (not (0 == kind_of (key_of_funds f))) × IsTrue (not (1 == kind_of (key_of_funds f)))
+leaves_two (Funds.Account id row) = (refl, refl)
+leaves_two (Funds.Budget prefix row) = (refl, refl)
+
+either : (look : Lookup) (b : Bool) (p q : Plan) → ChangesCards look (carried_out p look).writes → ChangesCards look (carried_out q look).writes → ChangesCards look (carried_out (if b then p else q) look).writes
+either look true p q x y = x
+either look false p q x y = y
+
+-- what the three tests of a card's limits refuse
+abbrev refused_if : Bool → Bool → Bool → Option ℕ
+refused_if count sum approvals = if count then Some 123 else (if sum then Some 121 else (if approvals then Some 909 else None))
+
+none_over : (count sum approvals : Bool) → refused_if count sum approvals ≡ None → (count ≡ false) × (sum ≡ false)
+none_over true sum approvals e = absurd (cc)
+none_over false true approvals e = absurd (cc)
+none_over false false approvals e = (refl, refl)
+
+not_over : (limit n : ℕ) → nat_lt limit n ≡ false → n ≤ limit
+not_over limit n e = grind (arith, nat_tests)
+
+-- where the limits refuse nothing, the day is within them with this approval
+within_limits : (r : Request) (card : CardRow) (day : VelocityRow) → refused_by_limits r card day ≡ None → IsWithin card (spent_more day r.transaction.amount)
+within_limits r card day e =
+    let neither = none_over (nat_lt card.day_count (day.count + 1)) (nat_lt card.day_amount (day.sum + r.transaction.amount)) (nat_le 999999 card.approvals) e in
+    record { count = not_over card.day_count (day.count + 1) neither.0; sum = not_over card.day_amount (day.sum + r.transaction.amount) neither.1 }
+
+approved_changes : (look : Lookup) (r : Request) (reply : ReplyBody) (writes : Writes) → request.Approves r look reply writes → ChangesCards look writes
+approved_changes look r reply writes a = record {
+  cards = inr (record {
+    pan = r.transaction.pan;
+    card = a.card;
+    stands = a.stands;
+    one = record { front = _ ∷ []; rest = _ ∷ _ ∷ []; all = a.writes; fresh_front = (refl, tt); fresh_rest = (refl, ((leaves_two a.paying).0, tt)) };
+  });
+  days = inr (record {
+    pan = r.transaction.pan;
+    day = day_of r.transaction.stamp;
+    row = spent_more (request.spent_by r look) r.transaction.amount;
+    one = record { front = _ ∷ _ ∷ []; rest = _ ∷ []; all = a.writes; fresh_front = (refl, (refl, tt)); fresh_rest = ((leaves_two a.paying).1, tt) };
+    change = inl (record { card = a.card; stands = a.stands; within = within_limits r a.card (request.spent_by r look) a.within });
+  });
+}
+
+request_changes : (look : Lookup) (r : Request) (row : Option OriginalRow) → ChangesCards look (carried_out (on_original r row) look).writes
+request_changes look r None =
+    elim (request.fresh_ways r look) [
+      | inl d ↦ leaves look _ _ d.writes (refl, tt) (refl, tt)
+      | inr a ↦ approved_changes look r _ _ a
+    ]
+request_changes look r (Some (OriginalRow.Ahead mark)) =
+    either look (is_marked mark r.transaction OriginalKind.Request) _ _ (leaves look _ _ refl (refl, tt) (refl, tt)) (leaves look [] _ refl tt tt)
+request_changes look r (Some (OriginalRow.Kept k)) =
+    either look (r.repeat && is_of_same k r.transaction OriginalKind.Request) _ _ (leaves look [] _ refl tt tt) (leaves look [] _ refl tt tt)
+
+advice_changes : (look : Lookup) (a : Advice) (row : Option OriginalRow) → ChangesCards look (carried_out (advice_on_original a row) look).writes
+advice_changes look a None =
+    elim (advice.fresh_ways a look) [
+      | inl d ↦ leaves look _ _ d.writes (refl, tt) (refl, tt)
+      | inr w ↦ leaves look _ _ w.writes (refl, ((leaves_two w.paying).0, tt)) (refl, ((leaves_two w.paying).1, tt))
+    ]
+advice_changes look a (Some (OriginalRow.Ahead mark)) =
+    either look (is_marked mark a.transaction OriginalKind.Advice) _ _ (leaves look _ _ refl (refl, tt) (refl, tt)) (leaves look [] _ refl tt tt)
+advice_changes look a (Some (OriginalRow.Kept k)) =
+    either look (a.repeat && is_of_same k a.transaction OriginalKind.Advice) _ _ (leaves look [] _ refl tt tt) (leaves look [] _ refl tt tt)
+
+less_count : (s : ReversalScope) (n : ℕ) → count_left s n ≤ n
+less_count ReversalScope.Full n = omega arith
+less_count (ReversalScope.Partial amount) n = omega arith
+
+posted_changes : (look : Lookup) (v : Reversal) (reply : ReplyBody) (writes : Writes) (s : SettlesPosted v look reply writes) (day : Option VelocityRow) → s.day ≡ day → ChangesCards look writes
+posted_changes look v reply writes s None e =
+    leaves look _ _ (s.writes ∙ ap (λ (d : Option VelocityRow). reversed_original v s.kept ∷ (day_put v s.kept d ++ refunded v s.kept s.paid ∷ [])) e)
+    (refl, ((leaves_two s.paid).0, tt)) (refl, ((leaves_two s.paid).1, tt))
+posted_changes look v reply writes s (Some day) e =
+    let all = s.writes ∙ ap (λ (d : Option VelocityRow). reversed_original v s.kept ∷ (day_put v s.kept d ++ refunded v s.kept s.paid ∷ [])) e in
+    let found = subst (IsDayFound v look s.kept) e s.day_found in
+    record {
+      cards = inl (subst (IsFresh 0) (sym all) (refl, (refl, ((leaves_two s.paid).0, tt))));
+      days = inr (record {
+        pan = s.kept.card;
+        day = day_of v.original.identity.stamp;
+        row = spent_less v s.kept day;
+        one = record { front = _ ∷ []; rest = _ ∷ []; all = all; fresh_front = (refl, tt); fresh_rest = ((leaves_two s.paid).1, tt) };
+        change = inr (record { before = day; stands = found.stands; count = less_count v.scope day.count; sum = omega arith });
+      });
+    }
+
+reversal_changes : (look : Lookup) (v : Reversal) → ChangesCards look (carried_out (reversal_plan v) look).writes
+reversal_changes look v =
+    elim (reversal_ways v look) [
+      | inl w ↦ leaves look [] _ w.writes tt tt
+      | inr w1 ↦ elim w1 [
+        | inl w ↦ leaves look _ _ w.writes (refl, tt) (refl, tt)
+        | inr w2 ↦ elim w2 [
+          | inl w ↦ leaves look [] _ w.writes tt tt
+          | inr w3 ↦ elim w3 [
+            | inl w ↦ leaves look _ _ w.writes (refl, tt) (refl, tt)
+            | inr s ↦ posted_changes look v _ _ s s.day refl
+          ]
+        ]
+      ]
+    ]
+
+changes : (look : Lookup) (frame : Frame) → ChangesCards look (decision look frame).writes
+unfolding decision
+changes look (Frame.Good (Message.Request r)) = request_changes look r _
+changes look (Frame.Good (Message.Advice a)) = advice_changes look a _
+changes look (Frame.Good (Message.Reversal v)) = reversal_changes look v
+changes look (Frame.Bad fault) = leaves look [] [] refl tt tt
+
+itself : (card : CardRow) → IsSameCard card card
+itself card = record { same = refl; rises = omega arith }
+
+one_more : (card : CardRow) → IsSameCard card (approved_card card)
+one_more card = record { same = refl; rises = omega arith }
+
+-- a card that is there, behind the rows that are written
+card_after : (rows : Rows) (ws : Writes) (pan : Pan) (card : CardRow) → IsCardAt rows pan card → IsFresh 0 ws ⊎ WritesCard (map.get rows) ws → (later : CardRow) × IsCardAt (overlay rows ws) pan later × IsSameCard card later
+card_after rows ws pan card at (inl fresh) = (card, ap card_in (get-fresh rows ws (RowKey.Card pan) fresh) ∙ at, itself card)
+card_after rows ws pan card at (inr w) =
+    elim (value_behind rows ws (RowKey.Card w.pan) (RowVal.Card (approved_card w.card)) (RowKey.Card pan) refl w.one) [
+      | inl own ↦
+          let there = ap (λ (q : RowKey). card_in (map.get rows q)) own.0 ∙ w.stands in
+          let same : card ≡ w.card = cc in
+          (approved_card w.card, ap card_in own.1, subst (λ (c : CardRow). IsSameCard c (approved_card w.card)) (sym same) (one_more w.card))
+      | inr other ↦ (card, ap card_in other ∙ at, itself card)
+    ]
+
+rises_on : (first second third : CardRow) → IsSameCard first second → IsSameCard second third → IsSameCard first third
+rises_on first second third a b = record {
+  same = b.same ∙ ap (λ (c : CardRow). record c { approvals = third.approvals }) a.same;
+  rises = omega (arith, a.rises, b.rises);
+}
+
+-- whatever comes, the card stays
+pub stays_card : (frames : List Frame) (rows : Rows) (pan : Pan) (card : CardRow) → StaysCard rows pan card frames
+stays_card [] rows pan card at = (card, at, itself card)
+stays_card (frame ∷ frames) rows pan card at =
+    let next = card_after rows (writes_of rows frame) pan card at (changes (map.get rows) frame).cards in
+    let last = stays_card frames (rows_after_one rows frame) pan next.0 next.1 in
+    (last.0, last.1, rises_on card next.0 last.0 next.2 last.2)
+
+-- a card that is there behind the rows that are written was there before
+card_before : (rows : Rows) (ws : Writes) (pan : Pan) (later : CardRow) → IsCardAt (overlay rows ws) pan later → IsFresh 0 ws ⊎ WritesCard (map.get rows) ws → (card : CardRow) × IsCardAt rows pan card × IsSameCard card later
+card_before rows ws pan later at (inl fresh) = (later, sym (ap card_in (get-fresh rows ws (RowKey.Card pan) fresh)) ∙ at, itself later)
+card_before rows ws pan later at (inr w) =
+    elim (value_behind rows ws (RowKey.Card w.pan) (RowVal.Card (approved_card w.card)) (RowKey.Card pan) refl w.one) [
+      | inl own ↦
+          let there = ap (λ (q : RowKey). card_in (map.get rows q)) own.0 ∙ w.stands in
+          let written = ap card_in own.1 in
+          let same : later ≡ approved_card w.card = cc in
+          (w.card, there, subst (IsSameCard w.card) (sym same) (one_more w.card))
+      | inr other ↦ (later, sym (ap card_in other) ∙ at, itself later)
+    ]
+
+-- limits that a card allows, its row behind an approval allows too
+allows : (card later : CardRow) (spent : VelocityRow) → IsSameCard card later → IsWithin card spent → IsWithin later spent
+allows card later spent s h = subst (λ (c : CardRow). IsWithin c spent) (sym s.same) (record { count = h.count; sum = h.sum })
+
+-- the day of a card behind the rows that are written
+day_after : (rows : Rows) (ws : Writes) (pan : Pan) (day : List ℕ) (card : CardRow) → IsCardAt rows pan card → IsWithin card (spent_on rows pan day) → IsFresh 1 ws ⊎ WritesDay (map.get rows) ws → IsWithin card (spent_on (overlay rows ws) pan day)
+day_after rows ws pan day card at h (inl fresh) =
+    subst (IsWithin card) (sym (ap (λ (o : Option RowVal). spent_in (velocity_in o)) (get-fresh rows ws (RowKey.Velocity pan day) fresh))) h
+day_after rows ws pan day card at h (inr w) =
+    elim (value_behind rows ws (RowKey.Velocity w.pan w.day) (RowVal.Velocity w.row) (RowKey.Velocity pan day) refl w.one) [
+      | inl own ↦ subst (IsWithin card) (sym (ap (λ (o : Option RowVal). spent_in (velocity_in o)) own.1)) (changed_within rows w pan day card own.0 at h w.change)
+      | inr other ↦ subst (IsWithin card) (sym (ap (λ (o : Option RowVal). spent_in (velocity_in o)) other)) h
+    ]
+  where
+  changed_within : (rows : Rows) (w : WritesDay (map.get rows) ws) (pan : Pan) (day : List ℕ) (card : CardRow) → RowKey.Velocity pan day ≡ RowKey.Velocity w.pan w.day → IsCardAt rows pan card → IsWithin card (spent_on rows pan day) → IsApprovedDay (map.get rows) w.pan w.row ⊎ IsLesserDay (map.get rows) w.pan w.day w.row → IsWithin card w.row
+  changed_within rows w pan day card own at h (inl approved) =
+      let one : pan ≡ w.pan = cc in
+      let there = ap (λ (p : Pan). card_in (map.get rows (RowKey.Card p))) one ∙ approved.stands in
+      let same : card ≡ approved.card = cc in
+      subst (λ (c : CardRow). IsWithin c w.row) (sym same) approved.within
+  changed_within rows w pan day card own at h (inr lesser) =
+      let there = ap (λ (q : RowKey). spent_in (velocity_in (map.get rows q))) own ∙ ap spent_in lesser.stands in
+      let before = subst (IsWithin card) there h in
+      record { count = omega (arith, before.count, lesser.count); sum = omega (arith, before.sum, lesser.sum) }
+
+within_after_one : (rows : Rows) (frame : Frame) → IsWithinLimits rows → IsWithinLimits (rows_after_one rows frame)
+within_after_one rows frame h pan day later at =
+    let c = changes (map.get rows) frame in
+    let was = card_before rows (writes_of rows frame) pan later at c.cards in
+    allows was.0 later _ was.2 (day_after rows (writes_of rows frame) pan day was.0 was.1 (h pan day was.0 was.1) c.days)
+
+-- no day passes its card's limits
+pub stays_within : (frames : List Frame) (rows : Rows) → IsWithinLimits rows → IsWithinLimits (rows_after rows frames)
+stays_within [] rows h = h
+stays_within (frame ∷ frames) rows h = stays_within frames (rows_after_one rows frame) (within_after_one rows frame h)
