@@ -2,13 +2,18 @@
 use Rattle.std.proofs.Common.{◌≡◌, ℕ, ◌+◌, ◌-◌, ◌≤◌, Bool, true, false, if◌then◌else◌, nat_lt, nat_le, not, ◌==◌, ◌&&◌, List, [], ◌∷◌, ◌++◌, Option, Some, None, IsTrue, ◌⊎◌, inl, inr, refl, sym, ap, ◌∙◌, subst, arith}
 use Rattle.std.proofs.lemmas.Bool.Decides.{nat_tests}
 use Rattle.std.specs.FinMap as map
+use Rattle.iso8583.proofs.NumberLaws.{number_of-fixed_digits}
+use Rattle.iso8583.specs.Number.{number_of, fixed_digits}
 use Rattle.iso8583.specs.declared.advice.Advice.{Advice}
+use Rattle.iso8583.specs.declared.answer.Answer.{Answer}
+use Rattle.iso8583.specs.declared.approval.Approval.{Approval}
 use Rattle.iso8583.specs.declared.message.Message.{Message}
 use Rattle.iso8583.specs.declared.original_kind.OriginalKind.{OriginalKind}
 use Rattle.iso8583.specs.declared.pan.Pan.{Pan}
 use Rattle.iso8583.specs.declared.request.Request.{Request}
 use Rattle.iso8583.specs.declared.reversal.Reversal.{Reversal}
 use Rattle.iso8583.specs.declared.reversal_scope.ReversalScope.{ReversalScope}
+use Rattle.iso8583.specs.declared.verdict.Verdict.{Verdict}
 use Rattle.issuer_rows.proofs.PutsOnce.{IsFresh}
 use Rattle.issuer_rows.specs.AdviceTable.{advice_on_original}
 use Rattle.issuer_rows.specs.Decision.{decision}
@@ -17,7 +22,7 @@ use Rattle.issuer_rows.specs.Fold.{Rows, overlay, writes_of, rows_after_one, row
 use Rattle.issuer_rows.specs.Funds.{key_of_funds}
 use Rattle.issuer_rows.specs.Kept.{KeptOriginal}
 use Rattle.issuer_rows.specs.Plan.{Plan, Lookup, Writes, carried_out}
-use Rattle.issuer_rows.specs.RequestTable.{on_original, refused_by_limits, approved_card, spent_more}
+use Rattle.issuer_rows.specs.RequestTable.{reply_to_request, on_original, refused_by_limits, approval_code, approved_card, spent_more}
 use Rattle.issuer_rows.specs.ReversalTable.{reversal_plan, reversed_original, refunded, count_left, spent_less}
 use Rattle.issuer_rows.specs.RowKey.{kind_of}
 use Rattle.issuer_rows.specs.Typed.{card_in, velocity_in, spent_in}
@@ -33,8 +38,11 @@ use Rattle.issuer_laws.proofs.AdviceWays as advice
 use Rattle.issuer_laws.proofs.Keys.{get-fresh}
 use Rattle.issuer_laws.proofs.RequestWays as request
 use Rattle.issuer_laws.proofs.ReversalWays.{SettlesPosted, IsDayFound, day_put, reversal_ways}
-use Rattle.issuer_laws.proofs.Written.{WritesOne, value_behind}
-use Rattle.issuer_laws.specs.Cards.{IsCardAt, IsSameCard, StaysCard, IsWithin, IsWithinLimits}
+use Rattle.issuer_laws.proofs.Repeated.{request_unseen}
+use Rattle.issuer_laws.proofs.Undone.{was_approved}
+use Rattle.issuer_laws.proofs.Written.{WritesOne, value_behind, value_there}
+use Rattle.issuer_laws.specs.Cards.{IsCardAt, IsSameCard, StaysCard, IsWithin, IsWithinLimits, LeavesDayWithin, IsApprovedWith, CodesDiffer}
+use Rattle.issuer_laws.specs.Messages.{request_frame, HasAction}
 use Rattle.issuer_laws.specs.Undone.{spent_on}
 
 -- what is written of cards: nothing, or that one that is there has one approval more
@@ -85,10 +93,11 @@ either look false p q x y = y
 abbrev refused_if : Bool → Bool → Bool → Option ℕ
 refused_if count sum approvals = if count then Some 123 else (if sum then Some 121 else (if approvals then Some 909 else None))
 
-none_over : (count sum approvals : Bool) → refused_if count sum approvals ≡ None → (count ≡ false) × (sum ≡ false)
+none_over : (count sum approvals : Bool) → refused_if count sum approvals ≡ None → (count ≡ false) × (sum ≡ false) × (approvals ≡ false)
 none_over true sum approvals e = absurd (cc)
 none_over false true approvals e = absurd (cc)
-none_over false false approvals e = (refl, refl)
+none_over false false true e = absurd (cc)
+none_over false false false e = (refl, refl, refl)
 
 not_over : (limit n : ℕ) → nat_lt limit n ≡ false → n ≤ limit
 not_over limit n e = grind (arith, nat_tests)
@@ -99,19 +108,33 @@ within_limits r card day e =
     let neither = none_over (nat_lt card.day_count (day.count + 1)) (nat_lt card.day_amount (day.sum + r.transaction.amount)) (nat_le 999999 card.approvals) e in
     record { count = not_over card.day_count (day.count + 1) neither.0; sum = not_over card.day_amount (day.sum + r.transaction.amount) neither.1 }
 
+-- the rows of an approved request's card and day
+approved_card_row : (look : Lookup) (r : Request) (reply : ReplyBody) (writes : Writes) (a : request.Approves r look reply writes) → WritesOne 0 writes (RowKey.Card r.transaction.pan) (RowVal.Card (approved_card a.card))
+approved_card_row look r reply writes a = record {
+  front = _ ∷ [];
+  rest = _ ∷ _ ∷ [];
+  all = a.writes;
+  fresh_front = (refl, tt);
+  fresh_rest = (refl, ((leaves_two a.paying).0, tt));
+}
+
+approved_day_row : (look : Lookup) (r : Request) (reply : ReplyBody) (writes : Writes) (a : request.Approves r look reply writes) → WritesOne 1 writes (RowKey.Velocity r.transaction.pan (day_of r.transaction.stamp)) (RowVal.Velocity (spent_more (request.spent_by r look) r.transaction.amount))
+approved_day_row look r reply writes a = record {
+  front = _ ∷ _ ∷ [];
+  rest = _ ∷ [];
+  all = a.writes;
+  fresh_front = (refl, (refl, tt));
+  fresh_rest = ((leaves_two a.paying).1, tt);
+}
+
 approved_changes : (look : Lookup) (r : Request) (reply : ReplyBody) (writes : Writes) → request.Approves r look reply writes → ChangesCards look writes
 approved_changes look r reply writes a = record {
-  cards = inr (record {
-    pan = r.transaction.pan;
-    card = a.card;
-    stands = a.stands;
-    one = record { front = _ ∷ []; rest = _ ∷ _ ∷ []; all = a.writes; fresh_front = (refl, tt); fresh_rest = (refl, ((leaves_two a.paying).0, tt)) };
-  });
+  cards = inr (record { pan = r.transaction.pan; card = a.card; stands = a.stands; one = approved_card_row look r reply writes a });
   days = inr (record {
     pan = r.transaction.pan;
     day = day_of r.transaction.stamp;
     row = spent_more (request.spent_by r look) r.transaction.amount;
-    one = record { front = _ ∷ _ ∷ []; rest = _ ∷ []; all = a.writes; fresh_front = (refl, (refl, tt)); fresh_rest = ((leaves_two a.paying).1, tt) };
+    one = approved_day_row look r reply writes a;
     change = inl (record { card = a.card; stands = a.stands; within = within_limits r a.card (request.spent_by r look) a.within });
   });
 }
@@ -263,3 +286,72 @@ within_after_one rows frame h pan day later at =
 pub stays_within : (frames : List Frame) (rows : Rows) → IsWithinLimits rows → IsWithinLimits (rows_after rows frames)
 stays_within [] rows h = h
 stays_within (frame ∷ frames) rows h = stays_within frames (rows_after_one rows frame) (within_after_one rows frame h)
+
+-- the rows that an approved request leaves of its card and its day
+pub leaves_day_within : (rows : Rows) (r : Request) → LeavesDayWithin rows r
+leaves_day_within rows r first =
+    let a = was_approved r (map.get rows) _ _ (request_unseen r (map.get rows) first.0) first.1 in
+    let spent = spent_more (request.spent_by r (map.get rows)) r.transaction.amount in
+    let card_there = value_there rows _ (RowKey.Card r.transaction.pan) (RowVal.Card (approved_card a.card)) (approved_card_row (map.get rows) r _ _ a) in
+    let day_there = value_there rows _ (RowKey.Velocity r.transaction.pan (day_of r.transaction.stamp)) (RowVal.Velocity spent) (approved_day_row (map.get rows) r _ _ a) in (
+      approved_card a.card,
+      ap card_in card_there,
+      subst (IsWithin (approved_card a.card)) (sym (ap (λ (o : Option RowVal). spent_in (velocity_in o)) day_there))
+      (allows a.card (approved_card a.card) spent (one_more a.card) (within_limits r a.card (request.spent_by r (map.get rows)) a.within)),
+    )
+
+-- the approval code of a reply, if it has one
+code_in_answer : Answer → Option Approval
+code_in_answer (Answer.Request (Verdict.Approved code) account) = Some code
+code_in_answer (Answer.Request (Verdict.Declined action) account) = None
+code_in_answer (Answer.Advice action account) = None
+code_in_answer (Answer.Reversal action) = None
+
+code_in : ReplyBody → Option Approval
+code_in (ReplyBody.Reply reply) = code_in_answer reply.answer
+code_in (ReplyBody.Fault fault) = None
+
+-- what an approval with a code says: the card's approvals, below their greatest, and one more of them as the code
+record HasApproved (rows : Rows) (r : Request) (code : Approval) : Type 0 where
+  card : CardRow
+  stands : IsCardAt rows r.transaction.pan card
+  after : IsCardAt (rows_after_one rows (request_frame r)) r.transaction.pan (approved_card card)
+  room : card.approvals + 1 ≤ 999999
+  code_is : code ≡ approval_code card
+
+below_greatest : (n : ℕ) → nat_le 999999 n ≡ false → n + 1 ≤ 999999
+below_greatest n e = grind (arith, nat_tests)
+
+same_code : (r : Request) (a b : Approval) (reply : ReplyBody) → reply ≡ reply_to_request r (Verdict.Approved a) → reply ≡ reply_to_request r (Verdict.Approved b) → a ≡ b
+unfolding code_in code_in_answer
+same_code r a b reply e f = let both : ◌≡◌ {A = Option Approval} (Some a) (Some b) = sym (ap code_in e) ∙ ap code_in f in cc
+
+has_approved : (rows : Rows) (r : Request) (code : Approval) → IsApprovedWith rows r code → HasApproved rows r code
+has_approved rows r code h =
+    let a = was_approved r (map.get rows) _ _ (request_unseen r (map.get rows) h.0) (subst (HasAction 0) (sym h.1) refl) in
+    record {
+      card = a.card;
+      stands = a.stands;
+      after = ap card_in (value_there rows _ (RowKey.Card r.transaction.pan) (RowVal.Card (approved_card a.card)) (approved_card_row (map.get rows) r _ _ a));
+      room = below_greatest a.card.approvals ((none_over _ _ (nat_le 999999 a.card.approvals) a.within).2);
+      code_is = same_code r code (approval_code a.card) _ h.1 a.reply;
+    }
+
+other_number : (m n : ℕ) → m + 1 ≤ n → n + 1 ≤ 999999 → fixed_digits 6 (m + 1) ≡ fixed_digits 6 (n + 1) → ⊥
+other_number m n more room e =
+    let first = number_of-fixed_digits 6 (m + 1) (omega arith) in
+    let second = number_of-fixed_digits 6 (n + 1) (omega arith) in
+    let same = ap number_of e in
+    omega (arith, first, second, same)
+
+-- codes of one card differ
+pub codes_differ : (rows : Rows) (first : Request) (between : List Frame) (second : Request) → CodesDiffer rows first between second
+codes_differ rows first between second card a b h k same =
+    let one = has_approved rows first a h in
+    let two = has_approved (rows_after (rows_after_one rows (request_frame first)) between) second b k in
+    let later = stays_card between (rows_after_one rows (request_frame first)) first.transaction.pan (approved_card one.card) one.after in
+    let there = ap (λ (p : Pan). card_in (map.get (rows_after (rows_after_one rows (request_frame first)) between) (RowKey.Card p))) card ∙ later.1 in
+    let stood = two.stands in
+    let row : two.card ≡ later.0 = cc in
+    let rises : one.card.approvals + 1 ≤ two.card.approvals = subst (λ (c : CardRow). one.card.approvals + 1 ≤ c.approvals) (sym row) later.2.rises in
+    other_number one.card.approvals two.card.approvals rises two.room (ap (λ (c : Approval). c.0) (sym one.code_is ∙ same ∙ two.code_is))

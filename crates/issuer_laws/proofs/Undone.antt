@@ -184,7 +184,7 @@ comes_after : (rows : Rows) (first ws : Writes) (v w : Reversal) (d : ReplyBody 
 comes_after rows first ws v w d e f h = ap (λ (x : Reversal). comes_to (reversal_plan x) (map.get (overlay rows first))) e ∙ ap (λ (x : Writes). comes_to (reversal_plan w) (map.get (overlay rows x))) f ∙ h
 
 -- a request that is answered 000 was approved
-was_approved : (r : Request) (look : Lookup) (reply : ReplyBody) (writes : Writes) → request.Declines r reply writes ⊎ request.Approves r look reply writes → HasAction 0 reply → request.Approves r look reply writes
+pub was_approved : (r : Request) (look : Lookup) (reply : ReplyBody) (writes : Writes) → request.Declines r reply writes ⊎ request.Approves r look reply writes → HasAction 0 reply → request.Approves r look reply writes
 was_approved r look reply writes (inl d) h = let e : d.action ≡ 0 = subst (HasAction 0) d.reply h in absurd (omega (arith, e, d.declined))
 was_approved r look reply writes (inr a) h = a
 

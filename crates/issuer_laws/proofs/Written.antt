@@ -37,3 +37,7 @@ value_behind rows ws k v q same h =
       | inl own ↦ inl (own, behind_front rows ws k v h q same ∙ ap (map.get (map.insert (overlay rows h.front) k v)) own ∙ get-put (overlay rows h.front) k v)
       | inr other ↦ inr (behind_front rows ws k v h q same ∙ get-other (overlay rows h.front) k v q other ∙ get-fresh rows h.front q (fresh_as (kind_of k) (kind_of q) h.front same h.fresh_front))
     ]
+
+-- the key under which it was written has the value that was written
+pub value_there : (rows : Rows) (ws : Writes) (k : RowKey) (v : RowVal) → WritesOne (kind_of k) ws k v → map.get (overlay rows ws) k ≡ Some v
+value_there rows ws k v h = behind_front rows ws k v h k refl ∙ get-put (overlay rows h.front) k v

@@ -5,7 +5,7 @@ use Rattle.iso8583.specs.declared.approval.Approval.{Approval}
 use Rattle.iso8583.specs.declared.pan.Pan.{Pan}
 use Rattle.iso8583.specs.declared.request.Request.{Request}
 use Rattle.iso8583.specs.declared.verdict.Verdict.{Verdict}
-use Rattle.issuer_rows.specs.Facts.{day_of}
+use Rattle.issuer_rows.specs.Facts.{day_of, identity_of}
 use Rattle.issuer_rows.specs.Fold.{Rows, reply_of, rows_after_one, rows_after}
 use Rattle.issuer_rows.specs.RequestTable.{reply_to_request}
 use Rattle.issuer_rows.specs.Typed.{card_in}
@@ -13,7 +13,7 @@ use Rattle.issuer_rows.specs.declared.card_row.CardRow.{CardRow}
 use Rattle.issuer_rows.specs.declared.frame.Frame.{Frame}
 use Rattle.issuer_rows.specs.declared.row_key.RowKey.{RowKey}
 use Rattle.issuer_rows.specs.declared.velocity_row.VelocityRow.{VelocityRow}
-use Rattle.issuer_laws.specs.Messages.{request_frame}
+use Rattle.issuer_laws.specs.Messages.{request_frame, IsUnseen}
 use Rattle.issuer_laws.specs.Undone.{spent_on, IsAnsweredFirst}
 
 -- the card of this number has this row
@@ -44,3 +44,17 @@ LeavesDayWithin rows r =
     IsAnsweredFirst rows r.transaction (request_frame r) 0
     → (card : CardRow) × IsCardAt (rows_after_one rows (request_frame r)) r.transaction.pan card
     × IsWithin card (spent_on (rows_after_one rows (request_frame r)) r.transaction.pan (day_of r.transaction.stamp))
+
+-- a request whose identity wasn't seen is approved with this code
+abbrev pub IsApprovedWith : Rows → Request → Approval → Type 0
+IsApprovedWith rows r code =
+    IsUnseen rows (identity_of r.transaction) × (reply_of rows (request_frame r) ≡ reply_to_request r (Verdict.Approved code))
+
+-- the approval codes of two requests of one card differ, whatever comes between them
+abbrev pub CodesDiffer : Rows → Request → List Frame → Request → Type 0
+CodesDiffer rows first between second =
+    second.transaction.pan ≡ first.transaction.pan
+    → (a b : Approval)
+    → IsApprovedWith rows first a
+    → IsApprovedWith (rows_after (rows_after_one rows (request_frame first)) between) second b
+    → a ≢ b

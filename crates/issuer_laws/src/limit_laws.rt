@@ -1,9 +1,10 @@
 ghost use Rattle.std.specs.Prelude.{List};
 ghost use Rattle.iso8583.specs.declared.pan.Pan.{Pan};
+ghost use Rattle.iso8583.specs.declared.request.Request.{Request};
 ghost use Rattle.issuer_rows.specs.Fold.{Rows, rows_after};
 ghost use Rattle.issuer_rows.specs.declared.card_row.CardRow.{CardRow};
 ghost use Rattle.issuer_rows.specs.declared.frame.Frame.{Frame};
-ghost use Rattle.issuer_laws.specs.Cards.{IsWithinLimits, StaysCard};
+ghost use Rattle.issuer_laws.specs.Cards.{CodesDiffer, IsWithinLimits, LeavesDayWithin, StaysCard};
 
 /// A card that is there stays, whatever comes: nothing of its row changes but its approvals, which never fall.
 pub fn a_card_stays()
@@ -11,6 +12,13 @@ pub fn a_card_stays()
 {}
 
 /// Where no more was spent on any day with any card that is there than the card allows, so it is after any batch.
+/// A request whose identity wasn't seen and that is answered 000 leaves its own day within them, whatever was before.
 pub fn no_day_passes_its_limits()
-    ensures { (rows : Rows) (frames : List Frame) → IsWithinLimits rows → IsWithinLimits (rows_after rows frames) }
+    ensures batch { (rows : Rows) (frames : List Frame) → IsWithinLimits rows → IsWithinLimits (rows_after rows frames) }
+    ensures approval { (rows : Rows) (r : Request) → LeavesDayWithin rows r }
+{}
+
+/// Two requests of one card that are approved, each the first of its identity: their approval codes differ, whatever came between.
+pub fn approval_codes_of_a_card_differ()
+    ensures { (rows : Rows) (first second : Request) (between : List Frame) → CodesDiffer rows first between second }
 {}
