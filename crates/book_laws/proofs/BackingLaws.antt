@@ -54,7 +54,7 @@ at_key P q v (row ∷ es) h e =
     ] refl e
 
 -- what holds of each row holds of a key that has a value
-found_in : (P : RowKey → RowVal → Type 0) (rows : Rows) (q : RowKey) (v : RowVal) → AllByRecursion (λ row. P row.0 row.1) (map.entries rows) → map.get rows q ≡ Some v → P q v
+pub found_in : (P : RowKey → RowVal → Type 0) (rows : Rows) (q : RowKey) (v : RowVal) → AllByRecursion (λ row. P row.0 row.1) (map.entries rows) → map.get rows q ≡ Some v → P q v
 found_in P rows q v h e = at_key P q v (map.entries rows) h (sym (map.get-entries rows q) ∙ e)
 
 -- an account without a row is no payer, where the payers' accounts have rows

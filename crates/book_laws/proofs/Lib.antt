@@ -1,4 +1,4 @@
-mod BackingLaws
+pub mod BackingLaws
 pub mod BookAgain
 pub mod Characters
 pub mod ListLemmas

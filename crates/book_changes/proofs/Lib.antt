@@ -2,3 +2,4 @@ pub mod Migrating
 pub mod OldOriginals
 pub mod Puts
 pub mod Shapes
+pub mod Sound

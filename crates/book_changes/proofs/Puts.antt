@@ -28,7 +28,7 @@ use Rattle.book_laws.specs.declared.row_list.RowList.TheVariants.{Cards}
 use Rattle.book_laws.specs.declared.text_fault.TextFault.{TextFault}
 use Rattle.book_laws.specs.declared.text_fault.TextFault.TheVariants.{Shape}
 use Rattle.book_laws.specs.Parts.{list_part}
-use Rattle.book_migration.specs.Migration.{with_read, read_all, available_of, all_available}
+use Rattle.book_changes.specs.Migration.{with_read, read_all, available_of, all_available}
 
 abbrev pub Row : Type 0
 Row = RowKey × RowVal

@@ -20,7 +20,7 @@ use Rattle.book_laws.specs.Originals.{settlement_of, payment_by, payment_of, pos
 use Rattle.book_laws.specs.declared.original_entry.OriginalEntry.{OriginalEntry}
 use Rattle.book_laws.specs.declared.paid.Paid.{Paid}
 use Rattle.book_laws.specs.declared.paid.Paid.TheVariants as paid
-use Rattle.book_migration.specs.Migration.{is_card}
+use Rattle.book_changes.specs.Migration.{is_card}
 
 numbers : (m n : ℕ) → Decides (m == n) (m ≡ n)
 numbers m n = search rules

@@ -23,9 +23,9 @@ use Rattle.book_laws.specs.declared.original_entry.OriginalEntry.{OriginalEntry}
 use Rattle.book_laws.specs.declared.part.Part.TheVariants as part
 use Rattle.book_laws.specs.declared.text_fault.TextFault.{TextFault}
 use Rattle.book_laws.specs.declared.text_fault.TextFault.TheVariants.{Range}
-use Rattle.book_migration.specs.Migration.{stay_from, with_read, read_all}
-use Rattle.book_migration.proofs.OldOriginals.{kept_stays}
-use Rattle.book_migration.proofs.Puts.{Row, IsPlain, total, bound, same_ok}
+use Rattle.book_changes.specs.Migration.{stay_from, with_read, read_all}
+use Rattle.book_changes.proofs.OldOriginals.{kept_stays}
+use Rattle.book_changes.proofs.Puts.{Row, IsPlain, total, bound, same_ok}
 
 -- what was read, if it was, is so
 abbrev pub Each : {A : Type 0} → (A → Type 0) → Result A TextFault → Type 0

@@ -27,9 +27,9 @@ use Rattle.book_laws.specs.declared.row_list.RowList.{RowList}
 use Rattle.book_laws.specs.declared.row_list.RowList.TheVariants.{Cards, Days, Budgets, Originals, Ahead, Accounts}
 use Rattle.book_laws.specs.declared.text_fault.TextFault.{TextFault}
 use Rattle.book_laws.specs.declared.text_fault.TextFault.TheVariants.{Shape}
-use Rattle.book_migration.specs.Migration.{entries_in, cards_in, originals_in, stay_from, card_backing, available_of, all_available, IsMigrated, KeepsAvailable, KeepsBackings}
-use Rattle.book_migration.proofs.Puts.{Row, Plainly, IsPlainList, plain_list, HasOwn, cards_list, bound, same_ok}
-use Rattle.book_migration.proofs.Shapes.{each_ok, IsAside, day_aside, budget_aside, mark_aside, stay_read, original_row, stays_total, nothing_total}
+use Rattle.book_changes.specs.Migration.{entries_in, cards_in, originals_in, stay_from, card_backing, available_of, all_available, IsMigrated, KeepsAvailable, KeepsBackings}
+use Rattle.book_changes.proofs.Puts.{Row, Plainly, IsPlainList, plain_list, HasOwn, cards_list, bound, same_ok}
+use Rattle.book_changes.proofs.Shapes.{each_ok, IsAside, day_aside, budget_aside, mark_aside, stay_read, original_row, stays_total, nothing_total}
 
 -- ---- one list
 

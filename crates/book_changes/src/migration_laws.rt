@@ -1,7 +1,7 @@
 ghost use Rattle.issuer_rows.specs.Fold.{Rows};
 ghost use Rattle.serde_json.specs.Data.{Data};
 ghost use Rattle.book_laws.specs.declared.book_version.BookVersion.{BookVersion};
-ghost use Rattle.book_migration.specs.Migration.{KeepsAvailable, KeepsBackings};
+ghost use Rattle.book_changes.specs.Migration.{KeepsAvailable, KeepsBackings};
 
 /// What is available of all accounts of a book that is read from version 1 or 2 is what was available of all cards.
 pub fn migration_keeps_what_is_available()

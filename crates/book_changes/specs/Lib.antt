@@ -1,1 +1,2 @@
 pub mod Migration
+pub mod Runs
