@@ -1,5 +1,5 @@
 -- What becomes of an advice whose identity wasn't seen: it is acknowledged without liability, or accepted and paid.
-use Rattle.std.proofs.Common.{◌≡◌, Bool, true, false, if◌then◌else◌, ◌==◌, [], ◌∷◌, Option, Some, None, ◌⊎◌, inl, inr, refl}
+use Rattle.std.proofs.Common.{◌≡◌, Bool, true, false, if◌then◌else◌, ◌==◌, [], ◌∷◌, Option, Some, None, ◌⊎◌, inl, inr, refl, sym, subst}
 use Rattle.iso8583.specs.declared.account_id.AccountId.{AccountId}
 use Rattle.iso8583.specs.declared.advice.Advice.{Advice}
 use Rattle.issuer_rows.specs.AdviceTable.{accepted_writes, reply_to_advice, kept_of_advice, acknowledged, advice_funds, advice_on_funds, advice_on_account, advice_on_named, advice_on_card, fresh_advice}
@@ -13,7 +13,8 @@ use Rattle.issuer_rows.specs.declared.funds.Funds.{Funds}
 use Rattle.issuer_rows.specs.declared.original_outcome.OriginalOutcome.TheVariants as outcome
 use Rattle.issuer_rows.specs.declared.reply_body.ReplyBody.{ReplyBody}
 use Rattle.issuer_rows.specs.declared.row_key.RowKey.TheVariants as key
-use Rattle.issuer_laws.proofs.Funding.{CanPay, IsCover, advice_cover}
+use Rattle.issuer_laws.proofs.Funding.{CanPay, IsCover, advice_cover, account_own}
+use Rattle.issuer_laws.specs.Parts.{IsIn, account_keys}
 
 -- 900, which is kept
 pub record Acknowledges (a : Advice) (reply_is : ReplyBody) (writes_are : Writes) : Type 0 where
@@ -42,21 +43,22 @@ ways_on_funds : (a : Advice) (look : Lookup) (found : Option Funds) → IsCover 
 ways_on_funds a look None h = acknowledging a look
 ways_on_funds a look (Some paying) pays = inr (record { paying = paying; pays = pays; reply = refl; writes = refl })
 
-ways_on_account : (a : Advice) (look : Lookup) (id : AccountId) (account : Option AccountRow) → account_in (look (key.Account id)) ≡ account → IsTakenFresh a look (carried_out (advice_on_account a id account) look)
-ways_on_account a look id None e = acknowledging a look
-ways_on_account a look id (Some account) e =
+ways_on_account : (a : Advice) (look : Lookup) (id : AccountId) (account : Option AccountRow) → IsIn (key.Account id) (account_keys (card_in (look (key.Card a.transaction.pan)))) → account_in (look (key.Account id)) ≡ account → IsTakenFresh a look (carried_out (advice_on_account a id account) look)
+ways_on_account a look id None own e = acknowledging a look
+ways_on_account a look id (Some account) own e =
     either_way a look (is_same_currency a.transaction.currency account.currency) _ (acknowledged a)
-    (ways_on_funds a look (advice_funds a.transaction id account (budget_in (look _))) (advice_cover look a.transaction id account _ e refl))
+    (ways_on_funds a look (advice_funds a.transaction id account (budget_in (look _))) (advice_cover look a.transaction id account _ own e refl))
     (acknowledging a look)
 
-ways_on_named : (a : Advice) (look : Lookup) (named : Option AccountId) → IsTakenFresh a look (carried_out (advice_on_named a named) look)
-ways_on_named a look None = acknowledging a look
-ways_on_named a look (Some id) = ways_on_account a look id (account_in (look (key.Account id))) refl
+ways_on_named : (a : Advice) (look : Lookup) (card : CardRow) (named : Option AccountId) → card_in (look (key.Card a.transaction.pan)) ≡ Some card → account_of card.accounts a.account ≡ named → IsTakenFresh a look (carried_out (advice_on_named a named) look)
+ways_on_named a look card None stands e = acknowledging a look
+ways_on_named a look card (Some id) stands e =
+    ways_on_account a look id (account_in (look (key.Account id))) (subst (λ (c : Option CardRow). IsIn (key.Account id) (account_keys c)) (sym stands) (account_own card a.account id e)) refl
 
-ways_on_card : (a : Advice) (look : Lookup) (card : Option CardRow) → IsTakenFresh a look (carried_out (advice_on_card a card) look)
-ways_on_card a look None = acknowledging a look
-ways_on_card a look (Some card) = ways_on_named a look (account_of card.accounts a.account)
+ways_on_card : (a : Advice) (look : Lookup) (card : Option CardRow) → card_in (look (key.Card a.transaction.pan)) ≡ card → IsTakenFresh a look (carried_out (advice_on_card a card) look)
+ways_on_card a look None e = acknowledging a look
+ways_on_card a look (Some card) e = ways_on_named a look card (account_of card.accounts a.account) e refl
 
 -- what becomes of such an advice
 pub fresh_ways : (a : Advice) (look : Lookup) → IsTakenFresh a look (carried_out (fresh_advice a) look)
-fresh_ways a look = either_way a look (a.action == 0) _ (acknowledged a) (ways_on_card a look (card_in (look _))) (acknowledging a look)
+fresh_ways a look = either_way a look (a.action == 0) _ (acknowledged a) (ways_on_card a look (card_in (look _)) refl) (acknowledging a look)

@@ -1,5 +1,5 @@
 -- What becomes of a request whose identity wasn't seen: it is declined and kept, or it is approved and paid.
-use Rattle.std.proofs.Common.{◌≡◌, ℕ, ◌<◌, Bool, true, false, if◌then◌else◌, nat_lt, nat_le, ◌==◌, ◌+◌, [], ◌∷◌, Option, Some, None, Result, Ok, Err, ◌⊎◌, inl, inr, refl, arith}
+use Rattle.std.proofs.Common.{◌≡◌, ℕ, ◌<◌, Bool, true, false, if◌then◌else◌, nat_lt, nat_le, ◌==◌, ◌+◌, [], ◌∷◌, Option, Some, None, Result, Ok, Err, ◌⊎◌, inl, inr, refl, sym, ap, ◌∙◌, subst, arith}
 use Rattle.iso8583.specs.Luhn.{passes_luhn}
 use Rattle.iso8583.specs.Number.{number_of}
 use Rattle.iso8583.specs.declared.account_id.AccountId.{AccountId}
@@ -19,7 +19,8 @@ use Rattle.issuer_rows.specs.declared.original_outcome.OriginalOutcome.TheVarian
 use Rattle.issuer_rows.specs.declared.reply_body.ReplyBody.{ReplyBody}
 use Rattle.issuer_rows.specs.declared.row_key.RowKey.TheVariants as key
 use Rattle.issuer_rows.specs.declared.velocity_row.VelocityRow.{VelocityRow}
-use Rattle.issuer_laws.proofs.Funding.{CanPay, IsSource, request_source}
+use Rattle.issuer_laws.proofs.Funding.{CanPay, IsSource, request_source, account_own}
+use Rattle.issuer_laws.specs.Parts.{IsIn, account_keys}
 
 -- another action than 000, which is kept
 pub record Declines (r : Request) (reply_is : ReplyBody) (writes_are : Writes) : Type 0 where
@@ -106,21 +107,41 @@ either_way : (r : Request) (look : Lookup) (b : Bool) (p q : Plan) → IsDecided
 either_way r look true p q h k = h
 either_way r look false p q h k = k
 
-ways_on_account : (r : Request) (look : Lookup) (card : CardRow) (id : AccountId) (account : Option AccountRow) → card_in (look (key.Card r.transaction.pan)) ≡ Some card → account_in (look (key.Account id)) ≡ account → IsDecidedFresh r look (carried_out (on_account r card id account) look)
-ways_on_account r look card id None stands e = declining r look 909 (omega arith)
-ways_on_account r look card id (Some account) stands e =
+ways_on_account : (r : Request) (look : Lookup) (card : CardRow) (id : AccountId) (account : Option AccountRow) → card_in (look (key.Card r.transaction.pan)) ≡ Some card → IsIn (key.Account id) (account_keys (Some card)) → account_in (look (key.Account id)) ≡ account → IsDecidedFresh r look (carried_out (on_account r card id account) look)
+ways_on_account r look card id None stands own e = declining r look 909 (omega arith)
+ways_on_account r look card id (Some account) stands own e =
     either_way r look (is_same_currency r.transaction.currency account.currency) _ (declined_request r 100)
     (unless r look (refused_by_limits r card (spent_by r look)) _ (limits_refusal r card _)
-    (λ within. ways_on_funds r look card (request_funds r.transaction id account (budget_in (look _))) stands within (request_source look r.transaction id account _ e refl)))
+    (λ within. ways_on_funds r look card (request_funds r.transaction id account (budget_in (look _))) stands within
+    (request_source look r.transaction id account _ (subst (λ (c : Option CardRow). IsIn (key.Account id) (account_keys c)) (sym stands) own) e refl)))
     (declining r look 100 (omega arith))
 
-ways_on_usable : (r : Request) (look : Lookup) (card : CardRow) (usable : Result AccountId ℕ) → card_in (look (key.Card r.transaction.pan)) ≡ Some card → IsUsable usable → IsDecidedFresh r look (carried_out (on_usable r card usable) look)
-ways_on_usable r look card (Ok id) stands h = ways_on_account r look card id (account_in (look (key.Account id))) stands refl
-ways_on_usable r look card (Err action) stands positive = declining r look action positive
+-- an account that the card lets pay is one of its two
+not_an_account : (action : ℕ) (id : AccountId) → ◌≡◌ {A = Result AccountId ℕ} (Err action) (Ok id) → ⊥
+not_an_account action id e = absurd (cc)
+
+permitted_own : (card : CardRow) (named : Option AccountId) (found : Option AccountId) (id : AccountId) → account_of card.accounts named ≡ found → or_not_permitted found ≡ Ok id → IsIn (key.Account id) (account_keys (Some card))
+permitted_own card named (Some own) id e f = let same : own ≡ id = cc in account_own card named id (e ∙ ap (λ (a : AccountId). Some a) same)
+permitted_own card named None id e f = absurd (not_an_account 119 id f)
+
+by_expiry_own : (r : Request) (card : CardRow) (id : AccountId) (expired : Bool) → (if expired then Err 101 else or_not_permitted (account_of card.accounts r.account)) ≡ Ok id → IsIn (key.Account id) (account_keys (Some card))
+by_expiry_own r card id true e = absurd (not_an_account 101 id e)
+by_expiry_own r card id false e = permitted_own card r.account _ id refl e
+
+by_status_own : (r : Request) (card : CardRow) (id : AccountId) (refused : Option ℕ) → unless_status refused (if nat_lt (number_of card.expiry) (number_of (month_of r.transaction.stamp)) then Err 101 else or_not_permitted (account_of card.accounts r.account)) ≡ Ok id → IsIn (key.Account id) (account_keys (Some card))
+by_status_own r card id (Some action) e = absurd (not_an_account action id e)
+by_status_own r card id None e = by_expiry_own r card id (nat_lt (number_of card.expiry) (number_of (month_of r.transaction.stamp))) e
+
+pub usable_own : (r : Request) (card : CardRow) (id : AccountId) → usable_account r card ≡ Ok id → IsIn (key.Account id) (account_keys (Some card))
+usable_own r card id e = by_status_own r card id (refused_by_status card.status) e
+
+ways_on_usable : (r : Request) (look : Lookup) (card : CardRow) (usable : Result AccountId ℕ) → card_in (look (key.Card r.transaction.pan)) ≡ Some card → usable_account r card ≡ usable → IsUsable usable → IsDecidedFresh r look (carried_out (on_usable r card usable) look)
+ways_on_usable r look card (Ok id) stands e h = ways_on_account r look card id (account_in (look (key.Account id))) stands (usable_own r card id e) refl
+ways_on_usable r look card (Err action) stands e positive = declining r look action positive
 
 ways_on_card : (r : Request) (look : Lookup) (card : Option CardRow) → card_in (look (key.Card r.transaction.pan)) ≡ card → IsDecidedFresh r look (carried_out (on_card r card) look)
 ways_on_card r look None e = declining r look 118 (omega arith)
-ways_on_card r look (Some card) e = ways_on_usable r look card (usable_account r card) e (card_usable r card)
+ways_on_card r look (Some card) e = ways_on_usable r look card (usable_account r card) e refl (card_usable r card)
 
 -- what becomes of such a request
 pub fresh_ways : (r : Request) (look : Lookup) → IsDecidedFresh r look (carried_out (fresh_request r) look)

@@ -3,6 +3,7 @@ pub mod Conserved
 pub mod Duplicate
 pub mod Echoed
 pub mod Messages
+pub mod Parts
 pub mod Permanent
 pub mod Repeated
 pub mod Undone
