@@ -7,6 +7,8 @@ pub mod Duplicate
 pub mod Echoed
 pub mod Funding
 pub mod Keys
+pub mod Needed
+pub mod Parts
 pub mod Permanent
 pub mod Repeated
 pub mod RequestWays

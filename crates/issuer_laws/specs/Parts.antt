@@ -1,14 +1,16 @@
 -- Messages that share no row, and parts of a batch that are decided apart.
 use Rattle.std.specs.Prelude.{◌≡◌, ◌≢◌, ◌⊎◌, ℕ, ◌==◌, List, [], ◌∷◌, ◌++◌, map, zip, Option, Some, None, if◌then◌else◌}
 use Rattle.std.specs.FinMap as map
+use Rattle.std.specs.List.{AllByRecursion}
 use Rattle.iso8583.specs.declared.account_id.AccountId.{AccountId}
 use Rattle.iso8583.specs.declared.identity.Identity.{Identity}
 use Rattle.iso8583.specs.declared.message.Message.{Message}
 use Rattle.iso8583.specs.declared.pan.Pan.{Pan}
+use Rattle.iso8583.specs.declared.pan_prefix.PanPrefix.{PanPrefix}
 use Rattle.iso8583.specs.declared.transaction.Transaction.{Transaction}
-use Rattle.issuer_rows.specs.CardAccounts.{AccountsOfCard}
+use Rattle.issuer_rows.specs.Decision.{decision}
 use Rattle.issuer_rows.specs.Facts.{identity_of, day_of, prefix_of}
-use Rattle.issuer_rows.specs.Fold.{Rows, replies_to, rows_after}
+use Rattle.issuer_rows.specs.Fold.{Rows, replies_to, writes_of, rows_after}
 use Rattle.issuer_rows.specs.Kept.{payment_of_outcome}
 use Rattle.issuer_rows.specs.Typed.{card_in, original_in}
 use Rattle.issuer_rows.specs.declared.card_row.CardRow.{CardRow}
@@ -87,6 +89,21 @@ may_need rows (Frame.Good (Message.Reversal v)) =
     RowKey.Original v.original.identity ∷ RowKey.Velocity v.transaction.pan (day_of v.original.identity.stamp)
     ∷ payer_at rows v.original.identity ++ funds_at rows v.transaction.pan
 may_need rows (Frame.Bad fault) = []
+
+-- ---- one message
+
+-- the budget of a prefix that has none in the opening book, and never gets one
+abbrev pub IsNoBudget : Rows → RowKey → Type 0
+IsNoBudget opening k = (prefix : PanPrefix) × (k ≡ RowKey.Budget prefix) × (map.get opening k ≡ None)
+
+-- a row that the message may need, or no budget
+abbrev pub MayLook : Rows → Frame → RowKey → Type 0
+MayLook opening frame k = IsIn k (may_need opening frame) ⊎ IsNoBudget opening k
+
+-- behind these bodies a message looks at no row but those that it may need by the opening book, and writes none but these
+pub record NeedsNoOther (opening : Rows) (before : List Frame) (frame : Frame) : Type 0 where
+  pub looks : AllByRecursion (MayLook opening frame) (decision (map.get (rows_after opening before)) frame).needs
+  pub writes : AllByRecursion (λ w. IsIn w.0 (may_need opening frame)) (writes_of (rows_after opening before) frame)
 
 -- ---- parts
 
