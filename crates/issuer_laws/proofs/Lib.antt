@@ -11,6 +11,7 @@ pub mod Needed
 pub mod Parts
 pub mod Permanent
 pub mod Repeated
+pub mod RequestRules
 pub mod RequestWays
 pub mod ReversalWays
 pub mod Reversing

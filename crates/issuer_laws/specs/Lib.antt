@@ -6,4 +6,5 @@ pub mod Messages
 pub mod Parts
 pub mod Permanent
 pub mod Repeated
+pub mod Rules
 pub mod Undone

@@ -6,6 +6,7 @@ mod limit_laws;
 mod money_laws;
 mod part_laws;
 mod repeat_laws;
+mod rule;
 
 pub use limit_laws::{a_card_stays, approval_codes_of_a_card_differ, no_day_passes_its_limits};
 pub use money_laws::{a_full_reversal_undoes_its_original, every_decision_keeps_backing};
@@ -14,3 +15,4 @@ pub use repeat_laws::{
     a_repeat_is_answered_alike, a_second_reversal_is_a_duplicate, an_original_is_kept_for_good,
     each_reply_repeats_its_message,
 };
+pub use rule::Rule;
