@@ -1,3 +1,4 @@
+pub mod AdviceRules
 pub mod AdviceWays
 pub mod Backings
 pub mod Balanced
@@ -13,6 +14,7 @@ pub mod Permanent
 pub mod Repeated
 pub mod RequestRules
 pub mod RequestWays
+pub mod ReversalRules
 pub mod ReversalWays
 pub mod Reversing
 pub mod Sums

@@ -1,34 +1,44 @@
 -- The decision tables as flat lists of conditions, in the order in which they are asked. The first that holds names the rule, and the
 -- rule says what is answered and written.
-use Rattle.std.specs.Prelude.{◌≡◌, ℕ, ◌+◌, Bool, true, false, ◌&&◌, ◌||◌, ◌==◌, not, nat_lt, nat_le, List, [], ◌∷◌, Option, Some, None, is_some, is_none, option_and_then, if◌then◌else◌}
+use Rattle.std.specs.Prelude.{◌≡◌, ℕ, ◌+◌, Bool, true, false, ◌&&◌, ◌||◌, ◌==◌, not, nat_lt, nat_le, List, [], ◌∷◌, Option, Some, None, is_some, is_none, option_and_then, option_map, if◌then◌else◌}
 use Rattle.std.specs.FinMap as map
 use Rattle.iso8583.specs.Luhn.{passes_luhn}
 use Rattle.iso8583.specs.Number.{number_of}
 use Rattle.iso8583.specs.declared.account_id.AccountId.{AccountId}
 use Rattle.iso8583.specs.declared.advice.Advice.{Advice}
+use Rattle.iso8583.specs.declared.identity.Identity.{Identity}
+use Rattle.iso8583.specs.declared.message.Message.{Message}
 use Rattle.iso8583.specs.declared.original_kind.OriginalKind.{OriginalKind}
+use Rattle.iso8583.specs.declared.pan.Pan.{Pan}
 use Rattle.iso8583.specs.declared.request.Request.{Request}
+use Rattle.iso8583.specs.declared.reversal.Reversal.{Reversal}
 use Rattle.iso8583.specs.declared.transaction.Transaction.{Transaction}
 use Rattle.issuer_rows.specs.AdviceTable.{acknowledged, answered_unkept, marked_advice, accepted}
 use Rattle.issuer_rows.specs.CardAccounts.{account_of}
-use Rattle.issuer_rows.specs.Facts.{identity_of, day_of, month_of, prefix_of, is_same_currency, is_marked, is_of_same}
+use Rattle.issuer_rows.specs.Facts.{identity_of, day_of, month_of, prefix_of, is_same_currency, is_same_identity, is_same_kind, is_marked, is_of_same}
 use Rattle.issuer_rows.specs.Fold.{Rows, reply_of, writes_of}
-use Rattle.issuer_rows.specs.Kept.{KeptOriginal, action_of_outcome}
+use Rattle.issuer_rows.specs.Funds.{balance_of}
+use Rattle.issuer_rows.specs.Kept.{KeptOriginal, kind_of_outcome, action_of_outcome, payment_of_outcome, reversal_of_outcome, settled}
 use Rattle.issuer_rows.specs.Plan.{Plan, Lookup, Writes, Answer, carried_out}
 use Rattle.issuer_rows.specs.RequestTable.{reply_to_request, kept_verdict, declined_unkept, declined_request, marked_request, is_unpermitted, approved}
+use Rattle.issuer_rows.specs.ReversalTable.{reply_to_reversal, unchanged, original_put, marked_ahead, is_wrong_part, given_back, greatest_balance, takes_approval, day_key, advice_back, request_back, is_named}
 use Rattle.issuer_rows.specs.Typed.{card_in, velocity_in, budget_in, original_in, account_in, spent_in}
 use Rattle.issuer_rows.specs.declared.account_row.AccountRow.{AccountRow}
 use Rattle.issuer_rows.specs.declared.budget_mode.BudgetMode.{BudgetMode}
 use Rattle.issuer_rows.specs.declared.budget_row.BudgetRow.{BudgetRow}
 use Rattle.issuer_rows.specs.declared.card_row.CardRow.{CardRow}
 use Rattle.issuer_rows.specs.declared.card_status.CardStatus.{CardStatus}
+use Rattle.issuer_rows.specs.declared.frame.Frame.{Frame}
 use Rattle.issuer_rows.specs.declared.funds.Funds.{Funds}
 use Rattle.issuer_rows.specs.declared.mark.Mark.{Mark}
 use Rattle.issuer_rows.specs.declared.original_row.OriginalRow.{OriginalRow}
+use Rattle.issuer_rows.specs.declared.payer.Payer.{Payer}
+use Rattle.issuer_rows.specs.declared.payment.Payment.{Payment}
 use Rattle.issuer_rows.specs.declared.row_key.RowKey.{RowKey}
+use Rattle.issuer_rows.specs.declared.row_val.RowVal.{RowVal}
 use Rattle.issuer_rows.specs.declared.velocity_row.VelocityRow.{VelocityRow}
 use Rattle.issuer_rows.specs.declared.reply_body.ReplyBody.{ReplyBody}
-use Rattle.issuer_laws.specs.Messages.{request_frame, advice_frame}
+use Rattle.issuer_laws.specs.Messages.{request_frame, advice_frame, reversal_frame}
 use Rattle.issuer_laws.specs.declared.rule.Rule.{Rule}
 
 -- reply and rows that a plan comes to
@@ -185,23 +195,170 @@ RequestEnds r f Rule.BudgetPays end =
 RequestEnds r f Rule.NotSufficientFunds end = end ≡ declined_request r 116
 RequestEnds r f Rule.AccountPays end =
     (id : AccountId) × (account : AccountRow) × (f.named ≡ Some id) × (f.account ≡ Some account) × IsPaidRequest r f (Funds.Account id account) end
-RequestEnds r f Rule.NoMessage end = ⊥
-RequestEnds r f Rule.NotApproved end = ⊥
-RequestEnds r f Rule.NoOriginal end = ⊥
-RequestEnds r f Rule.MarkedBefore end = ⊥
-RequestEnds r f Rule.OtherOriginal end = ⊥
-RequestEnds r f Rule.ReversalRepeat end = ⊥
-RequestEnds r f Rule.ReversedBefore end = ⊥
-RequestEnds r f Rule.NotPosted end = ⊥
-RequestEnds r f Rule.WrongPart end = ⊥
-RequestEnds r f Rule.NoPayer end = ⊥
-RequestEnds r f Rule.NoDay end = ⊥
-RequestEnds r f Rule.BalanceTooGreat end = ⊥
-RequestEnds r f Rule.DayTooShort end = ⊥
-RequestEnds r f Rule.GivenBack end = ⊥
+RequestEnds r f _ end = ⊥
 
 -- a request is decided by its rule
 abbrev pub RequestIsDecided : Rows → Request → Type 0
 RequestIsDecided rows r =
     let f = facts_of rows r.transaction r.account in
     (end : Plan) × RequestEnds r f (request_rule r f) end × ((reply_of rows (request_frame r), writes_of rows (request_frame r)) ≡ comes_to end (map.get rows))
+
+-- ---- advices, 1120 and 1121
+
+-- the amount is within the budget's cap and what is left of it
+abbrev pub covers : ℕ → BudgetRow → Bool
+covers amount budget = nat_le amount budget.cap && nat_le amount budget.left
+
+abbrev pub advice_conditions : Advice → Facts → Conditions
+advice_conditions a f =
+    (Rule.ReversedAhead, has (is_own_mark a.transaction OriginalKind.Advice) f.seen)
+    ∷ (Rule.MarkOfAnother, has is_mark f.seen)
+    ∷ (Rule.Repeat, has (is_same_kept a.transaction OriginalKind.Advice) f.seen && a.repeat)
+    ∷ (Rule.Duplicate, is_some f.seen)
+    ∷ (Rule.NotApproved, not (a.action == 0))
+    ∷ (Rule.NoCard, is_none f.card)
+    ∷ (Rule.NotOfCard, is_none f.named)
+    ∷ (Rule.NoAccount, is_none f.account)
+    ∷ (Rule.OtherCurrency, has (λ (acc : AccountRow). not (is_same_currency a.transaction.currency acc.currency)) f.account)
+    ∷ (Rule.BudgetPays, has (λ (b : BudgetRow). stands_in b.mode && covers a.transaction.amount b) f.budget)
+    ∷ (Rule.AccountPays, has (λ (acc : AccountRow). nat_le a.transaction.amount acc.available) f.account)
+    ∷ []
+
+-- the rule of an advice: where none of these holds, less is available than the amount
+abbrev pub advice_rule : Advice → Facts → Rule
+advice_rule a f = first_of (advice_conditions a f) Rule.NotSufficientFunds
+
+-- what an advice is answered, and what is written, by each rule
+abbrev pub AdviceEnds : Advice → Facts → Rule → Plan → Type 0
+AdviceEnds a f Rule.ReversedAhead end = (mark : Mark) × (f.seen ≡ Some (OriginalRow.Ahead mark)) × (end ≡ marked_advice a mark)
+AdviceEnds a f Rule.Repeat end =
+    (kept : KeptOriginal) × (f.seen ≡ Some (OriginalRow.Kept kept)) × (end ≡ answered_unkept a (action_of_outcome kept.outcome))
+AdviceEnds a f Rule.MarkOfAnother end = end ≡ answered_unkept a 913
+AdviceEnds a f Rule.Duplicate end = end ≡ answered_unkept a 913
+AdviceEnds a f Rule.NotApproved end = end ≡ acknowledged a
+AdviceEnds a f Rule.NoCard end = end ≡ acknowledged a
+AdviceEnds a f Rule.NotOfCard end = end ≡ acknowledged a
+AdviceEnds a f Rule.NoAccount end = end ≡ acknowledged a
+AdviceEnds a f Rule.OtherCurrency end = end ≡ acknowledged a
+AdviceEnds a f Rule.BudgetPays end =
+    (budget : BudgetRow) × (f.budget ≡ Some budget) × (end ≡ accepted a (Funds.Budget (prefix_of a.transaction.pan) budget))
+AdviceEnds a f Rule.AccountPays end =
+    (id : AccountId) × (account : AccountRow) × (f.named ≡ Some id) × (f.account ≡ Some account) × (end ≡ accepted a (Funds.Account id account))
+AdviceEnds a f Rule.NotSufficientFunds end = end ≡ acknowledged a
+AdviceEnds a f _ end = ⊥
+
+-- an advice is decided by its rule
+abbrev pub AdviceIsDecided : Rows → Advice → Type 0
+AdviceIsDecided rows a =
+    let f = facts_of rows a.transaction a.account in
+    (end : Plan) × AdviceEnds a f (advice_rule a f) end × ((reply_of rows (advice_frame a), writes_of rows (advice_frame a)) ≡ comes_to end (map.get rows))
+
+-- ---- reversals, 1420 and 1421
+
+-- what a reversal is decided by: the row of its original, the row that paid for it, and the original's day
+pub record ReversalFacts : Type 0 where
+  pub seen : Option OriginalRow
+  pub paid : Option Funds
+  pub day : Option VelocityRow
+
+-- the row of who paid for an original of this card
+abbrev pub row_of_payer : Lookup → Pan → Payer → Option Funds
+row_of_payer look card (Payer.Account id) = option_map (Funds.Account id) (account_in (look (RowKey.Account id)))
+row_of_payer look card Payer.Budget = option_map (Funds.Budget (prefix_of card)) (budget_in (look (RowKey.Budget (prefix_of card))))
+
+-- the row that paid for it, if it was paid
+abbrev pub row_that_paid : Lookup → Option OriginalRow → Option Funds
+row_that_paid look None = None
+row_that_paid look (Some (OriginalRow.Ahead mark)) = None
+row_that_paid look (Some (OriginalRow.Kept k)) = option_and_then (λ (p : Payment). row_of_payer look k.card p.payer) (payment_of_outcome k.outcome)
+
+-- the day that a request was spent on
+abbrev pub day_of_row : Lookup → Reversal → Option OriginalRow → Option VelocityRow
+day_of_row look v None = None
+day_of_row look v (Some (OriginalRow.Ahead mark)) = None
+day_of_row look v (Some (OriginalRow.Kept k)) = velocity_in (look (day_key v k))
+
+abbrev pub reversal_facts : Lookup → Reversal → Option OriginalRow → ReversalFacts
+reversal_facts look v seen = record { seen = seen; paid = row_that_paid look seen; day = day_of_row look v seen }
+
+abbrev pub reversal_facts_of : Rows → Reversal → ReversalFacts
+reversal_facts_of rows v = reversal_facts (map.get rows) v (original_in (map.get rows (RowKey.Original v.original.identity)))
+
+-- what is kept is so
+abbrev pub is_kept_so : (KeptOriginal → Bool) → OriginalRow → Bool
+is_kept_so test (OriginalRow.Ahead mark) = false
+is_kept_so test (OriginalRow.Kept k) = test k
+
+-- a request is kept
+abbrev pub is_request : KeptOriginal → Bool
+is_request k = is_same_kind (kind_of_outcome k.outcome) OriginalKind.Request
+
+-- this message is the reversal that it has
+abbrev pub is_reversed_by : Reversal → KeptOriginal → Bool
+is_reversed_by v k = has (λ (by : Identity). is_same_identity by (identity_of v.transaction)) (reversal_of_outcome k.outcome)
+
+-- what a reversal of this row gives back
+abbrev pub gives_back : Reversal → Option OriginalRow → ℕ
+gives_back v None = 0
+gives_back v (Some (OriginalRow.Ahead mark)) = 0
+gives_back v (Some (OriginalRow.Kept k)) = given_back v k
+
+abbrev pub reversal_conditions : Reversal → ReversalFacts → Conditions
+reversal_conditions v f =
+    (Rule.NoOriginal, is_none f.seen)
+    ∷ (Rule.MarkedBefore, has is_mark f.seen)
+    ∷ (Rule.OtherOriginal, has (is_kept_so (λ (k : KeptOriginal). not (is_named v k))) f.seen)
+    ∷ (Rule.ReversalRepeat, has (is_kept_so (is_reversed_by v)) f.seen && v.repeat)
+    ∷ (Rule.ReversedBefore, has (is_kept_so (λ (k : KeptOriginal). is_some (reversal_of_outcome k.outcome))) f.seen)
+    ∷ (Rule.NotPosted, has (is_kept_so (λ (k : KeptOriginal). is_none (payment_of_outcome k.outcome))) f.seen)
+    ∷ (Rule.WrongPart, has (is_kept_so (λ (k : KeptOriginal). is_wrong_part v.scope v.transaction.amount k.amount)) f.seen)
+    ∷ (Rule.NoPayer, is_none f.paid)
+    ∷ (Rule.NoDay, has (is_kept_so is_request) f.seen && is_none f.day)
+    ∷ (Rule.BalanceTooGreat, has (λ (paid : Funds). nat_lt greatest_balance (balance_of paid + gives_back v f.seen)) f.paid)
+    ∷ (Rule.DayTooShort, has (is_kept_so is_request) f.seen && has (λ (day : VelocityRow). (takes_approval v.scope && (day.count == 0)) || nat_lt day.sum (gives_back v f.seen)) f.day)
+    ∷ []
+
+-- the rule of a reversal: where none of these holds, the money goes back
+abbrev pub reversal_rule : Reversal → ReversalFacts → Rule
+reversal_rule v f = first_of (reversal_conditions v f) Rule.GivenBack
+
+-- the money of a request goes back to what paid and out of its day; that of an advice to what paid alone
+abbrev pub EndsGivenBack : OriginalKind → Reversal → KeptOriginal → Funds → Option VelocityRow → Plan → Type 0
+EndsGivenBack OriginalKind.Request v k paid None end = ⊥
+EndsGivenBack OriginalKind.Request v k paid (Some day) end = end ≡ Answer (reply_to_reversal v 400) (request_back v k paid day)
+EndsGivenBack OriginalKind.Advice v k paid day end = end ≡ Answer (reply_to_reversal v 400) (advice_back v k paid)
+
+-- what a reversal is answered, and what is written, by each rule
+abbrev pub ReversalEnds : Reversal → ReversalFacts → Rule → Plan → Type 0
+ReversalEnds v f Rule.NoOriginal end = end ≡ marked_ahead v
+ReversalEnds v f Rule.MarkedBefore end = end ≡ unchanged v 914
+ReversalEnds v f Rule.OtherOriginal end = end ≡ unchanged v 914
+ReversalEnds v f Rule.ReversalRepeat end = end ≡ unchanged v 400
+ReversalEnds v f Rule.ReversedBefore end = end ≡ unchanged v 913
+ReversalEnds v f Rule.NotPosted end =
+    (k : KeptOriginal) × (f.seen ≡ Some (OriginalRow.Kept k))
+    × (end ≡ Answer (reply_to_reversal v 400) (original_put v (RowVal.Kept (settled k (identity_of v.transaction) 0)) ∷ []))
+ReversalEnds v f Rule.WrongPart end = end ≡ unchanged v 110
+ReversalEnds v f Rule.NoPayer end = end ≡ unchanged v 914
+ReversalEnds v f Rule.NoDay end = end ≡ unchanged v 914
+ReversalEnds v f Rule.BalanceTooGreat end = end ≡ unchanged v 909
+ReversalEnds v f Rule.DayTooShort end = end ≡ unchanged v 909
+ReversalEnds v f Rule.GivenBack end =
+    (k : KeptOriginal) × (paid : Funds) × (f.seen ≡ Some (OriginalRow.Kept k)) × (f.paid ≡ Some paid)
+    × EndsGivenBack (kind_of_outcome k.outcome) v k paid f.day end
+ReversalEnds v f _ end = ⊥
+
+-- a reversal is decided by its rule
+abbrev pub ReversalIsDecided : Rows → Reversal → Type 0
+ReversalIsDecided rows v =
+    let f = reversal_facts_of rows v in
+    (end : Plan) × ReversalEnds v f (reversal_rule v f) end × ((reply_of rows (reversal_frame v), writes_of rows (reversal_frame v)) ≡ comes_to end (map.get rows))
+
+-- ---- all messages
+
+-- the rule that decides a body
+abbrev pub decided_by : Rows → Frame → Rule
+decided_by rows (Frame.Good (Message.Request r)) = request_rule r (facts_of rows r.transaction r.account)
+decided_by rows (Frame.Good (Message.Advice a)) = advice_rule a (facts_of rows a.transaction a.account)
+decided_by rows (Frame.Good (Message.Reversal v)) = reversal_rule v (reversal_facts_of rows v)
+decided_by rows (Frame.Bad fault) = Rule.NoMessage

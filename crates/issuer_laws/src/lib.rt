@@ -7,6 +7,7 @@ mod money_laws;
 mod part_laws;
 mod repeat_laws;
 mod rule;
+mod rule_laws;
 
 pub use limit_laws::{a_card_stays, approval_codes_of_a_card_differ, no_day_passes_its_limits};
 pub use money_laws::{a_full_reversal_undoes_its_original, every_decision_keeps_backing};
@@ -16,3 +17,4 @@ pub use repeat_laws::{
     each_reply_repeats_its_message,
 };
 pub use rule::Rule;
+pub use rule_laws::the_first_rule_decides;
