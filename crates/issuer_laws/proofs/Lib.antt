@@ -1,5 +1,6 @@
 pub mod AdviceRules
 pub mod AdviceWays
+pub mod Again
 pub mod Backings
 pub mod Balanced
 pub mod Cards

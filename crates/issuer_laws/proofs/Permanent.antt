@@ -31,20 +31,21 @@ use Rattle.issuer_laws.proofs.ReversalWays.{day_put, reversal_ways}
 use Rattle.issuer_laws.specs.Permanent.{IsKeptAt, IsReversedOnce, Continues, StaysKept, IsSameOriginal}
 
 -- the value that an original without a reversal has once a message has reversed it
-record Reverses (k : KeptOriginal) (v : RowVal) : Type 0 where
-  unreversed : reversal_of_outcome k.outcome ≡ None
-  by : Identity
-  stay : ℕ
-  value : v ≡ RowVal.Kept (settled k by stay)
+pub record Reverses (k : KeptOriginal) (v : RowVal) : Type 0 where
+  pub unreversed : reversal_of_outcome k.outcome ≡ None
+  pub by : Identity
+  pub stay : ℕ
+  pub value : v ≡ RowVal.Kept (settled k by stay)
 
--- what is written where an original's row stands: anything over none and over a mark, and over one that is kept its reversal alone
-abbrev Succeeds : Option OriginalRow → RowVal → Type 0
+-- what is written where an original's row stands: anything over none, over a mark what is kept of its message, and over what is kept its
+-- reversal alone
+abbrev pub Succeeds : Option OriginalRow → RowVal → Type 0
 Succeeds None v = Unit {0}
-Succeeds (Some (OriginalRow.Ahead mark)) v = Unit {0}
+Succeeds (Some (OriginalRow.Ahead mark)) v = (k : KeptOriginal) × (v ≡ RowVal.Kept k)
 Succeeds (Some (OriginalRow.Kept k)) v = Reverses k v
 
 -- nothing is written; or the row of an original, and rows of other kinds
-abbrev PutsOriginal : Lookup → Writes → Type 0
+abbrev pub PutsOriginal : Lookup → Writes → Type 0
 PutsOriginal look ws =
     (ws ≡ []) ⊎ ((identity : Identity) × (v : RowVal) × (rest : Writes) × (ws ≡ (RowKey.Original identity, v) ∷ rest) × IsFresh 3 rest × Succeeds (original_in (look (RowKey.Original identity))) v)
 
@@ -63,7 +64,7 @@ request_puts look r None e =
     ]
 request_puts look r (Some (OriginalRow.Ahead mark)) e =
     either look (is_marked mark r.transaction OriginalKind.Request) _ _
-    (one_original look (identity_of r.transaction) (kept_of_request r (OriginalOutcome.Declined 914 (Some mark.reversal))) [] _ (Some (OriginalRow.Ahead mark)) refl tt e tt) (inl refl)
+    (one_original look (identity_of r.transaction) (kept_of_request r (OriginalOutcome.Declined 914 (Some mark.reversal))) [] _ (Some (OriginalRow.Ahead mark)) refl tt e (_, refl)) (inl refl)
 request_puts look r (Some (OriginalRow.Kept k)) e = either look (r.repeat && is_of_same k r.transaction OriginalKind.Request) _ _ (inl refl) (inl refl)
 
 advice_puts : (look : Lookup) (a : Advice) (row : Option OriginalRow) → original_in (look (RowKey.Original (identity_of a.transaction))) ≡ row → PutsOriginal look (carried_out (advice_on_original a row) look).writes
@@ -74,7 +75,7 @@ advice_puts look a None e =
     ]
 advice_puts look a (Some (OriginalRow.Ahead mark)) e =
     either look (is_marked mark a.transaction OriginalKind.Advice) _ _
-    (one_original look (identity_of a.transaction) (kept_of_advice a (OriginalOutcome.Acknowledged 900 (Some mark.reversal))) [] _ (Some (OriginalRow.Ahead mark)) refl tt e tt) (inl refl)
+    (one_original look (identity_of a.transaction) (kept_of_advice a (OriginalOutcome.Acknowledged 900 (Some mark.reversal))) [] _ (Some (OriginalRow.Ahead mark)) refl tt e (_, refl)) (inl refl)
 advice_puts look a (Some (OriginalRow.Kept k)) e = either look (a.repeat && is_of_same k a.transaction OriginalKind.Advice) _ _ (inl refl) (inl refl)
 
 -- of the rows that a reversal writes, the original alone is of its kind
@@ -104,7 +105,7 @@ reversal_puts look v =
       ]
     ]
 
-puts_original : (look : Lookup) (frame : Frame) → PutsOriginal look (decision look frame).writes
+pub puts_original : (look : Lookup) (frame : Frame) → PutsOriginal look (decision look frame).writes
 unfolding decision
 puts_original look (Frame.Good (Message.Request r)) = request_puts look r _ refl
 puts_original look (Frame.Good (Message.Advice a)) = advice_puts look a _ refl
@@ -112,7 +113,7 @@ puts_original look (Frame.Good (Message.Reversal v)) = reversal_puts look v
 puts_original look (Frame.Bad fault) = inl refl
 
 -- an original that is kept, after rows were written
-abbrev KeptAfter : Rows → Identity → KeptOriginal → Type 0
+abbrev pub KeptAfter : Rows → Identity → KeptOriginal → Type 0
 KeptAfter rows identity k = (later : KeptOriginal) × IsKeptAt rows identity later × Continues k later
 
 -- where its own row is written
@@ -123,7 +124,7 @@ reversed_there rows identity v rest ws k e fresh h = (
   inr (record { unreversed = h.unreversed; by = h.by; stay = h.stay; reversed = refl }),
 )
 
-kept_after_writes : (rows : Rows) (ws : Writes) (identity : Identity) (k : KeptOriginal) → IsKeptAt rows identity k → PutsOriginal (map.get rows) ws → KeptAfter (overlay rows ws) identity k
+pub kept_after_writes : (rows : Rows) (ws : Writes) (identity : Identity) (k : KeptOriginal) → IsKeptAt rows identity k → PutsOriginal (map.get rows) ws → KeptAfter (overlay rows ws) identity k
 kept_after_writes rows ws identity k stands (inl e) =
     (k, ap (λ (w : Writes). original_in (map.get (overlay rows w) (RowKey.Original identity))) e ∙ stands, inl refl)
 kept_after_writes rows ws identity k stands (inr p) =

@@ -1,3 +1,4 @@
+pub mod Again
 pub mod Cards
 pub mod Conserved
 pub mod Duplicate

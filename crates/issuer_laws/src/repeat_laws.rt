@@ -6,6 +6,7 @@ ghost use Rattle.iso8583.specs.declared.reversal.Reversal.{Reversal};
 ghost use Rattle.issuer_rows.specs.Fold.{Rows, replies_to};
 ghost use Rattle.issuer_rows.specs.Kept.{KeptOriginal};
 ghost use Rattle.issuer_rows.specs.declared.frame.Frame.{Frame};
+ghost use Rattle.issuer_laws.specs.Again.{WritesNothingAgain};
 ghost use Rattle.issuer_laws.specs.Duplicate.{SecondIsDuplicate};
 ghost use Rattle.issuer_laws.specs.Echoed.{EchoEach};
 ghost use Rattle.issuer_laws.specs.Permanent.{Continues, IsSameOriginal, StaysKept};
@@ -35,4 +36,10 @@ pub fn an_original_is_kept_for_good()
 /// amount, times, trace, acquirer, terminal and currency, and the account that it names; of a body that is no message it is the fault.
 pub fn each_reply_repeats_its_message()
     ensures { (rows : Rows) (frames : List Frame) → EchoEach frames (replies_to rows frames) }
+{}
+
+/// A batch without reversals that is sent once more, its requests as 1101 and its advices as 1121, changes nothing. (With reversals it
+/// may: one that was answered 909 or 914 may be done the second time.)
+pub fn a_batch_again_changes_nothing()
+    ensures { (rows : Rows) (frames : List Frame) → WritesNothingAgain rows frames }
 {}
