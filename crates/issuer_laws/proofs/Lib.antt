@@ -12,6 +12,7 @@ pub mod Keys
 pub mod Needed
 pub mod Parts
 pub mod Permanent
+pub mod Reconciled
 pub mod Repeated
 pub mod RequestRules
 pub mod RequestWays

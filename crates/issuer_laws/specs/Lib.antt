@@ -6,6 +6,7 @@ pub mod Echoed
 pub mod Messages
 pub mod Parts
 pub mod Permanent
+pub mod Reconciled
 pub mod Repeated
 pub mod Rules
 pub mod Undone

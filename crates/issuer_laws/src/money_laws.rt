@@ -1,10 +1,12 @@
 ghost use Rattle.std.specs.Prelude.{List};
+ghost use Rattle.iso8583.specs.declared.account_id.AccountId.{AccountId};
 ghost use Rattle.iso8583.specs.declared.advice.Advice.{Advice};
 ghost use Rattle.iso8583.specs.declared.request.Request.{Request};
 ghost use Rattle.iso8583.specs.declared.reversal.Reversal.{Reversal};
 ghost use Rattle.issuer_rows.specs.Fold.{Rows, rows_after_one, rows_after};
 ghost use Rattle.issuer_rows.specs.declared.frame.Frame.{Frame};
 ghost use Rattle.issuer_laws.specs.Conserved.{KeepsAccounts, KeepsPrefixes};
+ghost use Rattle.issuer_laws.specs.Reconciled.{IsReconciled};
 ghost use Rattle.issuer_laws.specs.Undone.{RequestIsUndone, RequestIsReversed, AdviceIsUndone, AdviceIsReversed};
 
 /// Money is neither made nor lost: whatever a body is and however it is decided, what is available of an account and what stays paid from
@@ -24,4 +26,10 @@ pub fn a_full_reversal_undoes_its_original()
     ensures request_reversed { (rows : Rows) (r : Request) (v : Reversal) → RequestIsReversed rows r v }
     ensures advice { (rows : Rows) (a : Advice) (v : Reversal) → AdviceIsUndone rows a v }
     ensures advice_reversed { (rows : Rows) (a : Advice) (v : Reversal) → AdviceIsReversed rows a v }
+{}
+
+/// What an account has less behind a batch is the sum of the amounts that were first answered 000 or 901 and paid from it, less what
+/// reversals that were answered 400 gave back to it.
+pub fn totals_of_replies_reconcile()
+    ensures { (rows : Rows) (frames : List Frame) (id : AccountId) → IsReconciled rows frames id }
 {}
