@@ -1,5 +1,6 @@
 pub mod Migrating
 pub mod OldOriginals
 pub mod Puts
+pub mod Reversible
 pub mod Shapes
 pub mod Sound

@@ -1,2 +1,3 @@
 pub mod Migration
+pub mod Reversible
 pub mod Runs

@@ -81,7 +81,7 @@ record ChangesCards (look : Lookup) (ws : Writes) : Type 0 where
 leaves : (look : Lookup) (ws writes : Writes) → writes ≡ ws → IsFresh 0 ws → IsFresh 1 ws → ChangesCards look writes
 leaves look ws writes e cards days = subst (ChangesCards look) (sym e) (record { cards = inl cards; days = inl days })
 
-leaves_two : (f : Funds) → IsTrue (not (0 == kind_of (key_of_funds f))) × IsTrue (not (1 == kind_of (key_of_funds f)))
+pub leaves_two : (f : Funds) → IsTrue (not (0 == kind_of (key_of_funds f))) × IsTrue (not (1 == kind_of (key_of_funds f)))
 leaves_two (Funds.Account id row) = (refl, refl)
 leaves_two (Funds.Budget prefix row) = (refl, refl)
 
@@ -118,7 +118,7 @@ approved_card_row look r reply writes a = record {
   fresh_rest = (refl, ((leaves_two a.paying).0, tt));
 }
 
-approved_day_row : (look : Lookup) (r : Request) (reply : ReplyBody) (writes : Writes) (a : request.Approves r look reply writes) → WritesOne 1 writes (RowKey.Velocity r.transaction.pan (day_of r.transaction.stamp)) (RowVal.Velocity (spent_more (request.spent_by r look) r.transaction.amount))
+pub approved_day_row : (look : Lookup) (r : Request) (reply : ReplyBody) (writes : Writes) (a : request.Approves r look reply writes) → WritesOne 1 writes (RowKey.Velocity r.transaction.pan (day_of r.transaction.stamp)) (RowVal.Velocity (spent_more (request.spent_by r look) r.transaction.amount))
 approved_day_row look r reply writes a = record {
   front = _ ∷ _ ∷ [];
   rest = _ ∷ [];

@@ -5,6 +5,7 @@ pub mod Backings
 pub mod Balanced
 pub mod Cards
 pub mod Conserved
+pub mod Covered
 pub mod Duplicate
 pub mod Echoed
 pub mod Funding

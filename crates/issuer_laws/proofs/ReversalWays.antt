@@ -67,12 +67,13 @@ day_put v k (Some day) = (day_key v k, val.Velocity (spent_less v k day)) ∷ []
 
 -- the day of the original stands in the book, and has what is given back
 pub record HasDay (v : Reversal) (look : Lookup) (k : KeptOriginal) (day : VelocityRow) : Type 0 where
+  pub request : kind_of_outcome k.outcome ≡ kind.Request
   pub stands : velocity_in (look (day_key v k)) ≡ Some day
   pub enough : day_is_short v k day ≡ false
 
--- the same, if the original was spent on a day
+-- the same of a request; an advice was spent on no day
 abbrev pub IsDayFound : Reversal → Lookup → KeptOriginal → Option VelocityRow → Type 0
-IsDayFound v look k None = Unit {0}
+IsDayFound v look k None = kind_of_outcome k.outcome ≡ kind.Advice
 IsDayFound v look k (Some day) = HasDay v look k day
 
 -- 400, of an original that is posted
@@ -135,15 +136,15 @@ settling v look k paid day h found = inr (inr (inr (inr (record {
   writes = refl;
 }))))
 
-ways_of_kind : (v : Reversal) (look : Lookup) (o : OriginalKind) (k : KeptOriginal) (paid : Funds) → IsPaid v look k paid → IsWay v look (by_kind o v k paid)
-ways_of_kind v look kind.Advice k paid h =
-    either_way v look (is_overfull v k paid) _ _ (λ full. refusing v look 909 (λ e. absurd (omega arith))) (λ room. settling v look k paid None h tt)
-ways_of_kind v look kind.Request k paid h =
+ways_of_kind : (v : Reversal) (look : Lookup) (o : OriginalKind) (k : KeptOriginal) (paid : Funds) → kind_of_outcome k.outcome ≡ o → IsPaid v look k paid → IsWay v look (by_kind o v k paid)
+ways_of_kind v look kind.Advice k paid of h =
+    either_way v look (is_overfull v k paid) _ _ (λ full. refusing v look 909 (λ e. absurd (omega arith))) (λ room. settling v look k paid None h of)
+ways_of_kind v look kind.Request k paid of h =
     elim (velocity_in (look (day_key v k))) as (λ day. velocity_in (look (day_key v k)) ≡ day → IsWay v look (on_original_day v k paid day)) [
       | None ↦ λ none. refusing v look 914 (λ e. absurd (omega arith))
       | Some day ↦
           λ stands. either_way v look (is_overfull v k paid) _ _ (λ full. refusing v look 909 (λ e. absurd (omega arith)))
-          (λ room. either_way v look (day_is_short v k day) _ _ (λ short. refusing v look 909 (λ e. absurd (omega arith))) (λ enough. settling v look k paid (Some day) h (record { stands = stands; enough = enough })))
+          (λ room. either_way v look (day_is_short v k day) _ _ (λ short. refusing v look 909 (λ e. absurd (omega arith))) (λ enough. settling v look k paid (Some day) h (record { request = of; stands = stands; enough = enough })))
     ] refl
 
 -- what is known where the payer is
@@ -160,12 +161,12 @@ ways_of_payer : (v : Reversal) (look : Lookup) (k : KeptOriginal) (p : Payer) �
 ways_of_payer v look k (payer.Account id) h =
     elim (account_in (look (key.Account id))) as (λ row. account_in (look (key.Account id)) ≡ row → IsWay v look (on_paid v k (option_map (funds.Account id) row))) [
       | None ↦ λ e. refusing v look 914 (λ e. absurd (omega arith))
-      | Some row ↦ λ e. ways_of_kind v look (kind_of_outcome k.outcome) k (funds.Account id row) (paid_by v look k (funds.Account id row) h e tt)
+      | Some row ↦ λ e. ways_of_kind v look (kind_of_outcome k.outcome) k (funds.Account id row) refl (paid_by v look k (funds.Account id row) h e tt)
     ] refl
 ways_of_payer v look k payer.Budget h =
     elim (budget_in (look (key.Budget (prefix_of k.card)))) as (λ row. budget_in (look (key.Budget (prefix_of k.card))) ≡ row → IsWay v look (on_paid v k (option_map (funds.Budget (prefix_of k.card)) row))) [
       | None ↦ λ e. refusing v look 914 (λ e. absurd (omega arith))
-      | Some row ↦ λ e. ways_of_kind v look (kind_of_outcome k.outcome) k (funds.Budget (prefix_of k.card) row) (paid_by v look k (funds.Budget (prefix_of k.card) row) h e refl)
+      | Some row ↦ λ e. ways_of_kind v look (kind_of_outcome k.outcome) k (funds.Budget (prefix_of k.card) row) refl (paid_by v look k (funds.Budget (prefix_of k.card) row) h e refl)
     ] refl
 
 ways_of_payment : (v : Reversal) (look : Lookup) (k : KeptOriginal) (payment : Option Payment) → Names v look k None → payment_of_outcome k.outcome ≡ payment → IsWay v look (on_payment v k payment)

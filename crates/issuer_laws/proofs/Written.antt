@@ -41,3 +41,8 @@ value_behind rows ws k v q same h =
 -- the key under which it was written has the value that was written
 pub value_there : (rows : Rows) (ws : Writes) (k : RowKey) (v : RowVal) → WritesOne (kind_of k) ws k v → map.get (overlay rows ws) k ≡ Some v
 value_there rows ws k v h = behind_front rows ws k v h k refl ∙ get-put (overlay rows h.front) k v
+
+-- another key of its kind has what it had
+pub value_other : (rows : Rows) (ws : Writes) (k : RowKey) (v : RowVal) (q : RowKey) → kind_of q ≡ kind_of k → WritesOne (kind_of k) ws k v → q ≢ k → map.get (overlay rows ws) q ≡ map.get rows q
+value_other rows ws k v q same h other =
+    behind_front rows ws k v h q same ∙ get-other (overlay rows h.front) k v q other ∙ get-fresh rows h.front q (fresh_as (kind_of k) (kind_of q) h.front same h.fresh_front)

@@ -1,6 +1,7 @@
 pub mod Again
 pub mod Cards
 pub mod Conserved
+pub mod Covered
 pub mod Duplicate
 pub mod Echoed
 pub mod Messages

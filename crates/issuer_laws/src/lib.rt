@@ -9,7 +9,10 @@ mod repeat_laws;
 mod rule;
 mod rule_laws;
 
-pub use limit_laws::{a_card_stays, approval_codes_of_a_card_differ, no_day_passes_its_limits};
+pub use limit_laws::{
+    a_card_stays, approval_codes_of_a_card_differ, days_have_what_reversals_take,
+    no_day_passes_its_limits,
+};
 pub use money_laws::{
     a_full_reversal_undoes_its_original, every_decision_keeps_backing, totals_of_replies_reconcile,
 };

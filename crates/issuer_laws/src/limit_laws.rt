@@ -4,6 +4,7 @@ ghost use Rattle.iso8583.specs.declared.request.Request.{Request};
 ghost use Rattle.issuer_rows.specs.Fold.{Rows, rows_after};
 ghost use Rattle.issuer_rows.specs.declared.card_row.CardRow.{CardRow};
 ghost use Rattle.issuer_rows.specs.declared.frame.Frame.{Frame};
+ghost use Rattle.issuer_laws.specs.Covered.{AreDaysCovered};
 ghost use Rattle.issuer_laws.specs.Cards.{CodesDiffer, IsWithinLimits, LeavesDayWithin, StaysCard};
 
 /// A card that is there stays, whatever comes: nothing of its row changes but its approvals, which never fall.
@@ -21,4 +22,9 @@ pub fn no_day_passes_its_limits()
 /// Two requests of one card that are approved, each the first of its identity: their approval codes differ, whatever came between.
 pub fn approval_codes_of_a_card_differ()
     ensures { (rows : Rows) (first second : Request) (between : List Frame) → CodesDiffer rows first between second }
+{}
+
+/// Where each day has the approvals and the money of all of its requests that can still be reversed, so it is after any batch.
+pub fn days_have_what_reversals_take()
+    ensures { (rows : Rows) (frames : List Frame) → AreDaysCovered rows → AreDaysCovered (rows_after rows frames) }
 {}
