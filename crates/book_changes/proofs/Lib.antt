@@ -2,5 +2,6 @@ pub mod Migrating
 pub mod OldOriginals
 pub mod Puts
 pub mod Reversible
+pub mod Reversing
 pub mod Shapes
 pub mod Sound

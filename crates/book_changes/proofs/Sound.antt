@@ -199,7 +199,7 @@ is_card (Some (RowVal.Ahead mark)) card e = absurd (cc)
 is_card (Some (RowVal.Account row)) card e = absurd (cc)
 is_card None card e = absurd (cc)
 
-is_kept : (o : Option RowVal) (k : KeptOriginal) → original_in o ≡ Some (OriginalRow.Kept k) → o ≡ Some (RowVal.Kept k)
+pub is_kept : (o : Option RowVal) (k : KeptOriginal) → original_in o ≡ Some (OriginalRow.Kept k) → o ≡ Some (RowVal.Kept k)
 is_kept (Some (RowVal.Kept l)) k e = let same : l ≡ k = cc in ap (λ (x : KeptOriginal). Some (RowVal.Kept x)) same
 is_kept (Some (RowVal.Ahead mark)) k e = absurd (cc)
 is_kept (Some (RowVal.Card row)) k e = absurd (cc)
@@ -222,7 +222,7 @@ paying_backed : (rows : Rows) (f : Funds) → IsFound (map.get rows) f → has_p
 paying_backed rows (Funds.Account id row) found = ap is_some found
 paying_backed rows (Funds.Budget prefix row) found = refl
 
-kept_backed : (rows : Rows) → IsSound rows → (identity : Identity) (k : KeptOriginal) → original_in (map.get rows (RowKey.Original identity)) ≡ Some (OriginalRow.Kept k) → is_backed rows (payment_of_outcome k.outcome) ≡ true
+pub kept_backed : (rows : Rows) → IsSound rows → (identity : Identity) (k : KeptOriginal) → original_in (map.get rows (RowKey.Original identity)) ≡ Some (OriginalRow.Kept k) → is_backed rows (payment_of_outcome k.outcome) ≡ true
 kept_backed rows sound identity k stands =
     row_passes (λ row. has_paying_account rows row.1) rows (RowKey.Original identity) (RowVal.Kept k) sound.payers (is_kept (map.get rows (RowKey.Original identity)) k stands)
 

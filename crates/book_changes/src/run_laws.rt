@@ -1,10 +1,19 @@
 ghost use Rattle.std.specs.Prelude.{List};
+ghost use Rattle.iso8583.specs.declared.reversal.Reversal.{Reversal};
 ghost use Rattle.issuer_rows.specs.Fold.{Rows};
 ghost use Rattle.issuer_rows.specs.declared.frame.Frame.{Frame};
+ghost use Rattle.book_changes.specs.Reversible.{IsDone};
 ghost use Rattle.book_changes.specs.Runs.{StaysSound};
 
 /// Nothing is wrong with a book behind any batch where nothing was wrong with it before: no row is lost, each card keeps its number and
 /// its accounts, what paid for an original stays, and no backing grows.
 pub fn a_book_stays_a_book()
     ensures { (rows : Rows) (frames : List Frame) → StaysSound rows frames }
+{}
+
+/// On a book with which nothing is wrong, whose days have the approvals and the money of their requests that can still be reversed,
+/// and whose budgets have rows where they paid: the first reversal of a posted original, of its card and its kind and of a part that
+/// is one, is answered 400, whatever came before it.
+pub fn a_right_reversal_is_done()
+    ensures { (rows : Rows) (before : List Frame) (v : Reversal) → IsDone rows before v }
 {}
