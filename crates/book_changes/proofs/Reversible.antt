@@ -1,11 +1,8 @@
 -- The first reversal of a posted original is done on a sound book whose days and budgets have what it takes.
-use Rattle.std.proofs.Common.{◌≡◌, ◌≢◌, ℕ, ◌+◌, ◌^◌, ◌≤◌, Bool, true, false, if◌then◌else◌, ◌&&◌, ◌||◌, ◌==◌, nat_lt, List, [], ◌∷◌, ◌++◌, Option, Some, None, is_some, ◌⊎◌, inl, inr, refl, sym, ap, ◌∙◌, subst, arith}
-use Rattle.std.proofs.lemmas.Bool.{false≢true}
-use Rattle.std.proofs.lemmas.Bool.Decides.{nat_tests}
+use Rattle.std.proofs.Common.{◌≡◌, ℕ, Bool, true, false, if◌then◌else◌, ◌&&◌, List, [], ◌∷◌, ◌++◌, Option, Some, None, is_some, inl, inr, refl, sym, ap, ◌∙◌, subst}
 use Rattle.std.specs.FinMap as map
-use Rattle.std.specs.List.{AllByRecursion, sum_by}
+use Rattle.std.specs.List.{AllByRecursion}
 use Rattle.iso8583.specs.declared.advice.Advice.{Advice}
-use Rattle.iso8583.specs.declared.account_id.AccountId.{AccountId}
 use Rattle.iso8583.specs.declared.identity.Identity.{Identity}
 use Rattle.iso8583.specs.declared.message.Message.{Message}
 use Rattle.iso8583.specs.declared.original_kind.OriginalKind.{OriginalKind}
@@ -13,18 +10,16 @@ use Rattle.iso8583.specs.declared.pan.Pan.{Pan}
 use Rattle.iso8583.specs.declared.pan_prefix.PanPrefix.{PanPrefix}
 use Rattle.iso8583.specs.declared.request.Request.{Request}
 use Rattle.iso8583.specs.declared.reversal.Reversal.{Reversal}
-use Rattle.iso8583.specs.declared.reversal_scope.ReversalScope.{ReversalScope}
 use Rattle.issuer_rows.specs.AdviceTable.{advice_on_original}
 use Rattle.issuer_rows.specs.Decision.{decision}
-use Rattle.issuer_rows.specs.Facts.{identity_of, prefix_of, is_marked, is_of_same}
+use Rattle.issuer_rows.specs.Facts.{prefix_of, is_marked, is_of_same}
 use Rattle.issuer_rows.specs.Fold.{Rows, overlay, writes_of, rows_after_one, rows_after}
 use Rattle.issuer_rows.specs.Funds.{key_of_funds, row_of_funds, with_balance, payer_of}
-use Rattle.issuer_rows.specs.Kept.{KeptOriginal, payment_of_outcome, settled, settled_outcome}
-use Rattle.issuer_rows.specs.Plan.{Plan, Lookup, Writes, carried_out}
+use Rattle.issuer_rows.specs.Kept.{KeptOriginal, payment_of_outcome, settled_outcome}
+use Rattle.issuer_rows.specs.Plan.{Plan, Writes, carried_out}
 use Rattle.issuer_rows.specs.RequestTable.{on_original}
 use Rattle.issuer_rows.specs.ReversalTable.{reversal_plan, reversed_original, refunded}
 use Rattle.issuer_rows.specs.Typed.{original_in, budget_in}
-use Rattle.issuer_rows.specs.declared.budget_row.BudgetRow.{BudgetRow}
 use Rattle.issuer_rows.specs.declared.frame.Frame.{Frame}
 use Rattle.issuer_rows.specs.declared.funds.Funds.{Funds}
 use Rattle.issuer_rows.specs.declared.original_outcome.OriginalOutcome.{OriginalOutcome}

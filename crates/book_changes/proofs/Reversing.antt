@@ -1,26 +1,22 @@
 -- On a book whose accounts, days and budgets have what it takes, a right reversal is answered 400.
-use Rattle.std.proofs.Common.{◌≡◌, ◌≢◌, ℕ, ◌+◌, ◌^◌, ◌≤◌, Bool, true, false, if◌then◌else◌, ◌&&◌, ◌||◌, ◌==◌, not, nat_lt, List, [], ◌∷◌, Option, Some, None, is_some, is_none, option_and_then, option_map, ◌⊎◌, inl, inr, refl, sym, ap, ◌∙◌, subst, arith}
+use Rattle.std.proofs.Common.{◌≡◌, ℕ, ◌+◌, ◌^◌, ◌≤◌, Bool, true, false, if◌then◌else◌, ◌&&◌, ◌||◌, ◌==◌, not, nat_lt, List, [], ◌∷◌, Option, Some, None, is_some, is_none, option_and_then, option_map, refl, sym, ap, ◌∙◌, subst, arith}
 use Rattle.std.proofs.lemmas.Bool.{false≢true}
 use Rattle.std.proofs.lemmas.Bool.Decides.{nat_tests}
 use Rattle.std.specs.FinMap as map
 use Rattle.std.specs.List.{AllByRecursion, sum_by}
-use Rattle.iso8583.specs.declared.account_id.AccountId.{AccountId}
 use Rattle.iso8583.specs.declared.identity.Identity.{Identity}
 use Rattle.iso8583.specs.declared.original_kind.OriginalKind.{OriginalKind}
-use Rattle.iso8583.specs.declared.pan.Pan.{Pan}
 use Rattle.iso8583.specs.declared.reversal.Reversal.{Reversal}
 use Rattle.iso8583.specs.declared.reversal_scope.ReversalScope.{ReversalScope}
 use Rattle.issuer_rows.specs.Backing.{is_account, is_budget, account_paid, budget_paid, is_from_account, is_from_budget, kept_in, stay_if, stays, available_in, left_in}
-use Rattle.issuer_rows.specs.Facts.{day_of, prefix_of, identity_of, is_same_card, is_same_identity, is_same_kind}
+use Rattle.issuer_rows.specs.Facts.{day_of, prefix_of, identity_of, is_same_identity, is_same_kind}
 use Rattle.issuer_rows.specs.Fold.{Rows, reply_of, rows_after}
 use Rattle.issuer_rows.specs.Funds.{balance_of}
 use Rattle.issuer_rows.specs.Kept.{KeptOriginal, kind_of_outcome, payment_of_outcome, reversal_of_outcome, stay_of, stay_of_payment, stay_of_settlement}
 use Rattle.issuer_rows.specs.Plan.{Plan, Lookup, Writes}
-use Rattle.issuer_rows.specs.ReversalTable.{given_back, greatest_balance, is_named, is_wrong_part, takes_approval, day_key, reply_to_reversal}
+use Rattle.issuer_rows.specs.ReversalTable.{given_back, greatest_balance, is_named, is_wrong_part, takes_approval, day_key}
 use Rattle.issuer_rows.specs.RowKey.{text_eq}
 use Rattle.issuer_rows.specs.Typed.{velocity_in, budget_in, original_in, account_in, spent_in}
-use Rattle.issuer_rows.specs.declared.account_row.AccountRow.{AccountRow}
-use Rattle.issuer_rows.specs.declared.budget_row.BudgetRow.{BudgetRow}
 use Rattle.issuer_rows.specs.declared.frame.Frame.{Frame}
 use Rattle.issuer_rows.specs.declared.funds.Funds.{Funds}
 use Rattle.issuer_rows.specs.declared.original_outcome.OriginalOutcome.{OriginalOutcome}
@@ -36,15 +32,14 @@ use Rattle.issuer_laws.proofs.Covered.{open_before, back_within, stays_covered}
 use Rattle.issuer_laws.proofs.Keys.{same_text}
 use Rattle.issuer_laws.proofs.ReversalRules.{reversal_decided}
 use Rattle.issuer_laws.proofs.Sums.{part, sum-insert}
-use Rattle.issuer_laws.specs.Covered.{is_open_request, is_open_on, open_in, open_count, open_sum, AreDaysCovered}
+use Rattle.issuer_laws.specs.Covered.{is_open_request, open_in, AreDaysCovered}
 use Rattle.issuer_laws.specs.Messages.{reversal_frame, HasAction}
-use Rattle.issuer_laws.specs.Rules.{Conditions, first_of, has, comes_to, ReversalFacts, row_of_payer, row_that_paid, day_of_row, reversal_facts_of, is_mark, is_kept_so, is_request, is_reversed_by, gives_back, reversal_conditions, reversal_rule, EndsGivenBack, ReversalEnds}
-use Rattle.issuer_laws.specs.Undone.{spent_on}
+use Rattle.issuer_laws.specs.Rules.{Conditions, first_of, has, comes_to, row_of_payer, row_that_paid, day_of_row, reversal_facts_of, is_mark, is_kept_so, is_request, is_reversed_by, gives_back, reversal_conditions, EndsGivenBack, ReversalEnds}
 use Rattle.issuer_laws.specs.declared.rule.Rule.{Rule}
-use Rattle.book_laws.specs.CheckBook.{has_account, has_payer, is_backed, IsSound}
+use Rattle.book_laws.specs.CheckBook.{has_payer, is_backed}
 use Rattle.book_changes.proofs.Reversible.{budgets_stay}
 use Rattle.book_changes.proofs.Sound.{is_kept, kept_backed, stays_sound}
-use Rattle.book_changes.specs.Reversible.{has_budget, is_budget_there, HaveBudgets, CanReverse, IsRightReversal, IsDone}
+use Rattle.book_changes.specs.Reversible.{has_budget, is_budget_there, CanReverse, IsRightReversal, IsDone}
 
 -- where no condition holds, the last rule decides
 none_holds : (cs : Conditions) (last : Rule) → AllByRecursion (λ c. c.1 ≡ false) cs → first_of cs last ≡ last
@@ -166,7 +161,7 @@ day_conditions rows days v k payment at posted unreversed OriginalKind.Request e
     let spent = has_spent rows days v k at (open_before k.outcome payment e posted unreversed) in (
       and_none (is_request k) _ (ap is_none spent.found),
       and_none (is_request k) _ (ap (has (λ (d : VelocityRow). (takes_approval v.scope && (d.count == 0)) || nat_lt d.sum (given_back v k))) spent.found
-      ∙ not_short v.scope spent.day.count spent.day.sum (given_back v k) spent.count (omega (arith, spent.sum, back_within v k))),
+          ∙ not_short v.scope spent.day.count spent.day.sum (given_back v k) spent.count (omega (arith, spent.sum, back_within v k))),
     )
 
 conditions_fail : (rows : Rows) → CanReverse rows → (v : Reversal) → IsRightReversal rows v → AllByRecursion (λ c. c.1 ≡ false) (reversal_conditions v (reversal_facts_of rows v))
@@ -179,27 +174,30 @@ conditions_fail rows h v r =
     let back_is : gives_back v (original_in (map.get rows (RowKey.Original v.original.identity))) ≡ given_back v r.kept = ap (gives_back v) r.stands in
     let days = day_conditions rows h.days v r.kept r.payment at r.posted r.unreversed (kind_of_outcome r.kept.outcome) refl in (
       ap is_none r.stands,
-      (ap (has is_mark) r.stands, (
-        ap (has (is_kept_so (λ (x : KeptOriginal). not (is_named v x)))) r.stands ∙ ap not r.named,
+      (
+        ap (has is_mark) r.stands,
         (
-          none_and _ v.repeat (ap (has (is_kept_so (is_reversed_by v))) r.stands ∙ ap (has (λ (by : Identity). is_same_identity by (identity_of v.transaction))) r.unreversed),
+          ap (has (is_kept_so (λ (x : KeptOriginal). not (is_named v x)))) r.stands ∙ ap not r.named,
           (
-            ap (has (is_kept_so (λ (x : KeptOriginal). is_some (reversal_of_outcome x.outcome)))) r.stands ∙ ap is_some r.unreversed,
+            none_and _ v.repeat (ap (has (is_kept_so (is_reversed_by v))) r.stands ∙ ap (has (λ (by : Identity). is_same_identity by (identity_of v.transaction))) r.unreversed),
             (
-              ap (has (is_kept_so (λ (x : KeptOriginal). is_none (payment_of_outcome x.outcome)))) r.stands ∙ ap is_none r.posted,
+              ap (has (is_kept_so (λ (x : KeptOriginal). is_some (reversal_of_outcome x.outcome)))) r.stands ∙ ap is_some r.unreversed,
               (
-                ap (has (is_kept_so (λ (x : KeptOriginal). is_wrong_part v.scope v.transaction.amount x.amount))) r.stands ∙ r.part,
+                ap (has (is_kept_so (λ (x : KeptOriginal). is_none (payment_of_outcome x.outcome)))) r.stands ∙ ap is_none r.posted,
                 (
-                  ap is_none by_row,
+                  ap (has (is_kept_so (λ (x : KeptOriginal). is_wrong_part v.scope v.transaction.amount x.amount))) r.stands ∙ r.part,
                   (
-                    ap (λ (o : Option OriginalRow). has (is_kept_so is_request) o && is_none (day_of_row (map.get rows) v o)) r.stands ∙ days.0,
+                    ap is_none by_row,
                     (
-                      ap (has (λ (p : Funds). nat_lt greatest_balance (balance_of p + gives_back v (original_in (map.get rows (RowKey.Original v.original.identity)))))) by_row
-                      ∙ ap (λ n. nat_lt greatest_balance (balance_of paid.paid + n)) back_is
-                      ∙ not_over (balance_of paid.paid) r.kept.amount (given_back v r.kept) paid.room (back_within v r.kept),
+                      ap (λ (o : Option OriginalRow). has (is_kept_so is_request) o && is_none (day_of_row (map.get rows) v o)) r.stands ∙ days.0,
                       (
-                        ap (λ (o : Option OriginalRow). has (is_kept_so is_request) o && has (λ (d : VelocityRow). (takes_approval v.scope && (d.count == 0)) || nat_lt d.sum (gives_back v o)) (day_of_row (map.get rows) v o)) r.stands ∙ days.1,
-                        tt,
+                        ap (has (λ (p : Funds). nat_lt greatest_balance (balance_of p + gives_back v (original_in (map.get rows (RowKey.Original v.original.identity)))))) by_row
+                            ∙ ap (λ n. nat_lt greatest_balance (balance_of paid.paid + n)) back_is
+                            ∙ not_over (balance_of paid.paid) r.kept.amount (given_back v r.kept) paid.room (back_within v r.kept),
+                        (
+                          ap (λ (o : Option OriginalRow). has (is_kept_so is_request) o && has (λ (d : VelocityRow). (takes_approval v.scope && (d.count == 0)) || nat_lt d.sum (gives_back v o)) (day_of_row (map.get rows) v o)) r.stands ∙ days.1,
+                          tt,
+                        ),
                       ),
                     ),
                   ),
@@ -208,7 +206,7 @@ conditions_fail rows h v r =
             ),
           ),
         ),
-      )),
+      ),
     )
 
 given_is_400 : (v : Reversal) (kind : OriginalKind) (k : KeptOriginal) (paid : Funds) (day : Option VelocityRow) (end : Plan) (look : Lookup) → EndsGivenBack kind v k paid day end → HasAction 400 (comes_to end look).0

@@ -1,5 +1,5 @@
 -- Every decision leaves a sound book sound.
-use Rattle.std.proofs.Common.{◌≡◌, ◌≢◌, ℕ, ◌+◌, ◌^◌, ◌≤◌, Bool, true, false, if◌then◌else◌, ◌&&◌, not, List, [], ◌∷◌, ◌++◌, Option, Some, None, is_some, IsTrue, ◌⊎◌, inl, inr, refl, sym, ap, ◌∙◌, subst, arith}
+use Rattle.std.proofs.Common.{◌≡◌, ℕ, ◌^◌, ◌≤◌, Bool, true, false, if◌then◌else◌, ◌&&◌, List, [], ◌∷◌, ◌++◌, Option, Some, None, is_some, inl, inr, refl, sym, ap, ◌∙◌, subst, arith}
 use Rattle.std.proofs.lemmas.Bool.{false≢true}
 use Rattle.std.proofs.lemmas.List.Sums.{sum_by-cons}
 use Rattle.std.specs.Cmp.Derive.{both_true}
@@ -14,13 +14,12 @@ use Rattle.iso8583.specs.declared.pan.Pan.{Pan}
 use Rattle.iso8583.specs.declared.request.Request.{Request}
 use Rattle.iso8583.specs.declared.reversal.Reversal.{Reversal}
 use Rattle.issuer_rows.specs.AdviceTable.{advice_on_original}
-use Rattle.issuer_rows.specs.CardAccounts.{is_same_account}
 use Rattle.issuer_rows.specs.Decision.{decision}
 use Rattle.issuer_rows.specs.Facts.{identity_of, is_marked, is_of_same}
-use Rattle.issuer_rows.specs.Fold.{Rows, overlay, writes_of, rows_after_one, rows_after}
+use Rattle.issuer_rows.specs.Fold.{Rows, overlay, writes_of, rows_after_one}
 use Rattle.issuer_rows.specs.Funds.{key_of_funds, row_of_funds, with_balance, payer_of}
-use Rattle.issuer_rows.specs.Kept.{KeptOriginal, payment_of_outcome, settled_outcome, settled_payment}
-use Rattle.issuer_rows.specs.Plan.{Plan, Lookup, Writes, carried_out}
+use Rattle.issuer_rows.specs.Kept.{KeptOriginal, payment_of_outcome, settled_outcome}
+use Rattle.issuer_rows.specs.Plan.{Plan, Writes, carried_out}
 use Rattle.issuer_rows.specs.RequestTable.{on_original, approved_card}
 use Rattle.issuer_rows.specs.ReversalTable.{reversal_plan, reversed_original, refunded}
 use Rattle.issuer_rows.specs.Typed.{card_in, original_in, account_in}
@@ -40,10 +39,10 @@ use Rattle.issuer_laws.proofs.Conserved.{accounts_kept, prefixes_kept}
 use Rattle.issuer_laws.proofs.Funding.{IsFound}
 use Rattle.issuer_laws.proofs.Keys.{get-put, get-other, same_or_other}
 use Rattle.issuer_laws.proofs.RequestWays as request
-use Rattle.issuer_laws.proofs.ReversalWays.{SettlesPosted, day_put, reversal_ways}
-use Rattle.issuer_laws.proofs.Sums.{part, sum-insert}
+use Rattle.issuer_laws.proofs.ReversalWays.{day_put, reversal_ways}
+use Rattle.issuer_laws.proofs.Sums.{sum-insert}
 use Rattle.book_laws.proofs.BackingLaws.{found_in}
-use Rattle.book_laws.specs.CheckBook.{has_right_number, has_account, has_payer, is_backed, has_paying_account, has_second, are_accounts, has_accounts, are_numbers_right, have_paying_accounts, have_accounts, IsSound}
+use Rattle.book_laws.specs.CheckBook.{has_right_number, has_account, has_payer, is_backed, has_paying_account, has_second, has_accounts, IsSound}
 use Rattle.book_changes.specs.Runs.{StaysSound}
 
 abbrev Row : Type 0
@@ -313,7 +312,7 @@ sound_behind rows frame sound =
     let after = rows_after_one rows frame in
     let right : AreRight rows (writes_of rows frame) = writes_right rows sound frame in
     let keeps : KeepsAllAccounts rows (rows_after_one rows frame) =
-        λ id. account_behind rows (writes_of rows frame) id (each_of (IsRightRow rows) (λ w. IsAccountRow w.0 w.1) (writes_of rows frame) (λ w h. h.account) right)
+    λ id. account_behind rows (writes_of rows frame) id (each_of (IsRightRow rows) (λ w. IsAccountRow w.0 w.1) (writes_of rows frame) (λ w h. h.account) right)
     in
     record {
       numbers = all_behind (λ row. has_right_number row.0) rows ws sound.numbers (each_of (IsRightRow rows) (λ w. has_right_number w.0 ≡ true) ws (λ w h. h.number) right);

@@ -1,6 +1,5 @@
 -- A batch without reversals that is sent once more writes nothing.
-use Rattle.std.proofs.Common.{◌≡◌, Bool, true, false, if◌then◌else◌, ◌&&◌, List, [], ◌∷◌, map, Option, Some, None, ◌⊎◌, inl, inr, refl, sym, ap, ◌∙◌, subst}
-use Rattle.std.proofs.lemmas.Bool.{false≢true}
+use Rattle.std.proofs.Common.{◌≡◌, Bool, true, false, if◌then◌else◌, List, [], ◌∷◌, map, Option, Some, None, inl, inr, refl, sym, ap, ◌∙◌, subst}
 use Rattle.std.specs.FinMap as finite
 use Rattle.std.specs.List.{AllByRecursion}
 use Rattle.iso8583.specs.declared.advice.Advice.{Advice}
@@ -8,12 +7,12 @@ use Rattle.iso8583.specs.declared.message.Message.{Message}
 use Rattle.iso8583.specs.declared.original_kind.OriginalKind.{OriginalKind}
 use Rattle.iso8583.specs.declared.request.Request.{Request}
 use Rattle.iso8583.specs.declared.transaction.Transaction.{Transaction}
-use Rattle.issuer_rows.specs.AdviceTable.{advice_on_original, marked_advice, answered_unkept, kept_of_advice}
+use Rattle.issuer_rows.specs.AdviceTable.{advice_on_original, marked_advice, answered_unkept}
 use Rattle.issuer_rows.specs.Decision.{decision}
 use Rattle.issuer_rows.specs.Facts.{identity_of, is_marked, is_of_same}
 use Rattle.issuer_rows.specs.Fold.{Rows, overlay, writes_of, rows_after_one, rows_after}
 use Rattle.issuer_rows.specs.Plan.{Plan, Lookup, Writes, carried_out}
-use Rattle.issuer_rows.specs.RequestTable.{on_original, marked_request, declined_unkept, kept_of_request}
+use Rattle.issuer_rows.specs.RequestTable.{on_original, marked_request, declined_unkept}
 use Rattle.issuer_rows.specs.Typed.{original_in}
 use Rattle.issuer_rows.specs.declared.frame.Frame.{Frame}
 use Rattle.issuer_rows.specs.declared.original_row.OriginalRow.{OriginalRow}
@@ -21,7 +20,7 @@ use Rattle.issuer_rows.specs.declared.row_key.RowKey.{RowKey}
 use Rattle.issuer_rows.specs.declared.row_val.RowVal.{RowVal}
 use Rattle.issuer_laws.proofs.AdviceWays as advice
 use Rattle.issuer_laws.proofs.Keys.{get-other, get-fresh, same_or_other, funds_other, original_stands}
-use Rattle.issuer_laws.proofs.Permanent.{PutsOriginal, Succeeds, puts_original, KeptAfter, kept_after_writes}
+use Rattle.issuer_laws.proofs.Permanent.{PutsOriginal, Succeeds, puts_original, kept_after_writes}
 use Rattle.issuer_laws.proofs.RequestWays as request
 use Rattle.issuer_laws.specs.Again.{again, IsNoReversal, WritesNothingAgain}
 use Rattle.issuer_laws.specs.Messages.{request_frame, advice_frame}
@@ -44,19 +43,19 @@ stays_done rows frame t k (Some (OriginalRow.Kept kept)) e done =
     subst (IsDone t k) (sym after.1) tt
 stays_done rows frame t k (Some (OriginalRow.Ahead mark)) e done = behind (puts_original (finite.get rows) frame)
   where
-  behind : PutsOriginal (finite.get rows) (writes_of rows frame) → IsDone t k (row_of (rows_after_one rows frame) t)
-  behind (inl nothing) = subst (IsDone t k) (sym (ap (λ (w : Writes). original_in (finite.get (overlay rows w) (RowKey.Original (identity_of t)))) nothing ∙ e)) done
-  behind (inr p) =
-      elim (same_or_other (RowKey.Original (identity_of t)) (RowKey.Original p.0)) [
-        | inl same ↦
-            let at_its_place = ap (λ (q : RowKey). original_in (finite.get rows q)) (sym same) ∙ e in
-            let kept = subst (λ (o : Option OriginalRow). Succeeds o p.1) at_its_place p.5 in
-            let there = ap (λ (q : RowKey). original_in (finite.get (overlay rows (writes_of rows frame)) q)) same ∙ original_stands rows p.0 p.1 (writes_of rows frame) p.2 p.3 p.4 ∙ ap (λ (v : RowVal). original_in (Some v)) kept.1 in
-            subst (IsDone t k) (sym there) tt
-        | inr other ↦
-            let there = ap original_in (ap (λ (w : Writes). finite.get (overlay rows w) (RowKey.Original (identity_of t))) p.3 ∙ get-fresh (finite.insert rows (RowKey.Original p.0) p.1) p.2 (RowKey.Original (identity_of t)) p.4 ∙ get-other rows (RowKey.Original p.0) p.1 (RowKey.Original (identity_of t)) other) ∙ e in
-            subst (IsDone t k) (sym there) done
-      ]
+    behind : PutsOriginal (finite.get rows) (writes_of rows frame) → IsDone t k (row_of (rows_after_one rows frame) t)
+    behind (inl nothing) = subst (IsDone t k) (sym (ap (λ (w : Writes). original_in (finite.get (overlay rows w) (RowKey.Original (identity_of t)))) nothing ∙ e)) done
+    behind (inr p) =
+        elim (same_or_other (RowKey.Original (identity_of t)) (RowKey.Original p.0)) [
+          | inl same ↦
+              let at_its_place = ap (λ (q : RowKey). original_in (finite.get rows q)) (sym same) ∙ e in
+              let kept = subst (λ (o : Option OriginalRow). Succeeds o p.1) at_its_place p.5 in
+              let there = ap (λ (q : RowKey). original_in (finite.get (overlay rows (writes_of rows frame)) q)) same ∙ original_stands rows p.0 p.1 (writes_of rows frame) p.2 p.3 p.4 ∙ ap (λ (v : RowVal). original_in (Some v)) kept.1 in
+              subst (IsDone t k) (sym there) tt
+          | inr other ↦
+              let there = ap original_in (ap (λ (w : Writes). finite.get (overlay rows w) (RowKey.Original (identity_of t))) p.3 ∙ get-fresh (finite.insert rows (RowKey.Original p.0) p.1) p.2 (RowKey.Original (identity_of t)) p.4 ∙ get-other rows (RowKey.Original p.0) p.1 (RowKey.Original (identity_of t)) other) ∙ e in
+              subst (IsDone t k) (sym there) done
+        ]
 
 -- a message that was decided
 request_done : (rows : Rows) (r : Request) (row : Option OriginalRow) → row_of rows r.transaction ≡ row → IsDone r.transaction OriginalKind.Request (row_of (rows_after_one rows (request_frame r)) r.transaction)

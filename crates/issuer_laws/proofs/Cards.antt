@@ -1,5 +1,5 @@
 -- A card's row changes in its approvals alone, which rise, and no day passes its card's limits.
-use Rattle.std.proofs.Common.{◌≡◌, ℕ, ◌+◌, ◌-◌, ◌≤◌, Bool, true, false, if◌then◌else◌, nat_lt, nat_le, not, ◌==◌, ◌&&◌, List, [], ◌∷◌, ◌++◌, Option, Some, None, IsTrue, ◌⊎◌, inl, inr, refl, sym, ap, ◌∙◌, subst, arith}
+use Rattle.std.proofs.Common.{◌≡◌, ℕ, ◌+◌, ◌≤◌, Bool, true, false, if◌then◌else◌, nat_lt, nat_le, not, ◌==◌, ◌&&◌, List, [], ◌∷◌, ◌++◌, Option, Some, None, IsTrue, ◌⊎◌, inl, inr, refl, sym, ap, ◌∙◌, subst, arith}
 use Rattle.std.proofs.lemmas.Bool.Decides.{nat_tests}
 use Rattle.std.specs.FinMap as map
 use Rattle.iso8583.proofs.NumberLaws.{number_of-fixed_digits}
@@ -20,7 +20,6 @@ use Rattle.issuer_rows.specs.Decision.{decision}
 use Rattle.issuer_rows.specs.Facts.{day_of, is_marked, is_of_same}
 use Rattle.issuer_rows.specs.Fold.{Rows, overlay, writes_of, rows_after_one, rows_after}
 use Rattle.issuer_rows.specs.Funds.{key_of_funds}
-use Rattle.issuer_rows.specs.Kept.{KeptOriginal}
 use Rattle.issuer_rows.specs.Plan.{Plan, Lookup, Writes, carried_out}
 use Rattle.issuer_rows.specs.RequestTable.{reply_to_request, on_original, refused_by_limits, approval_code, approved_card, spent_more}
 use Rattle.issuer_rows.specs.ReversalTable.{reversal_plan, reversed_original, refunded, count_left, spent_less}
@@ -265,16 +264,16 @@ day_after rows ws pan day card at h (inr w) =
       | inr other ↦ subst (IsWithin card) (sym (ap (λ (o : Option RowVal). spent_in (velocity_in o)) other)) h
     ]
   where
-  changed_within : (rows : Rows) (w : WritesDay (map.get rows) ws) (pan : Pan) (day : List ℕ) (card : CardRow) → RowKey.Velocity pan day ≡ RowKey.Velocity w.pan w.day → IsCardAt rows pan card → IsWithin card (spent_on rows pan day) → IsApprovedDay (map.get rows) w.pan w.row ⊎ IsLesserDay (map.get rows) w.pan w.day w.row → IsWithin card w.row
-  changed_within rows w pan day card own at h (inl approved) =
-      let one : pan ≡ w.pan = cc in
-      let there = ap (λ (p : Pan). card_in (map.get rows (RowKey.Card p))) one ∙ approved.stands in
-      let same : card ≡ approved.card = cc in
-      subst (λ (c : CardRow). IsWithin c w.row) (sym same) approved.within
-  changed_within rows w pan day card own at h (inr lesser) =
-      let there = ap (λ (q : RowKey). spent_in (velocity_in (map.get rows q))) own ∙ ap spent_in lesser.stands in
-      let before = subst (IsWithin card) there h in
-      record { count = omega (arith, before.count, lesser.count); sum = omega (arith, before.sum, lesser.sum) }
+    changed_within : (rows : Rows) (w : WritesDay (map.get rows) ws) (pan : Pan) (day : List ℕ) (card : CardRow) → RowKey.Velocity pan day ≡ RowKey.Velocity w.pan w.day → IsCardAt rows pan card → IsWithin card (spent_on rows pan day) → IsApprovedDay (map.get rows) w.pan w.row ⊎ IsLesserDay (map.get rows) w.pan w.day w.row → IsWithin card w.row
+    changed_within rows w pan day card own at h (inl approved) =
+        let one : pan ≡ w.pan = cc in
+        let there = ap (λ (p : Pan). card_in (map.get rows (RowKey.Card p))) one ∙ approved.stands in
+        let same : card ≡ approved.card = cc in
+        subst (λ (c : CardRow). IsWithin c w.row) (sym same) approved.within
+    changed_within rows w pan day card own at h (inr lesser) =
+        let there = ap (λ (q : RowKey). spent_in (velocity_in (map.get rows q))) own ∙ ap spent_in lesser.stands in
+        let before = subst (IsWithin card) there h in
+        record { count = omega (arith, before.count, lesser.count); sum = omega (arith, before.sum, lesser.sum) }
 
 within_after_one : (rows : Rows) (frame : Frame) → IsWithinLimits rows → IsWithinLimits (rows_after_one rows frame)
 within_after_one rows frame h pan day later at =
@@ -297,7 +296,7 @@ leaves_day_within rows r first =
       approved_card a.card,
       ap card_in card_there,
       subst (IsWithin (approved_card a.card)) (sym (ap (λ (o : Option RowVal). spent_in (velocity_in o)) day_there))
-      (allows a.card (approved_card a.card) spent (one_more a.card) (within_limits r a.card (request.spent_by r (map.get rows)) a.within)),
+          (allows a.card (approved_card a.card) spent (one_more a.card) (within_limits r a.card (request.spent_by r (map.get rows)) a.within)),
     )
 
 -- the approval code of a reply, if it has one

@@ -1,5 +1,5 @@
 -- Each day keeps what reversals of its requests may take from it.
-use Rattle.std.proofs.Common.{◌≡◌, ◌≢◌, ℕ, ◌+◌, ◌-◌, ◌≤◌, Bool, true, false, ◌&&◌, ◌==◌, not, if◌then◌else◌, List, [], ◌∷◌, ◌++◌, Option, Some, None, is_none, option_map, IsTrue, ◌⊎◌, inl, inr, refl, sym, ap, ◌∙◌, subst, arith}
+use Rattle.std.proofs.Common.{◌≡◌, ◌≢◌, ℕ, ◌+◌, ◌-◌, ◌≤◌, Bool, true, false, ◌&&◌, ◌==◌, not, if◌then◌else◌, List, [], ◌∷◌, ◌++◌, Option, Some, None, is_none, option_map, IsTrue, inl, inr, refl, sym, ap, ◌∙◌, subst, arith}
 use Rattle.std.proofs.lemmas.Bool.{false≢true}
 use Rattle.std.specs.FinMap as map
 use Rattle.std.specs.List.{sum_by}
@@ -15,16 +15,15 @@ use Rattle.issuer_rows.proofs.PutsOnce.{IsFresh, not_another}
 use Rattle.issuer_rows.specs.AdviceTable.{advice_on_original, kept_of_advice}
 use Rattle.issuer_rows.specs.Decision.{decision}
 use Rattle.issuer_rows.specs.Facts.{identity_of, day_of, is_same_card, is_marked, is_of_same}
-use Rattle.issuer_rows.specs.Fold.{Rows, overlay, writes_of, rows_after_one, rows_after}
+use Rattle.issuer_rows.specs.Fold.{Rows, overlay, rows_after_one, rows_after}
 use Rattle.issuer_rows.specs.Funds.{paid_by}
 use Rattle.issuer_rows.specs.Kept.{KeptOriginal, kind_of_outcome, payment_of_outcome, reversal_of_outcome, settled, settled_outcome}
-use Rattle.issuer_rows.specs.Plan.{Plan, Lookup, Writes, carried_out}
+use Rattle.issuer_rows.specs.Plan.{Plan, Writes, carried_out}
 use Rattle.issuer_rows.specs.RequestTable.{on_original, kept_of_request, spent_more}
 use Rattle.issuer_rows.specs.ReversalTable.{reversal_plan, reversed_original, refunded, given_back, difference, count_left, spent_less}
 use Rattle.issuer_rows.specs.RowKey.{kind_of, text_eq}
 use Rattle.issuer_rows.specs.Typed.{velocity_in, original_in, spent_in}
 use Rattle.issuer_rows.specs.declared.frame.Frame.{Frame}
-use Rattle.issuer_rows.specs.declared.funds.Funds.{Funds}
 use Rattle.issuer_rows.specs.declared.original_outcome.OriginalOutcome.{OriginalOutcome}
 use Rattle.issuer_rows.specs.declared.original_row.OriginalRow.{OriginalRow}
 use Rattle.issuer_rows.specs.declared.payment.Payment.{Payment}
@@ -36,14 +35,12 @@ use Rattle.issuer_rows.specs.declared.velocity_row.VelocityRow.{VelocityRow}
 use Rattle.issuer_laws.proofs.AdviceWays as advice
 use Rattle.issuer_laws.proofs.Cards.{approved_day_row, leaves_two}
 use Rattle.issuer_laws.proofs.Keys.{get-fresh, same_or_other, same_text, texts_same, funds_other}
-use Rattle.issuer_laws.proofs.Permanent.{rest_fresh}
 use Rattle.issuer_laws.proofs.Repeated.{kept_with}
 use Rattle.issuer_laws.proofs.RequestWays as request
 use Rattle.issuer_laws.proofs.ReversalWays.{SettlesPosted, IsDayFound, day_put, reversal_ways}
 use Rattle.issuer_laws.proofs.Sums.{part, sum-insert}
 use Rattle.issuer_laws.proofs.Written.{WritesOne, value_there, value_other}
-use Rattle.issuer_laws.specs.Covered.{is_open_request, is_open_on, open_in, open_count, open_sum, IsCovered, AreDaysCovered}
-use Rattle.issuer_laws.specs.Undone.{spent_on}
+use Rattle.issuer_laws.specs.Covered.{is_open_request, is_open_on, open_in, open_count, open_sum, AreDaysCovered}
 
 -- ---- sums over originals
 
@@ -305,9 +302,9 @@ kept_counts weight pan day identity row k e shut = ap (counts weight pan day ide
 pub back_within : (v : Reversal) (k : KeptOriginal) → given_back v k ≤ k.amount
 back_within v k = within v.scope v.transaction.amount k.amount
   where
-  within : (s : ReversalScope) (own amount : ℕ) → difference s own amount ≤ amount
-  within ReversalScope.Full own amount = omega arith
-  within (ReversalScope.Partial claimed) own amount = omega arith
+    within : (s : ReversalScope) (own amount : ℕ) → difference s own amount ≤ amount
+    within ReversalScope.Full own amount = omega arith
+    within (ReversalScope.Partial claimed) own amount = omega arith
 
 one_at_most : (s : ReversalScope) (n : ℕ) → n ≤ count_left s n + 1
 one_at_most ReversalScope.Full n = omega arith

@@ -1,45 +1,29 @@
 -- An original that has a reversal stays as it is, so another reversal of it is a duplicate.
-use Rattle.std.proofs.Common.{◌≡◌, ◌≢◌, ℕ, Bool, true, false, if◌then◌else◌, ◌&&◌, ◌-◌, List, [], ◌∷◌, ◌++◌, Option, Some, None, ◌⊎◌, inl, inr, refl, sym, ap, ◌∙◌, subst, arith}
+use Rattle.std.proofs.Common.{◌≡◌, ◌≢◌, ℕ, Bool, true, false, if◌then◌else◌, ◌&&◌, ◌-◌, List, [], ◌∷◌, Option, Some, inl, inr, refl, sym, ap, ◌∙◌, subst, arith}
 use Rattle.std.proofs.lemmas.Bool.{false≢true}
 use Rattle.std.specs.FinMap as map
-use Rattle.iso8583.specs.declared.advice.Advice.{Advice}
 use Rattle.iso8583.specs.declared.identity.Identity.{Identity}
-use Rattle.iso8583.specs.declared.message.Message.TheVariants as message
 use Rattle.iso8583.specs.declared.original_kind.OriginalKind.{OriginalKind}
-use Rattle.iso8583.specs.declared.original_kind.OriginalKind.TheVariants as kind
 use Rattle.iso8583.specs.declared.pan.Pan.{Pan}
-use Rattle.iso8583.specs.declared.request.Request.{Request}
 use Rattle.iso8583.specs.declared.reversal.Reversal.{Reversal}
 use Rattle.issuer_rows.proofs.PutsOnce.{IsFresh}
-use Rattle.issuer_rows.specs.AdviceTable.{advice_on_original, kept_of_advice}
 use Rattle.issuer_rows.specs.Decision.{decision}
-use Rattle.issuer_rows.specs.Facts.{identity_of, is_same_card, is_same_kind, is_same_identity, is_marked, is_of_same}
-use Rattle.issuer_rows.specs.Fold.{Rows, overlay, writes_of, rows_after_one, rows_after}
-use Rattle.issuer_rows.specs.Kept.{KeptOriginal, kind_of_outcome, reversal_of_outcome, settled, settled_outcome}
-use Rattle.issuer_rows.specs.Plan.{Plan, Lookup, Writes, carried_out}
-use Rattle.issuer_rows.specs.RequestTable.{on_original, kept_of_request}
-use Rattle.issuer_rows.specs.ReversalTable.{reply_to_reversal, unchanged, refunded, given_back, is_named, on_reversal, on_reversed, reversal_plan}
+use Rattle.issuer_rows.specs.Facts.{identity_of, is_same_card, is_same_kind, is_same_identity}
+use Rattle.issuer_rows.specs.Fold.{Rows, overlay, rows_after_one, rows_after}
+use Rattle.issuer_rows.specs.Kept.{KeptOriginal, kind_of_outcome, reversal_of_outcome, settled}
+use Rattle.issuer_rows.specs.Plan.{Lookup, Writes}
+use Rattle.issuer_rows.specs.ReversalTable.{reply_to_reversal, unchanged, given_back, is_named, on_reversal, on_reversed, reversal_plan}
 use Rattle.issuer_rows.specs.RowKey.{text_eq}
 use Rattle.issuer_rows.specs.Typed.{original_in}
 use Rattle.issuer_rows.specs.declared.frame.Frame.{Frame}
-use Rattle.issuer_rows.specs.declared.frame.Frame.TheVariants.{Good, Bad}
-use Rattle.issuer_rows.specs.declared.funds.Funds.{Funds}
-use Rattle.issuer_rows.specs.declared.funds.Funds.TheVariants as funds
 use Rattle.issuer_rows.specs.declared.original_row.OriginalRow.{OriginalRow}
 use Rattle.issuer_rows.specs.declared.original_row.OriginalRow.TheVariants as original
-use Rattle.issuer_rows.specs.declared.original_outcome.OriginalOutcome.{OriginalOutcome}
-use Rattle.issuer_rows.specs.declared.original_outcome.OriginalOutcome.TheVariants as outcome
 use Rattle.issuer_rows.specs.declared.reply_body.ReplyBody.{ReplyBody}
-use Rattle.issuer_rows.specs.declared.row_key.RowKey.{RowKey}
 use Rattle.issuer_rows.specs.declared.row_key.RowKey.TheVariants as key
-use Rattle.issuer_rows.specs.declared.row_val.RowVal.{RowVal}
 use Rattle.issuer_rows.specs.declared.row_val.RowVal.TheVariants as val
-use Rattle.issuer_rows.specs.declared.velocity_row.VelocityRow.{VelocityRow}
-use Rattle.issuer_laws.proofs.AdviceWays as advice
 use Rattle.issuer_laws.proofs.Keys.{texts_same, original_stands, Outcomes, comes_to}
 use Rattle.issuer_laws.proofs.Permanent.{rest_fresh, has_reversal, same_kind, stays_kept}
-use Rattle.issuer_laws.proofs.RequestWays as request
-use Rattle.issuer_laws.proofs.ReversalWays.{IsReversalDecided, day_put, reversal_ways}
+use Rattle.issuer_laws.proofs.ReversalWays.{IsReversalDecided, reversal_ways}
 use Rattle.issuer_laws.specs.Duplicate.{IsAnotherReversal, IsDuplicate, SecondIsDuplicate}
 use Rattle.issuer_laws.specs.Messages.{reversal_frame, HasAction}
 use Rattle.issuer_laws.specs.Permanent.{IsKeptAt, Continues}

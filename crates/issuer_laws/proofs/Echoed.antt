@@ -1,5 +1,5 @@
 -- Each reply repeats its message.
-use Rattle.std.proofs.Common.{◌≡◌, Bool, true, false, if◌then◌else◌, ◌&&◌, List, [], ◌∷◌, Option, Some, None, inl, inr, refl}
+use Rattle.std.proofs.Common.{Bool, true, false, if◌then◌else◌, ◌&&◌, List, [], ◌∷◌, Option, Some, None, inl, inr, refl}
 use Rattle.std.specs.FinMap as map
 use Rattle.iso8583.specs.declared.advice.Advice.{Advice}
 use Rattle.iso8583.specs.declared.message.Message.{Message}

@@ -12,16 +12,15 @@ use Rattle.iso8583.specs.declared.pan.Pan.{Pan}
 use Rattle.iso8583.specs.declared.pan_prefix.PanPrefix.{PanPrefix}
 use Rattle.iso8583.specs.declared.request.Request.{Request}
 use Rattle.iso8583.specs.declared.reversal.Reversal.{Reversal}
-use Rattle.iso8583.specs.declared.transaction.Transaction.{Transaction}
-use Rattle.issuer_rows.specs.AdviceTable.{advice_again, advice_on_original, advice_on_funds, advice_on_account, advice_on_named, advice_on_card, fresh_advice, acknowledged, advice_funds}
+use Rattle.issuer_rows.specs.AdviceTable.{advice_on_original, advice_on_funds, advice_on_account, advice_on_named, advice_on_card, acknowledged, advice_funds}
 use Rattle.issuer_rows.specs.CardAccounts.{account_of}
 use Rattle.issuer_rows.specs.Decision.{decision}
 use Rattle.issuer_rows.specs.Facts.{identity_of, day_of, prefix_of, is_same_card, is_same_currency, is_same_identity, is_marked, is_of_same}
 use Rattle.issuer_rows.specs.Fold.{Rows, overlay, writes_of, rows_after_one}
-use Rattle.issuer_rows.specs.Funds.{key_of_funds, row_of_funds, with_balance, payer_of, paid_by}
+use Rattle.issuer_rows.specs.Funds.{key_of_funds, row_of_funds, with_balance, payer_of}
 use Rattle.issuer_rows.specs.Kept.{KeptOriginal, kind_of_outcome, payment_of_outcome, reversal_of_outcome, settled, settled_outcome}
 use Rattle.issuer_rows.specs.Plan.{Plan, Lookup, Writes, carried_out}
-use Rattle.issuer_rows.specs.RequestTable.{request_again, on_original, on_card, on_usable, on_account, on_funds, unless_refused, approved_card, declined_request, refused_unseen, refused_by_limits, usable_account, request_funds, fresh_request}
+use Rattle.issuer_rows.specs.RequestTable.{on_original, on_card, on_usable, on_account, on_funds, unless_refused, approved_card, declined_request, refused_unseen, refused_by_limits, usable_account, request_funds}
 use Rattle.issuer_rows.specs.ReversalTable.{reversal_plan, on_reversed, on_reversal, on_payment, by_payer, on_paid, by_kind, on_original_day, reversed_advice, reversed_original, refunded, is_named, is_wrong_part, is_overfull, day_is_short}
 use Rattle.issuer_rows.specs.Typed.{card_in, velocity_in, budget_in, original_in, account_in, spent_in}
 use Rattle.issuer_rows.specs.declared.account_row.AccountRow.{AccountRow}
@@ -29,7 +28,6 @@ use Rattle.issuer_rows.specs.declared.budget_row.BudgetRow.{BudgetRow}
 use Rattle.issuer_rows.specs.declared.card_row.CardRow.{CardRow}
 use Rattle.issuer_rows.specs.declared.frame.Frame.{Frame}
 use Rattle.issuer_rows.specs.declared.funds.Funds.{Funds}
-use Rattle.issuer_rows.specs.declared.mark.Mark.{Mark}
 use Rattle.issuer_rows.specs.declared.original_outcome.OriginalOutcome.{OriginalOutcome}
 use Rattle.issuer_rows.specs.declared.original_row.OriginalRow.{OriginalRow}
 use Rattle.issuer_rows.specs.declared.payer.Payer.{Payer}
@@ -39,7 +37,7 @@ use Rattle.issuer_rows.specs.declared.row_key.RowKey.{RowKey}
 use Rattle.issuer_rows.specs.declared.row_val.RowVal.{RowVal}
 use Rattle.issuer_rows.specs.declared.velocity_row.VelocityRow.{VelocityRow}
 use Rattle.issuer_laws.proofs.AdviceWays as advice
-use Rattle.issuer_laws.proofs.Funding.{CanPay, IsFound, IsOfCard, IsOwn, account_own}
+use Rattle.issuer_laws.proofs.Funding.{IsFound, IsOfCard, IsOwn, account_own}
 use Rattle.issuer_laws.proofs.Keys.{get-put, get-other, same_or_other, texts_same}
 use Rattle.issuer_laws.proofs.RequestWays as request
 use Rattle.issuer_laws.proofs.ReversalWays.{SettlesPosted, Names, day_put, reversal_ways}
@@ -89,12 +87,13 @@ opening_payers identity opening row k more e =
     subst (λ (o : Option OriginalRow). AreIn (payment_keys (payment_of_outcome k.outcome)) (paying_keys o ++ more)) (sym e)
     (are_in_front (payment_keys (payment_of_outcome k.outcome)) (payment_keys (payment_of_outcome k.outcome)) more (all_in (payment_of_outcome k.outcome)))
   where
-  payer_in : (p : Payer) → AreIn (payer_keys p) (payer_keys p)
-  payer_in (Payer.Account id) = (inl refl, tt)
-  payer_in Payer.Budget = tt
-  all_in : (p : Option Payment) → AreIn (payment_keys p) (payment_keys p)
-  all_in None = tt
-  all_in (Some payment) = payer_in payment.payer
+    payer_in : (p : Payer) → AreIn (payer_keys p) (payer_keys p)
+    payer_in (Payer.Account id) = (inl refl, tt)
+    payer_in Payer.Budget = tt
+
+    all_in : (p : Option Payment) → AreIn (payment_keys p) (payment_keys p)
+    all_in None = tt
+    all_in (Some payment) = payer_in payment.payer
 
 -- the opening book itself
 pub follows_itself : (opening : Rows) → IsFollowing opening opening
@@ -181,13 +180,19 @@ request_own opening rows h r None =
       | inr a ↦
           these opening (map.get rows) _ _ _ a.writes (
             record { proper = inl (own_payers (map.get rows) r.transaction.pan a.paying a.pays.own); key = inr (inl refl) },
-            (record { proper = card_kept _ a.card a.stands; key = inr (inr (inl refl)) }, (record { proper = tt; key = inl refl }, (
-              record {
-                proper = funds_proper (map.get rows) a.paying _ a.pays.found;
-                key = inr (inr (inr (funds_in opening rows h r.transaction.pan a.paying a.pays.found a.pays.of_card a.pays.own)));
-              },
-              tt,
-            ))),
+            (
+              record { proper = card_kept _ a.card a.stands; key = inr (inr (inl refl)) },
+              (
+                record { proper = tt; key = inl refl },
+                (
+                  record {
+                    proper = funds_proper (map.get rows) a.paying _ a.pays.found;
+                    key = inr (inr (inr (funds_in opening rows h r.transaction.pan a.paying a.pays.found a.pays.of_card a.pays.own)));
+                  },
+                  tt,
+                ),
+              ),
+            ),
           )
     ]
 request_own opening rows h r (Some (OriginalRow.Ahead mark)) =
@@ -278,13 +283,16 @@ posted_own opening rows h v reply writes s None = (
 )
 posted_own opening rows h v reply writes s (Some day) = (
   record { proper = settled_proper (map.get rows) v.original.identity s.kept _ _ s.names.stands; key = inl refl },
-  (record { proper = tt; key = day_needed opening v s.kept s.names.named }, (
-    record {
-      proper = funds_proper (map.get rows) s.paid _ s.found;
-      key = inr (inr (paid_in opening rows h v s.kept s.payment s.paid s.names s.posted s.found s.of_card s.payer));
-    },
-    tt,
-  )),
+  (
+    record { proper = tt; key = day_needed opening v s.kept s.names.named },
+    (
+      record {
+        proper = funds_proper (map.get rows) s.paid _ s.found;
+        key = inr (inr (paid_in opening rows h v s.kept s.payment s.paid s.names s.posted s.found s.of_card s.payer));
+      },
+      tt,
+    ),
+  ),
 )
 
 reversal_own : (opening rows : Rows) → IsFollowing opening rows → (v : Reversal) → AreOwn opening (map.get rows) (Frame.Good (Message.Reversal v)) (carried_out (reversal_plan v) (map.get rows)).writes
@@ -316,9 +324,9 @@ writes_own opening rows h (Frame.Bad fault) = tt
 pub written_needed : (opening rows : Rows) → IsFollowing opening rows → (frame : Frame) → AllByRecursion (λ w. IsIn w.0 (may_need opening frame)) (writes_of rows frame)
 written_needed opening rows h frame = keys (writes_of rows frame) (writes_own opening rows h frame)
   where
-  keys : (ws : Writes) → AreOwn opening (map.get rows) frame ws → AllByRecursion (λ w. IsIn w.0 (may_need opening frame)) ws
-  keys [] h = tt
-  keys (w ∷ ws) h = (h.0.key, keys ws h.1)
+    keys : (ws : Writes) → AreOwn opening (map.get rows) frame ws → AllByRecursion (λ w. IsIn w.0 (may_need opening frame)) ws
+    keys [] h = tt
+    keys (w ∷ ws) h = (h.0.key, keys ws h.1)
 
 -- ---- one message more
 
@@ -343,16 +351,17 @@ kept_proper opening rows h identity (RowVal.Kept l) k proper e =
     let same : l ≡ k = cc in
     by_payers (subst (λ (x : KeptOriginal). IsProper (map.get rows) (RowKey.Original identity) (RowVal.Kept x)) same proper)
   where
-  are_in_back : (xs ys zs : List RowKey) → AreIn xs zs → AreIn xs (ys ++ zs)
-  are_in_back [] ys zs a = tt
-  are_in_back (x ∷ xs) ys zs a = (in_back x ys zs a.0, are_in_back xs ys zs a.1)
-  by_payers : IsProper (map.get rows) (RowKey.Original identity) (RowVal.Kept k) → AreIn (payment_keys (payment_of_outcome k.outcome)) (payer_at opening identity ++ accounts_at opening k.card)
-  by_payers (inl own) =
-      are_in_back (payment_keys (payment_of_outcome k.outcome)) (payer_at opening identity) (accounts_at opening k.card)
-      (subst (AreIn (payment_keys (payment_of_outcome k.outcome))) (h.cards k.card) own)
-  by_payers (inr was) =
-      subst (λ (p : Pan). AreIn (payment_keys (payment_of_outcome k.outcome)) (payer_at opening identity ++ accounts_at opening p)) was.card
-      (subst (λ (ks : List RowKey). AreIn ks (payer_at opening identity ++ accounts_at opening was.before.card)) (sym was.payers) (h.payers identity was.before was.stood))
+    are_in_back : (xs ys zs : List RowKey) → AreIn xs zs → AreIn xs (ys ++ zs)
+    are_in_back [] ys zs a = tt
+    are_in_back (x ∷ xs) ys zs a = (in_back x ys zs a.0, are_in_back xs ys zs a.1)
+
+    by_payers : IsProper (map.get rows) (RowKey.Original identity) (RowVal.Kept k) → AreIn (payment_keys (payment_of_outcome k.outcome)) (payer_at opening identity ++ accounts_at opening k.card)
+    by_payers (inl own) =
+        are_in_back (payment_keys (payment_of_outcome k.outcome)) (payer_at opening identity) (accounts_at opening k.card)
+        (subst (AreIn (payment_keys (payment_of_outcome k.outcome))) (h.cards k.card) own)
+    by_payers (inr was) =
+        subst (λ (p : Pan). AreIn (payment_keys (payment_of_outcome k.outcome)) (payer_at opening identity ++ accounts_at opening p)) was.card
+        (subst (λ (ks : List RowKey). AreIn ks (payer_at opening identity ++ accounts_at opening was.before.card)) (sym was.payers) (h.payers identity was.before was.stood))
 kept_proper opening rows h identity (RowVal.Ahead mark) k proper e = absurd (cc)
 kept_proper opening rows h identity (RowVal.Card row) k proper e = absurd proper
 kept_proper opening rows h identity (RowVal.Velocity row) k proper e = absurd proper
@@ -422,10 +431,13 @@ on_account_looks : (opening : Rows) (look : Lookup) (r : Request) (card : CardRo
 on_account_looks opening look r card id None = tt
 on_account_looks opening look r card id (Some account) =
     either_looks opening look (request_frame r) (is_same_currency r.transaction.currency account.currency) _ (declined_request r 100)
-    (λ same. (inl (inl refl), refused_looks opening look (request_frame r) r (refused_by_limits r card (spent_in (velocity_in (look _)))) _ (
-      may_look_budget opening (Frame.Good (Message.Request r)) r.transaction.pan (λ there. inr (inr (inr there))),
-      on_funds_looks opening look (request_frame r) r card _ (request_funds r.transaction id account (budget_in (look _))),
-    )))
+    (λ same. (
+      inl (inl refl),
+      refused_looks opening look (request_frame r) r (refused_by_limits r card (spent_in (velocity_in (look _)))) _ (
+        may_look_budget opening (Frame.Good (Message.Request r)) r.transaction.pan (λ there. inr (inr (inr there))),
+        on_funds_looks opening look (request_frame r) r card _ (request_funds r.transaction id account (budget_in (look _))),
+      ),
+    ))
     (λ other. tt)
 
 on_usable_looks : (opening rows : Rows) → IsFollowing opening rows → (r : Request) (card : CardRow) (usable : Result AccountId ℕ) → card_in (map.get rows (RowKey.Card r.transaction.pan)) ≡ Some card → usable_account r card ≡ usable → LooksOwn opening (map.get rows) (Frame.Good (Message.Request r)) (on_usable r card usable)
@@ -497,7 +509,7 @@ payer_looks opening rows h v k payment (Payer.Account id) names posted payer =
     (inl (inr (inr (payer_needed opening rows h v k payment id names posted payer))), paid_looks opening (map.get rows) v k names.named _)
 payer_looks opening rows h v k payment Payer.Budget names posted payer = (
   subst (λ (p : Pan). MayLook opening (Frame.Good (Message.Reversal v)) (RowKey.Budget (prefix_of p))) (sym (same_card v k names.named))
-  (may_look_budget opening (Frame.Good (Message.Reversal v)) v.transaction.pan (λ there. inr (inr (in_back (RowKey.Budget (prefix_of v.transaction.pan)) (payer_at opening v.original.identity) (funds_at opening v.transaction.pan) there)))),
+      (may_look_budget opening (Frame.Good (Message.Reversal v)) v.transaction.pan (λ there. inr (inr (in_back (RowKey.Budget (prefix_of v.transaction.pan)) (payer_at opening v.original.identity) (funds_at opening v.transaction.pan) there)))),
   paid_looks opening (map.get rows) v k names.named _,
 )
 

@@ -1,5 +1,5 @@
 -- Parts of a batch that share no row are decided alone as they are decided together.
-use Rattle.std.proofs.Common.{◌≡◌, ◌≢◌, ℕ, Bool, true, false, if◌then◌else◌, ◌==◌, List, [], ◌∷◌, Option, Some, None, ◌⊎◌, inl, inr, refl, sym, ap, ◌∙◌, subst, arith}
+use Rattle.std.proofs.Common.{◌≡◌, ◌≢◌, ℕ, true, false, if◌then◌else◌, ◌==◌, List, [], ◌∷◌, Option, None, ◌⊎◌, inl, inr, refl, sym, ap, ◌∙◌, subst, arith}
 use Rattle.std.proofs.lemmas.Bool.Decides.{nat_tests}
 use Rattle.std.specs.FinMap as map
 use Rattle.std.specs.List.{AllByRecursion}
@@ -112,17 +112,17 @@ goes_on opening ms p apart (m ∷ left) within whole alone h agree =
     let later = λ (n : ℕ × Frame) (i : IsIn n left). within n (inr i) in
     let next = follows_one opening whole h m.1 in
     let both =
-        elim (m.0 == p) as (λ b. (m.0 == p) ≡ b → (replies_to alone (if b then m.1 ∷ of_part p left else of_part p left) ≡ (if b then reply_of whole m.1 ∷ of_part p (with_parts left (replies_to (rows_after_one whole m.1) (bodies left))) else of_part p (with_parts left (replies_to (rows_after_one whole m.1) (bodies left))))) × Agree opening ms p (rows_after (rows_after_one whole m.1) (bodies left)) (rows_after alone (if b then m.1 ∷ of_part p left else of_part p left))) [
-          | true ↦ λ e.
-              let same = own_decision opening ms p m here (is_part m.0 p e) whole alone h agree in
-              let reply = sym (ap (λ (d : Decided). d.reply) same) in
-              let rest = goes_on opening ms p apart left later (rows_after_one whole m.1) (rows_after_one alone m.1) next (own_rows opening ms p m.1 whole alone same agree) in
-              ((λ i. reply i ∷ rest.replies i), rest.rows)
-          | false ↦ λ e.
-              let agrees : Agree opening ms p (rows_after_one whole m.1) alone = λ k shared. other_rows opening ms p m apart here (not_part m.0 p e) whole h k shared ∙ agree k shared in
-              let rest = goes_on opening ms p apart left later (rows_after_one whole m.1) alone next agrees in
-              (rest.replies, rest.rows)
-        ] refl
+    elim (m.0 == p) as (λ b. (m.0 == p) ≡ b → (replies_to alone (if b then m.1 ∷ of_part p left else of_part p left) ≡ (if b then reply_of whole m.1 ∷ of_part p (with_parts left (replies_to (rows_after_one whole m.1) (bodies left))) else of_part p (with_parts left (replies_to (rows_after_one whole m.1) (bodies left))))) × Agree opening ms p (rows_after (rows_after_one whole m.1) (bodies left)) (rows_after alone (if b then m.1 ∷ of_part p left else of_part p left))) [
+      | true ↦ λ e.
+          let same = own_decision opening ms p m here (is_part m.0 p e) whole alone h agree in
+          let reply = sym (ap (λ (d : Decided). d.reply) same) in
+          let rest = goes_on opening ms p apart left later (rows_after_one whole m.1) (rows_after_one alone m.1) next (own_rows opening ms p m.1 whole alone same agree) in
+          ((λ i. reply i ∷ rest.replies i), rest.rows)
+      | false ↦ λ e.
+          let agrees : Agree opening ms p (rows_after_one whole m.1) alone = λ k shared. other_rows opening ms p m apart here (not_part m.0 p e) whole h k shared ∙ agree k shared in
+          let rest = goes_on opening ms p apart left later (rows_after_one whole m.1) alone next agrees in
+          (rest.replies, rest.rows)
+    ] refl
     in
     record { replies = both.0; rows = both.1 }
 

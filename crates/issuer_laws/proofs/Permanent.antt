@@ -1,5 +1,5 @@
 -- An original that is kept stays: no decision takes it away, and only a reversal of one that had none changes it.
-use Rattle.std.proofs.Common.{◌≡◌, ◌≢◌, ℕ, Bool, true, false, if◌then◌else◌, ◌&&◌, List, [], ◌∷◌, ◌++◌, Option, Some, None, ◌⊎◌, inl, inr, refl, sym, ap, ◌∙◌, subst}
+use Rattle.std.proofs.Common.{◌≡◌, ℕ, Bool, true, false, if◌then◌else◌, ◌&&◌, List, [], ◌∷◌, ◌++◌, Option, Some, None, ◌⊎◌, inl, inr, refl, sym, ap, ◌∙◌, subst}
 use Rattle.std.specs.FinMap as map
 use Rattle.iso8583.specs.declared.advice.Advice.{Advice}
 use Rattle.iso8583.specs.declared.identity.Identity.{Identity}
@@ -11,7 +11,7 @@ use Rattle.issuer_rows.proofs.PutsOnce.{IsFresh}
 use Rattle.issuer_rows.specs.AdviceTable.{advice_on_original, kept_of_advice}
 use Rattle.issuer_rows.specs.Decision.{decision}
 use Rattle.issuer_rows.specs.Facts.{identity_of, is_marked, is_of_same}
-use Rattle.issuer_rows.specs.Fold.{Rows, overlay, writes_of, rows_after_one, rows_after}
+use Rattle.issuer_rows.specs.Fold.{Rows, overlay, writes_of, rows_after_one}
 use Rattle.issuer_rows.specs.Kept.{KeptOriginal, kind_of_outcome, action_of_outcome, approval_of_outcome, reversal_of_outcome, settled, settled_outcome}
 use Rattle.issuer_rows.specs.Plan.{Plan, Lookup, Writes, carried_out}
 use Rattle.issuer_rows.specs.RequestTable.{on_original, kept_of_request}
@@ -28,7 +28,7 @@ use Rattle.issuer_laws.proofs.AdviceWays as advice
 use Rattle.issuer_laws.proofs.Keys.{get-other, get-fresh, same_or_other, funds_other, original_stands}
 use Rattle.issuer_laws.proofs.RequestWays as request
 use Rattle.issuer_laws.proofs.ReversalWays.{day_put, reversal_ways}
-use Rattle.issuer_laws.specs.Permanent.{IsKeptAt, IsReversedOnce, Continues, StaysKept, IsSameOriginal}
+use Rattle.issuer_laws.specs.Permanent.{IsKeptAt, Continues, StaysKept, IsSameOriginal}
 
 -- the value that an original without a reversal has once a message has reversed it
 pub record Reverses (k : KeptOriginal) (v : RowVal) : Type 0 where

@@ -1,5 +1,5 @@
 -- What an account has less than before is what was taken from it, less what was returned to it.
-use Rattle.std.proofs.Common.{◌≡◌, ◌≢◌, ℕ, ◌+◌, ◌-◌, ◌<◌, ◌≤◌, Bool, true, false, ◌&&◌, ◌==◌, not, if◌then◌else◌, List, [], ◌∷◌, ◌++◌, Option, Some, None, is_none, IsTrue, ◌⊎◌, inl, inr, refl, sym, ap, ◌∙◌, subst, arith}
+use Rattle.std.proofs.Common.{◌≡◌, ◌≢◌, ℕ, ◌+◌, ◌-◌, ◌<◌, ◌≤◌, Bool, true, false, ◌&&◌, ◌==◌, if◌then◌else◌, List, [], ◌∷◌, ◌++◌, Option, Some, None, is_none, inl, inr, refl, sym, ap, ◌∙◌, subst, arith}
 use Rattle.std.proofs.lemmas.Bool.{false≢true}
 use Rattle.std.proofs.lemmas.Bool.Decides.{nat_tests}
 use Rattle.std.specs.FinMap as map
@@ -16,16 +16,14 @@ use Rattle.issuer_rows.specs.Backing.{available_in, is_account, account_paid, is
 use Rattle.issuer_rows.specs.CardAccounts.{is_same_account}
 use Rattle.issuer_rows.specs.Decision.{decision}
 use Rattle.issuer_rows.specs.Facts.{identity_of, is_marked, is_of_same}
-use Rattle.issuer_rows.specs.Fold.{Rows, overlay, reply_of, writes_of, rows_after_one, rows_after}
-use Rattle.issuer_rows.specs.Funds.{balance_of, with_balance, key_of_funds, row_of_funds, payer_of, paid_by}
-use Rattle.issuer_rows.specs.Kept.{KeptOriginal, payment_of_outcome, reversal_of_outcome}
+use Rattle.issuer_rows.specs.Fold.{Rows, overlay, reply_of, rows_after_one}
+use Rattle.issuer_rows.specs.Funds.{balance_of, payer_of}
+use Rattle.issuer_rows.specs.Kept.{KeptOriginal, reversal_of_outcome}
 use Rattle.issuer_rows.specs.Plan.{Plan, Lookup, Writes, carried_out}
 use Rattle.issuer_rows.specs.RequestTable.{on_original, approved_writes}
-use Rattle.issuer_rows.specs.ReversalTable.{reversal_plan, reversed_original, refunded, given_back}
-use Rattle.issuer_rows.specs.RowKey.{kind_of}
-use Rattle.issuer_rows.specs.Typed.{original_in, account_in}
+use Rattle.issuer_rows.specs.ReversalTable.{reversed_original, refunded, given_back}
+use Rattle.issuer_rows.specs.Typed.{account_in}
 use Rattle.issuer_rows.specs.declared.frame.Frame.{Frame}
-use Rattle.issuer_rows.specs.declared.frame_fault.FrameFault.{FrameFault}
 use Rattle.issuer_rows.specs.declared.funds.Funds.{Funds}
 use Rattle.issuer_rows.specs.declared.original_row.OriginalRow.{OriginalRow}
 use Rattle.issuer_rows.specs.declared.payer.Payer.{Payer}
@@ -40,8 +38,7 @@ use Rattle.issuer_laws.proofs.Keys.{get-fresh, texts_same, texts_apart, funds_ot
 use Rattle.issuer_laws.proofs.RequestWays as request
 use Rattle.issuer_laws.proofs.ReversalWays.{SettlesPosted, day_put, reversal_ways}
 use Rattle.issuer_laws.proofs.Written.{WritesOne, value_behind, value_there}
-use Rattle.issuer_laws.specs.Messages.{action_of_answer}
-use Rattle.issuer_laws.specs.Reconciled.{available, original_at, is_answered, is_paid_from, taken, returned_of, returned, all_taken, all_returned, IsReconciled}
+use Rattle.issuer_laws.specs.Reconciled.{available, original_at, is_answered, is_paid_from, taken, returned_of, returned, IsReconciled}
 
 -- ---- the row that pays
 

@@ -1,5 +1,5 @@
 -- The table of a request, stage by stage, and its flat list of conditions are one.
-use Rattle.std.proofs.Common.{◌≡◌, ℕ, ◌+◌, Bool, true, false, ◌&&◌, ◌||◌, ◌==◌, not, nat_lt, nat_le, if◌then◌else◌, List, [], ◌∷◌, Option, Some, None, is_none, option_and_then, Result, Ok, Err, refl, subst}
+use Rattle.std.proofs.Common.{◌≡◌, ℕ, ◌+◌, Bool, true, false, ◌&&◌, ◌==◌, not, nat_lt, nat_le, if◌then◌else◌, [], ◌∷◌, Option, Some, None, is_none, option_and_then, Result, Ok, Err, refl, subst}
 use Rattle.std.specs.FinMap as map
 use Rattle.iso8583.specs.Luhn.{passes_luhn}
 use Rattle.iso8583.specs.Number.{number_of}
@@ -24,7 +24,7 @@ use Rattle.issuer_rows.specs.declared.mark.Mark.{Mark}
 use Rattle.issuer_rows.specs.declared.original_row.OriginalRow.{OriginalRow}
 use Rattle.issuer_rows.specs.declared.row_key.RowKey.{RowKey}
 use Rattle.issuer_rows.specs.declared.velocity_row.VelocityRow.{VelocityRow}
-use Rattle.issuer_laws.specs.Rules.{Conditions, Facts, first_of, comes_to, named_by, has, is_blocked, is_lost, is_stolen, stands_in, is_over, request_conditions, request_rule, RequestEnds, RequestIsDecided}
+use Rattle.issuer_laws.specs.Rules.{Conditions, Facts, first_of, comes_to, named_by, has, is_blocked, is_lost, is_stolen, stands_in, is_over, request_rule, RequestEnds, RequestIsDecided}
 use Rattle.issuer_laws.specs.declared.rule.Rule.{Rule}
 
 -- what a plan comes to is what this rule says

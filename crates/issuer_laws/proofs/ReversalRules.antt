@@ -1,5 +1,5 @@
 -- The table of a reversal, stage by stage, and its flat list of conditions are one.
-use Rattle.std.proofs.Common.{◌≡◌, ℕ, ◌+◌, Bool, true, false, ◌&&◌, ◌||◌, ◌==◌, not, nat_lt, if◌then◌else◌, [], ◌∷◌, Option, Some, None, is_some, is_none, option_and_then, refl, sym, subst}
+use Rattle.std.proofs.Common.{◌≡◌, ◌+◌, Bool, true, false, ◌&&◌, ◌||◌, ◌==◌, not, nat_lt, if◌then◌else◌, [], ◌∷◌, Option, Some, None, is_some, is_none, option_and_then, refl, sym, subst}
 use Rattle.std.specs.FinMap as map
 use Rattle.iso8583.specs.declared.identity.Identity.{Identity}
 use Rattle.iso8583.specs.declared.original_kind.OriginalKind.{OriginalKind}
@@ -19,7 +19,7 @@ use Rattle.issuer_rows.specs.declared.payment.Payment.{Payment}
 use Rattle.issuer_rows.specs.declared.row_key.RowKey.{RowKey}
 use Rattle.issuer_rows.specs.declared.row_val.RowVal.{RowVal}
 use Rattle.issuer_rows.specs.declared.velocity_row.VelocityRow.{VelocityRow}
-use Rattle.issuer_laws.specs.Rules.{Conditions, first_of, comes_to, has, ReversalFacts, row_of_payer, reversal_facts, is_kept_so, is_request, is_reversed_by, gives_back, reversal_rule, EndsGivenBack, ReversalEnds, ReversalIsDecided}
+use Rattle.issuer_laws.specs.Rules.{Conditions, first_of, comes_to, has, ReversalFacts, row_of_payer, reversal_facts, is_request, reversal_rule, EndsGivenBack, ReversalEnds, ReversalIsDecided}
 use Rattle.issuer_laws.specs.declared.rule.Rule.{Rule}
 
 -- what a plan comes to is what this rule says

@@ -18,7 +18,6 @@ use Rattle.issuer_rows.specs.declared.frame.Frame.{Frame}
 use Rattle.issuer_rows.specs.declared.original_row.OriginalRow.{OriginalRow}
 use Rattle.issuer_rows.specs.declared.payer.Payer.{Payer}
 use Rattle.issuer_rows.specs.declared.payment.Payment.{Payment}
-use Rattle.issuer_rows.specs.declared.reply_body.ReplyBody.{ReplyBody}
 use Rattle.issuer_rows.specs.declared.row_key.RowKey.{RowKey}
 use Rattle.issuer_rows.specs.declared.row_val.RowVal.{RowVal}
 

@@ -1,7 +1,6 @@
 -- Originals that are kept for good.
-use Rattle.std.specs.Prelude.{◌≡◌, ◌⊎◌, ℕ, List, Option, Some, None}
+use Rattle.std.specs.Prelude.{◌≡◌, ◌⊎◌, ℕ, List, Some, None}
 use Rattle.std.specs.FinMap as map
-use Rattle.iso8583.specs.declared.approval.Approval.{Approval}
 use Rattle.iso8583.specs.declared.identity.Identity.{Identity}
 use Rattle.issuer_rows.specs.Fold.{Rows, rows_after}
 use Rattle.issuer_rows.specs.Kept.{KeptOriginal, kind_of_outcome, action_of_outcome, approval_of_outcome, reversal_of_outcome, settled}

@@ -8,7 +8,7 @@ use Rattle.iso8583.specs.declared.reversal.Reversal.{Reversal}
 use Rattle.issuer_rows.specs.Backing.{available_in, is_from_account}
 use Rattle.issuer_rows.specs.Facts.{identity_of}
 use Rattle.issuer_rows.specs.Fold.{Rows, reply_of, rows_after_one, rows_after}
-use Rattle.issuer_rows.specs.Kept.{KeptOriginal, reversal_of_outcome}
+use Rattle.issuer_rows.specs.Kept.{reversal_of_outcome}
 use Rattle.issuer_rows.specs.ReversalTable.{given_back}
 use Rattle.issuer_rows.specs.Typed.{original_in, account_in}
 use Rattle.issuer_rows.specs.declared.frame.Frame.{Frame}

@@ -18,8 +18,8 @@ pub use money_laws::{
 };
 pub use part_laws::{a_message_needs_no_other_row, parts_are_decided_alone};
 pub use repeat_laws::{
-    a_batch_again_changes_nothing, a_repeat_is_answered_alike, a_second_reversal_is_a_duplicate, an_original_is_kept_for_good,
-    each_reply_repeats_its_message,
+    a_batch_again_changes_nothing, a_repeat_is_answered_alike, a_second_reversal_is_a_duplicate,
+    an_original_is_kept_for_good, each_reply_repeats_its_message,
 };
 pub use rule::Rule;
 pub use rule_laws::the_first_rule_decides;
