@@ -39,7 +39,7 @@ pub fn each_reply_repeats_its_message()
 {}
 
 /// A batch without reversals that is sent once more, its requests as 1101 and its advices as 1121, changes nothing. (With reversals it
-/// may: one that was answered 909 or 914 may be done the second time.)
+/// may: one that was answered 909 may be done the second time.)
 pub fn a_batch_again_changes_nothing()
     ensures { (rows : Rows) (frames : List Frame) → WritesNothingAgain rows frames }
 {}
