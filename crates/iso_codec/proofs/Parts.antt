@@ -71,12 +71,3 @@ module _ (bitmap : ℕ) (ps qs : List Part) (bytes : List ℕ) where
   pub is_whole : (xs ys : List Field) (mid rest : List ℕ) → fields_at bitmap ps bytes ≡ Ok (xs, mid) → fields_at bitmap qs mid ≡ Ok (ys, rest) → eqb (length rest) 0 ≡ true → whole_at bitmap (ps ++ qs) bytes ≡ Ok (xs ++ ys)
   unfolding whole_at
   is_whole xs ys mid rest h k none = rw (fields_at-append bitmap ps qs bytes, h, k, none) refl
-
-  pub first_fails : (f : CodecFault) → fields_at bitmap ps bytes ≡ Err f → fields_at bitmap (ps ++ qs) bytes ≡ Err f
-  first_fails f h = rw (fields_at-append bitmap ps qs bytes, h) refl
-
-  pub second_fails : (xs : List Field) (mid : List ℕ) (f : CodecFault) → fields_at bitmap ps bytes ≡ Ok (xs, mid) → fields_at bitmap qs mid ≡ Err f → fields_at bitmap (ps ++ qs) bytes ≡ Err f
-  second_fails xs mid f h k = rw (fields_at-append bitmap ps qs bytes, h, k) refl
-
-  pub both_read : (xs ys : List Field) (mid rest : List ℕ) → fields_at bitmap ps bytes ≡ Ok (xs, mid) → fields_at bitmap qs mid ≡ Ok (ys, rest) → fields_at bitmap (ps ++ qs) bytes ≡ Ok (xs ++ ys, rest)
-  both_read xs ys mid rest h k = rw (fields_at-append bitmap ps qs bytes, h, k) refl

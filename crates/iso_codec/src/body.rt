@@ -1,13 +1,13 @@
 //! The elements from 24 on, of every type.
 
-ghost use Rattle.std.specs.Prelude.{◌≡◌, IfOk};
-ghost use Rattle.iso_codec.specs.Texts.{body_parts, body_fields, HasBodyTexts, IsThere};
+ghost use Rattle.std.specs.Prelude.{◌≡◌};
+ghost use Rattle.iso_codec.specs.Texts.{body_texts, body_elements, body_parts, function_rule, action_rule};
 ghost use Rattle.iso_laws.specs.Reading.{Gives, fields_at};
+ghost use Rattle.iso_laws.specs.Spelling.{fields_among};
 
-use crate::closing::closing_at;
-use crate::codes::codes_at;
-use crate::opening::opening_at;
-use iso_laws::Mti;
+use crate::bitmap::is_set;
+use crate::fields::{element_at, fixed_at, optional_at, optional_fixed_at, rule_at};
+use iso_laws::{Element, Mti, Rule};
 use iso8583::CodecFault;
 
 /// The texts of the elements from 24 on, and the bytes after them.
@@ -26,26 +26,59 @@ pub(crate) struct Body<'a> {
     pub(crate) rest: &'a [u8],
 }
 
-/// Reads the elements that the bitmap says are there.
-pub(crate) fn body_at(mti: Mti, bitmap: u128, bytes: &[u8]) -> Result<Body<'_>, CodecFault>
-    ensures gives { Gives (λ x. (body_fields x, x.rest.now)) result (fields_at bitmap (body_parts mti) bytes.now) }
-    ensures texts { IfOk result HasBodyTexts }
-    ensures there { IfOk result (IsThere mti bitmap) }
+/// The rule of element 24.
+fn function_rule(mti: Mti) -> Rule
+    ensures { result ≡ function_rule mti }
 {
-    let opening = opening_at(mti, bitmap, bytes)?;
-    let codes = codes_at(mti, bitmap, opening.rest)?;
-    let closing = closing_at(bitmap, codes.rest)?;
+    match mti {
+        Mti::Reversal | Mti::ReversalRepeat => Rule::Scope,
+        _ => Rule::Free,
+    }
+}
+
+/// The rule of element 39.
+fn action_rule(mti: Mti) -> Rule
+    ensures { result ≡ action_rule mti }
+{
+    match mti {
+        Mti::RequestReply => Rule::Verdict,
+        _ => Rule::Free,
+    }
+}
+
+/// Reads the elements that the bitmap says are there.
+#[tactic(auto, unfolding(iso_laws::specs::Reading::optional_at, iso_laws::specs::Reading::fields_at))]
+pub(crate) fn body_at(mti: Mti, bitmap: u128, bytes: &[u8]) -> Result<Body<'_>, CodecFault>
+    ensures { Gives (λ x. (fields_among body_elements (body_texts x), x.rest.now)) result
+        (fields_at bitmap (body_parts mti) bytes.now) }
+{
+    let (function, rest) = optional_fixed_at(is_set(bitmap, 24), Element::Function, bytes)?;
+    rule_at(function_rule(mti), bitmap, function)?;
+    let (original_amount, rest) = optional_fixed_at(
+        is_set(bitmap, 30),
+        Element::OriginalAmount,
+        rest,
+    )?;
+    let (acquirer, rest) = element_at(Element::Acquirer, rest)?;
+    let (retrieval, rest) = optional_fixed_at(is_set(bitmap, 37), Element::Retrieval, rest)?;
+    let (approval, rest) = optional_fixed_at(is_set(bitmap, 38), Element::Approval, rest)?;
+    let (action, rest) = optional_fixed_at(is_set(bitmap, 39), Element::Action, rest)?;
+    rule_at(action_rule(mti), bitmap, action)?;
+    let (terminal, rest) = fixed_at(Element::Terminal, rest)?;
+    let (currency, rest) = fixed_at(Element::Currency, rest)?;
+    let (original, rest) = optional_at(is_set(bitmap, 56), Element::Original, rest)?;
+    let (account, rest) = optional_at(is_set(bitmap, 102), Element::Account, rest)?;
     Ok(Body {
-        function: opening.function,
-        original_amount: opening.original_amount,
-        acquirer: opening.acquirer,
-        retrieval: codes.retrieval,
-        approval: codes.approval,
-        action: codes.action,
-        terminal: closing.terminal,
-        currency: closing.currency,
-        original: closing.original,
-        account: closing.account,
-        rest: closing.rest,
+        function,
+        original_amount,
+        acquirer,
+        retrieval,
+        approval,
+        action,
+        terminal,
+        currency,
+        original,
+        account,
+        rest,
     })
 }

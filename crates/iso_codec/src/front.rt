@@ -1,7 +1,8 @@
 //! The elements that every message and every reply begins with.
 
-ghost use Rattle.std.specs.Prelude.{◌≡◌, ℕ, IfOk};
-ghost use Rattle.iso_codec.specs.Texts.{front_fields, HasFrontTexts};
+ghost use Rattle.std.specs.Prelude.{◌≡◌, ℕ};
+ghost use Rattle.iso_codec.specs.Texts.{front_texts, front_elements};
+ghost use Rattle.iso_laws.specs.Spelling.{fields_among};
 ghost use Rattle.iso_laws.specs.Types.{front_parts};
 ghost use Rattle.iso_laws.specs.Reading.{Gives, fields_at};
 
@@ -24,8 +25,8 @@ pub(crate) struct Front<'a> {
 /// Reads these elements, whatever the bitmap.
 #[tactic(auto, unfolding(iso_laws::specs::Reading::optional_at, iso_laws::specs::Reading::fields_at))]
 pub(crate) fn front_at(bytes: &[u8]) -> Result<Front<'_>, CodecFault>
-    ensures gives { (bitmap : ℕ) → Gives (λ x. (front_fields x, x.rest.now)) result (fields_at bitmap front_parts bytes.now) }
-    ensures texts { IfOk result HasFrontTexts }
+    ensures { (bitmap : ℕ) → Gives (λ x. (fields_among front_elements (front_texts x), x.rest.now)) result
+        (fields_at bitmap front_parts bytes.now) }
 {
     let (pan, rest) = element_at(Element::Pan, bytes)?;
     let (processing, rest) = fixed_at(Element::Processing, rest)?;

@@ -3,14 +3,11 @@
 
 mod bitmap;
 mod body;
-mod closing;
-mod codes;
 mod decoding;
 mod fields;
 mod front;
 mod header;
 mod message;
-mod opening;
 mod reply;
 mod side;
 mod texts;

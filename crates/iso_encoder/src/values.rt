@@ -1,9 +1,9 @@
 //! The values of every message and of every reply are in range: their types keep them there, and looking at
 //! them says so. Nothing is done with what is seen.
 
-ghost use Rattle.iso_laws.specs.Contents.{IsTransaction};
 ghost use Rattle.iso_laws.specs.Messages.{IsMessage, IsOriginal, IsScope, IsAccount};
 ghost use Rattle.iso_laws.specs.Replies.{IsAnswer, IsReply};
+ghost use Rattle.iso_laws.specs.Transactions.{IsTransaction};
 
 use iso8583::{
     AccountId, Answer, Message, OriginalRef, Reply, ReversalScope, Transaction, Verdict,

@@ -49,21 +49,7 @@ is_body_fault end named OutOfMemory = false
 -- no element has number 0
 numbered : (e : Element) → eqb (element_number e) 0 ≡ false
 numbered element.Pan = refl
-numbered element.Processing = refl
-numbered element.Amount = refl
-numbered element.Transmission = refl
-numbered element.Stan = refl
-numbered element.Stamp = refl
-numbered element.Function = refl
-numbered element.OriginalAmount = refl
-numbered element.Acquirer = refl
-numbered element.Retrieval = refl
-numbered element.Approval = refl
-numbered element.Action = refl
-numbered element.Terminal = refl
-numbered element.Currency = refl
-numbered element.Original = refl
-numbered element.Account = refl
+numbered _ = refl
 
 -- element 30 or 38
 abbrev names : Rule → ℕ → Bool

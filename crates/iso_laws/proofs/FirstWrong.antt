@@ -239,7 +239,7 @@ there_same bitmap ((false, e, r) ∷ ps) h =
     let others : present_parts bitmap ps ≡ those_there bitmap ps = there_same bitmap ps h in
     rw others refl
 
-bitmap_sound : (t : Mti) (bitmap : ℕ) → IsBitmapOf t bitmap → presence_at (parts_of t) bitmap ≡ Ok tt
+pub bitmap_sound : (t : Mti) (bitmap : ℕ) → IsBitmapOf t bitmap → presence_at (parts_of t) bitmap ≡ Ok tt
 unfolding presence_at
 bitmap_sound t bitmap h =
     let stranger : least (is_unexpected (parts_of t) bitmap) 2 127 ≡ None =

@@ -119,7 +119,7 @@ fields_taken bitmap (p ∷ ps) bytes y h =
     taken_step bitmap p ps bytes y (p.0 || is_set bitmap (element_number p.1)) (λ mid z k. fields_taken bitmap ps mid z k) refl h
 
 -- the same element in front
-head_is : (e d : Element) (es ds : List Element) → (e ∷ es) ≡ (d ∷ ds) → (e ≡ d) × (es ≡ ds)
+pub head_is : (e d : Element) (es ds : List Element) → (e ∷ es) ≡ (d ∷ ds) → (e ≡ d) × (es ≡ ds)
 head_is e d es ds h = (cc, cc)
 
 pub some_again : (e : Element) (text rest : List ℕ) → IsText e text → optional_at true e (field (e, text) ++ rest) ≡ Ok (Some text, rest)
@@ -136,7 +136,7 @@ no_rule Free bitmap = refl
 no_rule Scope bitmap = refl
 no_rule Verdict bitmap = refl
 
-rule_ok : (rule : Result (Unit {0}) CodecFault) → is_ok rule ≡ true → rule ≡ Ok tt
+pub rule_ok : (rule : Result (Unit {0}) CodecFault) → is_ok rule ≡ true → rule ≡ Ok tt
 rule_ok (Ok u) h = refl
 rule_ok (Err e) h = absurd cc
 

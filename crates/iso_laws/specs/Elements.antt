@@ -1,6 +1,6 @@
 -- The data elements that this profile of ISO 8583:1993 uses: number, shape, class of characters and
 -- value test of each.
-use Rattle.std.specs.Prelude.{◌≡◌, ℕ, ◌-◌, ◌≤◌, Bool, true, false, ◌&&◌, ◌||◌, ◌==◌, List, ◌++◌, length, take, drop, IsTrue, codes}
+use Rattle.std.specs.Prelude.{◌≡◌, ℕ, ◌-◌, ◌≤◌, Bool, true, false, ◌&&◌, ◌||◌, ◌==◌, List, [], ◌∷◌, ◌++◌, length, take, drop, IsTrue, codes}
 use Rattle.std.specs.Str.{bytes_eq}
 use Rattle.iso8583.specs.Class.{is_digits, is_alphanumeric, is_printable}
 use Rattle.iso8583.specs.Calendar.{is_local_stamp}
@@ -14,63 +14,6 @@ use Rattle.iso_laws.specs.declared.shape.Shape.{Shape}
 use Rattle.iso_laws.specs.declared.shape.Shape.TheVariants.{Fixed, UpTo}
 use Rattle.iso_laws.specs.declared.class.Class.{Class}
 use Rattle.iso_laws.specs.declared.class.Class.TheVariants as class
-
--- the number of an element, which is that of its bit in the bitmap
-abbrev pub element_number : Element → ℕ
-element_number element.Pan = 2
-element_number element.Processing = 3
-element_number element.Amount = 4
-element_number element.Transmission = 7
-element_number element.Stan = 11
-element_number element.Stamp = 12
-element_number element.Function = 24
-element_number element.OriginalAmount = 30
-element_number element.Acquirer = 32
-element_number element.Retrieval = 37
-element_number element.Approval = 38
-element_number element.Action = 39
-element_number element.Terminal = 41
-element_number element.Currency = 49
-element_number element.Original = 56
-element_number element.Account = 102
-
--- so many characters, or from so many to so many of them behind two digits of length (LLVAR)
-abbrev pub shape_of : Element → Shape
-shape_of element.Pan = UpTo 12 19
-shape_of element.Processing = Fixed 6
-shape_of element.Amount = Fixed 12
-shape_of element.Transmission = Fixed 10
-shape_of element.Stan = Fixed 6
-shape_of element.Stamp = Fixed 12
-shape_of element.Function = Fixed 3
-shape_of element.OriginalAmount = Fixed 24
-shape_of element.Acquirer = UpTo 1 11
-shape_of element.Retrieval = Fixed 12
-shape_of element.Approval = Fixed 6
-shape_of element.Action = Fixed 3
-shape_of element.Terminal = Fixed 8
-shape_of element.Currency = Fixed 3
-shape_of element.Original = UpTo 25 35
-shape_of element.Account = UpTo 1 28
-
--- which characters the text of an element is made of
-abbrev pub class_of : Element → Class
-class_of element.Pan = class.Digits
-class_of element.Processing = class.Digits
-class_of element.Amount = class.Digits
-class_of element.Transmission = class.Digits
-class_of element.Stan = class.Digits
-class_of element.Stamp = class.Digits
-class_of element.Function = class.Digits
-class_of element.OriginalAmount = class.Digits
-class_of element.Acquirer = class.Digits
-class_of element.Retrieval = class.Alphanumeric
-class_of element.Approval = class.Alphanumeric
-class_of element.Action = class.Digits
-class_of element.Terminal = class.Printable
-class_of element.Currency = class.Digits
-class_of element.Original = class.Digits
-class_of element.Account = class.Printable
 
 -- digits alone (n), letters, digits and spaces alone (anp), printable characters alone (ans)
 abbrev pub is_of_class : Class → List ℕ → Bool
@@ -107,12 +50,59 @@ unfoldable pub is_original : List ℕ → Bool
 is_original text =
     is_original_type (take 4 text) && is_local_stamp (take 12 (drop 10 text)) && number_of (take 2 (drop 22 text)) == length text - 24
 
--- the value test of an element
+-- any text of its shape and class is a value
+abbrev pub any_value : List ℕ → Bool
+any_value text = true
+
+-- ---- the table
+
+-- an element: its number, which is that of its bit in the bitmap; so many characters, or from so many to so many of them behind two
+-- digits of length (LLVAR); which characters; and the test of its value
+pub record Row : Type 0 where
+  pub number : ℕ
+  pub shape : Shape
+  pub class : Class
+  pub has_value : List ℕ → Bool
+
+abbrev row : ℕ → Shape → Class → (List ℕ → Bool) → Row
+row number shape class has_value = record { number = number; shape = shape; class = class; has_value = has_value }
+
+abbrev pub row_of : Element → Row
+row_of element.Pan = row 2 (UpTo 12 19) class.Digits any_value
+row_of element.Processing = row 3 (Fixed 6) class.Digits any_value
+row_of element.Amount = row 4 (Fixed 12) class.Digits any_value
+row_of element.Transmission = row 7 (Fixed 10) class.Digits any_value
+row_of element.Stan = row 11 (Fixed 6) class.Digits any_value
+row_of element.Stamp = row 12 (Fixed 12) class.Digits is_local_stamp
+row_of element.Function = row 24 (Fixed 3) class.Digits any_value
+row_of element.OriginalAmount = row 30 (Fixed 24) class.Digits is_original_amount
+row_of element.Acquirer = row 32 (UpTo 1 11) class.Digits any_value
+row_of element.Retrieval = row 37 (Fixed 12) class.Alphanumeric any_value
+row_of element.Approval = row 38 (Fixed 6) class.Alphanumeric any_value
+row_of element.Action = row 39 (Fixed 3) class.Digits any_value
+row_of element.Terminal = row 41 (Fixed 8) class.Printable any_value
+row_of element.Currency = row 49 (Fixed 3) class.Digits any_value
+row_of element.Original = row 56 (UpTo 25 35) class.Digits is_original
+row_of element.Account = row 102 (UpTo 1 28) class.Printable any_value
+
+-- all of them, in rising number
+abbrev pub elements : List Element
+elements =
+    element.Pan ∷ element.Processing ∷ element.Amount ∷ element.Transmission ∷ element.Stan ∷ element.Stamp
+    ∷ element.Function ∷ element.OriginalAmount ∷ element.Acquirer ∷ element.Retrieval ∷ element.Approval ∷ element.Action
+    ∷ element.Terminal ∷ element.Currency ∷ element.Original ∷ element.Account ∷ []
+
+abbrev pub element_number : Element → ℕ
+element_number e = (row_of e).number
+
+abbrev pub shape_of : Element → Shape
+shape_of e = (row_of e).shape
+
+abbrev pub class_of : Element → Class
+class_of e = (row_of e).class
+
 abbrev pub has_value : Element → List ℕ → Bool
-has_value element.Stamp text = is_local_stamp text
-has_value element.OriginalAmount text = is_original_amount text
-has_value element.Original text = is_original text
-has_value _ text = true
+has_value e = (row_of e).has_value
 
 -- the text is as long as its shape says
 abbrev pub HasShape : Shape → List ℕ → Type 0

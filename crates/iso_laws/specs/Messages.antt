@@ -11,9 +11,9 @@ use Rattle.iso_laws.specs.declared.element.Element.TheVariants as element
 use Rattle.iso_laws.specs.declared.mti.Mti.{Mti}
 use Rattle.iso_laws.specs.declared.mti.Mti.TheVariants as mti
 use Rattle.iso_laws.specs.Elements.{IsText, original_text, twelve_zeros}
-use Rattle.iso_laws.specs.Contents.{Content, content, content_fields, IsTransaction}
 use Rattle.iso8583.specs.declared.transaction.Transaction.{Transaction}
-use Rattle.iso_laws.specs.Spelling.{Field, spelling}
+use Rattle.iso_laws.specs.Spelling.{Field, Texts, fields, spelling}
+use Rattle.iso_laws.specs.Transactions.{transaction_texts, IsTransaction}
 
 -- a message's type, by its kind and whether it is a repeat
 abbrev pub mti_of : Message → Mti
@@ -41,17 +41,23 @@ scope_amount (Partial amount) = Some (fixed_digits 12 amount ++ twelve_zeros)
 abbrev pub account_text : Option AccountId → Option (List ℕ)
 account_text account = option_map (λ a. a.0) account
 
--- the texts of a message: beside its transaction those of elements 24, 30, 38, 39, 56 and 102
-abbrev pub content_of : Message → Content
-content_of (message.Request m) = content m.transaction (Some m.function.0) None None None None (account_text m.account)
-content_of (message.Advice m) =
-    content m.transaction (Some m.function.0) None None (Some (fixed_digits 3 m.action)) None (account_text m.account)
-content_of (message.Reversal m) =
-    content m.transaction (Some (scope_function m.scope)) (scope_amount m.scope) None None (Some (original_text m.original)) None
+-- the texts of a message: those of its transaction, and those of elements 24, 30, 39, 56 and 102 by its type
+abbrev pub message_texts : Message → Texts
+message_texts (message.Request m) element.Function = Some m.function.0
+message_texts (message.Request m) element.Account = account_text m.account
+message_texts (message.Request m) e = transaction_texts m.transaction e
+message_texts (message.Advice m) element.Function = Some m.function.0
+message_texts (message.Advice m) element.Action = Some (fixed_digits 3 m.action)
+message_texts (message.Advice m) element.Account = account_text m.account
+message_texts (message.Advice m) e = transaction_texts m.transaction e
+message_texts (message.Reversal m) element.Function = Some (scope_function m.scope)
+message_texts (message.Reversal m) element.OriginalAmount = scope_amount m.scope
+message_texts (message.Reversal m) element.Original = Some (original_text m.original)
+message_texts (message.Reversal m) e = transaction_texts m.transaction e
 
 -- the elements of a message, in rising number
 abbrev pub fields_of : Message → List Field
-fields_of m = content_fields (content_of m)
+fields_of m = fields (message_texts m)
 
 -- the one spelling of a message
 abbrev pub message_spelling : Message → List ℕ

@@ -10,9 +10,9 @@ use Rattle.iso_laws.specs.declared.element.Element.TheVariants as element
 use Rattle.iso_laws.specs.declared.mti.Mti.{Mti}
 use Rattle.iso_laws.specs.declared.mti.Mti.TheVariants as mti
 use Rattle.iso_laws.specs.Elements.{IsText}
-use Rattle.iso_laws.specs.Contents.{Content, content, content_fields, IsTransaction}
 use Rattle.iso_laws.specs.Messages.{account_text, IsAccount}
-use Rattle.iso_laws.specs.Spelling.{Field, spelling}
+use Rattle.iso_laws.specs.Spelling.{Field, Texts, fields, spelling}
+use Rattle.iso_laws.specs.Transactions.{transaction_texts, IsTransaction}
 
 -- 1110 to a request, 1130 to an advice, 1430 to a reversal
 abbrev pub answer_mti : Answer → Mti
@@ -52,13 +52,16 @@ answer_account (answer.Reversal a) = None
 abbrev pub reply_mti : Reply → Mti
 reply_mti r = answer_mti r.answer
 
--- the texts of a reply: beside its transaction those of elements 38, 39 and 102
-abbrev pub reply_content : Reply → Content
-reply_content r = content r.transaction None None (answer_approval r.answer) (Some (answer_action r.answer)) None (answer_account r.answer)
+-- the texts of a reply: those of its transaction, and those of elements 38, 39 and 102
+abbrev pub reply_texts : Reply → Texts
+reply_texts r element.Approval = answer_approval r.answer
+reply_texts r element.Action = Some (answer_action r.answer)
+reply_texts r element.Account = answer_account r.answer
+reply_texts r e = transaction_texts r.transaction e
 
 -- the elements of a reply, in rising number
 abbrev pub reply_fields : Reply → List Field
-reply_fields r = content_fields (reply_content r)
+reply_fields r = fields (reply_texts r)
 
 -- the one spelling of a reply
 abbrev pub reply_spelling : Reply → List ℕ
