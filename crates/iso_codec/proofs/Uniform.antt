@@ -1,81 +1,87 @@
--- One reader for the bodies of all types: a bitmap without fault says which elements are there.
-use Rattle.std.proofs.Common.{◌≡◌, ℕ, Bool, true, false, leb, List, None, Result, Ok, Err, refl}
-use Rattle.std.proofs.lemmas.Bool.{leb-true}
-use Rattle.std.specs.Prelude.{not, ◌&&◌}
+-- One reader for all types: a bitmap without fault says which elements are there.
+use Rattle.std.proofs.Common.{◌≡◌, ℕ, Bool, true, false, List, [], ◌∷◌, ◌++◌, Option, None, Result, Ok, Err, refl, sym, ap, ◌∙◌, arith, cond}
+use Rattle.std.specs.Prelude.{not, ◌||◌, map, filter}
+use Rattle.std.specs.List.{list_all}
+use Rattle.std.proofs.lemmas.Bool.{or_right}
+use mathlib.Core.Path.{fun_ext}
 use Rattle.iso8583.specs.declared.codec_fault.CodecFault.{CodecFault}
 use Rattle.iso_laws.specs.declared.element.Element.{Element}
 use Rattle.iso_laws.specs.declared.mti.Mti.{Mti}
 use Rattle.iso_laws.specs.declared.mti.Mti.TheVariants as mti
-use Rattle.iso_laws.specs.Types.{Part, parts_of, tail_parts}
+use Rattle.iso_laws.specs.declared.rule.Rule.{Rule}
+use Rattle.iso_laws.specs.Elements.{element_number}
+use Rattle.iso_laws.specs.Types.{Part, front_parts, parts_of}
 use Rattle.iso_laws.specs.Spelling.{Field, is_set}
-use Rattle.iso_laws.specs.Reading.{is_listed, is_required, presence_at, optional_at, with_first, fields_at}
-use Rattle.iso_laws.proofs.Bits.{IsSound, is_sound}
+use Rattle.iso_laws.specs.Reading.{◌>>=◌, is_listed, is_required, presence_at, optional_at, with_first, rule_at, fields_at, whole_at}
+use Rattle.iso_laws.proofs.FirstWrong.{sound_bitmap, same_number}
+use Rattle.iso_laws.proofs.Present.{no_rule}
+use Rattle.iso_laws.proofs.Transactions.{common_among}
+use Rattle.iso_laws.proofs.Forms.{number_within}
 use Rattle.iso_codec.specs.Texts.{body_parts}
 
-not_listed : (set listed : Bool) → (set && not listed) ≡ false → listed ≡ false → set ≡ false
-not_listed false listed h k = refl
-not_listed true true h k = absurd cc
-not_listed true false h k = absurd cc
+abbrev Read : Type 0
+Read = Result (List Field × List ℕ) CodecFault
 
-is_needed : (set needed : Bool) → (needed && not set) ≡ false → needed ≡ true → set ≡ true
-is_needed true needed h k = refl
-is_needed false true h k = absurd cc
-is_needed false false h k = absurd cc
+-- the elements of all types, as the one reader takes them
+abbrev read_parts : Mti → List Part
+read_parts t = front_parts ++ body_parts t
 
-module _ (parts : List Part) (bitmap : ℕ) (sound : IsSound parts bitmap) where
-  unset : (n : ℕ) → leb 2 n ≡ true → leb n 128 ≡ true → is_listed parts n ≡ false → is_set bitmap n ≡ false
-  unset n low high h = not_listed (is_set bitmap n) (is_listed parts n) (sound.unexpected n (leb-true 2 n low) (leb-true n 128 high)) h
+-- a part that is read where the bitmap says that it is there
+abbrev by_bitmap : Part → Part
+by_bitmap p = (false, p.1, p.2)
 
-  set : (n : ℕ) → leb 2 n ≡ true → leb n 128 ≡ true → is_required parts n ≡ true → is_set bitmap n ≡ true
-  set n low high h = is_needed (is_set bitmap n) (is_required parts n) (sound.missing n (leb-true 2 n low) (leb-true n 128 high)) h
+-- one part, and what is read behind it
+abbrev read_first : ℕ → Bool → Element → Rule → List ℕ → (List ℕ → Read) → Read
+read_first bitmap there e rule bytes next = optional_at there e bytes >>= λ x. rule_at rule bitmap x.0 >>= λ _. with_first e x.0 (next x.1)
 
-without_first : (e : Element) (read : Result (List Field × List ℕ) CodecFault) → with_first e None read ≡ read
+-- elements that must be there are, so that all can be read by the bitmap
+all_by_bitmap : (bitmap : ℕ) (ps : List Part) (bytes : List ℕ) → ((n : ℕ) → is_required ps n ≡ true → is_set bitmap n ≡ true) → fields_at bitmap (map by_bitmap ps) bytes ≡ fields_at bitmap ps bytes
+unfolding fields_at
+all_by_bitmap bitmap [] bytes h = refl
+all_by_bitmap bitmap ((true, e, r) ∷ ps) bytes h =
+    let set : is_set bitmap (element_number e) ≡ true = h (element_number e) (rw (same_number (element_number e)) refl) in
+    rw set (ap (read_first bitmap true e r bytes) (fun_ext (λ rest. all_by_bitmap bitmap ps rest (λ n k. h n (or_right _ (is_required ps n) k)))))
+all_by_bitmap bitmap ((false, e, r) ∷ ps) bytes h =
+    ap (read_first bitmap (is_set bitmap (element_number e)) e r bytes) (fun_ext (λ rest. all_by_bitmap bitmap ps rest h))
+
+without_first : (e : Element) (read : Read) → with_first e None read ≡ read
 without_first e (Ok x) = refl
 without_first e (Err f) = refl
 
-request_tail : (bitmap : ℕ) (bytes : List ℕ) → IsSound (parts_of mti.Request) bitmap → fields_at bitmap (body_parts mti.Request) bytes ≡ fields_at bitmap (tail_parts mti.Request) bytes
+-- those that a type never has are absent, and reading passes over them
+none_of_others : (bitmap : ℕ) (known : ℕ → Bool) (ps : List Part) (bytes : List ℕ) → ((e : Element) → known (element_number e) ≡ false → is_set bitmap (element_number e) ≡ false)
+    → fields_at bitmap (filter (λ p. known (element_number p.1)) (map by_bitmap ps)) bytes ≡ fields_at bitmap (map by_bitmap ps) bytes
 unfolding fields_at optional_at
-request_tail bitmap bytes s =
-    let ps = parts_of mti.Request in
-    rw (set ps bitmap s 24 refl refl refl, unset ps bitmap s 30 refl refl refl, unset ps bitmap s 38 refl refl refl, unset ps bitmap s 39 refl refl refl, unset ps bitmap s 56 refl refl refl) (simp without_first)
+none_of_others bitmap known [] bytes h = refl
+none_of_others bitmap known ((b, e, r) ∷ ps) bytes h =
+    elim (known (element_number e)) as (λ k. known (element_number e) ≡ k
+    → fields_at bitmap (cond k ((false, e, r) ∷ filter (λ p. known (element_number p.1)) (map by_bitmap ps)) (filter (λ p. known (element_number p.1)) (map by_bitmap ps))) bytes
+    ≡ read_first bitmap (is_set bitmap (element_number e)) e r bytes (fields_at bitmap (map by_bitmap ps))) [
+      | true ↦ λ _. ap (read_first bitmap (is_set bitmap (element_number e)) e r bytes) (fun_ext (λ rest. none_of_others bitmap known ps rest h))
+      | false ↦ λ k. none_of_others bitmap known ps bytes h ∙ sym (rw (h e k, no_rule r bitmap) (without_first e (fields_at bitmap (map by_bitmap ps) bytes)))
+    ] refl
 
-advice_tail : (bitmap : ℕ) (bytes : List ℕ) → IsSound (parts_of mti.Advice) bitmap → fields_at bitmap (body_parts mti.Advice) bytes ≡ fields_at bitmap (tail_parts mti.Advice) bytes
-unfolding fields_at optional_at
-advice_tail bitmap bytes s =
-    let ps = parts_of mti.Advice in
-    rw (set ps bitmap s 24 refl refl refl, unset ps bitmap s 30 refl refl refl, unset ps bitmap s 38 refl refl refl, set ps bitmap s 39 refl refl refl, unset ps bitmap s 56 refl refl refl) (simp without_first)
+those_of_type : (t : Mti) → filter (λ p. is_listed (parts_of t) (element_number p.1)) (map by_bitmap (read_parts t)) ≡ map by_bitmap (parts_of t)
+those_of_type mti.Request = refl
+those_of_type _ = refl
 
-reversal_tail : (bitmap : ℕ) (bytes : List ℕ) → IsSound (parts_of mti.Reversal) bitmap → fields_at bitmap (body_parts mti.Reversal) bytes ≡ fields_at bitmap (tail_parts mti.Reversal) bytes
-unfolding fields_at optional_at
-reversal_tail bitmap bytes s =
-    let ps = parts_of mti.Reversal in
-    rw (set ps bitmap s 24 refl refl refl, unset ps bitmap s 38 refl refl refl, unset ps bitmap s 39 refl refl refl, set ps bitmap s 56 refl refl refl, unset ps bitmap s 102 refl refl refl) (simp without_first)
+always_required : (t : Mti) → list_all (λ p. not p.0 || is_required (parts_of t) (element_number p.1)) (read_parts t) ≡ true
+always_required mti.Request = refl
+always_required _ = refl
 
-verdict_tail : (bitmap : ℕ) (bytes : List ℕ) → IsSound (parts_of mti.RequestReply) bitmap → fields_at bitmap (body_parts mti.RequestReply) bytes ≡ fields_at bitmap (tail_parts mti.RequestReply) bytes
-unfolding fields_at optional_at
-verdict_tail bitmap bytes s =
-    let ps = parts_of mti.RequestReply in
-    rw (unset ps bitmap s 24 refl refl refl, unset ps bitmap s 30 refl refl refl, set ps bitmap s 39 refl refl refl, unset ps bitmap s 56 refl refl refl) (simp without_first)
+unset : (set listed : Bool) → (set ≡ true → listed ≡ true) → listed ≡ false → set ≡ false
+unset true listed h k = (let yes = h refl in absurd cc)
+unset false listed h k = refl
 
-advice_reply_tail : (bitmap : ℕ) (bytes : List ℕ) → IsSound (parts_of mti.AdviceReply) bitmap → fields_at bitmap (body_parts mti.AdviceReply) bytes ≡ fields_at bitmap (tail_parts mti.AdviceReply) bytes
-unfolding fields_at optional_at
-advice_reply_tail bitmap bytes s =
-    let ps = parts_of mti.AdviceReply in
-    rw (unset ps bitmap s 24 refl refl refl, unset ps bitmap s 30 refl refl refl, unset ps bitmap s 38 refl refl refl, set ps bitmap s 39 refl refl refl, unset ps bitmap s 56 refl refl refl) (simp without_first)
-
-reversal_reply_tail : (bitmap : ℕ) (bytes : List ℕ) → IsSound (parts_of mti.ReversalReply) bitmap → fields_at bitmap (body_parts mti.ReversalReply) bytes ≡ fields_at bitmap (tail_parts mti.ReversalReply) bytes
-unfolding fields_at optional_at
-reversal_reply_tail bitmap bytes s =
-    let ps = parts_of mti.ReversalReply in
-    rw (unset ps bitmap s 24 refl refl refl, unset ps bitmap s 30 refl refl refl, unset ps bitmap s 38 refl refl refl, set ps bitmap s 39 refl refl refl, unset ps bitmap s 56 refl refl refl, unset ps bitmap s 102 refl refl refl) (simp without_first)
-
-pub tail_is : (t : Mti) (bitmap : ℕ) (bytes : List ℕ) → presence_at (parts_of t) bitmap ≡ Ok tt → fields_at bitmap (body_parts t) bytes ≡ fields_at bitmap (tail_parts t) bytes
-tail_is mti.Request bitmap bytes h = request_tail bitmap bytes (is_sound (parts_of mti.Request) bitmap h)
-tail_is mti.RequestRepeat bitmap bytes h = request_tail bitmap bytes (is_sound (parts_of mti.Request) bitmap h)
-tail_is mti.RequestReply bitmap bytes h = verdict_tail bitmap bytes (is_sound (parts_of mti.RequestReply) bitmap h)
-tail_is mti.Advice bitmap bytes h = advice_tail bitmap bytes (is_sound (parts_of mti.Advice) bitmap h)
-tail_is mti.AdviceRepeat bitmap bytes h = advice_tail bitmap bytes (is_sound (parts_of mti.Advice) bitmap h)
-tail_is mti.AdviceReply bitmap bytes h = advice_reply_tail bitmap bytes (is_sound (parts_of mti.AdviceReply) bitmap h)
-tail_is mti.Reversal bitmap bytes h = reversal_tail bitmap bytes (is_sound (parts_of mti.Reversal) bitmap h)
-tail_is mti.ReversalRepeat bitmap bytes h = reversal_tail bitmap bytes (is_sound (parts_of mti.Reversal) bitmap h)
-tail_is mti.ReversalReply bitmap bytes h = reversal_reply_tail bitmap bytes (is_sound (parts_of mti.ReversalReply) bitmap h)
+-- so the one reader reads what the type has
+pub read_is : (t : Mti) (bitmap : ℕ) (bytes : List ℕ) → presence_at (parts_of t) bitmap ≡ Ok tt → whole_at bitmap (parts_of t) bytes ≡ whole_at bitmap (read_parts t) bytes
+unfolding whole_at
+read_is t bitmap bytes sound =
+    let right = sound_bitmap t bitmap sound in
+    let absent = λ (e : Element) (k : is_listed (parts_of t) (element_number e) ≡ false).
+    (let within = number_within e in unset (is_set bitmap (element_number e)) (is_listed (parts_of t) (element_number e)) (right.0 (element_number e) (omega (arith, within.0)) within.1) k) in
+    let there = λ (n : ℕ) (k : is_required (read_parts t) n ≡ true). right.1 n (common_among (is_required (parts_of t)) (read_parts t) n (always_required t) k) in
+    let same : fields_at bitmap (parts_of t) bytes ≡ fields_at bitmap (read_parts t) bytes =
+    sym (all_by_bitmap bitmap (parts_of t) bytes right.1) ∙ (ap (λ (ps : List Part). fields_at bitmap ps bytes) (sym (those_of_type t))
+    ∙ (none_of_others bitmap (is_listed (parts_of t)) (read_parts t) bytes absent ∙ all_by_bitmap bitmap (read_parts t) bytes there)) in
+    rw same refl

@@ -226,7 +226,7 @@ wrong_named bitmap (p ∷ ps) bytes d h = named_step bitmap p ps bytes d (p.0 ||
 
 -- ---- behind a type and its bitmap
 
-same_number : (n : ℕ) → eqb n n ≡ true
+pub same_number : (n : ℕ) → eqb n n ≡ true
 same_number n = grind arith
 
 there_same : (bitmap : ℕ) (ps : List Part) → ((n : ℕ) → is_required ps n ≡ true → is_set bitmap n ≡ true) → present_parts bitmap ps ≡ those_there bitmap ps

@@ -37,7 +37,7 @@ same_element e d h =
     let other = element_again d in
     cc
 
-number_within : (e : Element) → (1 < element_number e) × (element_number e ≤ 128)
+pub number_within : (e : Element) → (1 < element_number e) × (element_number e ≤ 128)
 number_within element.Pan = (omega arith, omega arith)
 number_within _ = (omega arith, omega arith)
 

@@ -63,7 +63,7 @@ is_common e = is_required common (element_number e)
 abbrev pub is_shared : Element → Bool
 is_shared e = is_listed common (element_number e)
 
-common_among : (f : ℕ → Bool) (ps : List Part) (n : ℕ) → list_all (λ p. not p.0 || f (element_number p.1)) ps ≡ true → is_required ps n ≡ true → f n ≡ true
+pub common_among : (f : ℕ → Bool) (ps : List Part) (n : ℕ) → list_all (λ p. not p.0 || f (element_number p.1)) ps ≡ true → is_required ps n ≡ true → f n ≡ true
 common_among f [] n h k = absurd cc
 common_among f ((true, e, r) ∷ ps) n h k =
     let both = and_parts (f (element_number e)) (list_all (λ p. not p.0 || f (element_number p.1)) ps) h in
