@@ -1,5 +1,5 @@
 -- Texts of elements as they were cut out of the bytes, before they are values.
-use Rattle.std.specs.Prelude.{ℕ, false, not, List, [], ◌∷◌, Some, None, nat_lt, option_map, Result, Ok, Err, if◌then◌else◌}
+use Rattle.std.specs.Prelude.{ℕ, false, not, List, [], ◌∷◌, Some, None, nat_le, option_map, Result, Ok, Err, if◌then◌else◌}
 use Rattle.iso_codec.specs.declared.front.Front.{Front}
 use Rattle.iso_codec.specs.declared.body.Body.{Body}
 use Rattle.iso_codec.specs.declared.texts.Texts.{Texts as TextsRead}
@@ -45,9 +45,9 @@ body_texts x element.Original = option_map (λ t. t.now) x.original
 body_texts x element.Account = option_map (λ t. t.now) x.account
 body_texts x _ = None
 
--- all of them: those of a body begin with element 24
+-- all of them: those of a front end with element 12
 abbrev pub texts_of : TextsRead → Texts
-texts_of x e = if nat_lt (element_number e) 24 then front_texts x.front e else body_texts x.body e
+texts_of x e = if nat_le (element_number e) 12 then front_texts x.front e else body_texts x.body e
 
 -- the elements of a front
 abbrev pub front_elements : List Element

@@ -2,8 +2,9 @@
 
 ghost use Rattle.std.specs.Prelude.{◌≡◌, IfSome, take, option_map};
 ghost use Rattle.iso8583.specs.Number.{number_of};
+ghost use Rattle.iso_laws.specs.Messages.{account_from, type_kind, type_repeat, original_from};
+ghost use Rattle.iso_laws.specs.Transactions.{retrieval_from};
 ghost use Rattle.iso_laws.specs.Elements.{IsText};
-ghost use Rattle.iso_laws.specs.FromTexts.{retrieval_from, account_from, type_kind, type_repeat, original_from};
 
 use crate::value_test::is_text;
 use iso_laws::Element;

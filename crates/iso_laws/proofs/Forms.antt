@@ -1,6 +1,6 @@
 -- Texts of the form of a type are the fields of one of its messages, and no other texts have these fields.
 use Rattle.std.proofs.Common.{◌≡◌, ℕ, suc, ◌+◌, ◌-◌, ◌*◌, ◌^◌, ◌<◌, ◌≤◌, Bool, true, false, cond, eqb, List, [], ◌∷◌, Option, Some, None, Ok, refl, sym, ap, subst, ◌∙◌, arith, inl, inr}
-use Rattle.std.specs.Prelude.{IfSome, is_some, is_ok, map, ◌&&◌, ◌||◌}
+use Rattle.std.specs.Prelude.{IfSome, is_some, is_ok, not, map, ◌&&◌, ◌||◌}
 use Rattle.std.specs.List.{list_all, find, AllByRecursion}
 use Rattle.std.proofs.lemmas.Bool.{and_parts, eqb-true, cases_lt}
 use Rattle.std.proofs.Math.Nat.{pow-suc}
@@ -40,6 +40,49 @@ same_element e d h =
 pub number_within : (e : Element) → (1 < element_number e) × (element_number e ≤ 128)
 number_within element.Pan = (omega arith, omega arith)
 number_within _ = (omega arith, omega arith)
+
+none_is : (text : Option (List ℕ)) → is_some text ≡ false → text ≡ None
+none_is None h = refl
+none_is (Some text) h = absurd cc
+
+listed_passes : (test : Element → Bool) (n : ℕ) (es : List Element) (e : Element) → list_all test es ≡ true → find (λ d. eqb (element_number d) n) es ≡ Some e → test e ≡ true
+listed_passes test n [] e h k = absurd cc
+listed_passes test n (d ∷ es) e h k =
+    let both = and_parts (test d) (list_all test es) h in
+    elim (eqb (element_number d) n) as (λ b. cond b (Some d) (find (λ d. eqb (element_number d) n) es) ≡ Some e → test e ≡ true) [
+      | true ↦ λ l. (let same : d ≡ e = cc in subst (λ (x : Element). test x ≡ true) same both.0)
+      | false ↦ λ l. listed_passes test n es e both.1 l
+    ] k
+
+-- what all elements pass, each does
+pub each_passes : (test : Element → Bool) → list_all test elements ≡ true → (e : Element) → test e ≡ true
+each_passes test h e = listed_passes test (element_number e) elements e h (element_again e)
+
+-- a test of a form: an element that must be there is, and one that may not be isn't
+abbrev pub suits : List Part → Texts → Element → Bool
+suits parts text e = (not (is_required parts (element_number e)) || is_some (text e)) && (is_listed parts (element_number e) || not (is_some (text e)))
+
+abbrev pub AreKept : List Part → Texts → Type 0
+AreKept parts text = list_all (λ p. is_ok (rule_of p.2 (λ e. is_some (text e)) (text p.1))) parts ≡ true
+
+pub has_form : (parts : List Part) (text : Texts) → list_all (suits parts text) elements ≡ true → AreKept parts text → HasForm parts text
+has_form parts text suited kept = record {
+  required = λ e h. needed (is_required parts (element_number e)) (is_some (text e)) (both e).0 h;
+  absent = λ e h. none_is (text e) (unneeded (is_listed parts (element_number e)) (is_some (text e)) (both e).1 h);
+  ruled = kept;
+}
+  where
+    both : (e : Element) → ((not (is_required parts (element_number e)) || is_some (text e)) ≡ true) × ((is_listed parts (element_number e) || not (is_some (text e))) ≡ true)
+    both e = and_parts _ _ (each_passes (suits parts text) suited e)
+
+    needed : (a b : Bool) → (not a || b) ≡ true → a ≡ true → b ≡ true
+    needed true b h k = h
+    needed false b h k = absurd cc
+
+    unneeded : (a b : Bool) → (a || not b) ≡ true → a ≡ false → b ≡ false
+    unneeded true b h k = absurd cc
+    unneeded false true h k = absurd cc
+    unneeded false false h k = refl
 
 -- ---- the elements of fields rise
 
@@ -245,10 +288,6 @@ is_absent bitmap ps n h =
         | false ↦ λ _. refl
       ] refl
     ] refl
-
-none_is : (text : Option (List ℕ)) → is_some text ≡ false → text ≡ None
-none_is None h = refl
-none_is (Some text) h = absurd cc
 
 no_rule_of : (rule : Rule) (there : Element → Bool) → rule_of rule there None ≡ Ok tt
 no_rule_of Free there = refl

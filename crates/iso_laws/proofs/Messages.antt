@@ -15,16 +15,15 @@ use Rattle.iso_laws.specs.declared.element.Element.{Element}
 use Rattle.iso_laws.specs.declared.element.Element.TheVariants as element
 use Rattle.iso_laws.specs.declared.mti.Mti.{Mti}
 use Rattle.iso_laws.specs.declared.mti.Mti.TheVariants as mti
-use Rattle.iso_laws.specs.Elements.{element_number, IsText, is_original_amount, original_text, twelve_zeros}
+use Rattle.iso_laws.specs.Elements.{elements, IsText, is_original_amount, original_text, twelve_zeros}
 use Rattle.iso_laws.specs.Types.{Part, parts_of, taken_in, is_among}
-use Rattle.iso_laws.specs.Spelling.{Texts, fields}
-use Rattle.iso_laws.specs.FromTexts.{text_or_none, account_from, transaction_from, original_from, scope_from, request_from, advice_from, reversal_from, message_from}
-use Rattle.iso_laws.specs.Transactions.{transaction_texts}
+use Rattle.iso_laws.specs.Spelling.{Texts, fields, text_or_none}
+use Rattle.iso_laws.specs.Transactions.{transaction_texts, transaction_from}
 use Rattle.iso_laws.specs.declared.rule.Rule.TheVariants.{Scope}
 use Rattle.iso_laws.specs.Forms.{HasForm, AreTextsOf}
-use Rattle.iso_laws.specs.Reading.{is_listed, is_required, rule_of, scope_at}
-use Rattle.iso_laws.specs.Messages.{mti_of, scope_function, scope_amount, account_text, message_texts, fields_of, message_spelling, IsScope, IsAccount, IsMessage}
-use Rattle.iso_laws.proofs.Forms.{form_fields, each_known, same_texts, equal_texts}
+use Rattle.iso_laws.specs.Reading.{rule_of, scope_at}
+use Rattle.iso_laws.specs.Messages.{mti_of, scope_function, scope_amount, account_text, message_texts, fields_of, message_spelling, IsScope, IsAccount, IsMessage, account_from, original_from, scope_from, request_from, advice_from, reversal_from, message_from}
+use Rattle.iso_laws.proofs.Forms.{suits, AreKept, has_form, form_fields, each_known, same_texts, equal_texts}
 use Rattle.iso_laws.proofs.Transactions.{transaction_known, transaction_again, some_text, known_text, is_transaction, transaction_text_from}
 use Rattle.iso_laws.proofs.Amounts.{amount_bound, action_bound, original_amount, original_again}
 use Rattle.iso_laws.proofs.Present.{rule_ok}
@@ -79,28 +78,17 @@ first_of_kind (message.Request m) = mti.Request
 first_of_kind (message.Advice m) = mti.Advice
 first_of_kind (message.Reversal m) = mti.Reversal
 
-needed : (m : Message) (e : Element) → is_required (parts_of (first_of_kind m)) (element_number e) ≡ true → IsSome (message_texts m e)
-needed (message.Request m) element.Pan h = cc
-needed (message.Request m) _ h = cc
-needed (message.Advice m) element.Pan h = cc
-needed (message.Advice m) _ h = cc
-needed (message.Reversal m) element.Pan h = cc
-needed (message.Reversal m) _ h = cc
-
-others : (m : Message) (e : Element) → is_listed (parts_of (first_of_kind m)) (element_number e) ≡ false → message_texts m e ≡ None
-others (message.Request m) element.Pan h = cc
-others (message.Request m) _ h = cc
-others (message.Advice m) element.Pan h = cc
-others (message.Advice m) _ h = cc
-others (message.Reversal m) element.Pan h = cc
-others (message.Reversal m) _ h = cc
+suited : (m : Message) → list_all (suits (parts_of (first_of_kind m)) (message_texts m)) elements ≡ true
+suited (message.Request m) = refl
+suited (message.Advice m) = refl
+suited (message.Reversal m) = refl
 
 scope_kept : (s : ReversalScope) → (is_ok (scope_at (is_some (scope_amount s)) (scope_function s)) && true) ≡ true
 unfolding scope_at
 scope_kept Full = refl
 scope_kept (Partial n) = refl
 
-kept : (m : Message) → list_all (λ p. is_ok (rule_of p.2 (λ e. is_some (message_texts m e)) (message_texts m p.1))) (parts_of (first_of_kind m)) ≡ true
+kept : (m : Message) → AreKept (parts_of (first_of_kind m)) (message_texts m)
 kept (message.Request m) = refl
 kept (message.Advice m) = refl
 kept (message.Reversal m) = scope_kept m.scope
@@ -113,7 +101,7 @@ parts_of-repeat (message.Reversal m) = elim m.repeat as (λ b. parts_of (cond b 
 
 message_form : (m : Message) → HasForm (parts_of (mti_of m)) (message_texts m)
 message_form m =
-    subst (λ (parts : List Part). HasForm parts (message_texts m)) (sym (parts_of-repeat m)) (record { required = needed m; absent = others m; ruled = kept m })
+    subst (λ (parts : List Part). HasForm parts (message_texts m)) (sym (parts_of-repeat m)) (has_form (parts_of (first_of_kind m)) (message_texts m) (suited m) (kept m))
 
 pub message_are : (m : Message) → IsMessage m → AreFields (mti_of m) (fields_of m)
 message_are m h = form_fields (mti_of m) (message_texts m) (message_form m) (message_known m h)

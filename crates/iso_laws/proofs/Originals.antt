@@ -16,8 +16,7 @@ use Rattle.iso8583.specs.declared.original_kind.OriginalKind.TheVariants as kind
 use Rattle.iso8583.specs.declared.original_ref.OriginalRef.{OriginalRef}
 use Rattle.iso_laws.specs.declared.element.Element.TheVariants as element
 use Rattle.iso_laws.specs.Elements.{IsText, original_type, is_original_type, original_text, is_original}
-use Rattle.iso_laws.specs.FromTexts.{type_kind, type_repeat, original_from}
-use Rattle.iso_laws.specs.Messages.{IsOriginal}
+use Rattle.iso_laws.specs.Messages.{IsOriginal, type_kind, type_repeat, original_from}
 use Rattle.iso_laws.proofs.Conjunctions.{all_three_true}
 
 -- five pieces, the first four of them of 4, 6, 12 and 2 bytes

@@ -16,16 +16,15 @@ use Rattle.iso_laws.specs.declared.element.Element.{Element}
 use Rattle.iso_laws.specs.declared.element.Element.TheVariants as element
 use Rattle.iso_laws.specs.declared.mti.Mti.{Mti}
 use Rattle.iso_laws.specs.declared.mti.Mti.TheVariants as mti
-use Rattle.iso_laws.specs.Elements.{element_number, IsText}
+use Rattle.iso_laws.specs.Elements.{elements, IsText}
 use Rattle.iso_laws.specs.Types.{parts_of, given_out, is_among}
 use Rattle.iso_laws.specs.Spelling.{Texts, fields}
-use Rattle.iso_laws.specs.FromTexts.{transaction_from, verdict_from, answer_from, reply_from}
 use Rattle.iso_laws.specs.declared.rule.Rule.TheVariants.{Verdict as VerdictRule}
 use Rattle.iso_laws.specs.Forms.{HasForm, AreTextsOf}
-use Rattle.iso_laws.specs.Reading.{is_listed, is_required, rule_of, verdict_at}
-use Rattle.iso_laws.specs.Transactions.{transaction_texts, IsTransaction}
-use Rattle.iso_laws.specs.Replies.{verdict_approval, verdict_action, IsVerdict, answer_mti, reply_mti, reply_texts, reply_fields, reply_spelling, IsAnswer, IsReply}
-use Rattle.iso_laws.proofs.Forms.{form_fields, each_known, same_texts, equal_texts}
+use Rattle.iso_laws.specs.Reading.{rule_of, verdict_at}
+use Rattle.iso_laws.specs.Transactions.{transaction_texts, IsTransaction, transaction_from}
+use Rattle.iso_laws.specs.Replies.{verdict_approval, verdict_action, IsVerdict, answer_mti, reply_mti, reply_texts, reply_fields, reply_spelling, IsAnswer, IsReply, verdict_from, answer_from, reply_from}
+use Rattle.iso_laws.proofs.Forms.{suits, AreKept, has_form, form_fields, each_known, same_texts, equal_texts}
 use Rattle.iso_laws.proofs.Transactions.{transaction_known, transaction_again, is_transaction, transaction_text_from}
 use Rattle.iso_laws.proofs.Amounts.{action_bound}
 use Rattle.iso_laws.proofs.Present.{rule_ok}
@@ -66,23 +65,12 @@ reply_known r h e = texts_known r.transaction r.answer h.0 h.1 e
 
 -- ---- they are those of its type
 
-needed : (t : Transaction) (a : Answer) (e : Element) → is_required (parts_of (answer_mti a)) (element_number e) ≡ true → IsSome (reply_texts (reply_to t a) e)
-needed t (answer.Request v account) element.Pan h = cc
-needed t (answer.Request v account) _ h = cc
-needed t (answer.Advice a account) element.Pan h = cc
-needed t (answer.Advice a account) _ h = cc
-needed t (answer.Reversal a) element.Pan h = cc
-needed t (answer.Reversal a) _ h = cc
+suited : (t : Transaction) (a : Answer) → list_all (suits (parts_of (answer_mti a)) (reply_texts (reply_to t a))) elements ≡ true
+suited t (answer.Request v account) = refl
+suited t (answer.Advice a account) = refl
+suited t (answer.Reversal a) = refl
 
-others : (t : Transaction) (a : Answer) (e : Element) → is_listed (parts_of (answer_mti a)) (element_number e) ≡ false → reply_texts (reply_to t a) e ≡ None
-others t (answer.Request v account) element.Pan h = cc
-others t (answer.Request v account) _ h = cc
-others t (answer.Advice a account) element.Pan h = cc
-others t (answer.Advice a account) _ h = cc
-others t (answer.Reversal a) element.Pan h = cc
-others t (answer.Reversal a) _ h = cc
-
-kept : (t : Transaction) (a : Answer) → IsAnswer a → list_all (λ p. is_ok (rule_of p.2 (λ e. is_some (reply_texts (reply_to t a) e)) (reply_texts (reply_to t a) p.1))) (parts_of (answer_mti a)) ≡ true
+kept : (t : Transaction) (a : Answer) → IsAnswer a → AreKept (parts_of (answer_mti a)) (reply_texts (reply_to t a))
 unfolding verdict_at
 kept t (answer.Request (Approved code) account) h = refl
 kept t (answer.Request (Declined code) account) h = rw (not_approved code h.0.0 h.0.1) refl
@@ -93,7 +81,7 @@ pub reply_are : (r : Reply) → IsReply r → AreFields (reply_mti r) (reply_fie
 reply_are r h =
     let t = r.transaction in
     let a = r.answer in
-    form_fields (reply_mti r) (reply_texts r) (record { required = needed t a; absent = others t a; ruled = kept t a h.1 }) (reply_known r h)
+    form_fields (reply_mti r) (reply_texts r) (has_form (parts_of (answer_mti a)) (reply_texts r) (suited t a) (kept t a h.1)) (reply_known r h)
 
 -- ---- a reply from its type and its texts
 

@@ -12,11 +12,10 @@ use Rattle.iso_laws.specs.declared.mti.Mti.{Mti}
 use Rattle.iso_laws.specs.declared.mti.Mti.TheVariants as mti
 use Rattle.iso_laws.specs.Elements.{element_number, IsText}
 use Rattle.iso_laws.specs.Types.{Part, required, optional, front_parts, parts_of}
-use Rattle.iso_laws.specs.Spelling.{Texts}
+use Rattle.iso_laws.specs.Spelling.{Texts, text_or_none}
 use Rattle.iso_laws.specs.Forms.{HasForm}
-use Rattle.iso_laws.specs.FromTexts.{text_or_none, retrieval_from, transaction_from}
 use Rattle.iso_laws.specs.Reading.{is_listed, is_required}
-use Rattle.iso_laws.specs.Transactions.{transaction_texts, IsTransaction}
+use Rattle.iso_laws.specs.Transactions.{transaction_texts, IsTransaction, retrieval_from, transaction_from}
 use Rattle.iso_laws.proofs.Amounts.{amount_bound}
 
 retrieval_known : (r : Option Retrieval) → IfSome r (λ t. IsText element.Retrieval t.0) → IfSome (option_map (λ t. t.0) r) (IsText element.Retrieval)

@@ -2,7 +2,6 @@ pub mod Elements
 pub mod Faults
 pub mod FirstWrong
 pub mod Forms
-pub mod FromTexts
 pub mod Messages
 pub mod Reading
 pub mod Replies

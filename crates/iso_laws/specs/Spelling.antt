@@ -28,6 +28,11 @@ length_prefix (UpTo min max) text = fixed_digits 2 (length text)
 abbrev pub Texts : Type 0
 Texts = Element → Option (List ℕ)
 
+-- the text of an element, none where it is absent
+abbrev pub text_or_none : Option (List ℕ) → List ℕ
+text_or_none None = []
+text_or_none (Some text) = text
+
 -- those of these elements that are there
 abbrev pub fields_among : List Element → Texts → List Field
 fields_among [] text = []

@@ -1,10 +1,11 @@
 -- The elements that every message and every reply has, and element 37.
-use Rattle.std.specs.Prelude.{◌<◌, ◌^◌, Some, None, IfSome, option_map}
-use Rattle.iso8583.specs.Number.{fixed_digits}
+use Rattle.std.specs.Prelude.{ℕ, ◌<◌, ◌^◌, List, Option, Some, None, IfSome, option_map}
+use Rattle.iso8583.specs.Number.{number_of, fixed_digits}
+use Rattle.iso8583.specs.declared.retrieval.Retrieval.{Retrieval}
 use Rattle.iso8583.specs.declared.transaction.Transaction.{Transaction}
 use Rattle.iso_laws.specs.declared.element.Element.TheVariants as element
 use Rattle.iso_laws.specs.Elements.{IsText}
-use Rattle.iso_laws.specs.Spelling.{Texts}
+use Rattle.iso_laws.specs.Spelling.{Texts, text_or_none}
 
 -- the texts of a transaction's elements
 abbrev pub transaction_texts : Transaction → Texts
@@ -19,6 +20,25 @@ transaction_texts t element.Retrieval = option_map (λ r. r.0) t.retrieval
 transaction_texts t element.Terminal = Some t.terminal.0
 transaction_texts t element.Currency = Some t.currency.0
 transaction_texts t _ = None
+
+-- ---- and a transaction from them
+
+abbrev pub retrieval_from : Option (List ℕ) → Option Retrieval
+retrieval_from text = option_map (λ t. record { 0 = t }) text
+
+abbrev pub transaction_from : Texts → Transaction
+transaction_from text = record {
+  pan = record { 0 = text_or_none (text element.Pan) };
+  processing = record { 0 = text_or_none (text element.Processing) };
+  amount = number_of (text_or_none (text element.Amount));
+  transmission = record { 0 = text_or_none (text element.Transmission) };
+  stan = record { 0 = text_or_none (text element.Stan) };
+  stamp = text_or_none (text element.Stamp);
+  acquirer = record { 0 = text_or_none (text element.Acquirer) };
+  retrieval = retrieval_from (text element.Retrieval);
+  terminal = record { 0 = text_or_none (text element.Terminal) };
+  currency = record { 0 = text_or_none (text element.Currency) };
+}
 
 -- every transaction that there is: the ranges of the values' types
 pub record IsTransaction (t : Transaction) : Type 0 where
