@@ -1,5 +1,4 @@
 pub mod Cuts
 pub mod Found
 pub mod Masks
-pub mod Parts
 pub mod Uniform

@@ -1,5 +1,5 @@
 -- One reader for all types: a bitmap without fault says which elements are there.
-use Rattle.std.proofs.Common.{◌≡◌, ℕ, Bool, true, false, List, [], ◌∷◌, ◌++◌, Option, None, Result, Ok, Err, refl, sym, ap, ◌∙◌, arith, cond}
+use Rattle.std.proofs.Common.{◌≡◌, ℕ, Bool, true, false, List, [], ◌∷◌, None, Result, Ok, Err, refl, sym, ap, ◌∙◌, arith, cond}
 use Rattle.std.specs.Prelude.{not, ◌||◌, map, filter}
 use Rattle.std.specs.List.{list_all}
 use Rattle.std.proofs.lemmas.Bool.{or_right}
@@ -10,21 +10,17 @@ use Rattle.iso_laws.specs.declared.mti.Mti.{Mti}
 use Rattle.iso_laws.specs.declared.mti.Mti.TheVariants as mti
 use Rattle.iso_laws.specs.declared.rule.Rule.{Rule}
 use Rattle.iso_laws.specs.Elements.{element_number}
-use Rattle.iso_laws.specs.Types.{Part, front_parts, parts_of}
+use Rattle.iso_laws.specs.Types.{Part, parts_of}
 use Rattle.iso_laws.specs.Spelling.{Field, is_set}
 use Rattle.iso_laws.specs.Reading.{◌>>=◌, is_listed, is_required, presence_at, optional_at, with_first, rule_at, fields_at, whole_at}
 use Rattle.iso_laws.proofs.FirstWrong.{sound_bitmap, same_number}
 use Rattle.iso_laws.proofs.Present.{no_rule}
 use Rattle.iso_laws.proofs.Transactions.{common_among}
 use Rattle.iso_laws.proofs.Forms.{number_within}
-use Rattle.iso_codec.specs.Texts.{body_parts}
+use Rattle.iso_codec.specs.Texts.{read_parts}
 
 abbrev Read : Type 0
 Read = Result (List Field × List ℕ) CodecFault
-
--- the elements of all types, as the one reader takes them
-abbrev read_parts : Mti → List Part
-read_parts t = front_parts ++ body_parts t
 
 -- a part that is read where the bitmap says that it is there
 abbrev by_bitmap : Part → Part

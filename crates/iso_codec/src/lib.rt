@@ -2,10 +2,8 @@
 #![tactic(auto)]
 
 mod bitmap;
-mod body;
 mod decoding;
 mod fields;
-mod front;
 mod header;
 mod message;
 mod reply;

@@ -18,10 +18,9 @@ pub(crate) fn transaction_of(texts: &Texts) -> Transaction
     requires { AreKnown (texts_of texts.now) }
     ensures { result ≡ transaction_from (texts_of texts.now) }
 {
-    let (front, body) = (&texts.front, &texts.body);
-    let (pan, processing, amount) = (front.pan, front.processing, front.amount);
-    let (transmission, stan, stamp) = (front.transmission, front.stan, front.stamp);
-    let (acquirer, terminal, currency) = (body.acquirer, body.terminal, body.currency);
+    let (pan, processing, amount) = (texts.pan, texts.processing, texts.amount);
+    let (transmission, stan, stamp) = (texts.transmission, texts.stan, texts.stamp);
+    let (acquirer, terminal, currency) = (texts.acquirer, texts.terminal, texts.currency);
     Transaction {
         pan: values::pan(pan),
         processing: values::processing(processing),
@@ -30,7 +29,7 @@ pub(crate) fn transaction_of(texts: &Texts) -> Transaction
         stan: values::stan(stan),
         stamp: values::stamp(stamp),
         acquirer: values::acquirer(acquirer),
-        retrieval: values::retrieval(body.retrieval),
+        retrieval: values::retrieval(texts.retrieval),
         terminal: values::terminal(terminal),
         currency: values::currency(currency),
     }
@@ -42,13 +41,13 @@ fn request_of(repeat: bool, texts: &Texts) -> Message
     requires form { HasForm (parts_of Mti.Request) (texts_of texts.now) }
     ensures { result ≡ request_from repeat (texts_of texts.now) }
 {
-    let Some(function) = texts.body.function else {
+    let Some(function) = texts.function else {
         unreachable!()
     };
     Message::Request(Request {
         repeat,
         function: values::function(function),
-        account: values::account(texts.body.account),
+        account: values::account(texts.account),
         transaction: transaction_of(texts),
     })
 }
@@ -59,17 +58,17 @@ fn advice_of(repeat: bool, texts: &Texts) -> Message
     requires form { HasForm (parts_of Mti.Advice) (texts_of texts.now) }
     ensures { result ≡ advice_from repeat (texts_of texts.now) }
 {
-    let Some(function) = texts.body.function else {
+    let Some(function) = texts.function else {
         unreachable!()
     };
-    let Some(action) = texts.body.action else {
+    let Some(action) = texts.action else {
         unreachable!()
     };
     Message::Advice(Advice {
         repeat,
         function: values::function(function),
         action: values::action(action),
-        account: values::account(texts.body.account),
+        account: values::account(texts.account),
         transaction: transaction_of(texts),
     })
 }
@@ -91,12 +90,12 @@ fn reversal_of(repeat: bool, texts: &Texts) -> Message
     requires form { HasForm (parts_of Mti.Reversal) (texts_of texts.now) }
     ensures { result ≡ reversal_from repeat (texts_of texts.now) }
 {
-    let Some(original) = texts.body.original else {
+    let Some(original) = texts.original else {
         unreachable!()
     };
     Message::Reversal(Reversal {
         repeat,
-        scope: scope_of(texts.body.original_amount),
+        scope: scope_of(texts.original_amount),
         original: values::original(original),
         transaction: transaction_of(texts),
     })

@@ -37,14 +37,14 @@ fn request_reply_of(texts: &Texts) -> Reply
     requires form { HasForm (parts_of Mti.RequestReply) (texts_of texts.now) }
     ensures { result ≡ reply_from Mti.RequestReply (texts_of texts.now) }
 {
-    let Some(action) = texts.body.action else {
+    let Some(action) = texts.action else {
         unreachable!()
     };
     Reply {
         transaction: transaction_of(texts),
         answer: Answer::Request(
-            verdict_of(texts.body.approval, action),
-            values::account(texts.body.account),
+            verdict_of(texts.approval, action),
+            values::account(texts.account),
         ),
     }
 }
@@ -55,12 +55,12 @@ fn advice_reply_of(texts: &Texts) -> Reply
     requires form { HasForm (parts_of Mti.AdviceReply) (texts_of texts.now) }
     ensures { result ≡ reply_from Mti.AdviceReply (texts_of texts.now) }
 {
-    let Some(action) = texts.body.action else {
+    let Some(action) = texts.action else {
         unreachable!()
     };
     Reply {
         transaction: transaction_of(texts),
-        answer: Answer::Advice(values::action(action), values::account(texts.body.account)),
+        answer: Answer::Advice(values::action(action), values::account(texts.account)),
     }
 }
 
@@ -70,7 +70,7 @@ fn reversal_reply_of(texts: &Texts) -> Reply
     requires form { HasForm (parts_of Mti.ReversalReply) (texts_of texts.now) }
     ensures { result ≡ reply_from Mti.ReversalReply (texts_of texts.now) }
 {
-    let Some(action) = texts.body.action else {
+    let Some(action) = texts.action else {
         unreachable!()
     };
     Reply {

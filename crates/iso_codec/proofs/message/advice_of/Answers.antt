@@ -4,7 +4,7 @@ use Rattle.iso_codec.proofs.Found.{missing}
 use Rattle.iso_codec.proofs.message.advice_of.Goals as goal
 
 pub unreachable-requires : goal.unreachable-requires
-unreachable-requires c = missing c.args.texts.now.body.function (λ t. t.now) (c.requires.form.required element.Function refl) c.in_default.is
+unreachable-requires c = missing c.args.texts.now.function (λ t. t.now) (c.requires.form.required element.Function refl) c.in_default.is
 
 pub unreachable-requires-in_default-action : goal.unreachable-requires-in_default-action
-unreachable-requires-in_default-action c = missing c.args.texts.now.body.action (λ t. t.now) (c.requires.form.required element.Action refl) c.in_default-action.is
+unreachable-requires-in_default-action c = missing c.args.texts.now.action (λ t. t.now) (c.requires.form.required element.Action refl) c.in_default-action.is

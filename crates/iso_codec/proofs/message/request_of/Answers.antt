@@ -4,4 +4,4 @@ use Rattle.iso_codec.proofs.Found.{missing}
 use Rattle.iso_codec.proofs.message.request_of.Goals as goal
 
 pub unreachable-requires : goal.unreachable-requires
-unreachable-requires c = missing c.args.texts.now.body.function (λ t. t.now) (c.requires.form.required element.Function refl) c.in_default.is
+unreachable-requires c = missing c.args.texts.now.function (λ t. t.now) (c.requires.form.required element.Function refl) c.in_default.is

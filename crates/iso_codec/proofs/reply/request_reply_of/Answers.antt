@@ -4,4 +4,4 @@ use Rattle.iso_codec.proofs.Found.{missing}
 use Rattle.iso_codec.proofs.reply.request_reply_of.Goals as goal
 
 pub unreachable-requires : goal.unreachable-requires
-unreachable-requires c = missing c.args.texts.now.body.action (λ t. t.now) (c.requires.form.required element.Action refl) c.in_default.is
+unreachable-requires c = missing c.args.texts.now.action (λ t. t.now) (c.requires.form.required element.Action refl) c.in_default.is
