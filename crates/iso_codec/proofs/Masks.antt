@@ -54,14 +54,7 @@ and_fits a b fits = let less = and_le_l a b in omega arith
 
 pub must_fits : (t : Mti) → must_have t < 2 ^ 127
 must_fits mti.Request = lit< tt
-must_fits mti.RequestRepeat = lit< tt
-must_fits mti.RequestReply = lit< tt
-must_fits mti.Advice = lit< tt
-must_fits mti.AdviceRepeat = lit< tt
-must_fits mti.AdviceReply = lit< tt
-must_fits mti.Reversal = lit< tt
-must_fits mti.ReversalRepeat = lit< tt
-must_fits mti.ReversalReply = lit< tt
+must_fits _ = lit< tt
 
 both_bits : (p q : ℕ) → p < 2 → q < 2 → eqb (min p (1 - q)) 1 ≡ (eqb p 1 && not (eqb q 1))
 both_bits p q h k =

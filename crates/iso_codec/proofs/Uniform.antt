@@ -16,7 +16,7 @@ use Rattle.iso_laws.specs.Reading.{◌>>=◌, is_listed, is_required, presence_a
 use Rattle.iso_laws.proofs.FirstWrong.{sound_bitmap, same_number}
 use Rattle.iso_laws.proofs.Present.{no_rule}
 use Rattle.iso_laws.proofs.Transactions.{common_among}
-use Rattle.iso_laws.proofs.Forms.{number_within}
+use Rattle.iso_laws.proofs.Forms.{unlisted_unset}
 use Rattle.iso_codec.specs.Texts.{read_parts}
 
 abbrev Read : Type 0
@@ -65,19 +65,13 @@ always_required : (t : Mti) → list_all (λ p. not p.0 || is_required (parts_of
 always_required mti.Request = refl
 always_required _ = refl
 
-unset : (set listed : Bool) → (set ≡ true → listed ≡ true) → listed ≡ false → set ≡ false
-unset true listed h k = (let yes = h refl in absurd cc)
-unset false listed h k = refl
-
 -- so the one reader reads what the type has
 pub read_is : (t : Mti) (bitmap : ℕ) (bytes : List ℕ) → presence_at (parts_of t) bitmap ≡ Ok tt → whole_at bitmap (parts_of t) bytes ≡ whole_at bitmap (read_parts t) bytes
 unfolding whole_at
 read_is t bitmap bytes sound =
     let right = sound_bitmap t bitmap sound in
-    let absent = λ (e : Element) (k : is_listed (parts_of t) (element_number e) ≡ false).
-    (let within = number_within e in unset (is_set bitmap (element_number e)) (is_listed (parts_of t) (element_number e)) (right.0 (element_number e) (omega (arith, within.0)) within.1) k) in
     let there = λ (n : ℕ) (k : is_required (read_parts t) n ≡ true). right.1 n (common_among (is_required (parts_of t)) (read_parts t) n (always_required t) k) in
     let same : fields_at bitmap (parts_of t) bytes ≡ fields_at bitmap (read_parts t) bytes =
     sym (all_by_bitmap bitmap (parts_of t) bytes right.1) ∙ (ap (λ (ps : List Part). fields_at bitmap ps bytes) (sym (those_of_type t))
-    ∙ (none_of_others bitmap (is_listed (parts_of t)) (read_parts t) bytes absent ∙ all_by_bitmap bitmap (read_parts t) bytes there)) in
+    ∙ (none_of_others bitmap (is_listed (parts_of t)) (read_parts t) bytes (λ e k. unlisted_unset t bitmap e sound k) ∙ all_by_bitmap bitmap (read_parts t) bytes there)) in
     rw same refl

@@ -15,8 +15,8 @@ use Rattle.iso_laws.specs.Types.{Part, required, parts_of, bits_of}
 use Rattle.iso_laws.specs.Spelling.{Field, Texts, with_field, fields_among, fields, bitmap_of, is_set}
 use Rattle.iso_laws.specs.Forms.{HasForm, AreKnown, AreTextsOf}
 use Rattle.iso_laws.specs.Reading.{is_listed, is_required, rule_of, rule_at, presence_at, reading}
-use Rattle.iso_laws.proofs.Bits.{Rises, rises_from, all_rise, bits_below, powers, has_number, is_set-bits_of, bitmap_of-elements, present_rises, bitmap_is, has_number-listed, has_number-required, and_false, and_true, or_true, or_false}
-use Rattle.iso_laws.proofs.FirstWrong.{bitmap_sound}
+use Rattle.iso_laws.proofs.Bits.{Rises, rises_from, all_rise, bits_below, powers, has_number, is_set-bits_of, bitmap_of-elements, present_rises, bitmap_is, and_false, and_true, or_false}
+use Rattle.iso_laws.proofs.FirstWrong.{bitmap_sound, sound_bitmap}
 use Rattle.iso_laws.proofs.Present.{present, present_parts, are_ruled, elements_of, AreTexts, head_is}
 use Rattle.iso_laws.proofs.Whole.{AreFields, rising, reading_found}
 use Rattle.iso_laws.proofs.Headers.{IsBytes}
@@ -37,7 +37,7 @@ same_element e d h =
     let other = element_again d in
     cc
 
-pub number_within : (e : Element) → (1 < element_number e) × (element_number e ≤ 128)
+number_within : (e : Element) → (1 < element_number e) × (element_number e ≤ 128)
 number_within element.Pan = (omega arith, omega arith)
 number_within _ = (omega arith, omega arith)
 
@@ -225,26 +225,39 @@ rule_by text bitmap Verdict (Some one) h = rw (h element.Approval) refl
 abbrev keeps : Texts → Part → Bool
 keeps text p = is_ok (rule_of p.2 (λ e. is_some (text e)) (text p.1))
 
+no_rule_of : (rule : Rule) (there : Element → Bool) → rule_of rule there None ≡ Ok tt
+no_rule_of Free there = refl
+no_rule_of Scope there = refl
+no_rule_of Verdict there = refl
+
+right_false : (a b : Bool) → (a || b) ≡ false → b ≡ false
+right_false true b h = absurd cc
+right_false false b h = h
+
+-- the rules of those that are there are the rules of all
 module _ (text : Texts) (bitmap : ℕ) (set : (e : Element) → is_set bitmap (element_number e) ≡ is_some (text e)) where
   rule_first : (p : Part) (ps : List Part) (fs : List Field)
-      → ((gs : List Field) → elements_of gs ≡ present bitmap ps → AreOf text gs → are_ruled bitmap (present_parts bitmap ps) gs ≡ true)
-      → elements_of fs ≡ (p.1 ∷ present bitmap ps) → AreOf text fs → keeps text p ≡ true → are_ruled bitmap (p ∷ present_parts bitmap ps) fs ≡ true
-  rule_first p ps [] others same of kept = refl
-  rule_first p ps (f ∷ fs) others same of kept =
+      → ((gs : List Field) → elements_of gs ≡ present bitmap ps → AreOf text gs → are_ruled bitmap (present_parts bitmap ps) gs ≡ list_all (keeps text) ps)
+      → elements_of fs ≡ (p.1 ∷ present bitmap ps) → AreOf text fs → are_ruled bitmap (p ∷ present_parts bitmap ps) fs ≡ list_all (keeps text) (p ∷ ps)
+  rule_first p ps [] others same of = absurd cc
+  rule_first p ps (f ∷ fs) others same of =
       let parts = head_is f.0 p.1 (elements_of fs) (present bitmap ps) same in
       let here : text p.1 ≡ Some f.1 = subst (λ (e : Element). text e ≡ Some f.1) parts.0 of.0 in
-      let found : is_ok (rule_of p.2 (λ e. is_some (text e)) (Some f.1)) ≡ true = subst (λ (one : Option (List ℕ)). is_ok (rule_of p.2 (λ e. is_some (text e)) one) ≡ true) here kept in
-      let ruled : is_ok (rule_at p.2 bitmap (Some f.1)) ≡ true = ap is_ok (rule_by text bitmap p.2 (Some f.1) set) ∙ found in
-      rw (ruled, others fs parts.1 of.1) refl
+      let one : is_ok (rule_at p.2 bitmap (Some f.1)) ≡ keeps text p =
+      ap is_ok (rule_by text bitmap p.2 (Some f.1) set) ∙ ap (λ (x : Option (List ℕ)). is_ok (rule_of p.2 (λ e. is_some (text e)) x)) (sym here) in
+      rw (one, others fs parts.1 of.1) refl
 
-  rules_kept : (ps : List Part) (fs : List Field) → elements_of fs ≡ present bitmap ps → AreOf text fs → list_all (keeps text) ps ≡ true → are_ruled bitmap (present_parts bitmap ps) fs ≡ true
-  rules_kept [] fs same of kept = refl
-  rules_kept (p ∷ ps) fs same of kept =
-      let both = and_parts (keeps text p) (list_all (keeps text) ps) kept in
-      elim (p.0 || is_set bitmap (element_number p.1)) as (λ b. elements_of fs ≡ cond b (p.1 ∷ present bitmap ps) (present bitmap ps) → are_ruled bitmap (cond b (p ∷ present_parts bitmap ps) (present_parts bitmap ps)) fs ≡ true) [
-        | true ↦ λ k. rule_first p ps fs (λ gs l of_all. rules_kept ps gs l of_all both.1) k of both.0
-        | false ↦ λ k. rules_kept ps fs k of both.1
-      ] same
+  rules_are : (ps : List Part) (fs : List Field) → elements_of fs ≡ present bitmap ps → AreOf text fs → are_ruled bitmap (present_parts bitmap ps) fs ≡ list_all (keeps text) ps
+  rules_are [] fs same of = refl
+  rules_are (p ∷ ps) fs same of =
+      elim (p.0 || is_set bitmap (element_number p.1)) as (λ b. (p.0 || is_set bitmap (element_number p.1)) ≡ b → elements_of fs ≡ cond b (p.1 ∷ present bitmap ps) (present bitmap ps)
+      → are_ruled bitmap (cond b (p ∷ present_parts bitmap ps) (present_parts bitmap ps)) fs ≡ list_all (keeps text) (p ∷ ps)) [
+        | true ↦ λ _ k. rule_first p ps fs (rules_are ps) k of
+        | false ↦ λ e k.
+            (let none : text p.1 ≡ None = none_is (text p.1) (sym (set p.1) ∙ right_false p.0 (is_set bitmap (element_number p.1)) e) in
+            let one : keeps text p ≡ true = subst (λ (x : Option (List ℕ)). is_ok (rule_of p.2 (λ e. is_some (text e)) x) ≡ true) (sym none) (ap is_ok (no_rule_of p.2 (λ e. is_some (text e)))) in
+            rules_are ps fs k of ∙ rw one refl)
+      ] refl same
 
 -- texts of a type's form are fields of the type
 pub form_fields : (t : Mti) (text : Texts) → HasForm (parts_of t) text → ((e : Element) → IfSome (text e) (IsText e)) → AreFields t (fields text)
@@ -259,76 +272,27 @@ form_fields t text form texts =
     record {
       texts = texts_among text elements texts;
       elements = same;
-      rules = rules_kept text (bitmap_of (fields text)) (set_where_there text) (parts_of t) (fields text) same (of_among text elements) form.ruled;
+      rules = rules_are text (bitmap_of (fields text)) (set_where_there text) (parts_of t) (fields text) same (of_among text elements) ∙ form.ruled;
       fits = fits;
       sound = sound;
     }
 
 -- ---- fields of a type are texts of its form
 
-required_listed : (ps : List Part) (n : ℕ) → is_required ps n ≡ true → is_listed ps n ≡ true
-required_listed [] n h = absurd cc
-required_listed ((true, e, r) ∷ ps) n h =
-    elim (eqb (element_number e) n) as (λ b. (b || is_required ps n) ≡ true → (b || is_listed ps n) ≡ true) [ true ↦ λ _. refl | false ↦ λ k. required_listed ps n k ] h
-required_listed ((false, e, r) ∷ ps) n h = rw (required_listed ps n h) (or_true (eqb (element_number e) n))
+unset : (set listed : Bool) → (set ≡ true → listed ≡ true) → listed ≡ false → set ≡ false
+unset true listed h k = (let yes = h refl in absurd cc)
+unset false listed h k = refl
 
-is_there : (bitmap : ℕ) (ps : List Part) (n : ℕ) → is_required ps n ≡ true → has_number n (present bitmap ps) ≡ true
-is_there bitmap ps n h =
-    elim (is_set bitmap n) as (λ b. is_set bitmap n ≡ b → has_number n (present bitmap ps) ≡ true) [
-      | true ↦ λ e. has_number-listed bitmap n ps e ∙ required_listed ps n h
-      | false ↦ λ e. has_number-required bitmap n ps e ∙ h
-    ] refl
-
-is_absent : (bitmap : ℕ) (ps : List Part) (n : ℕ) → is_listed ps n ≡ false → has_number n (present bitmap ps) ≡ false
-is_absent bitmap ps n h =
-    elim (is_set bitmap n) as (λ b. is_set bitmap n ≡ b → has_number n (present bitmap ps) ≡ false) [
-      | true ↦ λ e. has_number-listed bitmap n ps e ∙ h
-      | false ↦ λ e. has_number-required bitmap n ps e ∙ elim (is_required ps n) as (λ b. is_required ps n ≡ b → b ≡ false) [
-        | true ↦ λ k. (let listed = required_listed ps n k in absurd cc)
-        | false ↦ λ _. refl
-      ] refl
-    ] refl
-
-no_rule_of : (rule : Rule) (there : Element → Bool) → rule_of rule there None ≡ Ok tt
-no_rule_of Free there = refl
-no_rule_of Scope there = refl
-no_rule_of Verdict there = refl
-
-module _ (text : Texts) (bitmap : ℕ) (set : (e : Element) → is_set bitmap (element_number e) ≡ is_some (text e)) where
-  keeps_first : (p : Part) (ps : List Part) (fs : List Field)
-      → ((gs : List Field) → elements_of gs ≡ present bitmap ps → AreOf text gs → are_ruled bitmap (present_parts bitmap ps) gs ≡ true → list_all (keeps text) ps ≡ true)
-      → elements_of fs ≡ (p.1 ∷ present bitmap ps) → AreOf text fs → are_ruled bitmap (p ∷ present_parts bitmap ps) fs ≡ true → list_all (keeps text) (p ∷ ps) ≡ true
-  keeps_first p ps [] others same of ruled = absurd cc
-  keeps_first p ps (f ∷ fs) others same of ruled =
-      let both = and_parts (is_ok (rule_at p.2 bitmap (Some f.1))) (are_ruled bitmap (present_parts bitmap ps) fs) ruled in
-      let parts = head_is f.0 p.1 (elements_of fs) (present bitmap ps) same in
-      let here : text p.1 ≡ Some f.1 = subst (λ (e : Element). text e ≡ Some f.1) parts.0 of.0 in
-      let found : is_ok (rule_of p.2 (λ e. is_some (text e)) (Some f.1)) ≡ true = ap is_ok (sym (rule_by text bitmap p.2 (Some f.1) set)) ∙ both.0 in
-      let one : keeps text p ≡ true = subst (λ (one : Option (List ℕ)). is_ok (rule_of p.2 (λ e. is_some (text e)) one) ≡ true) (sym here) found in
-      rw (one, others fs parts.1 of.1 both.1) refl
-
-  all_keep : (ps : List Part) (fs : List Field) → elements_of fs ≡ present bitmap ps → AreOf text fs → are_ruled bitmap (present_parts bitmap ps) fs ≡ true → list_all (keeps text) ps ≡ true
-  all_keep [] fs same of ruled = refl
-  all_keep (p ∷ ps) fs same of ruled =
-      elim (p.0 || is_set bitmap (element_number p.1)) as (λ b. (p.0 || is_set bitmap (element_number p.1)) ≡ b → elements_of fs ≡ cond b (p.1 ∷ present bitmap ps) (present bitmap ps)
-      → are_ruled bitmap (cond b (p ∷ present_parts bitmap ps) (present_parts bitmap ps)) fs ≡ true → list_all (keeps text) (p ∷ ps) ≡ true) [
-        | true ↦ λ _ k r. keeps_first p ps fs (λ gs l of_all s. all_keep ps gs l of_all s) k of r
-        | false ↦ λ e k r.
-            (let unset : is_set bitmap (element_number p.1) ≡ false = right_false p.0 (is_set bitmap (element_number p.1)) e in
-            let none : text p.1 ≡ None = none_is (text p.1) (sym (set p.1) ∙ unset) in
-            let one : keeps text p ≡ true = subst (λ (one : Option (List ℕ)). is_ok (rule_of p.2 (λ e. is_some (text e)) one) ≡ true) (sym none) (ap is_ok (no_rule_of p.2 (λ e. is_some (text e)))) in
-            rw (one, all_keep ps fs k of r) refl)
-      ] refl same ruled
-    where
-      right_false : (a b : Bool) → (a || b) ≡ false → b ≡ false
-      right_false true b h = absurd cc
-      right_false false b h = h
+pub unlisted_unset : (t : Mti) (bitmap : ℕ) (e : Element) → presence_at (parts_of t) bitmap ≡ Ok tt → is_listed (parts_of t) (element_number e) ≡ false → is_set bitmap (element_number e) ≡ false
+unlisted_unset t bitmap e sound h =
+    let within = number_within e in
+    unset (is_set bitmap (element_number e)) (is_listed (parts_of t) (element_number e)) ((sound_bitmap t bitmap sound).0 (element_number e) (omega (arith, within.0)) within.1) h
 
 fields_form : (t : Mti) (text : Texts) → AreFields t (fields text) → HasForm (parts_of t) text
 fields_form t text are = record {
-  required = λ e h. sym (has_text text e) ∙ (ap (has_number (element_number e)) are.elements ∙ is_there (bitmap_of (fields text)) (parts_of t) (element_number e) h);
-  absent = λ e h. none_is (text e) (sym (has_text text e) ∙ (ap (has_number (element_number e)) are.elements ∙ is_absent (bitmap_of (fields text)) (parts_of t) (element_number e) h));
-  ruled = all_keep text (bitmap_of (fields text)) (set_where_there text) (parts_of t) (fields text) are.elements (of_among text elements) are.rules;
+  required = λ e h. sym (set_where_there text e) ∙ (sound_bitmap t (bitmap_of (fields text)) are.sound).1 (element_number e) h;
+  absent = λ e h. none_is (text e) (sym (set_where_there text e) ∙ unlisted_unset t (bitmap_of (fields text)) e are.sound h);
+  ruled = sym (rules_are text (bitmap_of (fields text)) (set_where_there text) (parts_of t) (fields text) are.elements (of_among text elements)) ∙ are.rules;
 }
 
 texts-first : (e : Element) (text : Option (List ℕ)) (fs : List Field) → AreTexts (with_field e text fs) → IfSome text (IsText e) × AreTexts fs

@@ -30,25 +30,11 @@ named text =
 
 named-mti_text : (t : Mti) → named (mti_text t) ≡ t
 named-mti_text mti.Request = refl
-named-mti_text mti.RequestRepeat = refl
-named-mti_text mti.RequestReply = refl
-named-mti_text mti.Advice = refl
-named-mti_text mti.AdviceRepeat = refl
-named-mti_text mti.AdviceReply = refl
-named-mti_text mti.Reversal = refl
-named-mti_text mti.ReversalRepeat = refl
-named-mti_text mti.ReversalReply = refl
+named-mti_text _ = refl
 
 pub length-mti_text : (t : Mti) → length (mti_text t) ≡ 4
 length-mti_text mti.Request = refl
-length-mti_text mti.RequestRepeat = refl
-length-mti_text mti.RequestReply = refl
-length-mti_text mti.Advice = refl
-length-mti_text mti.AdviceRepeat = refl
-length-mti_text mti.AdviceReply = refl
-length-mti_text mti.Reversal = refl
-length-mti_text mti.ReversalRepeat = refl
-length-mti_text mti.ReversalReply = refl
+length-mti_text _ = refl
 
 -- each type has a text of its own
 pub same_type : (t u : Mti) → mti_text t ≡ mti_text u → t ≡ u

@@ -195,20 +195,20 @@ module _ (text : Texts) (texts : (e : Element) → IfSome (text e) (IsText e)) w
   request_texts : (repeat : Bool) → HasForm (parts_of mti.Request) text → (e : Element) → message_texts (request_from repeat text) e ≡ text e
   request_texts repeat form element.Function = some_text (text element.Function) (form.required element.Function refl)
   request_texts repeat form element.Account = account_text_from (text element.Account)
-  request_texts repeat form e = transaction_text_from mti.Request text form texts e (λ h. (let none : transaction_texts (transaction_from text) e ≡ None = cc in none ∙ sym (form.absent e cc)))
+  request_texts repeat form e = transaction_text_from mti.Request text form texts e (λ h. cc)
 
   advice_texts : (repeat : Bool) → HasForm (parts_of mti.Advice) text → (e : Element) → message_texts (advice_from repeat text) e ≡ text e
   advice_texts repeat form element.Function = some_text (text element.Function) (form.required element.Function refl)
   advice_texts repeat form element.Action = action_text_from (text element.Action) (form.required element.Action refl) (texts element.Action)
   advice_texts repeat form element.Account = account_text_from (text element.Account)
-  advice_texts repeat form e = transaction_text_from mti.Advice text form texts e (λ h. (let none : transaction_texts (transaction_from text) e ≡ None = cc in none ∙ sym (form.absent e cc)))
+  advice_texts repeat form e = transaction_text_from mti.Advice text form texts e (λ h. cc)
 
   reversal_texts : (repeat : Bool) → HasForm (parts_of mti.Reversal) text → (e : Element) → message_texts (reversal_from repeat text) e ≡ text e
   reversal_texts repeat form element.Function =
       scope_function_from (text element.OriginalAmount) (text element.Function) (form.required element.Function refl) (and_parts _ true form.ruled).0
   reversal_texts repeat form element.OriginalAmount = scope_amount_from (text element.OriginalAmount) (texts element.OriginalAmount)
   reversal_texts repeat form element.Original = original_from_text (text element.Original) (form.required element.Original refl) (texts element.Original)
-  reversal_texts repeat form e = transaction_text_from mti.Reversal text form texts e (λ h. (let none : transaction_texts (transaction_from text) e ≡ None = cc in none ∙ sym (form.absent e cc)))
+  reversal_texts repeat form e = transaction_text_from mti.Reversal text form texts e (λ h. cc)
 
   is_request : (repeat : Bool) → HasForm (parts_of mti.Request) text → IsMessage (request_from repeat text)
   is_request repeat form =

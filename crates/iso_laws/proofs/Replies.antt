@@ -132,19 +132,19 @@ module _ (text : Texts) (texts : (e : Element) → IfSome (text e) (IsText e)) w
   request_texts form element.Approval = (verdict_said form).0
   request_texts form element.Action = (verdict_said form).1
   request_texts form element.Account = account_text_from (text element.Account)
-  request_texts form e = transaction_text_from mti.RequestReply text form texts e (λ h. (let none : transaction_texts (transaction_from text) e ≡ None = cc in none ∙ sym (form.absent e cc)))
+  request_texts form e = transaction_text_from mti.RequestReply text form texts e (λ h. cc)
 
   advice_texts : HasForm (parts_of mti.AdviceReply) text → (e : Element) → reply_texts (reply_from mti.AdviceReply text) e ≡ text e
   advice_texts form element.Action = action_text_from (text element.Action) (form.required element.Action refl) (texts element.Action)
   advice_texts form element.Account = account_text_from (text element.Account)
   advice_texts form element.Approval = sym (form.absent element.Approval refl)
-  advice_texts form e = transaction_text_from mti.AdviceReply text form texts e (λ h. (let none : transaction_texts (transaction_from text) e ≡ None = cc in none ∙ sym (form.absent e cc)))
+  advice_texts form e = transaction_text_from mti.AdviceReply text form texts e (λ h. cc)
 
   reversal_texts : HasForm (parts_of mti.ReversalReply) text → (e : Element) → reply_texts (reply_from mti.ReversalReply text) e ≡ text e
   reversal_texts form element.Action = action_text_from (text element.Action) (form.required element.Action refl) (texts element.Action)
   reversal_texts form element.Account = sym (form.absent element.Account refl)
   reversal_texts form element.Approval = sym (form.absent element.Approval refl)
-  reversal_texts form e = transaction_text_from mti.ReversalReply text form texts e (λ h. (let none : transaction_texts (transaction_from text) e ≡ None = cc in none ∙ sym (form.absent e cc)))
+  reversal_texts form e = transaction_text_from mti.ReversalReply text form texts e (λ h. cc)
 
   reply_said : (t : Mti) → is_among given_out t ≡ true → HasForm (parts_of t) text → SaysReply t text (reply_from t text)
   reply_said mti.RequestReply h form = record {

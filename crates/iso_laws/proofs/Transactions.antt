@@ -1,5 +1,5 @@
 -- The texts of a transaction are those of its elements, and the transaction is read from them again.
-use Rattle.std.proofs.Common.{◌≡◌, ℕ, Bool, true, false, eqb, List, [], ◌∷◌, ◌++◌, Option, Some, None, refl, ap, subst, ◌∙◌}
+use Rattle.std.proofs.Common.{◌≡◌, ℕ, Bool, true, false, eqb, List, [], ◌∷◌, ◌++◌, Option, Some, None, refl, sym, ap, subst, ◌∙◌}
 use Rattle.std.specs.Prelude.{IfSome, IsSome, option_map, not, ◌||◌}
 use Rattle.std.specs.List.{list_all}
 use Rattle.std.proofs.lemmas.Bool.{and_parts, eqb-true}
@@ -105,8 +105,15 @@ module _ (t : Mti) (text : Texts) (form : HasForm (parts_of t) text) (texts : (e
       ap Some (fixed_digits-number_of 12 (text_or_none (text element.Amount)) amount.0 amount.1) ∙ some_text (text element.Amount) (there element.Amount refl)
   common_text e h = (let found : Some (text_or_none (text e)) ≡ text e = some_text (text e) (there e h) in cc)
 
+  not_shared : (e : Element) → is_shared e ≡ false → transaction_texts (transaction_from text) e ≡ None
+  not_shared element.Pan h = cc
+  not_shared _ h = cc
+
   -- the texts of a transaction, where the type has no others
-  pub transaction_text_from : (e : Element) → (is_shared e ≡ false → transaction_texts (transaction_from text) e ≡ text e) → transaction_texts (transaction_from text) e ≡ text e
+  pub transaction_text_from : (e : Element) → (is_shared e ≡ false → is_listed (parts_of t) (element_number e) ≡ false) → transaction_texts (transaction_from text) e ≡ text e
   transaction_text_from element.Retrieval other = retrieval_from_text (text element.Retrieval)
   transaction_text_from e other =
-      elim (is_common e) as (λ b. is_common e ≡ b → transaction_texts (transaction_from text) e ≡ text e) [ true ↦ λ h. common_text e h | false ↦ λ h. other cc ] refl
+      elim (is_common e) as (λ b. is_common e ≡ b → transaction_texts (transaction_from text) e ≡ text e) [
+        | true ↦ λ h. common_text e h
+        | false ↦ λ h. (let apart : is_shared e ≡ false = cc in not_shared e apart ∙ sym (form.absent e (other apart)))
+      ] refl

@@ -28,14 +28,7 @@ pub record AreFields (t : Mti) (fields : List Field) : Type 0 where
 
 pub rising : (t : Mti) → is_rising 1 (parts_of t) ≡ true
 rising mti.Request = refl
-rising mti.RequestRepeat = refl
-rising mti.RequestReply = refl
-rising mti.Advice = refl
-rising mti.AdviceRepeat = refl
-rising mti.AdviceReply = refl
-rising mti.Reversal = refl
-rising mti.ReversalRepeat = refl
-rising mti.ReversalReply = refl
+rising _ = refl
 
 test_ok : {A : Type 0} (b : Bool) (d : CodecFault) (x y : A) → cond b (Ok x) (Err d) ≡ Ok y → (b ≡ true) × (x ≡ y)
 test_ok true d x y h = (refl, cc)
