@@ -11,7 +11,11 @@ ghost use Rattle.iso_laws.specs.Types.{taken_in, parts_of};
 use crate::texts::Texts;
 use crate::values;
 use iso_laws::{Element, Mti};
-use iso8583::{Advice, Message, Request, Reversal, ReversalScope, Transaction};
+use iso8583::{
+    Acquirer, Advice, Amount, Currency, Digits, DigitsUpTo, FunctionCode, LocalStamp, Message, Pan,
+    Printable, Processing, Request, Reversal, ReversalScope, Stan, Terminal, Transaction,
+    Transmission,
+};
 
 /// The elements that a reply repeats.
 pub(crate) fn transaction_of(texts: &Texts) -> Transaction
@@ -22,16 +26,16 @@ pub(crate) fn transaction_of(texts: &Texts) -> Transaction
     let (transmission, stan, stamp) = (texts.transmission, texts.stan, texts.stamp);
     let (acquirer, terminal, currency) = (texts.acquirer, texts.terminal, texts.currency);
     Transaction {
-        pan: values::pan(pan),
-        processing: values::processing(processing),
-        amount: values::amount(amount),
-        transmission: values::transmission(transmission),
-        stan: values::stan(stan),
-        stamp: values::stamp(stamp),
-        acquirer: values::acquirer(acquirer),
+        pan: Pan(DigitsUpTo::of_text(pan)),
+        processing: Processing(Digits::of_text(processing)),
+        amount: Amount::from_digits(&Digits::of_text(amount)),
+        transmission: Transmission(Digits::of_text(transmission)),
+        stan: Stan(Digits::of_text(stan)),
+        stamp: LocalStamp::of_text(stamp),
+        acquirer: Acquirer(DigitsUpTo::of_text(acquirer)),
         retrieval: values::retrieval(texts.retrieval),
-        terminal: values::terminal(terminal),
-        currency: values::currency(currency),
+        terminal: Terminal(Printable::of_text(terminal)),
+        currency: Currency(Digits::of_text(currency)),
     }
 }
 
@@ -46,7 +50,7 @@ fn request_of(repeat: bool, texts: &Texts) -> Message
     };
     Message::Request(Request {
         repeat,
-        function: values::function(function),
+        function: FunctionCode(Digits::of_text(function)),
         account: values::account(texts.account),
         transaction: transaction_of(texts),
     })
@@ -66,7 +70,7 @@ fn advice_of(repeat: bool, texts: &Texts) -> Message
     };
     Message::Advice(Advice {
         repeat,
-        function: values::function(function),
+        function: FunctionCode(Digits::of_text(function)),
         action: values::action(action),
         account: values::account(texts.account),
         transaction: transaction_of(texts),

@@ -12,7 +12,7 @@ use crate::message::transaction_of;
 use crate::texts::Texts;
 use crate::values;
 use iso_laws::{Element, Mti};
-use iso8583::{Answer, DeclineCode, Reply, Verdict};
+use iso8583::{Alphanumeric, Answer, Approval, DeclineCode, Reply, Verdict};
 
 /// The answer that elements 38 and 39 say.
 #[tactic(auto, using(iso_laws::proofs::Scopes::is_declined))]
@@ -23,7 +23,7 @@ fn verdict_of(approval: Option<&[u8; 6]>, action: &[u8; 3]) -> Verdict
     ensures { result ≡ verdict_from (option_map (λ t. t.now) approval.entry) (Some action.now) }
 {
     if let Some(code) = approval {
-        return Verdict::Approved(values::approval(code));
+        return Verdict::Approved(Approval(Alphanumeric::of_text(code)));
     }
     let Some(code) = DeclineCode::new(values::action(action)) else {
         unreachable!()

@@ -9,74 +9,9 @@ ghost use Rattle.iso_laws.specs.Elements.{IsText};
 use crate::value_test::is_text;
 use iso_laws::Element;
 use iso8583::{
-    AccountId, Acquirer, Action, Alphanumeric, Amount, Approval, Currency, Digits, DigitsUpTo,
-    FunctionCode, Identity, LocalStamp, OriginalKind, OriginalRef, Pan, Printable, PrintableUpTo,
-    Processing, Retrieval, Stan, Terminal, Transmission,
+    AccountId, Acquirer, Action, Alphanumeric, Amount, Digits, DigitsUpTo, Identity, LocalStamp,
+    OriginalKind, OriginalRef, PrintableUpTo, Retrieval, Stan,
 };
-
-/// Element 2.
-pub(crate) fn pan(text: &[u8]) -> Pan
-    requires { IsText Element.Pan text.now }
-    ensures { result.0 ≡ text.now }
-{
-    Pan(DigitsUpTo::of_text(text))
-}
-
-/// Element 3.
-pub(crate) fn processing(text: &[u8]) -> Processing
-    requires { IsText Element.Processing text.now }
-    ensures { result.0 ≡ text.now }
-{
-    Processing(Digits::of_text(text))
-}
-
-/// Element 4.
-pub(crate) fn amount(text: &[u8]) -> Amount
-    requires { IsText Element.Amount text.now }
-    ensures { result ≡ number_of text.now }
-{
-    Amount::from_digits(&Digits::of_text(text))
-}
-
-/// Element 7.
-pub(crate) fn transmission(text: &[u8]) -> Transmission
-    requires { IsText Element.Transmission text.now }
-    ensures { result.0 ≡ text.now }
-{
-    Transmission(Digits::of_text(text))
-}
-
-/// Element 11.
-pub(crate) fn stan(text: &[u8]) -> Stan
-    requires { IsText Element.Stan text.now }
-    ensures { result.0 ≡ text.now }
-{
-    Stan(Digits::of_text(text))
-}
-
-/// Element 12.
-pub(crate) fn stamp(text: &[u8]) -> LocalStamp
-    requires { IsText Element.Stamp text.now }
-    ensures { result ≡ text.now }
-{
-    LocalStamp::of_text(text)
-}
-
-/// Element 24.
-pub(crate) fn function(text: &[u8]) -> FunctionCode
-    requires { IsText Element.Function text.now }
-    ensures { result.0 ≡ text.now }
-{
-    FunctionCode(Digits::of_text(text))
-}
-
-/// Element 32.
-pub(crate) fn acquirer(text: &[u8]) -> Acquirer
-    requires { IsText Element.Acquirer text.now }
-    ensures { result.0 ≡ text.now }
-{
-    Acquirer(DigitsUpTo::of_text(text))
-}
 
 /// Element 37, if it is there.
 pub(crate) fn retrieval(text: Option<&[u8; 12]>) -> Option<Retrieval>
@@ -84,14 +19,6 @@ pub(crate) fn retrieval(text: Option<&[u8; 12]>) -> Option<Retrieval>
     ensures { result ≡ retrieval_from (option_map (λ t. t.now) text.entry) }
 {
     Some(Retrieval(Alphanumeric::of_text(text?)))
-}
-
-/// Element 41.
-pub(crate) fn terminal(text: &[u8]) -> Terminal
-    requires { IsText Element.Terminal text.now }
-    ensures { result.0 ≡ text.now }
-{
-    Terminal(Printable::of_text(text))
 }
 
 /// Element 102, if it is there.
@@ -102,14 +29,6 @@ pub(crate) fn account(text: Option<&[u8]>) -> Option<AccountId>
     Some(AccountId(PrintableUpTo::of_text(text?)))
 }
 
-/// Element 49.
-pub(crate) fn currency(text: &[u8]) -> Currency
-    requires { IsText Element.Currency text.now }
-    ensures { result.0 ≡ text.now }
-{
-    Currency(Digits::of_text(text))
-}
-
 /// Element 30: its first twelve digits, behind which zeros stand.
 #[tactic(auto, using(iso_laws::proofs::Amounts::original_amount))]
 pub(crate) fn original_amount(text: &[u8]) -> Amount
@@ -117,15 +36,7 @@ pub(crate) fn original_amount(text: &[u8]) -> Amount
     ensures { result ≡ number_of (take 12 text.now) }
 {
     let (digits, _) = text.split_at(12);
-    amount(digits)
-}
-
-/// Element 38.
-pub(crate) fn approval(text: &[u8]) -> Approval
-    requires { IsText Element.Approval text.now }
-    ensures { result.0 ≡ text.now }
-{
-    Approval(Alphanumeric::of_text(text))
+    Amount::from_digits(&Digits::of_text(digits))
 }
 
 /// Element 39.
@@ -162,9 +73,9 @@ pub(crate) fn original(text: &[u8]) -> OriginalRef
         kind,
         repeat,
         identity: Identity {
-            acquirer: acquirer(&text[24..]),
-            stan: stan(&text[4..10]),
-            stamp: stamp(&text[10..22]),
+            acquirer: Acquirer(DigitsUpTo::of_text(&text[24..])),
+            stan: Stan(Digits::of_text(&text[4..10])),
+            stamp: LocalStamp::of_text(&text[10..22]),
         },
     }
 }
