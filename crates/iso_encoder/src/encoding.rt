@@ -7,7 +7,6 @@ ghost use Rattle.iso_laws.specs.Messages.{Spells, message_spelling};
 ghost use Rattle.iso_laws.specs.Replies.{SpellsReply, reply_spelling};
 
 use crate::parts::{Parts, parts_of, reply_parts};
-use crate::values::{message_in_range, reply_in_range};
 use crate::writer::{put, put_field};
 use iso_laws::{COMMON, Element, Mti};
 use iso8583::{CodecFault, Digits, Message, OriginalKind, OriginalRef, Reply};
@@ -281,9 +280,9 @@ pub fn encode(message: &Message, out: &mut Vec<u8>) -> Result<(), CodecFault>
     // So decoding what is appended gives the message again.
     ensures spells { Spells (message_spelling message.now) message.now }
 {
-    message_in_range(message);
+    let parts = parts_of(message);
     make_room(out)?;
-    put_spelling(out, &parts_of(message));
+    put_spelling(out, &parts);
     Ok(())
 }
 
@@ -300,8 +299,8 @@ pub fn encode_reply(reply: &Reply, out: &mut Vec<u8>) -> Result<(), CodecFault>
     // So decoding what is appended gives the reply again.
     ensures spells { SpellsReply (reply_spelling reply.now) reply.now }
 {
-    reply_in_range(reply);
+    let parts = reply_parts(reply);
     make_room(out)?;
-    put_spelling(out, &reply_parts(reply));
+    put_spelling(out, &parts);
     Ok(())
 }

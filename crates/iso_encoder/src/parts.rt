@@ -1,9 +1,12 @@
 ghost use Rattle.std.specs.Prelude.{◌≡◌, List, ℕ, None, if◌then◌else◌};
 ghost use Rattle.iso_encoder.specs.Writing.{written_texts};
 ghost use Rattle.iso_laws.specs.Spelling.{fields};
-ghost use Rattle.iso_laws.specs.Messages.{mti_of, fields_of};
-ghost use Rattle.iso_laws.specs.Replies.{reply_mti, reply_fields};
+ghost use Rattle.iso_laws.specs.Messages.{mti_of, fields_of, IsMessage};
+ghost use Rattle.iso_laws.specs.Replies.{reply_mti, reply_fields, IsReply};
 
+use crate::values::{
+    account_in_range, answer_in_range, original_in_range, scope_in_range, transaction_in_range,
+};
 use iso_laws::Mti;
 use iso8583::{
     AccountId, Advice, Amount, Answer, Approval, Digits, Message, OriginalRef, Reply, Request,
@@ -55,7 +58,11 @@ impl Parts<'_> {
 fn parts_of_request(request: &Request) -> Parts<'_>
     ensures mti { result.mti ≡ mti_of (Message.Request request.now) }
     ensures fields { fields (written_texts result) ≡ fields_of (Message.Request request.now) }
+    ensures values { IsMessage (Message.Request request.now) }
 {
+    transaction_in_range(&request.transaction);
+    let _ = request.function.0.as_slice();
+    account_in_range(&request.account);
     let mti = if request.repeat {
         Mti::RequestRepeat
     } else {
@@ -72,7 +79,12 @@ fn parts_of_request(request: &Request) -> Parts<'_>
 fn parts_of_advice(advice: &Advice) -> Parts<'_>
     ensures mti { result.mti ≡ mti_of (Message.Advice advice.now) }
     ensures fields { fields (written_texts result) ≡ fields_of (Message.Advice advice.now) }
+    ensures values { IsMessage (Message.Advice advice.now) }
 {
+    transaction_in_range(&advice.transaction);
+    let _ = advice.function.0.as_slice();
+    let _ = advice.action.code();
+    account_in_range(&advice.account);
     let mti = if advice.repeat {
         Mti::AdviceRepeat
     } else {
@@ -91,7 +103,11 @@ fn parts_of_advice(advice: &Advice) -> Parts<'_>
 fn parts_of_reversal(reversal: &Reversal) -> Parts<'_>
     ensures mti { result.mti ≡ mti_of (Message.Reversal reversal.now) }
     ensures fields { fields (written_texts result) ≡ fields_of (Message.Reversal reversal.now) }
+    ensures values { IsMessage (Message.Reversal reversal.now) }
 {
+    transaction_in_range(&reversal.transaction);
+    scope_in_range(&reversal.scope);
+    original_in_range(&reversal.original);
     let mti = if reversal.repeat {
         Mti::ReversalRepeat
     } else {
@@ -113,6 +129,7 @@ fn parts_of_reversal(reversal: &Reversal) -> Parts<'_>
 pub(crate) fn parts_of(message: &Message) -> Parts<'_>
     ensures mti { result.mti ≡ mti_of message.now }
     ensures fields { fields (written_texts result) ≡ fields_of message.now }
+    ensures values { IsMessage message.now }
 {
     match message {
         Message::Request(request) => parts_of_request(request),
@@ -126,8 +143,11 @@ pub(crate) fn parts_of(message: &Message) -> Parts<'_>
 pub(crate) fn reply_parts(reply: &Reply) -> Parts<'_>
     ensures mti { result.mti ≡ reply_mti reply.now }
     ensures fields { fields (written_texts result) ≡ reply_fields reply.now }
+    ensures values { IsReply reply.now }
 {
     let transaction = &reply.transaction;
+    transaction_in_range(transaction);
+    answer_in_range(&reply.answer);
     match &reply.answer {
         Answer::Request(Verdict::Approved(code), account) => Parts {
             approval: Some(*code),
