@@ -7,10 +7,11 @@ use Rattle.std.proofs.lemmas.Nat.{and_le_l, leading_top}
 use Rattle.std.proofs.lemmas.Nat.Bits.{bit_at-lt, bit_at-zero, bit_at_above, bit_at_and, bit_at_not}
 use Rattle.std.proofs.Math.Nat.{pow-suc}
 use Rattle.iso8583.specs.declared.codec_fault.CodecFault.TheVariants.{Unexpected}
+use Rattle.iso_laws.specs.Elements.{parts_of}
 use Rattle.iso_laws.specs.declared.mti.Mti.{Mti}
 use Rattle.iso_laws.specs.declared.mti.Mti.TheVariants as mti
 use Rattle.iso_laws.specs.Spelling.{is_set}
-use Rattle.iso_laws.specs.Types.{parts_of, may_have, must_have}
+use Rattle.iso_laws.specs.Types.{may_have, must_have}
 use Rattle.iso_laws.specs.Reading.{least, is_unexpected, is_missing, first_wrong, presence_at}
 use Rattle.iso_laws.proofs.Bits.{powers, set_at, top_bit, listed_below, is_set-listed, is_set-required}
 use Rattle.iso_laws.proofs.Least.{least_is, least_none, least_same}

@@ -9,8 +9,7 @@ use Rattle.iso_laws.specs.declared.element.Element.{Element}
 use Rattle.iso_laws.specs.declared.mti.Mti.{Mti}
 use Rattle.iso_laws.specs.declared.mti.Mti.TheVariants as mti
 use Rattle.iso_laws.specs.declared.rule.Rule.{Rule}
-use Rattle.iso_laws.specs.Elements.{element_number}
-use Rattle.iso_laws.specs.Types.{Part, parts_of}
+use Rattle.iso_laws.specs.Elements.{element_number, Part, parts_of}
 use Rattle.iso_laws.specs.Spelling.{Field, is_set}
 use Rattle.iso_laws.specs.Reading.{◌>>=◌, is_listed, is_required, presence_at, optional_at, with_first, rule_at, fields_at, whole_at}
 use Rattle.iso_laws.proofs.FirstWrong.{sound_bitmap, same_number}

@@ -9,8 +9,7 @@ use Rattle.iso_laws.specs.declared.mti.Mti.{Mti}
 use Rattle.iso_laws.specs.declared.mti.Mti.TheVariants as mti
 use Rattle.iso_laws.specs.declared.rule.Rule.{Rule}
 use Rattle.iso_laws.specs.declared.rule.Rule.TheVariants.{Free, Scope, Verdict}
-use Rattle.iso_laws.specs.Elements.{element_number, class_of, is_of_class, has_value}
-use Rattle.iso_laws.specs.Types.{Part, required, optional}
+use Rattle.iso_laws.specs.Elements.{element_number, class_of, is_of_class, has_value, Part, required, optional}
 use Rattle.iso_laws.specs.Spelling.{Texts}
 
 -- the test of a text that is as long as its element's: its class, then its value

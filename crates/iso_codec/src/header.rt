@@ -2,7 +2,7 @@
 
 ghost use Rattle.std.specs.Prelude.{◌≡◌, ℕ, Ok, IfOk};
 ghost use Rattle.iso_codec.specs.Sides.{types_of};
-ghost use Rattle.iso_laws.specs.Types.{parts_of};
+ghost use Rattle.iso_laws.specs.Elements.{parts_of};
 ghost use Rattle.iso_laws.specs.Reading.{Gives, presence_at, header_at, bytes_at};
 
 use crate::bitmap::{bitmap_at, presence_at};

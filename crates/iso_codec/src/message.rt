@@ -4,9 +4,9 @@ ghost use Rattle.std.specs.Prelude.{◌≡◌, IfSome, option_map};
 ghost use Rattle.iso_codec.specs.Texts.{texts_of};
 ghost use Rattle.iso_laws.specs.Messages.{scope_from, request_from, advice_from, reversal_from, message_from};
 ghost use Rattle.iso_laws.specs.Transactions.{transaction_from};
-ghost use Rattle.iso_laws.specs.Elements.{IsText};
+ghost use Rattle.iso_laws.specs.Elements.{IsText, parts_of};
 ghost use Rattle.iso_laws.specs.Forms.{HasForm, AreKnown, AreTextsOf};
-ghost use Rattle.iso_laws.specs.Types.{taken_in, parts_of};
+ghost use Rattle.iso_laws.specs.Types.{taken_in};
 
 use crate::texts::Texts;
 use crate::values;

@@ -3,10 +3,10 @@
 ghost use Rattle.std.specs.Prelude.{◌≡◌, Some, Ok, IfSome, is_some, option_map};
 ghost use Rattle.iso_codec.specs.Texts.{texts_of};
 ghost use Rattle.iso_laws.specs.Replies.{verdict_from, reply_from};
-ghost use Rattle.iso_laws.specs.Elements.{IsText};
+ghost use Rattle.iso_laws.specs.Elements.{IsText, parts_of};
 ghost use Rattle.iso_laws.specs.Forms.{HasForm, AreKnown, AreTextsOf};
 ghost use Rattle.iso_laws.specs.Reading.{verdict_at};
-ghost use Rattle.iso_laws.specs.Types.{given_out, parts_of};
+ghost use Rattle.iso_laws.specs.Types.{given_out};
 
 use crate::message::transaction_of;
 use crate::texts::Texts;

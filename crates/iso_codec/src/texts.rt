@@ -3,8 +3,8 @@
 ghost use Rattle.std.specs.Prelude.{◌≡◌, Ok, IfOk};
 ghost use Rattle.iso_codec.specs.Sides.{types_of};
 ghost use Rattle.iso_codec.specs.Texts.{texts_of, read_parts, function_rule, action_rule};
+ghost use Rattle.iso_laws.specs.Elements.{parts_of};
 ghost use Rattle.iso_laws.specs.Forms.{AreTextsOf};
-ghost use Rattle.iso_laws.specs.Types.{parts_of};
 ghost use Rattle.iso_laws.specs.Spelling.{fields};
 ghost use Rattle.iso_laws.specs.Reading.{Gives, presence_at, fields_at, whole_at, reading};
 

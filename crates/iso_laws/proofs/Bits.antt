@@ -7,8 +7,8 @@ use Rattle.std.proofs.lemmas.Bool.{eqb-true, leb-true, ltb-true, cases_lt}
 use Rattle.std.proofs.lemmas.Nat.Bits.{bit_at-lt, same_from_bits_below, bit_at_cat_low, bit_at_cat_high, bit_at_above, bit_at-zero}
 use Rattle.std.proofs.Math.Nat.{pow-suc, pow-le-pow_right}
 use Rattle.iso_laws.specs.declared.element.Element.{Element}
-use Rattle.iso_laws.specs.Elements.{element_number}
-use Rattle.iso_laws.specs.Types.{Part, bits_of}
+use Rattle.iso_laws.specs.Elements.{element_number, Part}
+use Rattle.iso_laws.specs.Types.{bits_of}
 use Rattle.iso_laws.specs.Spelling.{Field, bitmap_of, is_set}
 use Rattle.iso_laws.specs.Reading.{least, is_listed, is_required, is_unexpected, is_missing, first_wrong, presence_at}
 use Rattle.iso_laws.proofs.Conjunctions.{all_three_true}

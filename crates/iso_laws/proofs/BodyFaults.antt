@@ -13,8 +13,7 @@ use Rattle.iso_laws.specs.declared.shape.Shape.{Shape}
 use Rattle.iso_laws.specs.declared.shape.Shape.TheVariants.{Fixed, UpTo}
 use Rattle.iso_laws.specs.declared.rule.Rule.{Rule}
 use Rattle.iso_laws.specs.declared.rule.Rule.TheVariants.{Free, Scope, Verdict}
-use Rattle.iso_laws.specs.Elements.{element_number, shape_of, class_of, is_of_class, has_value}
-use Rattle.iso_laws.specs.Types.{Part}
+use Rattle.iso_laws.specs.Elements.{element_number, shape_of, class_of, is_of_class, has_value, Part}
 use Rattle.iso_laws.specs.Spelling.{Field, is_set}
 use Rattle.iso_laws.specs.Reading.{◌>>=◌, bytes_at, is_length, shaped_at, element_at, optional_at, scope_at, verdict_at, rule_at, with_first, fields_at, whole_at}
 

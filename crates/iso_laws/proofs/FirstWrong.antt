@@ -10,8 +10,7 @@ use Rattle.iso_laws.specs.declared.element.Element.{Element}
 use Rattle.iso_laws.specs.declared.mti.Mti.{Mti}
 use Rattle.iso_laws.specs.declared.shape.Shape.{Shape}
 use Rattle.iso_laws.specs.declared.shape.Shape.TheVariants.{Fixed, UpTo}
-use Rattle.iso_laws.specs.Elements.{element_number, shape_of, class_of, is_of_class, has_value, HasShape, IsText}
-use Rattle.iso_laws.specs.Types.{Part, parts_of}
+use Rattle.iso_laws.specs.Elements.{element_number, shape_of, class_of, is_of_class, has_value, HasShape, IsText, Part, parts_of}
 use Rattle.iso_laws.specs.Spelling.{Field, field, is_set}
 use Rattle.iso_laws.specs.FirstWrong.{EndsTooSoon, HasWrongLength, IsRuled, IsWrongText, IsFaultOf, those_there, AreRight, IsFirstWrong}
 use Rattle.iso_laws.specs.Faults.{IsBitmapOf, IsOfElement, NamesTheFirstWrongElement, NamesAnElementBehindItsBitmap}

@@ -10,8 +10,8 @@ use Rattle.iso_laws.specs.declared.element.Element.TheVariants as element
 use Rattle.iso_laws.specs.declared.mti.Mti.{Mti}
 use Rattle.iso_laws.specs.declared.rule.Rule.{Rule}
 use Rattle.iso_laws.specs.declared.rule.Rule.TheVariants.{Free, Scope, Verdict}
-use Rattle.iso_laws.specs.Elements.{elements, element_number, IsText}
-use Rattle.iso_laws.specs.Types.{Part, required, parts_of, bits_of}
+use Rattle.iso_laws.specs.Elements.{elements, element_number, IsText, Part, required, parts_of}
+use Rattle.iso_laws.specs.Types.{bits_of}
 use Rattle.iso_laws.specs.Spelling.{Field, Texts, with_field, fields_among, fields, bitmap_of, is_set}
 use Rattle.iso_laws.specs.Forms.{HasForm, AreKnown, AreTextsOf}
 use Rattle.iso_laws.specs.Reading.{is_listed, is_required, rule_of, rule_at, presence_at, reading}

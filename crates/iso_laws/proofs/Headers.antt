@@ -10,9 +10,10 @@ use Rattle.std.proofs.Math.ListN.{get_or-append}
 use Rattle.std.proofs.lemmas.Nat.{be_bytes_8, from_be_bytes-to_be_bytes_8}
 use Rattle.iso8583.specs.declared.codec_fault.CodecFault.{CodecFault}
 use Rattle.iso8583.specs.declared.codec_fault.CodecFault.TheVariants.{SecondaryBitmap}
+use Rattle.iso_laws.specs.Elements.{parts_of}
 use Rattle.iso_laws.specs.declared.mti.Mti.{Mti}
 use Rattle.iso_laws.specs.declared.mti.Mti.TheVariants as mti
-use Rattle.iso_laws.specs.Types.{mti_text, parts_of, is_among}
+use Rattle.iso_laws.specs.Types.{mti_text, is_among}
 use Rattle.iso_laws.specs.Spelling.{bitmap_bytes}
 use Rattle.iso_laws.specs.Reading.{◌>>=◌, bytes_at, mti_at, presence_at, secondary_at, bitmap_at, header_at}
 use Rattle.iso_laws.proofs.Elements.{bind_ok, guard_ok, ok_is, bytes_taken, bytes_again}

@@ -15,10 +15,9 @@ use Rattle.iso_laws.specs.declared.element.Element.{Element}
 use Rattle.iso_laws.specs.declared.element.Element.TheVariants as element
 use Rattle.iso_laws.specs.declared.mti.Mti.{Mti}
 use Rattle.iso_laws.specs.declared.mti.Mti.TheVariants as mti
-use Rattle.iso_laws.specs.Elements.{elements, IsText, is_original_amount, original_text, twelve_zeros}
-use Rattle.iso_laws.specs.Types.{Part, parts_of, taken_in, is_among}
+use Rattle.iso_laws.specs.Elements.{elements, IsText, is_original_amount, original_text, twelve_zeros, Part, parts_of}
+use Rattle.iso_laws.specs.Types.{taken_in, is_among}
 use Rattle.iso_laws.specs.Spelling.{Texts, fields, text_or_none}
-use Rattle.iso_laws.specs.Transactions.{transaction_texts, transaction_from}
 use Rattle.iso_laws.specs.declared.rule.Rule.TheVariants.{Scope}
 use Rattle.iso_laws.specs.Forms.{HasForm, AreTextsOf}
 use Rattle.iso_laws.specs.Reading.{rule_of, scope_at}

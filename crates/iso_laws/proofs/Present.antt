@@ -5,10 +5,9 @@ use Rattle.std.specs.Prelude.{◌||◌, map, is_ok, ◌&&◌}
 use Rattle.std.specs.List.{flat_map, AllByRecursion}
 use Rattle.iso8583.specs.declared.codec_fault.CodecFault.{CodecFault}
 use Rattle.iso_laws.specs.declared.element.Element.{Element}
-use Rattle.iso_laws.specs.Elements.{element_number, IsText}
+use Rattle.iso_laws.specs.Elements.{element_number, IsText, Part}
 use Rattle.iso_laws.specs.declared.rule.Rule.{Rule}
 use Rattle.iso_laws.specs.declared.rule.Rule.TheVariants.{Free, Scope, Verdict}
-use Rattle.iso_laws.specs.Types.{Part}
 use Rattle.iso_laws.specs.Spelling.{Field, field, with_field, is_set}
 use Rattle.iso_laws.specs.Reading.{◌>>=◌, element_at, optional_at, rule_at, with_first, fields_at}
 use Rattle.iso_laws.proofs.Elements.{bind_ok, element_taken, element_again}

@@ -16,13 +16,13 @@ use Rattle.iso_laws.specs.declared.element.Element.{Element}
 use Rattle.iso_laws.specs.declared.element.Element.TheVariants as element
 use Rattle.iso_laws.specs.declared.mti.Mti.{Mti}
 use Rattle.iso_laws.specs.declared.mti.Mti.TheVariants as mti
-use Rattle.iso_laws.specs.Elements.{elements, IsText}
-use Rattle.iso_laws.specs.Types.{parts_of, given_out, is_among}
+use Rattle.iso_laws.specs.Elements.{elements, IsText, parts_of}
+use Rattle.iso_laws.specs.Types.{given_out, is_among}
 use Rattle.iso_laws.specs.Spelling.{Texts, fields}
 use Rattle.iso_laws.specs.declared.rule.Rule.TheVariants.{Verdict as VerdictRule}
 use Rattle.iso_laws.specs.Forms.{HasForm, AreTextsOf}
 use Rattle.iso_laws.specs.Reading.{rule_of, verdict_at}
-use Rattle.iso_laws.specs.Transactions.{transaction_texts, IsTransaction, transaction_from}
+use Rattle.iso_laws.specs.Transactions.{IsTransaction}
 use Rattle.iso_laws.specs.Replies.{verdict_approval, verdict_action, IsVerdict, answer_mti, reply_mti, reply_texts, reply_fields, reply_spelling, IsAnswer, IsReply, verdict_from, answer_from, reply_from}
 use Rattle.iso_laws.proofs.Forms.{suits, AreKept, has_form, form_fields, each_known, same_texts, equal_texts}
 use Rattle.iso_laws.proofs.Transactions.{transaction_known, transaction_again, is_transaction, transaction_text_from}

@@ -10,8 +10,7 @@ use Rattle.iso_laws.specs.declared.element.Element.{Element}
 use Rattle.iso_laws.specs.declared.element.Element.TheVariants as element
 use Rattle.iso_laws.specs.declared.mti.Mti.{Mti}
 use Rattle.iso_laws.specs.declared.mti.Mti.TheVariants as mti
-use Rattle.iso_laws.specs.Elements.{element_number, IsText}
-use Rattle.iso_laws.specs.Types.{Part, required, optional, front_parts, parts_of}
+use Rattle.iso_laws.specs.Elements.{element_number, IsText, Part, required, optional, front_parts, parts_of}
 use Rattle.iso_laws.specs.Spelling.{Texts, text_or_none}
 use Rattle.iso_laws.specs.Forms.{HasForm}
 use Rattle.iso_laws.specs.Reading.{is_listed, is_required}

@@ -3,8 +3,8 @@ use Rattle.std.specs.Prelude.{◌≡◌, List, None, IsSome, is_some, is_ok, IfS
 use Rattle.std.specs.List.{list_all, AllByRecursion}
 use Rattle.iso_laws.specs.declared.element.Element.{Element}
 use Rattle.iso_laws.specs.declared.mti.Mti.{Mti}
-use Rattle.iso_laws.specs.Elements.{elements, element_number, IsText}
-use Rattle.iso_laws.specs.Types.{Part, parts_of, is_among}
+use Rattle.iso_laws.specs.Elements.{elements, element_number, IsText, Part, parts_of}
+use Rattle.iso_laws.specs.Types.{is_among}
 use Rattle.iso_laws.specs.Spelling.{Texts}
 use Rattle.iso_laws.specs.Reading.{is_listed, is_required, rule_of}
 

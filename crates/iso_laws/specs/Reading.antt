@@ -14,8 +14,8 @@ use Rattle.iso_laws.specs.declared.shape.Shape.TheVariants.{Fixed, UpTo}
 use Rattle.iso_laws.specs.declared.rule.Rule.{Rule}
 use Rattle.iso_laws.specs.declared.rule.Rule.TheVariants.{Free, Scope, Verdict}
 use Rattle.iso_laws.specs.declared.mti.Mti.{Mti}
-use Rattle.iso_laws.specs.Elements.{element_number, shape_of, class_of, is_of_class, has_value}
-use Rattle.iso_laws.specs.Types.{Part, mti_text, parts_of}
+use Rattle.iso_laws.specs.Elements.{element_number, shape_of, class_of, is_of_class, has_value, Part, parts_of}
+use Rattle.iso_laws.specs.Types.{mti_text}
 use Rattle.iso_laws.specs.Spelling.{Field, with_field, is_set}
 
 infixl 10 ◌>>=◌
