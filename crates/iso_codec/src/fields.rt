@@ -73,6 +73,7 @@ fn text_test(element: Element, text: &[u8]) -> Result<(), CodecFault>
 }
 
 /// The text of the element, and the bytes after it.
+#[inline(always)]
 #[tactic(auto, unfolding(iso_laws::specs::Reading::element_at))]
 pub(crate) fn element_at(element: Element, bytes: &[u8]) -> Result<(&[u8], &[u8]), CodecFault>
     ensures gives { Gives (λ x. (x.0.now, x.1.now)) result (element_at element bytes.now) }
@@ -96,6 +97,7 @@ fn chunk_at<const N: usize>(number: u8, bytes: &[u8]) -> Result<(&[u8; N], &[u8]
 }
 
 /// The text of an element of `N` characters, and the bytes after it.
+#[inline(always)]
 #[tactic(auto, unfolding(iso_laws::specs::Reading::element_at))]
 pub(crate) fn fixed_at<const N: usize>(
     element: Element,
@@ -184,6 +186,7 @@ fn verdict_at(approval: bool, text: &[u8]) -> Result<(), CodecFault>
 }
 
 /// What the rule finds in the text of an element, if it is there.
+#[inline(always)]
 pub(crate) fn rule_at(rule: Rule, bitmap: u128, text: Option<&[u8; 3]>) -> Result<(), CodecFault>
     ensures { Gives (λ _. tt) result (rule_at rule bitmap (option_map (λ t. t.now) text.entry)) }
 {
