@@ -1,6 +1,6 @@
 -- Replies that were written are read back.
-use Rattle.std.proofs.Common.{◌≡◌, ℕ, zero, suc, ◌+◌, ◌*◌, ◌/◌, ◌%◌, ◌^◌, ◌<◌, ◌≤◌, true, false, cond, List, [], ◌∷◌, ◌++◌, length, get_or, take, drop, map, Option, Some, None, Result, Ok, refl, sym, ap, subst, ◌∙◌, arith}
-use Rattle.std.specs.Prelude.{◌==◌}
+use Rattle.std.proofs.Common.{◌≡◌, ℕ, zero, suc, ◌+◌, ◌/◌, ◌%◌, ◌^◌, ◌<◌, ◌≤◌, true, false, cond, List, [], ◌∷◌, ◌++◌, length, get_or, take, drop, map, Option, Some, None, Result, Ok, refl, sym, ap, subst, ◌∙◌, arith}
+use Rattle.std.specs.Prelude.{◌==◌, IfSome}
 use Rattle.std.specs.List.{flat_map, AllByRecursion}
 use Rattle.std.specs.Int.{w64, to_be_bytes}
 use Rattle.std.proofs.lemmas.List.{take_at, drop_at, length-append, length-map}
@@ -12,15 +12,14 @@ use Rattle.iso8583.specs.declared.codec_fault.CodecFault.{CodecFault}
 use Rattle.iso8583.specs.declared.codec_fault.CodecFault.TheVariants.{Short, BadMti, SecondaryBitmap, Unexpected, Missing, BadLength, BadCharacter, Trailing, BadValue, OutOfMemory}
 use Rattle.iso8583.specs.declared.reply.Reply.{Reply as ReplyValue}
 use Rattle.iso_laws.specs.declared.element.Element.{Element}
-use Rattle.iso_laws.specs.declared.element.Element.TheVariants as element
 use Rattle.iso_laws.specs.declared.shape.Shape.{Shape}
 use Rattle.iso_laws.specs.declared.shape.Shape.TheVariants.{Fixed, UpTo}
-use Rattle.iso_laws.specs.Elements.{shape_of, HasShape, IsText}
-use Rattle.iso_laws.specs.Spelling.{Field, with_field, length_prefix, field, bitmap_of, bitmap_bytes}
+use Rattle.iso_laws.specs.Elements.{elements, shape_of, HasShape, IsText}
+use Rattle.iso_laws.specs.Spelling.{Field, Texts, with_field, fields_among, length_prefix, field, bitmap_of, bitmap_bytes}
 use Rattle.iso_laws.specs.Types.{mti_text}
-use Rattle.iso_laws.specs.Replies.{IsReply, reply_mti, reply_fields, reply_content, reply_spelling}
+use Rattle.iso_laws.specs.Replies.{IsReply, reply_mti, reply_texts, reply_fields, reply_spelling}
 use Rattle.iso_laws.proofs.Headers.{length-mti_text}
-use Rattle.iso_laws.proofs.Replies.{reply_are, replies_apart}
+use Rattle.iso_laws.proofs.Replies.{reply_known, replies_apart}
 use Rattle.issuer_rows.specs.FrameFault.{fault_body}
 use Rattle.issuer_rows.specs.declared.reply_body.ReplyBody.{ReplyBody}
 use Rattle.issuer_rows.specs.declared.reply_body.ReplyBody.TheVariants.{Reply, Fault}
@@ -36,64 +35,40 @@ abbrev most : Shape → ℕ
 most (Fixed size) = size
 most (UpTo min max) = 2 + max
 
-longest : (e : Element) → most (shape_of e) ≤ 37
-longest element.Pan = omega arith
-longest element.Processing = omega arith
-longest element.Amount = omega arith
-longest element.Transmission = omega arith
-longest element.Stan = omega arith
-longest element.Stamp = omega arith
-longest element.Function = omega arith
-longest element.OriginalAmount = omega arith
-longest element.Acquirer = omega arith
-longest element.Retrieval = omega arith
-longest element.Approval = omega arith
-longest element.Action = omega arith
-longest element.Terminal = omega arith
-longest element.Currency = omega arith
-longest element.Original = omega arith
-longest element.Account = omega arith
-
 shaped : (s : Shape) (text : List ℕ) → HasShape s text → length (length_prefix s text ++ text) ≤ most s
 shaped (Fixed size) text is = omega (arith, is)
 shaped (UpTo min max) text is = omega (arith, is.1, length-append (fixed_digits 2 (length text)) text, length-fixed_digits 2 (length text))
 
-fields_short : (fields : List Field) → AllByRecursion (λ f. IsText f.0 f.1) fields → length (flat_map field fields) ≤ 37 * length fields
-fields_short [] all = omega arith
-fields_short (f ∷ fields) all =
-    let one = shaped (shape_of f.0) f.1 all.0.0 in
-    let bound = longest f.0 in
-    let others = fields_short fields all.1 in
-    omega (arith, one, bound, others, length-append (field f) (flat_map field fields))
+field_short : (e : Element) (text : Option (List ℕ)) (fields : List Field) → IfSome text (IsText e) → length (flat_map field (with_field e text fields)) ≤ most (shape_of e) + length (flat_map field fields)
+field_short e None fields known = omega arith
+field_short e (Some text) fields known =
+    omega (arith, shaped (shape_of e) text known.0, length-append (field (e, text)) (flat_map field fields))
 
-one_field : (e : Element) (text : Option (List ℕ)) (fields : List Field) → length (with_field e text fields) ≤ length fields + 1
-one_field e None fields = omega arith
-one_field e (Some text) fields = omega arith
+abbrev most_of : List Element → ℕ
+most_of [] = 0
+most_of (e ∷ es) = most (shape_of e) + most_of es
 
-few_fields : (r : ReplyValue) → length (reply_fields r) ≤ 13
-few_fields r =
-    let x = reply_content r in
-    let account = with_field element.Account x.account [] in
-    let terminal : List Field = (element.Terminal, x.terminal) ∷ (element.Currency, x.currency) ∷ account in
-    let action = with_field element.Action x.action terminal in
-    let approval = with_field element.Approval x.approval action in
-    let retrieval = with_field element.Retrieval x.retrieval approval in
-    omega (arith, one_field element.Account x.account [], one_field element.Action x.action terminal, one_field element.Approval x.approval action, one_field element.Retrieval x.retrieval approval)
+fields_short : (text : Texts) (es : List Element) → ((e : Element) → IfSome (text e) (IsText e)) → length (flat_map field (fields_among es text)) ≤ most_of es
+fields_short text [] known = omega arith
+fields_short text (e ∷ es) known =
+    let others = fields_short text es known in
+    let here : length (flat_map field (with_field e (text e) (fields_among es text))) ≤ most (shape_of e) + most_of es =
+    omega (arith, field_short e (text e) (fields_among es text) (known e)) in
+    here
 
 length-bitmap : (bitmap : ℕ) → length (bitmap_bytes bitmap) ≤ 16
 unfolding bitmap_bytes
 length-bitmap bitmap =
     elim (bitmap % 2 ^ 64 == 0) as (λ b. length (cond b (to_be_bytes w64 (bitmap / 2 ^ 64)) (to_be_bytes w64 (2 ^ 63 + bitmap / 2 ^ 64) ++ to_be_bytes w64 (bitmap % 2 ^ 64))) ≤ 16) [ true ↦ omega arith | false ↦ omega arith ]
 
-spelling_short : (r : ReplyValue) → IsReply r → length (reply_spelling r) ≤ 501
+spelling_short : (r : ReplyValue) → IsReply r → length (reply_spelling r) ≤ 226
 spelling_short r is =
     let fields = reply_fields r in
     let bitmap = bitmap_bytes (bitmap_of fields) in
-    let texts = fields_short fields (reply_are r is).texts in
+    let texts : length (flat_map field fields) ≤ 206 = fields_short (reply_texts r) elements (reply_known r is) in
     omega (
       arith,
       texts,
-      few_fields r,
       length-bitmap (bitmap_of fields),
       length-mti_text (reply_mti r),
       length-append (mti_text (reply_mti r) ++ bitmap) (flat_map field fields),

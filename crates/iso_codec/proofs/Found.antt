@@ -1,6 +1,6 @@
 -- What a reader answers is what the bytes spell.
-use Rattle.std.proofs.Common.{◌≡◌, ◌≢◌, ℕ, true, List, Result, Ok, Err, sym, ap, subst, ◌∙◌}
-use Rattle.std.specs.Prelude.{IfOk, IfErr}
+use Rattle.std.proofs.Common.{◌≡◌, ◌≢◌, ℕ, true, List, Option, Some, None, Result, Ok, Err, sym, ap, subst, ◌∙◌}
+use Rattle.std.specs.Prelude.{IsSome, IfOk, IfErr, option_map}
 use Rattle.iso8583.specs.declared.codec_fault.CodecFault.{CodecFault}
 use Rattle.iso8583.specs.declared.codec_fault.CodecFault.TheVariants.{OutOfMemory}
 use Rattle.iso_laws.specs.declared.mti.Mti.{Mti}
@@ -16,6 +16,11 @@ read_as x = Ok x
 
 same_reading : (x y : Mti × List Field) → read_as x ≡ read_as y → (x.0 ≡ y.0) × (x.1 ≡ y.1)
 same_reading x y h = (cc, cc)
+
+-- an element that is there isn't missing
+pub missing : {X : Type 0} (o : Option X) (f : X → List ℕ) → IsSome (option_map f o) → o ≡ None → ⊥
+missing None f h k = absurd cc
+missing (Some x) f h k = absurd cc
 
 -- values that are read from these types
 module _ {V : Type 0} (types : List Mti) (mti : V → Mti) (fields : V → List Field) (IsValue : V → Type 0)

@@ -1,9 +1,4 @@
-pub mod Amounts
-pub mod Bodies
 pub mod Cuts
 pub mod Found
 pub mod Masks
-pub mod Others
-pub mod Parts
-pub mod Scopes
 pub mod Uniform

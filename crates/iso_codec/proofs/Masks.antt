@@ -7,10 +7,11 @@ use Rattle.std.proofs.lemmas.Nat.{and_le_l, leading_top}
 use Rattle.std.proofs.lemmas.Nat.Bits.{bit_at-lt, bit_at-zero, bit_at_above, bit_at_and, bit_at_not}
 use Rattle.std.proofs.Math.Nat.{pow-suc}
 use Rattle.iso8583.specs.declared.codec_fault.CodecFault.TheVariants.{Unexpected}
+use Rattle.iso_laws.specs.Elements.{parts_of}
 use Rattle.iso_laws.specs.declared.mti.Mti.{Mti}
 use Rattle.iso_laws.specs.declared.mti.Mti.TheVariants as mti
 use Rattle.iso_laws.specs.Spelling.{is_set}
-use Rattle.iso_laws.specs.Types.{parts_of, may_have, must_have}
+use Rattle.iso_laws.specs.Types.{may_have, must_have}
 use Rattle.iso_laws.specs.Reading.{least, is_unexpected, is_missing, first_wrong, presence_at}
 use Rattle.iso_laws.proofs.Bits.{powers, set_at, top_bit, listed_below, is_set-listed, is_set-required}
 use Rattle.iso_laws.proofs.Least.{least_is, least_none, least_same}
@@ -54,14 +55,7 @@ and_fits a b fits = let less = and_le_l a b in omega arith
 
 pub must_fits : (t : Mti) → must_have t < 2 ^ 127
 must_fits mti.Request = lit< tt
-must_fits mti.RequestRepeat = lit< tt
-must_fits mti.RequestReply = lit< tt
-must_fits mti.Advice = lit< tt
-must_fits mti.AdviceRepeat = lit< tt
-must_fits mti.AdviceReply = lit< tt
-must_fits mti.Reversal = lit< tt
-must_fits mti.ReversalRepeat = lit< tt
-must_fits mti.ReversalReply = lit< tt
+must_fits _ = lit< tt
 
 both_bits : (p q : ℕ) → p < 2 → q < 2 → eqb (min p (1 - q)) 1 ≡ (eqb p 1 && not (eqb q 1))
 both_bits p q h k =

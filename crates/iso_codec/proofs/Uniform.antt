@@ -1,190 +1,76 @@
--- One reader for the bodies of all types: a bitmap without fault says which elements are there.
-use Rattle.std.proofs.Common.{◌≡◌, ℕ, Bool, true, false, leb, List, Option, Some, None, Result, Ok, Err, refl, subst}
-use Rattle.std.proofs.lemmas.Bool.{leb-true}
-use Rattle.std.specs.Prelude.{not, ◌&&◌, is_some, IsSome, IfSome, option_map}
+-- One reader for all types: a bitmap without fault says which elements are there.
+use Rattle.std.proofs.Common.{◌≡◌, ℕ, Bool, true, false, List, [], ◌∷◌, None, Result, Ok, Err, refl, sym, ap, ◌∙◌, cond}
+use Rattle.std.specs.Prelude.{not, ◌||◌, map, filter}
+use Rattle.std.specs.List.{list_all}
+use Rattle.std.proofs.lemmas.Bool.{or_right}
+use mathlib.Core.Path.{fun_ext}
 use Rattle.iso8583.specs.declared.codec_fault.CodecFault.{CodecFault}
 use Rattle.iso_laws.specs.declared.element.Element.{Element}
 use Rattle.iso_laws.specs.declared.mti.Mti.{Mti}
 use Rattle.iso_laws.specs.declared.mti.Mti.TheVariants as mti
 use Rattle.iso_laws.specs.declared.rule.Rule.{Rule}
-use Rattle.iso_laws.specs.declared.rule.Rule.TheVariants.{Scope, Verdict}
-use Rattle.iso_laws.specs.Types.{Part, parts_of, tail_parts}
+use Rattle.iso_laws.specs.Elements.{element_number, Part, parts_of}
 use Rattle.iso_laws.specs.Spelling.{Field, is_set}
-use Rattle.iso_laws.specs.Reading.{is_listed, is_required, presence_at, optional_at, with_first, fields_at, rule_at, scope_at, verdict_at}
-use Rattle.iso_laws.proofs.Bits.{IsSound, is_sound}
-use Rattle.iso_codec.specs.declared.body.Body.{Body}
-use Rattle.iso_codec.specs.Texts.{body_parts, function_rule, action_rule, IsThere, IsRequestBody, IsAdviceBody, IsReversalBody, IsVerdictBody, IsActionBody, IsBodyOf}
+use Rattle.iso_laws.specs.Reading.{◌>>=◌, is_listed, is_required, presence_at, optional_at, with_first, rule_at, fields_at, whole_at}
+use Rattle.iso_laws.proofs.FirstWrong.{sound_bitmap, same_number}
+use Rattle.iso_laws.proofs.Present.{no_rule}
+use Rattle.iso_laws.proofs.Transactions.{common_among}
+use Rattle.iso_laws.proofs.Forms.{unlisted_unset}
+use Rattle.iso_codec.specs.Texts.{read_parts}
 
-not_listed : (set listed : Bool) → (set && not listed) ≡ false → listed ≡ false → set ≡ false
-not_listed false listed h k = refl
-not_listed true true h k = absurd cc
-not_listed true false h k = absurd cc
+abbrev Read : Type 0
+Read = Result (List Field × List ℕ) CodecFault
 
-is_needed : (set needed : Bool) → (needed && not set) ≡ false → needed ≡ true → set ≡ true
-is_needed true needed h k = refl
-is_needed false true h k = absurd cc
-is_needed false false h k = absurd cc
+-- a part that is read where the bitmap says that it is there
+abbrev by_bitmap : Part → Part
+by_bitmap p = (false, p.1, p.2)
 
-module _ (parts : List Part) (bitmap : ℕ) (sound : IsSound parts bitmap) where
-  unset : (n : ℕ) → leb 2 n ≡ true → leb n 128 ≡ true → is_listed parts n ≡ false → is_set bitmap n ≡ false
-  unset n low high h = not_listed (is_set bitmap n) (is_listed parts n) (sound.unexpected n (leb-true 2 n low) (leb-true n 128 high)) h
+-- one part, and what is read behind it
+abbrev read_first : ℕ → Bool → Element → Rule → List ℕ → (List ℕ → Read) → Read
+read_first bitmap there e rule bytes next = optional_at there e bytes >>= λ x. rule_at rule bitmap x.0 >>= λ _. with_first e x.0 (next x.1)
 
-  set : (n : ℕ) → leb 2 n ≡ true → leb n 128 ≡ true → is_required parts n ≡ true → is_set bitmap n ≡ true
-  set n low high h = is_needed (is_set bitmap n) (is_required parts n) (sound.missing n (leb-true 2 n low) (leb-true n 128 high)) h
+-- elements that must be there are, so that all can be read by the bitmap
+all_by_bitmap : (bitmap : ℕ) (ps : List Part) (bytes : List ℕ) → ((n : ℕ) → is_required ps n ≡ true → is_set bitmap n ≡ true) → fields_at bitmap (map by_bitmap ps) bytes ≡ fields_at bitmap ps bytes
+unfolding fields_at
+all_by_bitmap bitmap [] bytes h = refl
+all_by_bitmap bitmap ((true, e, r) ∷ ps) bytes h =
+    let set : is_set bitmap (element_number e) ≡ true = h (element_number e) (rw (same_number (element_number e)) refl) in
+    rw set (ap (read_first bitmap true e r bytes) (fun_ext (λ rest. all_by_bitmap bitmap ps rest (λ n k. h n (or_right _ (is_required ps n) k)))))
+all_by_bitmap bitmap ((false, e, r) ∷ ps) bytes h =
+    ap (read_first bitmap (is_set bitmap (element_number e)) e r bytes) (fun_ext (λ rest. all_by_bitmap bitmap ps rest h))
 
-without_first : (e : Element) (read : Result (List Field × List ℕ) CodecFault) → with_first e None read ≡ read
+without_first : (e : Element) (read : Read) → with_first e None read ≡ read
 without_first e (Ok x) = refl
 without_first e (Err f) = refl
 
-request_tail : (bitmap : ℕ) (bytes : List ℕ) → IsSound (parts_of mti.Request) bitmap → fields_at bitmap (body_parts mti.Request) bytes ≡ fields_at bitmap (tail_parts mti.Request) bytes
+-- those that a type never has are absent, and reading passes over them
+none_of_others : (bitmap : ℕ) (known : ℕ → Bool) (ps : List Part) (bytes : List ℕ) → ((e : Element) → known (element_number e) ≡ false → is_set bitmap (element_number e) ≡ false)
+    → fields_at bitmap (filter (λ p. known (element_number p.1)) (map by_bitmap ps)) bytes ≡ fields_at bitmap (map by_bitmap ps) bytes
 unfolding fields_at optional_at
-request_tail bitmap bytes s =
-    let ps = parts_of mti.Request in
-    rw (set ps bitmap s 24 refl refl refl, unset ps bitmap s 30 refl refl refl, unset ps bitmap s 38 refl refl refl, unset ps bitmap s 39 refl refl refl, unset ps bitmap s 56 refl refl refl) (simp without_first)
+none_of_others bitmap known [] bytes h = refl
+none_of_others bitmap known ((b, e, r) ∷ ps) bytes h =
+    elim (known (element_number e)) as (λ k. known (element_number e) ≡ k
+    → fields_at bitmap (cond k ((false, e, r) ∷ filter (λ p. known (element_number p.1)) (map by_bitmap ps)) (filter (λ p. known (element_number p.1)) (map by_bitmap ps))) bytes
+    ≡ read_first bitmap (is_set bitmap (element_number e)) e r bytes (fields_at bitmap (map by_bitmap ps))) [
+      | true ↦ λ _. ap (read_first bitmap (is_set bitmap (element_number e)) e r bytes) (fun_ext (λ rest. none_of_others bitmap known ps rest h))
+      | false ↦ λ k. none_of_others bitmap known ps bytes h ∙ sym (rw (h e k, no_rule r bitmap) (without_first e (fields_at bitmap (map by_bitmap ps) bytes)))
+    ] refl
 
-advice_tail : (bitmap : ℕ) (bytes : List ℕ) → IsSound (parts_of mti.Advice) bitmap → fields_at bitmap (body_parts mti.Advice) bytes ≡ fields_at bitmap (tail_parts mti.Advice) bytes
-unfolding fields_at optional_at
-advice_tail bitmap bytes s =
-    let ps = parts_of mti.Advice in
-    rw (set ps bitmap s 24 refl refl refl, unset ps bitmap s 30 refl refl refl, unset ps bitmap s 38 refl refl refl, set ps bitmap s 39 refl refl refl, unset ps bitmap s 56 refl refl refl) (simp without_first)
+those_of_type : (t : Mti) → filter (λ p. is_listed (parts_of t) (element_number p.1)) (map by_bitmap (read_parts t)) ≡ map by_bitmap (parts_of t)
+those_of_type mti.Request = refl
+those_of_type _ = refl
 
-reversal_tail : (bitmap : ℕ) (bytes : List ℕ) → IsSound (parts_of mti.Reversal) bitmap → fields_at bitmap (body_parts mti.Reversal) bytes ≡ fields_at bitmap (tail_parts mti.Reversal) bytes
-unfolding fields_at optional_at
-reversal_tail bitmap bytes s =
-    let ps = parts_of mti.Reversal in
-    rw (set ps bitmap s 24 refl refl refl, unset ps bitmap s 38 refl refl refl, unset ps bitmap s 39 refl refl refl, set ps bitmap s 56 refl refl refl, unset ps bitmap s 102 refl refl refl) (simp without_first)
+always_required : (t : Mti) → list_all (λ p. not p.0 || is_required (parts_of t) (element_number p.1)) (read_parts t) ≡ true
+always_required mti.Request = refl
+always_required _ = refl
 
-verdict_tail : (bitmap : ℕ) (bytes : List ℕ) → IsSound (parts_of mti.RequestReply) bitmap → fields_at bitmap (body_parts mti.RequestReply) bytes ≡ fields_at bitmap (tail_parts mti.RequestReply) bytes
-unfolding fields_at optional_at
-verdict_tail bitmap bytes s =
-    let ps = parts_of mti.RequestReply in
-    rw (unset ps bitmap s 24 refl refl refl, unset ps bitmap s 30 refl refl refl, set ps bitmap s 39 refl refl refl, unset ps bitmap s 56 refl refl refl) (simp without_first)
-
-advice_reply_tail : (bitmap : ℕ) (bytes : List ℕ) → IsSound (parts_of mti.AdviceReply) bitmap → fields_at bitmap (body_parts mti.AdviceReply) bytes ≡ fields_at bitmap (tail_parts mti.AdviceReply) bytes
-unfolding fields_at optional_at
-advice_reply_tail bitmap bytes s =
-    let ps = parts_of mti.AdviceReply in
-    rw (unset ps bitmap s 24 refl refl refl, unset ps bitmap s 30 refl refl refl, unset ps bitmap s 38 refl refl refl, set ps bitmap s 39 refl refl refl, unset ps bitmap s 56 refl refl refl) (simp without_first)
-
-reversal_reply_tail : (bitmap : ℕ) (bytes : List ℕ) → IsSound (parts_of mti.ReversalReply) bitmap → fields_at bitmap (body_parts mti.ReversalReply) bytes ≡ fields_at bitmap (tail_parts mti.ReversalReply) bytes
-unfolding fields_at optional_at
-reversal_reply_tail bitmap bytes s =
-    let ps = parts_of mti.ReversalReply in
-    rw (unset ps bitmap s 24 refl refl refl, unset ps bitmap s 30 refl refl refl, unset ps bitmap s 38 refl refl refl, set ps bitmap s 39 refl refl refl, unset ps bitmap s 56 refl refl refl, unset ps bitmap s 102 refl refl refl) (simp without_first)
-
-pub tail_is : (t : Mti) (bitmap : ℕ) (bytes : List ℕ) → presence_at (parts_of t) bitmap ≡ Ok tt → fields_at bitmap (body_parts t) bytes ≡ fields_at bitmap (tail_parts t) bytes
-tail_is mti.Request bitmap bytes h = request_tail bitmap bytes (is_sound (parts_of mti.Request) bitmap h)
-tail_is mti.RequestRepeat bitmap bytes h = request_tail bitmap bytes (is_sound (parts_of mti.Request) bitmap h)
-tail_is mti.RequestReply bitmap bytes h = verdict_tail bitmap bytes (is_sound (parts_of mti.RequestReply) bitmap h)
-tail_is mti.Advice bitmap bytes h = advice_tail bitmap bytes (is_sound (parts_of mti.Advice) bitmap h)
-tail_is mti.AdviceRepeat bitmap bytes h = advice_tail bitmap bytes (is_sound (parts_of mti.Advice) bitmap h)
-tail_is mti.AdviceReply bitmap bytes h = advice_reply_tail bitmap bytes (is_sound (parts_of mti.AdviceReply) bitmap h)
-tail_is mti.Reversal bitmap bytes h = reversal_tail bitmap bytes (is_sound (parts_of mti.Reversal) bitmap h)
-tail_is mti.ReversalRepeat bitmap bytes h = reversal_tail bitmap bytes (is_sound (parts_of mti.Reversal) bitmap h)
-tail_is mti.ReversalReply bitmap bytes h = reversal_reply_tail bitmap bytes (is_sound (parts_of mti.ReversalReply) bitmap h)
-
--- ---- which elements a body of the type has
-
-some_is : {A : Type 0} (o : Option A) (b : Bool) → is_some o ≡ b → b ≡ true → IsSome o
-some_is None b h k = absurd cc
-some_is (Some x) b h k = refl
-
-none_is : {A : Type 0} (o : Option A) (b : Bool) → is_some o ≡ b → b ≡ false → o ≡ None
-none_is None b h k = refl
-none_is (Some x) b h k = absurd cc
-
-request_body : (t : Mti) (bitmap : ℕ) (x : Body) → IsSound (parts_of mti.Request) bitmap → IsThere t bitmap x → IsRequestBody x
-request_body t bitmap x s h =
-    let ps = parts_of mti.Request in
-    record {
-      function = some_is x.function _ h.function (set ps bitmap s 24 refl refl refl);
-      original_amount = none_is x.original_amount _ h.original_amount (unset ps bitmap s 30 refl refl refl);
-      approval = none_is x.approval _ h.approval (unset ps bitmap s 38 refl refl refl);
-      action = none_is x.action _ h.action (unset ps bitmap s 39 refl refl refl);
-      original = none_is x.original _ h.original (unset ps bitmap s 56 refl refl refl);
-    }
-
-advice_body : (t : Mti) (bitmap : ℕ) (x : Body) → IsSound (parts_of mti.Advice) bitmap → IsThere t bitmap x → IsAdviceBody x
-advice_body t bitmap x s h =
-    let ps = parts_of mti.Advice in
-    record {
-      function = some_is x.function _ h.function (set ps bitmap s 24 refl refl refl);
-      original_amount = none_is x.original_amount _ h.original_amount (unset ps bitmap s 30 refl refl refl);
-      approval = none_is x.approval _ h.approval (unset ps bitmap s 38 refl refl refl);
-      action = some_is x.action _ h.action (set ps bitmap s 39 refl refl refl);
-      original = none_is x.original _ h.original (unset ps bitmap s 56 refl refl refl);
-    }
-
-advice_reply_body : (bitmap : ℕ) (x : Body) → IsSound (parts_of mti.AdviceReply) bitmap → IsThere mti.AdviceReply bitmap x → IsActionBody x
-advice_reply_body bitmap x s h =
-    let ps = parts_of mti.AdviceReply in
-    record {
-      function = none_is x.function _ h.function (unset ps bitmap s 24 refl refl refl);
-      original_amount = none_is x.original_amount _ h.original_amount (unset ps bitmap s 30 refl refl refl);
-      approval = none_is x.approval _ h.approval (unset ps bitmap s 38 refl refl refl);
-      action = some_is x.action _ h.action (set ps bitmap s 39 refl refl refl);
-      original = none_is x.original _ h.original (unset ps bitmap s 56 refl refl refl);
-    }
-
-reversal_reply_body : (bitmap : ℕ) (x : Body) → IsSound (parts_of mti.ReversalReply) bitmap → IsThere mti.ReversalReply bitmap x → IsActionBody x
-reversal_reply_body bitmap x s h =
-    let ps = parts_of mti.ReversalReply in
-    record {
-      function = none_is x.function _ h.function (unset ps bitmap s 24 refl refl refl);
-      original_amount = none_is x.original_amount _ h.original_amount (unset ps bitmap s 30 refl refl refl);
-      approval = none_is x.approval _ h.approval (unset ps bitmap s 38 refl refl refl);
-      action = some_is x.action _ h.action (set ps bitmap s 39 refl refl refl);
-      original = none_is x.original _ h.original (unset ps bitmap s 56 refl refl refl);
-    }
-
-scope_holds : (t : Mti) (bitmap : ℕ) (x : Body) → function_rule t ≡ Scope → IsThere t bitmap x → IfSome x.function (λ f. scope_at (is_some x.original_amount) f.now ≡ Ok tt)
-scope_holds t bitmap x same h =
-    let scope : rule_at Scope bitmap (option_map (λ f. f.now) x.function) ≡ Ok tt = subst (λ (r : Rule). rule_at r bitmap (option_map (λ f. f.now) x.function) ≡ Ok tt) same h.scope in
-    elim x.function as (λ o. rule_at Scope bitmap (option_map (λ f. f.now) o) ≡ Ok tt → IfSome o (λ f. scope_at (is_some x.original_amount) f.now ≡ Ok tt)) [
-      | None ↦ λ _. tt
-      | Some f ↦ λ k. rw h.original_amount k
-    ] scope
-
-verdict_holds : (t : Mti) (bitmap : ℕ) (x : Body) → action_rule t ≡ Verdict → IsThere t bitmap x → IfSome x.action (λ a. verdict_at (is_some x.approval) a.now ≡ Ok tt)
-verdict_holds t bitmap x same h =
-    let verdict : rule_at Verdict bitmap (option_map (λ a. a.now) x.action) ≡ Ok tt = subst (λ (r : Rule). rule_at r bitmap (option_map (λ a. a.now) x.action) ≡ Ok tt) same h.verdict in
-    elim x.action as (λ o. rule_at Verdict bitmap (option_map (λ a. a.now) o) ≡ Ok tt → IfSome o (λ a. verdict_at (is_some x.approval) a.now ≡ Ok tt)) [
-      | None ↦ λ _. tt
-      | Some a ↦ λ k. rw h.approval k
-    ] verdict
-
-reversal_body : (t : Mti) (bitmap : ℕ) (x : Body) → function_rule t ≡ Scope → IsSound (parts_of mti.Reversal) bitmap → IsThere t bitmap x → IsReversalBody x
-reversal_body t bitmap x same s h =
-    let ps = parts_of mti.Reversal in
-    record {
-      function = some_is x.function _ h.function (set ps bitmap s 24 refl refl refl);
-      scope = scope_holds t bitmap x same h;
-      approval = none_is x.approval _ h.approval (unset ps bitmap s 38 refl refl refl);
-      action = none_is x.action _ h.action (unset ps bitmap s 39 refl refl refl);
-      original = some_is x.original _ h.original (set ps bitmap s 56 refl refl refl);
-      account = none_is x.account _ h.account (unset ps bitmap s 102 refl refl refl);
-    }
-
-verdict_body : (bitmap : ℕ) (x : Body) → IsSound (parts_of mti.RequestReply) bitmap → IsThere mti.RequestReply bitmap x → IsVerdictBody x
-verdict_body bitmap x s h =
-    let ps = parts_of mti.RequestReply in
-    record {
-      function = none_is x.function _ h.function (unset ps bitmap s 24 refl refl refl);
-      original_amount = none_is x.original_amount _ h.original_amount (unset ps bitmap s 30 refl refl refl);
-      action = some_is x.action _ h.action (set ps bitmap s 39 refl refl refl);
-      verdict = verdict_holds mti.RequestReply bitmap x refl h;
-      original = none_is x.original _ h.original (unset ps bitmap s 56 refl refl refl);
-    }
-
-pub is_body_of : (t : Mti) (bitmap : ℕ) (x : Body) → presence_at (parts_of t) bitmap ≡ Ok tt → IsThere t bitmap x → IsBodyOf t x
-is_body_of mti.Request bitmap x p h = request_body mti.Request bitmap x (is_sound (parts_of mti.Request) bitmap p) h
-is_body_of mti.RequestRepeat bitmap x p h = request_body mti.RequestRepeat bitmap x (is_sound (parts_of mti.Request) bitmap p) h
-is_body_of mti.RequestReply bitmap x p h = verdict_body bitmap x (is_sound (parts_of mti.RequestReply) bitmap p) h
-is_body_of mti.Advice bitmap x p h = advice_body mti.Advice bitmap x (is_sound (parts_of mti.Advice) bitmap p) h
-is_body_of mti.AdviceRepeat bitmap x p h = advice_body mti.AdviceRepeat bitmap x (is_sound (parts_of mti.Advice) bitmap p) h
-is_body_of mti.AdviceReply bitmap x p h = advice_reply_body bitmap x (is_sound (parts_of mti.AdviceReply) bitmap p) h
-is_body_of mti.Reversal bitmap x p h = reversal_body mti.Reversal bitmap x refl (is_sound (parts_of mti.Reversal) bitmap p) h
-is_body_of mti.ReversalRepeat bitmap x p h = reversal_body mti.ReversalRepeat bitmap x refl (is_sound (parts_of mti.Reversal) bitmap p) h
-is_body_of mti.ReversalReply bitmap x p h =
-    let sound = is_sound (parts_of mti.ReversalReply) bitmap p in
-    (reversal_reply_body bitmap x sound h, none_is x.account _ h.account (unset (parts_of mti.ReversalReply) bitmap sound 102 refl refl refl))
+-- so the one reader reads what the type has
+pub read_is : (t : Mti) (bitmap : ℕ) (bytes : List ℕ) → presence_at (parts_of t) bitmap ≡ Ok tt → whole_at bitmap (parts_of t) bytes ≡ whole_at bitmap (read_parts t) bytes
+unfolding whole_at
+read_is t bitmap bytes sound =
+    let right = sound_bitmap t bitmap sound in
+    let there = λ (n : ℕ) (k : is_required (read_parts t) n ≡ true). right.1 n (common_among (is_required (parts_of t)) (read_parts t) n (always_required t) k) in
+    let same : fields_at bitmap (parts_of t) bytes ≡ fields_at bitmap (read_parts t) bytes =
+    sym (all_by_bitmap bitmap (parts_of t) bytes right.1) ∙ (ap (λ (ps : List Part). fields_at bitmap ps bytes) (sym (those_of_type t))
+    ∙ (none_of_others bitmap (is_listed (parts_of t)) (read_parts t) bytes (λ e k. unlisted_unset t bitmap e sound k) ∙ all_by_bitmap bitmap (read_parts t) bytes there)) in
+    rw same refl

@@ -2,8 +2,8 @@
 
 ghost use Rattle.std.specs.Prelude.{◌≡◌, ℕ, ◌≤◌, ◌<◌, ◌^◌, length, IfOk};
 ghost use Rattle.std.specs.Int.{w64, from_be_bytes};
+ghost use Rattle.iso_laws.specs.Elements.{parts_of};
 ghost use Rattle.iso_laws.specs.Spelling.{is_set};
-ghost use Rattle.iso_laws.specs.Types.{parts_of};
 ghost use Rattle.iso_laws.specs.Reading.{Gives, least, secondary_at, bitmap_at, presence_at};
 
 use crate::fields::bytes_at;

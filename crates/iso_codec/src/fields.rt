@@ -1,9 +1,9 @@
 //! Reading the text of one element, and its rule.
 
-ghost use Rattle.std.specs.Prelude.{◌≡◌, ℕ, ◌≤◌, length, Some, None, IfSome, IfOk, IsTrue, option_map, is_some, if◌then◌else◌};
+ghost use Rattle.std.specs.Prelude.{◌≡◌, ℕ, ◌≤◌, length, Some, None, IfOk, IsTrue, option_map, if◌then◌else◌};
 ghost use Rattle.iso8583.specs.Number.{number_of};
 ghost use Rattle.iso_codec.specs.Texts.{test_of};
-ghost use Rattle.iso_laws.specs.Elements.{shape_of, HasShape, IsText};
+ghost use Rattle.iso_laws.specs.Elements.{shape_of, HasShape};
 ghost use Rattle.iso_laws.specs.Spelling.{is_set};
 ghost use Rattle.iso_laws.specs.Reading.{Gives, bytes_at, is_length, shaped_at, element_at, optional_at, scope_at, verdict_at, rule_at};
 
@@ -73,10 +73,10 @@ fn text_test(element: Element, text: &[u8]) -> Result<(), CodecFault>
 }
 
 /// The text of the element, and the bytes after it.
+#[inline(always)]
 #[tactic(auto, unfolding(iso_laws::specs::Reading::element_at))]
 pub(crate) fn element_at(element: Element, bytes: &[u8]) -> Result<(&[u8], &[u8]), CodecFault>
     ensures gives { Gives (λ x. (x.0.now, x.1.now)) result (element_at element bytes.now) }
-    ensures text { IfOk result (λ x. IsText element x.0.now) }
 {
     let (text, rest) = shaped_at(element.number(), element.shape(), bytes)?;
     text_test(element, text)?;
@@ -97,6 +97,7 @@ fn chunk_at<const N: usize>(number: u8, bytes: &[u8]) -> Result<(&[u8; N], &[u8]
 }
 
 /// The text of an element of `N` characters, and the bytes after it.
+#[inline(always)]
 #[tactic(auto, unfolding(iso_laws::specs::Reading::element_at))]
 pub(crate) fn fixed_at<const N: usize>(
     element: Element,
@@ -104,7 +105,6 @@ pub(crate) fn fixed_at<const N: usize>(
 ) -> Result<(&[u8; N], &[u8]), CodecFault>
     requires { shape_of element ≡ Shape.Fixed N }
     ensures gives { Gives (λ x. (x.0.now, x.1.now)) result (element_at element bytes.now) }
-    ensures text { IfOk result (λ x. IsText element x.0.now) }
 {
     let (text, rest) = chunk_at(element.number(), bytes)?;
     text_test(element, text)?;
@@ -121,8 +121,6 @@ pub(crate) fn optional_fixed_at<const N: usize>(
 ) -> Result<(Option<&[u8; N]>, &[u8]), CodecFault>
     requires { shape_of element ≡ Shape.Fixed N }
     ensures gives { Gives (λ x. (option_map (λ t. t.now) x.0, x.1.now)) result (optional_at present element bytes.now) }
-    ensures text { IfOk result (λ x. IfSome x.0 (λ t. IsText element t.now)) }
-    ensures there { IfOk result (λ x. is_some x.0 ≡ present) }
 {
     if !present {
         return Ok((None, bytes));
@@ -140,8 +138,6 @@ pub(crate) fn optional_at(
     bytes: &[u8],
 ) -> Result<(Option<&[u8]>, &[u8]), CodecFault>
     ensures gives { Gives (λ x. (option_map (λ t. t.now) x.0, x.1.now)) result (optional_at present element bytes.now) }
-    ensures text { IfOk result (λ x. IfSome x.0 (λ t. IsText element t.now)) }
-    ensures there { IfOk result (λ x. is_some x.0 ≡ present) }
 {
     if !present {
         return Ok((None, bytes));
@@ -190,6 +186,7 @@ fn verdict_at(approval: bool, text: &[u8]) -> Result<(), CodecFault>
 }
 
 /// What the rule finds in the text of an element, if it is there.
+#[inline(always)]
 pub(crate) fn rule_at(rule: Rule, bitmap: u128, text: Option<&[u8; 3]>) -> Result<(), CodecFault>
     ensures { Gives (λ _. tt) result (rule_at rule bitmap (option_map (λ t. t.now) text.entry)) }
 {

@@ -2,15 +2,10 @@
 #![tactic(auto)]
 
 mod bitmap;
-mod body;
-mod closing;
-mod codes;
 mod decoding;
 mod fields;
-mod front;
 mod header;
 mod message;
-mod opening;
 mod reply;
 mod side;
 mod texts;

@@ -1,99 +1,86 @@
 //! Messages from the texts of their elements.
 
-ghost use Rattle.std.specs.Prelude.{◌≡◌, List, ℕ, Option, Some, None, Ok, IfSome, IsTrue, is_some, option_map, if◌then◌else◌};
-ghost use Rattle.iso8583.specs.declared.transaction.Transaction.{Transaction};
-ghost use Rattle.iso_codec.specs.Texts.{texts_of, HasFrontTexts, HasBodyTexts, IsRequestBody, IsAdviceBody, IsReversalBody, IsBodyOf};
-ghost use Rattle.iso_laws.specs.Elements.{IsText};
-ghost use Rattle.iso_laws.specs.Types.{taken_in, is_among};
-ghost use Rattle.iso_laws.specs.Contents.{Content, content, IsTransaction};
-ghost use Rattle.iso_laws.specs.Messages.{mti_of, content_of, scope_function, scope_amount, IsScope, IsMessage};
-ghost use Rattle.iso_laws.specs.Reading.{scope_at};
+ghost use Rattle.std.specs.Prelude.{◌≡◌, IfSome, option_map};
+ghost use Rattle.iso_codec.specs.Texts.{texts_of};
+ghost use Rattle.iso_laws.specs.Messages.{scope_from, request_from, advice_from, reversal_from, message_from};
+ghost use Rattle.iso_laws.specs.Transactions.{transaction_from};
+ghost use Rattle.iso_laws.specs.Elements.{IsText, parts_of};
+ghost use Rattle.iso_laws.specs.Forms.{HasForm, AreKnown, AreTextsOf};
+ghost use Rattle.iso_laws.specs.Types.{taken_in};
 
-use crate::body::Body;
-use crate::front::Front;
 use crate::texts::Texts;
 use crate::values;
 use iso_laws::{Element, Mti};
-use iso8583::{Advice, Message, Request, Reversal, ReversalScope, Transaction};
+use iso8583::{
+    Acquirer, Advice, Amount, Currency, Digits, DigitsUpTo, FunctionCode, LocalStamp, Message, Pan,
+    Printable, Processing, Request, Reversal, ReversalScope, Stan, Terminal, Transaction,
+    Transmission,
+};
 
 /// The elements that a reply repeats.
-pub(crate) fn transaction_of(front: &Front, body: &Body) -> Transaction
-    requires front { HasFrontTexts front.now }
-    requires body { HasBodyTexts body.now }
-    // Whatever the other elements are.
-    ensures texts { (f m c a o i : Option (List ℕ)) → content result f m c a o i
-        ≡ record (texts_of front.now body.now) { function = f; original_amount = m; approval = c; action = a; original = o; account = i } }
-    ensures values { IsTransaction result }
+pub(crate) fn transaction_of(texts: &Texts) -> Transaction
+    requires { AreKnown (texts_of texts.now) }
+    ensures { result ≡ transaction_from (texts_of texts.now) }
 {
-    let (pan, processing, amount) = (front.pan, front.processing, front.amount);
-    let (transmission, stan, stamp) = (front.transmission, front.stan, front.stamp);
-    let (acquirer, terminal, currency) = (body.acquirer, body.terminal, body.currency);
+    let (pan, processing, amount) = (texts.pan, texts.processing, texts.amount);
+    let (transmission, stan, stamp) = (texts.transmission, texts.stan, texts.stamp);
+    let (acquirer, terminal, currency) = (texts.acquirer, texts.terminal, texts.currency);
     Transaction {
-        pan: values::pan(pan),
-        processing: values::processing(processing),
-        amount: values::amount(amount),
-        transmission: values::transmission(transmission),
-        stan: values::stan(stan),
-        stamp: values::stamp(stamp),
-        acquirer: values::acquirer(acquirer),
-        retrieval: values::retrieval(body.retrieval),
-        terminal: values::terminal(terminal),
-        currency: values::currency(currency),
+        pan: Pan(DigitsUpTo::of_text(pan)),
+        processing: Processing(Digits::of_text(processing)),
+        amount: Amount::from_digits(&Digits::of_text(amount)),
+        transmission: Transmission(Digits::of_text(transmission)),
+        stan: Stan(Digits::of_text(stan)),
+        stamp: LocalStamp::of_text(stamp),
+        acquirer: Acquirer(DigitsUpTo::of_text(acquirer)),
+        retrieval: values::retrieval(texts.retrieval),
+        terminal: Terminal(Printable::of_text(terminal)),
+        currency: Currency(Digits::of_text(currency)),
     }
 }
 
 /// The request with these elements, 1100 or 1101.
-fn request_of(repeat: bool, front: &Front, body: &Body) -> Message
-    requires front { HasFrontTexts front.now }
-    requires body { HasBodyTexts body.now }
-    requires form { IsRequestBody body.now }
-    ensures mti { mti_of result ≡ (if repeat then Mti.RequestRepeat else Mti.Request) }
-    ensures texts { content_of result ≡ texts_of front.now body.now }
-    ensures values { IsMessage result }
+fn request_of(repeat: bool, texts: &Texts) -> Message
+    requires known { AreKnown (texts_of texts.now) }
+    requires form { HasForm (parts_of Mti.Request) (texts_of texts.now) }
+    ensures { result ≡ request_from repeat (texts_of texts.now) }
 {
-    let Some(function) = body.function else {
+    let Some(function) = texts.function else {
         unreachable!()
     };
     Message::Request(Request {
         repeat,
-        function: values::function(function),
-        account: values::account(body.account),
-        transaction: transaction_of(front, body),
+        function: FunctionCode(Digits::of_text(function)),
+        account: values::account(texts.account),
+        transaction: transaction_of(texts),
     })
 }
 
 /// The advice with these elements, 1120 or 1121.
-fn advice_of(repeat: bool, front: &Front, body: &Body) -> Message
-    requires front { HasFrontTexts front.now }
-    requires body { HasBodyTexts body.now }
-    requires form { IsAdviceBody body.now }
-    ensures mti { mti_of result ≡ (if repeat then Mti.AdviceRepeat else Mti.Advice) }
-    ensures texts { content_of result ≡ texts_of front.now body.now }
-    ensures values { IsMessage result }
+fn advice_of(repeat: bool, texts: &Texts) -> Message
+    requires known { AreKnown (texts_of texts.now) }
+    requires form { HasForm (parts_of Mti.Advice) (texts_of texts.now) }
+    ensures { result ≡ advice_from repeat (texts_of texts.now) }
 {
-    let Some(function) = body.function else {
+    let Some(function) = texts.function else {
         unreachable!()
     };
-    let Some(action) = body.action else {
+    let Some(action) = texts.action else {
         unreachable!()
     };
     Message::Advice(Advice {
         repeat,
-        function: values::function(function),
+        function: FunctionCode(Digits::of_text(function)),
         action: values::action(action),
-        account: values::account(body.account),
-        transaction: transaction_of(front, body),
+        account: values::account(texts.account),
+        transaction: transaction_of(texts),
     })
 }
 
-/// The scope that elements 24 and 30 say.
-#[tactic(auto, using(crate::proofs::Scopes::full_function, crate::proofs::Scopes::partial_function))]
-fn scope_of(function: &[u8; 3], amount: Option<&[u8; 24]>) -> ReversalScope
-    requires amount { IfSome amount (λ t. IsText Element.OriginalAmount t.now) }
-    requires scope { scope_at (is_some amount) function.now ≡ Ok tt }
-    ensures function { scope_function result ≡ function.now }
-    ensures amount { scope_amount result ≡ option_map (λ t. t.now) amount.entry }
-    ensures values { IsScope result }
+/// The scope that element 30 says, which is there in a partial reversal alone.
+fn scope_of(amount: Option<&[u8; 24]>) -> ReversalScope
+    requires { IfSome (option_map (λ t. t.now) amount) (IsText Element.OriginalAmount) }
+    ensures { result ≡ scope_from (option_map (λ t. t.now) amount.entry) }
 {
     match amount {
         None => ReversalScope::Full,
@@ -102,47 +89,34 @@ fn scope_of(function: &[u8; 3], amount: Option<&[u8; 24]>) -> ReversalScope
 }
 
 /// The reversal with these elements, 1420 or 1421.
-fn reversal_of(repeat: bool, front: &Front, body: &Body) -> Message
-    requires front { HasFrontTexts front.now }
-    requires body { HasBodyTexts body.now }
-    requires form { IsReversalBody body.now }
-    ensures mti { mti_of result ≡ (if repeat then Mti.ReversalRepeat else Mti.Reversal) }
-    ensures texts { content_of result ≡ texts_of front.now body.now }
-    ensures values { IsMessage result }
+fn reversal_of(repeat: bool, texts: &Texts) -> Message
+    requires known { AreKnown (texts_of texts.now) }
+    requires form { HasForm (parts_of Mti.Reversal) (texts_of texts.now) }
+    ensures { result ≡ reversal_from repeat (texts_of texts.now) }
 {
-    let Some(function) = body.function else {
-        unreachable!()
-    };
-    let Some(original) = body.original else {
+    let Some(original) = texts.original else {
         unreachable!()
     };
     Message::Reversal(Reversal {
         repeat,
-        scope: scope_of(function, body.original_amount),
+        scope: scope_of(texts.original_amount),
         original: values::original(original),
-        transaction: transaction_of(front, body),
+        transaction: transaction_of(texts),
     })
 }
 
 /// The message of a type that is taken in, with these elements.
 pub(crate) fn message_of(mti: Mti, texts: &Texts) -> Message
-    requires among { IsTrue (is_among taken_in mti) }
-    requires front { HasFrontTexts texts.now.front }
-    requires body { HasBodyTexts texts.now.body }
-    requires form { IsBodyOf mti texts.now.body }
-    ensures mti { mti_of result ≡ mti }
-    ensures texts { content_of result ≡ texts_of texts.now.front texts.now.body }
-    ensures values { IsMessage result }
+    requires { AreTextsOf taken_in mti (texts_of texts.now) }
+    ensures { result ≡ message_from mti (texts_of texts.now) }
 {
-    let front = &texts.front;
-    let body = &texts.body;
     match mti {
-        Mti::Request => request_of(false, front, body),
-        Mti::RequestRepeat => request_of(true, front, body),
-        Mti::Advice => advice_of(false, front, body),
-        Mti::AdviceRepeat => advice_of(true, front, body),
-        Mti::Reversal => reversal_of(false, front, body),
-        Mti::ReversalRepeat => reversal_of(true, front, body),
+        Mti::Request => request_of(false, texts),
+        Mti::RequestRepeat => request_of(true, texts),
+        Mti::Advice => advice_of(false, texts),
+        Mti::AdviceRepeat => advice_of(true, texts),
+        Mti::Reversal => reversal_of(false, texts),
+        Mti::ReversalRepeat => reversal_of(true, texts),
         Mti::RequestReply | Mti::AdviceReply | Mti::ReversalReply => unreachable!(),
     }
 }

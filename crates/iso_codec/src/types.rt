@@ -1,8 +1,8 @@
 //! Message types (ISO 8583:1993).
 
-ghost use Rattle.std.specs.Prelude.{◌≡◌, IfOk, IsTrue};
+ghost use Rattle.std.specs.Prelude.{◌≡◌};
 ghost use Rattle.iso_codec.specs.Sides.{types_of};
-ghost use Rattle.iso_laws.specs.Types.{taken_in, given_out, is_among};
+ghost use Rattle.iso_laws.specs.Types.{taken_in, given_out};
 ghost use Rattle.iso_laws.specs.Reading.{Gives, mti_at};
 
 use crate::side::Side;
@@ -13,8 +13,7 @@ use iso8583::CodecFault;
 /// The type that the text names among those that are taken in.
 #[tactic(auto, unfolding(iso_laws::specs::Reading::mti_at))]
 fn taken_in(text: &[u8]) -> Result<Mti, CodecFault>
-    ensures gives { Gives (λ t. t) result (mti_at taken_in text.now) }
-    ensures among { IfOk result (λ t. IsTrue (is_among taken_in t)) }
+    ensures { Gives (λ t. t) result (mti_at taken_in text.now) }
 {
     if is_text(text, b"1100") {
         Ok(Mti::Request)
@@ -36,8 +35,7 @@ fn taken_in(text: &[u8]) -> Result<Mti, CodecFault>
 /// The type that the text names among those that are given out.
 #[tactic(auto, unfolding(iso_laws::specs::Reading::mti_at))]
 fn given_out(text: &[u8]) -> Result<Mti, CodecFault>
-    ensures gives { Gives (λ t. t) result (mti_at given_out text.now) }
-    ensures among { IfOk result (λ t. IsTrue (is_among given_out t)) }
+    ensures { Gives (λ t. t) result (mti_at given_out text.now) }
 {
     if is_text(text, b"1110") {
         Ok(Mti::RequestReply)
@@ -52,8 +50,7 @@ fn given_out(text: &[u8]) -> Result<Mti, CodecFault>
 
 /// The type that the text names, if messages of it are read.
 pub(crate) fn mti_at(side: Side, text: &[u8]) -> Result<Mti, CodecFault>
-    ensures gives { Gives (λ t. t) result (mti_at (types_of side) text.now) }
-    ensures among { IfOk result (λ t. IsTrue (is_among (types_of side) t)) }
+    ensures { Gives (λ t. t) result (mti_at (types_of side) text.now) }
 {
     match side {
         Side::TakenIn => taken_in(text),

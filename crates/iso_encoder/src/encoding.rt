@@ -1,23 +1,15 @@
-ghost use Rattle.std.specs.Prelude.{◌≡◌, ℕ, ◌+◌, ◌-◌, ◌^◌, ◌≤◌, ◌<◌, [], ◌++◌, length, vec_len, vec_capacity, OnOk, OnErr, IfErr, IsOk, option_map};
-ghost use Rattle.std.specs.List.{flat_map};
-ghost use Rattle.iso8583.specs.Number.{fixed_digits};
-ghost use Rattle.iso_encoder.specs.declared.extras.Extras.{Extras};
-ghost use Rattle.iso_encoder.specs.Writing.{bit_if, whole_content, front_list, scope_list, reference_list, answer_list, end_list, last_list};
-ghost use Rattle.iso_laws.specs.Elements.{element_number, original_text, original_type, twelve_zeros};
+ghost use Rattle.std.specs.Prelude.{◌≡◌, ℕ, ◌+◌, ◌-◌, ◌^◌, ◌≤◌, ◌<◌, [], ◌∷◌, ◌++◌, length, is_some, vec_len, vec_capacity, OnOk, OnErr, IfErr, IsOk};
+ghost use Rattle.iso_encoder.specs.Writing.{bit_if, written_texts, Writes};
+ghost use Rattle.iso_laws.specs.Elements.{element_number, elements, original_text, original_type};
 ghost use Rattle.iso_laws.specs.Types.{mti_text};
-ghost use Rattle.iso_laws.specs.Spelling.{Field, field, with_field, bitmap_of, bitmap_bytes, spelling};
-ghost use Rattle.iso_laws.specs.Contents.{content_fields};
-ghost use Rattle.iso_laws.specs.Messages.{Spells, account_text, message_spelling};
+ghost use Rattle.iso_laws.specs.Spelling.{fields, bitmap_of, bitmap_bytes, spelling};
+ghost use Rattle.iso_laws.specs.Messages.{Spells, message_spelling};
 ghost use Rattle.iso_laws.specs.Replies.{SpellsReply, reply_spelling};
 
-use crate::extras::{Extras, extras_of, mti_of, reply_extras, reply_mti, transaction_of};
-use crate::values::{message_in_range, reply_in_range};
+use crate::parts::{Parts, parts_of, reply_parts};
 use crate::writer::{put, put_field};
 use iso_laws::{COMMON, Element, Mti};
-use iso8583::{
-    AccountId, Amount, Approval, CodecFault, Digits, Message, OriginalKind, OriginalRef, Reply,
-    Transaction,
-};
+use iso8583::{CodecFault, Digits, Message, OriginalKind, OriginalRef, Reply};
 
 /// Bytes of capacity with which every message and every reply can be written without allocating. The longest has 179.
 pub const ROOM: usize = 256;
@@ -41,26 +33,26 @@ fn mti_text(mti: Mti) -> &'static [u8]
 }
 
 /// The bit of an element, if it is there.
-fn bit(there: bool, element: Element) -> u128
-    ensures value { result ≡ bit_if there (2 ^ (128 - element_number element)) }
+fn bit<T>(part: &Option<T>, element: Element) -> u128
+    ensures value { result ≡ bit_if (is_some part.now) (2 ^ (128 - element_number element)) }
     ensures bound { result ≤ 2 ^ (128 - element_number element) }
 {
-    if there { element.bit() } else { 0 }
+    if part.is_some() { element.bit() } else { 0 }
 }
 
 /// The bitmap: the elements of every message and reply, and those that are there.
-fn bitmap_of(transaction: &Transaction, extras: &Extras) -> u128
-    ensures value { result ≡ bitmap_of (content_fields (whole_content transaction.now extras.now)) }
+fn bitmap_of(parts: &Parts) -> u128
+    ensures value { result ≡ bitmap_of (fields (written_texts parts.now)) }
     ensures fits { result < 2 ^ 127 }
 {
     COMMON
-        + bit(extras.function.is_some(), Element::Function)
-        + bit(extras.original_amount.is_some(), Element::OriginalAmount)
-        + bit(transaction.retrieval.is_some(), Element::Retrieval)
-        + bit(extras.approval.is_some(), Element::Approval)
-        + bit(extras.action.is_some(), Element::Action)
-        + bit(extras.original.is_some(), Element::Original)
-        + bit(extras.account.is_some(), Element::Account)
+        + bit(&parts.function, Element::Function)
+        + bit(&parts.original_amount, Element::OriginalAmount)
+        + bit(&parts.transaction.retrieval, Element::Retrieval)
+        + bit(&parts.approval, Element::Approval)
+        + bit(&parts.action, Element::Action)
+        + bit(&parts.original, Element::Original)
+        + bit(&parts.account, Element::Account)
 }
 
 /// Appends the bytes of the bitmap: eight, or sixteen with bit 1 set where an element from 65 on is there.
@@ -86,12 +78,11 @@ fn put_bitmap(out: &mut Vec<u8>, bitmap: u128)
 const BIT_1: u64 = 1 << 63;
 
 /// Appends the elements that all begin with.
-fn put_front(out: &mut Vec<u8>, transaction: &Transaction)
+fn put_front(out: &mut Vec<u8>, parts: &Parts)
     requires { vec_len out.old + 77 ≤ vec_capacity out.old }
-    ensures items { (extras : Extras) → out.new.items ≡ out.old.items ++ flat_map field (front_list (whole_content transaction.now extras)) }
-    ensures len { vec_len out.new ≤ vec_len out.old + 77 }
-    ensures capacity { vec_capacity out.old ≤ vec_capacity out.new }
+    ensures { Writes parts.now (Element.Pan ∷ Element.Processing ∷ Element.Amount ∷ Element.Transmission ∷ Element.Stan ∷ Element.Stamp ∷ []) out.old out.new 77 }
 {
+    let transaction = parts.transaction;
     put_field(out, Element::Pan, transaction.pan.0.as_slice());
     put_field(
         out,
@@ -108,39 +99,33 @@ fn put_front(out: &mut Vec<u8>, transaction: &Transaction)
     put_field(out, Element::Stamp, transaction.stamp.as_slice());
 }
 
-/// Appends an element of three digits, if it is there.
-fn put_code(out: &mut Vec<u8>, element: Element, code: &Option<Digits<3>>)
+/// Appends element 24, if it is there.
+fn put_function(out: &mut Vec<u8>, parts: &Parts)
     requires { vec_len out.old + 5 ≤ vec_capacity out.old }
-    ensures items { out.new.items ≡ out.old.items ++ flat_map field (with_field element code.now []) }
-    ensures len { vec_len out.new ≤ vec_len out.old + 5 }
-    ensures capacity { vec_capacity out.old ≤ vec_capacity out.new }
+    ensures { Writes parts.now (Element.Function ∷ []) out.old out.new 5 }
 {
-    if let Some(code) = code {
-        put_field(out, element, code.as_slice());
+    if let Some(function) = &parts.function {
+        put_field(out, Element::Function, function.as_slice());
     }
 }
 
 /// Appends element 30, if it is there.
-fn put_original_amount(out: &mut Vec<u8>, amount: &Option<Amount>)
+fn put_original_amount(out: &mut Vec<u8>, parts: &Parts)
     requires { vec_len out.old + 26 ≤ vec_capacity out.old }
-    ensures items { out.new.items ≡ out.old.items
-        ++ flat_map field (with_field Element.OriginalAmount (option_map (λ n. fixed_digits 12 n ++ twelve_zeros) amount.now) []) }
-    ensures len { vec_len out.new ≤ vec_len out.old + 26 }
-    ensures capacity { vec_capacity out.old ≤ vec_capacity out.new }
+    ensures { Writes parts.now (Element.OriginalAmount ∷ []) out.old out.new 26 }
 {
-    if let Some(amount) = amount {
+    if let Some(amount) = &parts.original_amount {
         put(out, amount.digits().as_slice());
         put(out, b"000000000000");
     }
 }
 
-/// Appends elements 32 and 37, if it is there.
-fn put_references(out: &mut Vec<u8>, transaction: &Transaction)
+/// Appends element 32, and 37 if it is there.
+fn put_references(out: &mut Vec<u8>, parts: &Parts)
     requires { vec_len out.old + 27 ≤ vec_capacity out.old }
-    ensures items { (extras : Extras) → out.new.items ≡ out.old.items ++ flat_map field (reference_list (whole_content transaction.now extras)) }
-    ensures len { vec_len out.new ≤ vec_len out.old + 27 }
-    ensures capacity { vec_capacity out.old ≤ vec_capacity out.new }
+    ensures { Writes parts.now (Element.Acquirer ∷ Element.Retrieval ∷ []) out.old out.new 27 }
 {
+    let transaction = parts.transaction;
     put_field(out, Element::Acquirer, transaction.acquirer.0.as_slice());
     if let Some(retrieval) = &transaction.retrieval {
         put_field(out, Element::Retrieval, retrieval.0.as_slice());
@@ -148,24 +133,31 @@ fn put_references(out: &mut Vec<u8>, transaction: &Transaction)
 }
 
 /// Appends element 38, if it is there.
-fn put_approval(out: &mut Vec<u8>, approval: &Option<Approval>)
+fn put_approval(out: &mut Vec<u8>, parts: &Parts)
     requires { vec_len out.old + 8 ≤ vec_capacity out.old }
-    ensures items { out.new.items ≡ out.old.items ++ flat_map field (with_field Element.Approval (option_map (λ c. c.0) approval.now) []) }
-    ensures len { vec_len out.new ≤ vec_len out.old + 8 }
-    ensures capacity { vec_capacity out.old ≤ vec_capacity out.new }
+    ensures { Writes parts.now (Element.Approval ∷ []) out.old out.new 8 }
 {
-    if let Some(approval) = approval {
+    if let Some(approval) = &parts.approval {
         put_field(out, Element::Approval, approval.0.as_slice());
     }
 }
 
-/// Appends elements 41 and 49.
-fn put_ends(out: &mut Vec<u8>, transaction: &Transaction)
-    requires { vec_len out.old + 15 ≤ vec_capacity out.old }
-    ensures items { (extras : Extras) → out.new.items ≡ out.old.items ++ flat_map field (end_list (whole_content transaction.now extras)) }
-    ensures len { vec_len out.new ≤ vec_len out.old + 15 }
-    ensures capacity { vec_capacity out.old ≤ vec_capacity out.new }
+/// Appends element 39, if it is there.
+fn put_action(out: &mut Vec<u8>, parts: &Parts)
+    requires { vec_len out.old + 5 ≤ vec_capacity out.old }
+    ensures { Writes parts.now (Element.Action ∷ []) out.old out.new 5 }
 {
+    if let Some(action) = &parts.action {
+        put_field(out, Element::Action, action.as_slice());
+    }
+}
+
+/// Appends elements 41 and 49.
+fn put_ends(out: &mut Vec<u8>, parts: &Parts)
+    requires { vec_len out.old + 15 ≤ vec_capacity out.old }
+    ensures { Writes parts.now (Element.Terminal ∷ Element.Currency ∷ []) out.old out.new 15 }
+{
+    let transaction = parts.transaction;
     put_field(out, Element::Terminal, transaction.terminal.0.as_slice());
     put_field(out, Element::Currency, transaction.currency.0.as_slice());
 }
@@ -214,13 +206,11 @@ fn put_reference(out: &mut Vec<u8>, original: &OriginalRef)
 }
 
 /// Appends element 56, if it is there.
-fn put_original(out: &mut Vec<u8>, original: &Option<OriginalRef>)
+fn put_original(out: &mut Vec<u8>, parts: &Parts)
     requires { vec_len out.old + 37 ≤ vec_capacity out.old }
-    ensures items { out.new.items ≡ out.old.items ++ flat_map field (with_field Element.Original (option_map (λ o. original_text o) original.now) []) }
-    ensures len { vec_len out.new ≤ vec_len out.old + 37 }
-    ensures capacity { vec_capacity out.old ≤ vec_capacity out.new }
+    ensures { Writes parts.now (Element.Original ∷ []) out.old out.new 37 }
 {
-    if let Some(original) = original {
+    if let Some(original) = &parts.original {
         let size = original.identity.acquirer.0.as_slice().len() as u64 + 24;
         put(out, Digits::<2>::of_number(size).as_slice());
         put_reference(out, original);
@@ -228,52 +218,40 @@ fn put_original(out: &mut Vec<u8>, original: &Option<OriginalRef>)
 }
 
 /// Appends element 102, if it is there.
-fn put_account(out: &mut Vec<u8>, account: &Option<AccountId>)
+fn put_account(out: &mut Vec<u8>, parts: &Parts)
     requires { vec_len out.old + 30 ≤ vec_capacity out.old }
-    ensures items { out.new.items ≡ out.old.items ++ flat_map field (with_field Element.Account (account_text account.now) []) }
-    ensures len { vec_len out.new ≤ vec_len out.old + 30 }
+    ensures { Writes parts.now (Element.Account ∷ []) out.old out.new 30 }
 {
-    if let Some(account) = account {
+    if let Some(account) = &parts.account {
         put_field(out, Element::Account, account.as_slice());
     }
 }
 
-/// Appends elements 56 and 102, each if it is there.
-fn put_last(out: &mut Vec<u8>, transaction: &Transaction, extras: &Extras)
-    requires { vec_len out.old + 67 ≤ vec_capacity out.old }
-    ensures items { out.new.items ≡ out.old.items ++ flat_map field (last_list (whole_content transaction.now extras.now)) }
-    ensures len { vec_len out.new ≤ vec_len out.old + 67 }
+/// Appends the elements.
+fn put_elements(out: &mut Vec<u8>, parts: &Parts)
+    requires { vec_len out.old + 230 ≤ vec_capacity out.old }
+    ensures { Writes parts.now elements out.old out.new 230 }
 {
-    put_original(out, &extras.original);
-    put_account(out, &extras.account);
-}
-
-/// Appends the elements from 24 on.
-fn put_tail(out: &mut Vec<u8>, transaction: &Transaction, extras: &Extras)
-    requires { vec_len out.old + 153 ≤ vec_capacity out.old }
-    ensures items { let x = whole_content transaction.now extras.now in out.new.items ≡ out.old.items
-        ++ (flat_map field (scope_list x) ++ (flat_map field (reference_list x) ++ (flat_map field (answer_list x) ++ (flat_map field (end_list x) ++ flat_map field (last_list x))))) }
-    ensures len { vec_len out.new ≤ vec_len out.old + 153 }
-{
-    put_code(out, Element::Function, &extras.function);
-    put_original_amount(out, &extras.original_amount);
-    put_references(out, transaction);
-    put_approval(out, &extras.approval);
-    put_code(out, Element::Action, &extras.action);
-    put_ends(out, transaction);
-    put_last(out, transaction, extras);
+    put_front(out, parts);
+    put_function(out, parts);
+    put_original_amount(out, parts);
+    put_references(out, parts);
+    put_approval(out, parts);
+    put_action(out, parts);
+    put_ends(out, parts);
+    put_original(out, parts);
+    put_account(out, parts);
 }
 
 /// Appends the spelling.
-fn put_spelling(out: &mut Vec<u8>, mti: Mti, transaction: &Transaction, extras: &Extras)
+fn put_spelling(out: &mut Vec<u8>, parts: &Parts)
     requires { vec_len out.old + ROOM ≤ vec_capacity out.old }
-    ensures items { out.new.items ≡ out.old.items ++ spelling mti (content_fields (whole_content transaction.now extras.now)) }
+    ensures items { out.new.items ≡ out.old.items ++ spelling parts.now.mti (fields (written_texts parts.now)) }
     ensures len { vec_len out.new ≤ vec_len out.old + ROOM }
 {
-    put(out, mti_text(mti));
-    put_bitmap(out, bitmap_of(transaction, extras));
-    put_front(out, transaction);
-    put_tail(out, transaction, extras);
+    put(out, mti_text(parts.mti));
+    put_bitmap(out, bitmap_of(parts));
+    put_elements(out, parts);
 }
 
 /// Makes room for the longest spelling.
@@ -302,14 +280,9 @@ pub fn encode(message: &Message, out: &mut Vec<u8>) -> Result<(), CodecFault>
     // So decoding what is appended gives the message again.
     ensures spells { Spells (message_spelling message.now) message.now }
 {
-    message_in_range(message);
+    let parts = parts_of(message);
     make_room(out)?;
-    put_spelling(
-        out,
-        mti_of(message),
-        transaction_of(message),
-        &extras_of(message),
-    );
+    put_spelling(out, &parts);
     Ok(())
 }
 
@@ -326,13 +299,8 @@ pub fn encode_reply(reply: &Reply, out: &mut Vec<u8>) -> Result<(), CodecFault>
     // So decoding what is appended gives the reply again.
     ensures spells { SpellsReply (reply_spelling reply.now) reply.now }
 {
-    reply_in_range(reply);
+    let parts = reply_parts(reply);
     make_room(out)?;
-    put_spelling(
-        out,
-        reply_mti(reply),
-        &reply.transaction,
-        &reply_extras(reply),
-    );
+    put_spelling(out, &parts);
     Ok(())
 }

@@ -2,7 +2,7 @@
 #![tactic(auto)]
 
 mod encoding;
-mod extras;
+mod parts;
 mod values;
 mod writer;
 

@@ -1,15 +1,14 @@
 //! The values of every message and of every reply are in range: their types keep them there, and looking at
 //! them says so. Nothing is done with what is seen.
 
-ghost use Rattle.iso_laws.specs.Contents.{IsTransaction};
-ghost use Rattle.iso_laws.specs.Messages.{IsMessage, IsOriginal, IsScope, IsAccount};
-ghost use Rattle.iso_laws.specs.Replies.{IsAnswer, IsReply};
+ghost use Rattle.iso_laws.specs.Messages.{IsOriginal, IsScope, IsAccount};
+ghost use Rattle.iso_laws.specs.Replies.{IsAnswer};
+ghost use Rattle.iso_laws.specs.Transactions.{IsTransaction};
 
-use iso8583::{
-    AccountId, Answer, Message, OriginalRef, Reply, ReversalScope, Transaction, Verdict,
-};
+use iso8583::{AccountId, Answer, OriginalRef, ReversalScope, Transaction, Verdict};
 
-fn transaction_in_range(transaction: &Transaction)
+/// Those of a transaction.
+pub(crate) fn transaction_in_range(transaction: &Transaction)
     ensures { IsTransaction transaction.now }
 {
     let _ = transaction.pan.0.as_slice();
@@ -26,7 +25,8 @@ fn transaction_in_range(transaction: &Transaction)
     let _ = transaction.currency.0.as_slice();
 }
 
-fn scope_in_range(scope: &ReversalScope)
+/// That of a scope.
+pub(crate) fn scope_in_range(scope: &ReversalScope)
     ensures { IsScope scope.now }
 {
     if let ReversalScope::Partial(amount) = scope {
@@ -34,7 +34,8 @@ fn scope_in_range(scope: &ReversalScope)
     }
 }
 
-fn original_in_range(original: &OriginalRef)
+/// Those of element 56.
+pub(crate) fn original_in_range(original: &OriginalRef)
     ensures { IsOriginal original.now }
 {
     let _ = original.identity.stan.0.as_slice();
@@ -42,7 +43,8 @@ fn original_in_range(original: &OriginalRef)
     let _ = original.identity.acquirer.0.as_slice();
 }
 
-fn account_in_range(account: &Option<AccountId>)
+/// That of element 102.
+pub(crate) fn account_in_range(account: &Option<AccountId>)
     ensures { IsAccount account.now }
 {
     if let Some(account) = account {
@@ -50,7 +52,8 @@ fn account_in_range(account: &Option<AccountId>)
     }
 }
 
-fn answer_in_range(answer: &Answer)
+/// Those of an answer.
+pub(crate) fn answer_in_range(answer: &Answer)
     ensures { IsAnswer answer.now }
 {
     match answer {
@@ -70,36 +73,4 @@ fn answer_in_range(answer: &Answer)
             let _ = action.code();
         }
     }
-}
-
-/// Every message's values are in range.
-pub(crate) fn message_in_range(message: &Message)
-    ensures { IsMessage message.now }
-{
-    match message {
-        Message::Request(request) => {
-            transaction_in_range(&request.transaction);
-            let _ = request.function.0.as_slice();
-            account_in_range(&request.account);
-        }
-        Message::Advice(advice) => {
-            transaction_in_range(&advice.transaction);
-            let _ = advice.function.0.as_slice();
-            let _ = advice.action.code();
-            account_in_range(&advice.account);
-        }
-        Message::Reversal(reversal) => {
-            transaction_in_range(&reversal.transaction);
-            scope_in_range(&reversal.scope);
-            original_in_range(&reversal.original);
-        }
-    }
-}
-
-/// Every reply's values are in range.
-pub(crate) fn reply_in_range(reply: &Reply)
-    ensures { IsReply reply.now }
-{
-    transaction_in_range(&reply.transaction);
-    answer_in_range(&reply.answer);
 }

@@ -5,8 +5,8 @@ use Rattle.std.proofs.lemmas.Bool.{and_parts, eqb-true, ltb-true, leb-true}
 use Rattle.iso8583.specs.declared.codec_fault.CodecFault.{CodecFault}
 use Rattle.iso8583.specs.declared.codec_fault.CodecFault.TheVariants.{Unexpected, Missing}
 use Rattle.iso_laws.specs.declared.mti.Mti.{Mti}
-use Rattle.iso_laws.specs.Elements.{element_number}
-use Rattle.iso_laws.specs.Types.{Part, parts_of, is_among}
+use Rattle.iso_laws.specs.Elements.{element_number, Part, parts_of}
+use Rattle.iso_laws.specs.Types.{is_among}
 use Rattle.iso_laws.specs.Spelling.{Field}
 use Rattle.iso_laws.specs.Reading.{◌>>=◌, least, is_required, is_unexpected, is_missing, first_wrong, presence_at, whole_at, reading}
 use Rattle.iso_laws.specs.Faults.{begins}

@@ -7,8 +7,8 @@ use Rattle.std.proofs.lemmas.Bool.{eqb-true, leb-true, ltb-true, cases_lt}
 use Rattle.std.proofs.lemmas.Nat.Bits.{bit_at-lt, same_from_bits_below, bit_at_cat_low, bit_at_cat_high, bit_at_above, bit_at-zero}
 use Rattle.std.proofs.Math.Nat.{pow-suc, pow-le-pow_right}
 use Rattle.iso_laws.specs.declared.element.Element.{Element}
-use Rattle.iso_laws.specs.Elements.{element_number}
-use Rattle.iso_laws.specs.Types.{Part, bits_of}
+use Rattle.iso_laws.specs.Elements.{element_number, Part}
+use Rattle.iso_laws.specs.Types.{bits_of}
 use Rattle.iso_laws.specs.Spelling.{Field, bitmap_of, is_set}
 use Rattle.iso_laws.specs.Reading.{least, is_listed, is_required, is_unexpected, is_missing, first_wrong, presence_at}
 use Rattle.iso_laws.proofs.Conjunctions.{all_three_true}
@@ -28,7 +28,7 @@ abbrev pub is_rising : ℕ → List Part → Bool
 is_rising low [] = true
 is_rising low (p ∷ ps) = ltb low (element_number p.1) && leb (element_number p.1) 128 && is_rising (element_number p.1) ps
 
-rises_from : (low high : ℕ) (es : List Element) → low ≤ high → Rises high es → Rises low es
+pub rises_from : (low high : ℕ) (es : List Element) → low ≤ high → Rises high es → Rises low es
 rises_from low high [] h r = tt
 rises_from low high (e ∷ es) h r = (omega (arith, r.0), r.1, r.2)
 
@@ -118,19 +118,19 @@ is_set-bits_of low n (e ∷ es) h r one most =
       ]
     ]
 
-and_false : (b : Bool) → (b && false) ≡ false
+pub and_false : (b : Bool) → (b && false) ≡ false
 and_false true = refl
 and_false false = refl
 
-and_true : (b : Bool) → (b && true) ≡ b
+pub and_true : (b : Bool) → (b && true) ≡ b
 and_true true = refl
 and_true false = refl
 
-or_true : (b : Bool) → (b || true) ≡ true
+pub or_true : (b : Bool) → (b || true) ≡ true
 or_true true = refl
 or_true false = refl
 
-or_false : (b : Bool) → (b || false) ≡ b
+pub or_false : (b : Bool) → (b || false) ≡ b
 or_false true = refl
 or_false false = refl
 
@@ -219,7 +219,7 @@ bitmap_is parts bitmap rising fits h =
 
 -- ---- the bits of a type
 
-all_rise : (low : ℕ) (ps : List Part) → is_rising low ps ≡ true → Rises low (map (λ p. p.1) ps)
+pub all_rise : (low : ℕ) (ps : List Part) → is_rising low ps ≡ true → Rises low (map (λ p. p.1) ps)
 all_rise low [] h = tt
 all_rise low (p ∷ ps) h =
     let parts = all_three_true (ltb low (element_number p.1)) (leb (element_number p.1) 128) (is_rising (element_number p.1) ps) h in

@@ -6,8 +6,9 @@ use Rattle.std.proofs.lemmas.Bool.{cases_lt, lt-ltb, le-ltb, le-leb, leb-true, e
 use Rattle.std.proofs.lemmas.List.{length-append, take_at, length-drop}
 use Rattle.iso8583.specs.declared.codec_fault.CodecFault.{CodecFault}
 use Rattle.iso8583.specs.declared.codec_fault.CodecFault.TheVariants.{Short, BadMti, SecondaryBitmap}
+use Rattle.iso_laws.specs.Elements.{Part, parts_of}
 use Rattle.iso_laws.specs.declared.mti.Mti.{Mti}
-use Rattle.iso_laws.specs.Types.{Part, mti_text, parts_of, is_among}
+use Rattle.iso_laws.specs.Types.{mti_text, is_among}
 use Rattle.iso_laws.specs.Spelling.{Field}
 use Rattle.iso_laws.specs.Reading.{◌>>=◌, bytes_at, mti_at, secondary_at, bitmap_at, header_at, whole_at, reading}
 use Rattle.iso_laws.specs.Faults.{begins_extended, IsShortBitmap, NamesAShortHeader, NamesASecondaryBitmap}

@@ -13,8 +13,7 @@ use Rattle.iso_laws.specs.declared.shape.Shape.{Shape}
 use Rattle.iso_laws.specs.declared.shape.Shape.TheVariants.{Fixed, UpTo}
 use Rattle.iso_laws.specs.declared.rule.Rule.{Rule}
 use Rattle.iso_laws.specs.declared.rule.Rule.TheVariants.{Free, Scope, Verdict}
-use Rattle.iso_laws.specs.Elements.{element_number, shape_of, class_of, is_of_class, has_value}
-use Rattle.iso_laws.specs.Types.{Part}
+use Rattle.iso_laws.specs.Elements.{element_number, shape_of, class_of, is_of_class, has_value, Part}
 use Rattle.iso_laws.specs.Spelling.{Field, is_set}
 use Rattle.iso_laws.specs.Reading.{◌>>=◌, bytes_at, is_length, shaped_at, element_at, optional_at, scope_at, verdict_at, rule_at, with_first, fields_at, whole_at}
 
@@ -49,21 +48,7 @@ is_body_fault end named OutOfMemory = false
 -- no element has number 0
 numbered : (e : Element) → eqb (element_number e) 0 ≡ false
 numbered element.Pan = refl
-numbered element.Processing = refl
-numbered element.Amount = refl
-numbered element.Transmission = refl
-numbered element.Stan = refl
-numbered element.Stamp = refl
-numbered element.Function = refl
-numbered element.OriginalAmount = refl
-numbered element.Acquirer = refl
-numbered element.Retrieval = refl
-numbered element.Approval = refl
-numbered element.Action = refl
-numbered element.Terminal = refl
-numbered element.Currency = refl
-numbered element.Original = refl
-numbered element.Account = refl
+numbered _ = refl
 
 -- element 30 or 38
 abbrev names : Rule → ℕ → Bool

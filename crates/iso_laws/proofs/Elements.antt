@@ -1,5 +1,5 @@
 -- The text of an element that was read is the one that was spelled, and what was spelled is read again.
-use Rattle.std.proofs.Common.{◌≡◌, ◌⊎◌, ℕ, ◌<◌, ◌≤◌, Bool, true, false, cond, ltb, leb, List, ◌++◌, length, take, drop, Result, Ok, Err, refl, sym, ap, subst, ◌∙◌, append_assoc, arith, lit<, inl, inr}
+use Rattle.std.proofs.Common.{◌≡◌, ◌⊎◌, ℕ, ◌<◌, ◌≤◌, Bool, true, false, cond, ltb, leb, List, ◌++◌, length, take, drop, Result, Ok, Err, refl, sym, ap, subst, ◌∙◌, append_assoc, arith, rules, inl, inr}
 use Rattle.std.specs.Prelude.{not, ◌&&◌}
 use Rattle.std.proofs.lemmas.Bool.{ltb-false, le-ltb, leb-true, le-leb}
 use Rattle.std.proofs.lemmas.List.{take_at, drop_at, take-append-drop, length-append, length-take-le}
@@ -79,22 +79,8 @@ IsShort (Fixed size) = Unit {0}
 IsShort (UpTo min max) = max < 100
 
 pub is_short : (e : Element) → IsShort (shape_of e)
-is_short element.Pan = lit< tt
-is_short element.Processing = tt
-is_short element.Amount = tt
-is_short element.Transmission = tt
-is_short element.Stan = tt
-is_short element.Stamp = tt
-is_short element.Function = tt
-is_short element.OriginalAmount = tt
-is_short element.Acquirer = lit< tt
-is_short element.Retrieval = tt
-is_short element.Approval = tt
-is_short element.Action = tt
-is_short element.Terminal = tt
-is_short element.Currency = tt
-is_short element.Original = lit< tt
-is_short element.Account = lit< tt
+is_short element.Pan = search rules
+is_short _ = search rules
 
 all_true : (a b c : Bool) → a ≡ true → b ≡ true → c ≡ true → (a && b && c) ≡ true
 all_true true true true h k l = refl

@@ -4,8 +4,9 @@ use Rattle.std.specs.Prelude.{IfErr, IsOk}
 use Rattle.std.specs.List.{flat_map}
 use Rattle.iso8583.specs.declared.codec_fault.CodecFault.{CodecFault}
 use Rattle.iso8583.specs.declared.codec_fault.CodecFault.TheVariants.{Trailing}
+use Rattle.iso_laws.specs.Elements.{Part, parts_of}
 use Rattle.iso_laws.specs.declared.mti.Mti.{Mti}
-use Rattle.iso_laws.specs.Types.{Part, mti_text, parts_of, taken_in, given_out}
+use Rattle.iso_laws.specs.Types.{mti_text, taken_in, given_out}
 use Rattle.iso_laws.specs.Spelling.{Field, field, bitmap_bytes}
 use Rattle.iso_laws.specs.Messages.{mti_of, fields_of}
 use Rattle.iso_laws.specs.Replies.{reply_mti, reply_fields}

@@ -10,8 +10,7 @@ use Rattle.iso_laws.specs.declared.element.Element.{Element}
 use Rattle.iso_laws.specs.declared.mti.Mti.{Mti}
 use Rattle.iso_laws.specs.declared.shape.Shape.{Shape}
 use Rattle.iso_laws.specs.declared.shape.Shape.TheVariants.{Fixed, UpTo}
-use Rattle.iso_laws.specs.Elements.{element_number, shape_of, class_of, is_of_class, has_value, HasShape, IsText}
-use Rattle.iso_laws.specs.Types.{Part, parts_of}
+use Rattle.iso_laws.specs.Elements.{element_number, shape_of, class_of, is_of_class, has_value, HasShape, IsText, Part, parts_of}
 use Rattle.iso_laws.specs.Spelling.{Field, field, is_set}
 use Rattle.iso_laws.specs.FirstWrong.{EndsTooSoon, HasWrongLength, IsRuled, IsWrongText, IsFaultOf, those_there, AreRight, IsFirstWrong}
 use Rattle.iso_laws.specs.Faults.{IsBitmapOf, IsOfElement, NamesTheFirstWrongElement, NamesAnElementBehindItsBitmap}
@@ -226,7 +225,7 @@ wrong_named bitmap (p ∷ ps) bytes d h = named_step bitmap p ps bytes d (p.0 ||
 
 -- ---- behind a type and its bitmap
 
-same_number : (n : ℕ) → eqb n n ≡ true
+pub same_number : (n : ℕ) → eqb n n ≡ true
 same_number n = grind arith
 
 there_same : (bitmap : ℕ) (ps : List Part) → ((n : ℕ) → is_required ps n ≡ true → is_set bitmap n ≡ true) → present_parts bitmap ps ≡ those_there bitmap ps
@@ -239,7 +238,7 @@ there_same bitmap ((false, e, r) ∷ ps) h =
     let others : present_parts bitmap ps ≡ those_there bitmap ps = there_same bitmap ps h in
     rw others refl
 
-bitmap_sound : (t : Mti) (bitmap : ℕ) → IsBitmapOf t bitmap → presence_at (parts_of t) bitmap ≡ Ok tt
+pub bitmap_sound : (t : Mti) (bitmap : ℕ) → IsBitmapOf t bitmap → presence_at (parts_of t) bitmap ≡ Ok tt
 unfolding presence_at
 bitmap_sound t bitmap h =
     let stranger : least (is_unexpected (parts_of t) bitmap) 2 127 ≡ None =

@@ -5,8 +5,9 @@ use Rattle.std.specs.Str.{bytes_eq}
 use Rattle.std.specs.Int.{w64, from_be_bytes}
 use Rattle.iso8583.specs.declared.codec_fault.CodecFault.{CodecFault}
 use Rattle.iso8583.specs.declared.codec_fault.CodecFault.TheVariants.{Short, BadMti, SecondaryBitmap, Unexpected, Missing}
+use Rattle.iso_laws.specs.Elements.{Part, parts_of}
 use Rattle.iso_laws.specs.declared.mti.Mti.{Mti}
-use Rattle.iso_laws.specs.Types.{Part, mti_text, parts_of}
+use Rattle.iso_laws.specs.Types.{mti_text}
 use Rattle.iso_laws.specs.Reading.{◌>>=◌, bytes_at, mti_at, least, is_unexpected, is_missing, first_wrong, presence_at, is_extended, secondary_at, bitmap_at, header_at}
 use Rattle.iso_laws.proofs.Headers.{Header}
 use Rattle.iso_laws.proofs.BodyFaults.{then_holds, either_holds}

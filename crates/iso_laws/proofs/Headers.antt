@@ -10,9 +10,10 @@ use Rattle.std.proofs.Math.ListN.{get_or-append}
 use Rattle.std.proofs.lemmas.Nat.{be_bytes_8, from_be_bytes-to_be_bytes_8}
 use Rattle.iso8583.specs.declared.codec_fault.CodecFault.{CodecFault}
 use Rattle.iso8583.specs.declared.codec_fault.CodecFault.TheVariants.{SecondaryBitmap}
+use Rattle.iso_laws.specs.Elements.{parts_of}
 use Rattle.iso_laws.specs.declared.mti.Mti.{Mti}
 use Rattle.iso_laws.specs.declared.mti.Mti.TheVariants as mti
-use Rattle.iso_laws.specs.Types.{mti_text, parts_of, is_among}
+use Rattle.iso_laws.specs.Types.{mti_text, is_among}
 use Rattle.iso_laws.specs.Spelling.{bitmap_bytes}
 use Rattle.iso_laws.specs.Reading.{◌>>=◌, bytes_at, mti_at, presence_at, secondary_at, bitmap_at, header_at}
 use Rattle.iso_laws.proofs.Elements.{bind_ok, guard_ok, ok_is, bytes_taken, bytes_again}
@@ -30,25 +31,11 @@ named text =
 
 named-mti_text : (t : Mti) → named (mti_text t) ≡ t
 named-mti_text mti.Request = refl
-named-mti_text mti.RequestRepeat = refl
-named-mti_text mti.RequestReply = refl
-named-mti_text mti.Advice = refl
-named-mti_text mti.AdviceRepeat = refl
-named-mti_text mti.AdviceReply = refl
-named-mti_text mti.Reversal = refl
-named-mti_text mti.ReversalRepeat = refl
-named-mti_text mti.ReversalReply = refl
+named-mti_text _ = refl
 
 pub length-mti_text : (t : Mti) → length (mti_text t) ≡ 4
 length-mti_text mti.Request = refl
-length-mti_text mti.RequestRepeat = refl
-length-mti_text mti.RequestReply = refl
-length-mti_text mti.Advice = refl
-length-mti_text mti.AdviceRepeat = refl
-length-mti_text mti.AdviceReply = refl
-length-mti_text mti.Reversal = refl
-length-mti_text mti.ReversalRepeat = refl
-length-mti_text mti.ReversalReply = refl
+length-mti_text _ = refl
 
 -- each type has a text of its own
 pub same_type : (t u : Mti) → mti_text t ≡ mti_text u → t ≡ u

@@ -1,14 +1,14 @@
+pub mod Amounts
 pub mod BitmapFaults
 pub mod Bits
 pub mod BitsFaults
 pub mod BodyFaults
 pub mod Codes
 pub mod Conjunctions
-pub mod Contents
 pub mod Elements
 pub mod EndFaults
 pub mod FirstWrong
-pub mod Formed
+pub mod Forms
 pub mod HeaderFaults
 pub mod Headers
 pub mod Joined
@@ -20,5 +20,7 @@ pub mod Originals
 pub mod Present
 pub mod Replies
 pub mod Rules
+pub mod Scopes
+pub mod Transactions
 pub mod TypeFaults
 pub mod Whole

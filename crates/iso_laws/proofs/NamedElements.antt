@@ -2,8 +2,9 @@
 use Rattle.std.proofs.Common.{◌≡◌, ◌≢◌, ◌⊎◌, ℕ, ◌^◌, ◌<◌, true, List, Some, None, Result, Ok, Err, refl, sym, ap, ◌∙◌, arith, inl, inr}
 use Rattle.iso8583.specs.declared.codec_fault.CodecFault.{CodecFault}
 use Rattle.iso8583.specs.declared.codec_fault.CodecFault.TheVariants.{Unexpected, Missing, Trailing}
+use Rattle.iso_laws.specs.Elements.{parts_of}
 use Rattle.iso_laws.specs.declared.mti.Mti.{Mti}
-use Rattle.iso_laws.specs.Types.{parts_of, is_among}
+use Rattle.iso_laws.specs.Types.{is_among}
 use Rattle.iso_laws.specs.Spelling.{is_set}
 use Rattle.iso_laws.specs.FirstWrong.{those_there, IsFirstWrong}
 use Rattle.iso_laws.specs.Faults.{begins, IsBitmapOf, IsLeastUnexpected, IsLeastMissing, NamesTheLeastUnexpected, NamesTheLeastMissing}

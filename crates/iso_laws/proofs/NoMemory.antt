@@ -3,8 +3,8 @@ use Rattle.std.proofs.Common.{◌≢◌, ℕ, List, refl}
 use Rattle.std.specs.Prelude.{IfErr}
 use Rattle.iso8583.specs.declared.codec_fault.CodecFault.{CodecFault}
 use Rattle.iso8583.specs.declared.codec_fault.CodecFault.TheVariants.{OutOfMemory}
+use Rattle.iso_laws.specs.Elements.{parts_of}
 use Rattle.iso_laws.specs.declared.mti.Mti.{Mti}
-use Rattle.iso_laws.specs.Types.{parts_of}
 use Rattle.iso_laws.specs.Reading.{whole_at, header_at, reading}
 use Rattle.iso_laws.proofs.BodyFaults.{then_holds, whole_never}
 use Rattle.iso_laws.proofs.HeaderFaults.{header_holds}

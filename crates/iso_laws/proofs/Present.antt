@@ -5,10 +5,9 @@ use Rattle.std.specs.Prelude.{◌||◌, map, is_ok, ◌&&◌}
 use Rattle.std.specs.List.{flat_map, AllByRecursion}
 use Rattle.iso8583.specs.declared.codec_fault.CodecFault.{CodecFault}
 use Rattle.iso_laws.specs.declared.element.Element.{Element}
-use Rattle.iso_laws.specs.Elements.{element_number, IsText}
+use Rattle.iso_laws.specs.Elements.{element_number, IsText, Part}
 use Rattle.iso_laws.specs.declared.rule.Rule.{Rule}
 use Rattle.iso_laws.specs.declared.rule.Rule.TheVariants.{Free, Scope, Verdict}
-use Rattle.iso_laws.specs.Types.{Part}
 use Rattle.iso_laws.specs.Spelling.{Field, field, with_field, is_set}
 use Rattle.iso_laws.specs.Reading.{◌>>=◌, element_at, optional_at, rule_at, with_first, fields_at}
 use Rattle.iso_laws.proofs.Elements.{bind_ok, element_taken, element_again}
@@ -119,7 +118,7 @@ fields_taken bitmap (p ∷ ps) bytes y h =
     taken_step bitmap p ps bytes y (p.0 || is_set bitmap (element_number p.1)) (λ mid z k. fields_taken bitmap ps mid z k) refl h
 
 -- the same element in front
-head_is : (e d : Element) (es ds : List Element) → (e ∷ es) ≡ (d ∷ ds) → (e ≡ d) × (es ≡ ds)
+pub head_is : (e d : Element) (es ds : List Element) → (e ∷ es) ≡ (d ∷ ds) → (e ≡ d) × (es ≡ ds)
 head_is e d es ds h = (cc, cc)
 
 pub some_again : (e : Element) (text rest : List ℕ) → IsText e text → optional_at true e (field (e, text) ++ rest) ≡ Ok (Some text, rest)
@@ -136,7 +135,7 @@ no_rule Free bitmap = refl
 no_rule Scope bitmap = refl
 no_rule Verdict bitmap = refl
 
-rule_ok : (rule : Result (Unit {0}) CodecFault) → is_ok rule ≡ true → rule ≡ Ok tt
+pub rule_ok : (rule : Result (Unit {0}) CodecFault) → is_ok rule ≡ true → rule ≡ Ok tt
 rule_ok (Ok u) h = refl
 rule_ok (Err e) h = absurd cc
 

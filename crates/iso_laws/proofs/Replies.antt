@@ -1,24 +1,35 @@
 -- A reply has the elements of its type, and no other reply has them.
 use Rattle.std.proofs.Common.{◌≡◌, ℕ, ◌^◌, ◌<◌, true, false, List, ◌++◌, Option, Some, None, refl, sym, ap, ◌∙◌, arith}
-use Rattle.std.specs.Prelude.{codes, option_map}
+use Rattle.std.specs.Prelude.{codes, IfSome, IsSome, is_some, is_ok}
+use Rattle.std.specs.List.{list_all}
 use Rattle.std.specs.Str.{bytes_eq}
+use Rattle.std.proofs.lemmas.Bool.{and_parts}
 use Rattle.std.proofs.lemmas.Slice.Eq.{bytes_eq-Decides}
 use Rattle.iso8583.specs.Number.{number_of, fixed_digits}
-use Rattle.iso8583.proofs.NumberLaws.{number_of-fixed_digits}
+use Rattle.iso8583.proofs.NumberLaws.{number_of-fixed_digits, fixed_digits-number_of}
 use Rattle.iso8583.specs.declared.answer.Answer.{Answer}
 use Rattle.iso8583.specs.declared.answer.Answer.TheVariants as answer
 use Rattle.iso8583.specs.declared.reply.Reply.{Reply}
-use Rattle.iso8583.specs.declared.verdict.Verdict.{Verdict}
+use Rattle.iso8583.specs.declared.transaction.Transaction.{Transaction}
 use Rattle.iso8583.specs.declared.verdict.Verdict.TheVariants.{Approved, Declined}
+use Rattle.iso_laws.specs.declared.element.Element.{Element}
+use Rattle.iso_laws.specs.declared.element.Element.TheVariants as element
 use Rattle.iso_laws.specs.declared.mti.Mti.{Mti}
 use Rattle.iso_laws.specs.declared.mti.Mti.TheVariants as mti
-use Rattle.iso_laws.specs.Types.{parts_of, given_out, is_among}
-use Rattle.iso_laws.specs.Contents.{Content, content_fields}
-use Rattle.iso_laws.specs.Messages.{account_text}
-use Rattle.iso_laws.specs.Replies.{answer_mti, answer_approval, answer_action, answer_account, reply_mti, reply_content, reply_fields, reply_spelling, IsAnswer, IsReply}
-use Rattle.iso_laws.proofs.Contents.{same_content, text_or_none, transaction_from, transaction_again, AreKnown, content_texts, AreFormed, fields_are}
-use Rattle.iso_laws.proofs.Formed.{approved_formed, declined_formed, advice_reply_formed, reversal_reply_formed}
-use Rattle.iso_laws.proofs.Messages.{action_known, account_known, account_from, account_again}
+use Rattle.iso_laws.specs.Elements.{elements, IsText, parts_of}
+use Rattle.iso_laws.specs.Types.{given_out, is_among}
+use Rattle.iso_laws.specs.Spelling.{Texts, fields}
+use Rattle.iso_laws.specs.declared.rule.Rule.TheVariants.{Verdict as VerdictRule}
+use Rattle.iso_laws.specs.Forms.{HasForm, AreTextsOf}
+use Rattle.iso_laws.specs.Reading.{rule_of, verdict_at}
+use Rattle.iso_laws.specs.Transactions.{IsTransaction}
+use Rattle.iso_laws.specs.Replies.{verdict_approval, verdict_action, IsVerdict, answer_mti, reply_mti, reply_texts, reply_fields, reply_spelling, IsAnswer, IsReply, verdict_from, answer_from, reply_from}
+use Rattle.iso_laws.proofs.Forms.{suits, AreKept, has_form, form_fields, each_known, same_texts, equal_texts}
+use Rattle.iso_laws.proofs.Transactions.{transaction_known, transaction_again, is_transaction, transaction_text_from}
+use Rattle.iso_laws.proofs.Amounts.{action_bound}
+use Rattle.iso_laws.proofs.Present.{rule_ok}
+use Rattle.iso_laws.proofs.Scopes.{approved_action, declined_action}
+use Rattle.iso_laws.proofs.Messages.{action_known, account_known, account_again, account_text_from, is_account_from, action_text_from, action_from_bound}
 use Rattle.iso_laws.proofs.Whole.{AreFields, no_spelling_begins_another}
 
 -- ---- its elements
@@ -35,62 +46,131 @@ not_approved code some fits =
       | false ↦ λ e. refl
     ] refl
 
-answer_known : (a : Answer) → IsAnswer a → AreKnown None None (answer_approval a) (Some (answer_action a)) None (answer_account a)
-answer_known (answer.Request (Approved code) account) h = record { function = tt; original_amount = tt; approval = h.0; action = (refl, refl, refl); original = tt; account = account_known account h.1 }
-answer_known (answer.Request (Declined code) account) h = action_known None None (account_text account) code (record { function = tt; original_amount = tt; approval = tt; action = tt; original = tt; account = account_known account h.1 })
-answer_known (answer.Advice code account) h = action_known None None (account_text account) code (record { function = tt; original_amount = tt; approval = tt; action = tt; original = tt; account = account_known account h.1 })
-answer_known (answer.Reversal code) h = action_known None None None code (record { function = tt; original_amount = tt; approval = tt; action = tt; original = tt; account = tt })
+abbrev reply_to : Transaction → Answer → Reply
+reply_to t a = record { transaction = t; answer = a }
 
-answer_formed : (x : Content) (a : Answer) (retrieval : Option (List ℕ)) → IsAnswer a → AreFormed (parts_of (answer_mti a))
-    (content_fields (record x { function = None; original_amount = None; retrieval = retrieval; approval = answer_approval a; action = Some (answer_action a); original = None; account = answer_account a }))
-answer_formed x (answer.Request (Approved code) account) retrieval h = approved_formed x code.0 retrieval (account_text account)
-answer_formed x (answer.Request (Declined code) account) retrieval h = declined_formed x (fixed_digits 3 code) retrieval (account_text account) (not_approved code h.0.0 h.0.1)
-answer_formed x (answer.Advice code account) retrieval h = advice_reply_formed x (fixed_digits 3 code) retrieval (account_text account)
-answer_formed x (answer.Reversal code) retrieval h = reversal_reply_formed x (fixed_digits 3 code) retrieval
+texts_known : (t : Transaction) (a : Answer) → IsTransaction t → IsAnswer a → (e : Element) → IfSome (reply_texts (reply_to t a) e) (IsText e)
+texts_known t (answer.Request (Approved code) account) h k element.Approval = k.0
+texts_known t (answer.Request (Approved code) account) h k element.Action = (refl, refl, refl)
+texts_known t (answer.Request (Approved code) account) h k element.Account = account_known account k.1
+texts_known t (answer.Request (Declined code) account) h k element.Action = action_known code
+texts_known t (answer.Request (Declined code) account) h k element.Account = account_known account k.1
+texts_known t (answer.Advice code account) h k element.Action = action_known code
+texts_known t (answer.Advice code account) h k element.Account = account_known account k.1
+texts_known t (answer.Reversal code) h k element.Action = action_known code
+texts_known t a h k e = transaction_known t h e
+
+pub reply_known : (r : Reply) → IsReply r → (e : Element) → IfSome (reply_texts r e) (IsText e)
+reply_known r h e = texts_known r.transaction r.answer h.0 h.1 e
+
+-- ---- they are those of its type
+
+suited : (t : Transaction) (a : Answer) → list_all (suits (parts_of (answer_mti a)) (reply_texts (reply_to t a))) elements ≡ true
+suited t (answer.Request v account) = refl
+suited t (answer.Advice a account) = refl
+suited t (answer.Reversal a) = refl
+
+kept : (t : Transaction) (a : Answer) → IsAnswer a → AreKept (parts_of (answer_mti a)) (reply_texts (reply_to t a))
+unfolding verdict_at
+kept t (answer.Request (Approved code) account) h = refl
+kept t (answer.Request (Declined code) account) h = rw (not_approved code h.0.0 h.0.1) refl
+kept t (answer.Advice a account) h = refl
+kept t (answer.Reversal a) h = refl
 
 pub reply_are : (r : Reply) → IsReply r → AreFields (reply_mti r) (reply_fields r)
 reply_are r h =
-    let texts = content_texts r.transaction None None (answer_approval r.answer) (Some (answer_action r.answer)) None (answer_account r.answer) h.0 (answer_known r.answer h.1) in
-    fields_are (reply_mti r) (reply_fields r) texts (answer_formed (reply_content r) r.answer (option_map (λ t. t.0) r.transaction.retrieval) h.1)
+    let t = r.transaction in
+    let a = r.answer in
+    form_fields (reply_mti r) (reply_texts r) (has_form (parts_of (answer_mti a)) (reply_texts r) (suited t a) (kept t a h.1)) (reply_known r h)
 
 -- ---- a reply from its type and its texts
 
-abbrev verdict_from : Option (List ℕ) → Option (List ℕ) → Verdict
-verdict_from (Some code) action = Approved (record { 0 = code })
-verdict_from None action = Declined (number_of (text_or_none action))
+answer_again : (t : Transaction) (a : Answer) → IsAnswer a → answer_from (answer_mti a) (reply_texts (reply_to t a)) ≡ a
+answer_again t (answer.Request (Approved code) account) h = rw (account_again account) refl
+answer_again t (answer.Request (Declined code) account) h = rw (number_of-fixed_digits 3 code h.0.1, account_again account) refl
+answer_again t (answer.Advice code account) h = rw (number_of-fixed_digits 3 code h.0, account_again account) refl
+answer_again t (answer.Reversal code) h = rw (number_of-fixed_digits 3 code h) refl
 
--- a type that is not given out gives any answer
-abbrev answer_from : Mti → Content → Answer
-answer_from mti.RequestReply x = answer.Request (verdict_from x.approval x.action) (account_from x.account)
-answer_from mti.AdviceReply x = answer.Advice (number_of (text_or_none x.action)) (account_from x.account)
-answer_from mti.ReversalReply x = answer.Reversal (number_of (text_or_none x.action))
-answer_from _ x = answer.Reversal (number_of (text_or_none x.action))
-
-abbrev reply_from : Mti → Content → Reply
-reply_from t x = record { transaction = transaction_from x; answer = answer_from t x }
-
-answer_again : (a : Answer) (x : Content) → IsAnswer a → answer_from (answer_mti a) (record x { approval = answer_approval a; action = Some (answer_action a); account = answer_account a }) ≡ a
-answer_again (answer.Request (Approved code) account) x h = rw (account_again account) refl
-answer_again (answer.Request (Declined code) account) x h = rw (number_of-fixed_digits 3 code h.0.1, account_again account) refl
-answer_again (answer.Advice code account) x h = rw (number_of-fixed_digits 3 code h.0, account_again account) refl
-answer_again (answer.Reversal code) x h = rw (number_of-fixed_digits 3 code h) refl
-
-reply_again : (r : Reply) → IsReply r → reply_from (reply_mti r) (reply_content r) ≡ r
-reply_again r h =
-    let transaction = transaction_again r.transaction None None (answer_approval r.answer) (Some (answer_action r.answer)) None (answer_account r.answer) h.0 in
-    let given = answer_again r.answer (reply_content r) h.1 in
-    rw (transaction, given) refl
+reply_again : (r : Reply) → IsReply r → reply_from (reply_mti r) (reply_texts r) ≡ r
+reply_again r h = rw (transaction_again r.transaction h.0, answer_again r.transaction r.answer h.1) refl
 
 pub same_reply : (r q : Reply) → IsReply r → IsReply q → reply_mti r ≡ reply_mti q → reply_fields r ≡ reply_fields q → r ≡ q
 same_reply r q h k e f =
-    let contents : reply_content r ≡ reply_content q = same_content (reply_content r) (reply_content q) f in
-    let both : reply_from (reply_mti r) (reply_content r) ≡ reply_from (reply_mti q) (reply_content q) = cc in
+    let texts : reply_texts r ≡ reply_texts q = same_texts (reply_texts r) (reply_texts q) f in
+    let both : reply_from (reply_mti r) (reply_texts r) ≡ reply_from (reply_mti q) (reply_texts q) = cc in
     sym (reply_again r h) ∙ (both ∙ reply_again q k)
 
 pub replies_apart : (r q : Reply) (x y : List ℕ) → IsReply r → IsReply q → reply_spelling r ++ x ≡ reply_spelling q ++ y → (r ≡ q) × (x ≡ y)
 replies_apart r q x y h k e =
     let same = no_spelling_begins_another (reply_mti r) (reply_mti q) (reply_fields r) (reply_fields q) x y (reply_are r h) (reply_are q k) e in
     (same_reply r q h k same.0 same.1, same.2)
+
+-- ---- texts of the form of a type are those of the reply that they say
+
+verdict_texts : (code action : Option (List ℕ)) → IsSome action → IfSome code (IsText element.Approval) → IfSome action (IsText element.Action) → is_ok (rule_of VerdictRule (λ _. is_some code) action) ≡ true
+    → (verdict_approval (verdict_from code action) ≡ code) × (Some (verdict_action (verdict_from code action)) ≡ action) × IsVerdict (verdict_from code action)
+verdict_texts code None h k l m = absurd cc
+verdict_texts (Some code) (Some action) h k l m = (refl, ap Some (approved_action action (rule_ok (verdict_at true action) m)), k)
+verdict_texts None (Some action) h k l m =
+    let again = fixed_digits-number_of 3 action l.0 l.1 in
+    (refl, ap Some again, (declined_action action (number_of action) (rule_ok (verdict_at false action) m) again, action_bound action l.0 l.1))
+
+-- the reply is one of the type, and has these texts
+pub record SaysReply (t : Mti) (text : Texts) (r : Reply) : Type 0 where
+  pub type : reply_mti r ≡ t
+  pub fields : reply_fields r ≡ fields text
+  pub values : IsReply r
+
+module _ (text : Texts) (texts : (e : Element) → IfSome (text e) (IsText e)) where
+  verdict_said : (form : HasForm (parts_of mti.RequestReply) text)
+      → (verdict_approval (verdict_from (text element.Approval) (text element.Action)) ≡ text element.Approval) × (Some (verdict_action (verdict_from (text element.Approval) (text element.Action))) ≡ text element.Action)
+      × IsVerdict (verdict_from (text element.Approval) (text element.Action))
+  verdict_said form =
+      verdict_texts (text element.Approval) (text element.Action) (form.required element.Action refl) (texts element.Approval) (texts element.Action) (and_parts _ true form.ruled).0
+
+  request_texts : HasForm (parts_of mti.RequestReply) text → (e : Element) → reply_texts (reply_from mti.RequestReply text) e ≡ text e
+  request_texts form element.Approval = (verdict_said form).0
+  request_texts form element.Action = (verdict_said form).1
+  request_texts form element.Account = account_text_from (text element.Account)
+  request_texts form e = transaction_text_from mti.RequestReply text form texts e (λ h. cc)
+
+  advice_texts : HasForm (parts_of mti.AdviceReply) text → (e : Element) → reply_texts (reply_from mti.AdviceReply text) e ≡ text e
+  advice_texts form element.Action = action_text_from (text element.Action) (form.required element.Action refl) (texts element.Action)
+  advice_texts form element.Account = account_text_from (text element.Account)
+  advice_texts form element.Approval = sym (form.absent element.Approval refl)
+  advice_texts form e = transaction_text_from mti.AdviceReply text form texts e (λ h. cc)
+
+  reversal_texts : HasForm (parts_of mti.ReversalReply) text → (e : Element) → reply_texts (reply_from mti.ReversalReply text) e ≡ text e
+  reversal_texts form element.Action = action_text_from (text element.Action) (form.required element.Action refl) (texts element.Action)
+  reversal_texts form element.Account = sym (form.absent element.Account refl)
+  reversal_texts form element.Approval = sym (form.absent element.Approval refl)
+  reversal_texts form e = transaction_text_from mti.ReversalReply text form texts e (λ h. cc)
+
+  reply_said : (t : Mti) → is_among given_out t ≡ true → HasForm (parts_of t) text → SaysReply t text (reply_from t text)
+  reply_said mti.RequestReply h form = record {
+    type = refl;
+    fields = equal_texts (request_texts form);
+    values = (is_transaction mti.RequestReply text form texts, ((verdict_said form).2, is_account_from (text element.Account) (texts element.Account)));
+  }
+  reply_said mti.AdviceReply h form = record {
+    type = refl;
+    fields = equal_texts (advice_texts form);
+    values = (is_transaction mti.AdviceReply text form texts, (action_from_bound (text element.Action) (form.required element.Action refl) (texts element.Action), is_account_from (text element.Account) (texts element.Account)));
+  }
+  reply_said mti.ReversalReply h form = record {
+    type = refl;
+    fields = equal_texts (reversal_texts form);
+    values = (is_transaction mti.ReversalReply text form texts, action_from_bound (text element.Action) (form.required element.Action refl) (texts element.Action));
+  }
+  reply_said mti.Request h form = absurd cc
+  reply_said mti.RequestRepeat h form = absurd cc
+  reply_said mti.Advice h form = absurd cc
+  reply_said mti.AdviceRepeat h form = absurd cc
+  reply_said mti.Reversal h form = absurd cc
+  reply_said mti.ReversalRepeat h form = absurd cc
+
+pub reply_read : (t : Mti) (text : Texts) → AreTextsOf given_out t text → SaysReply t text (reply_from t text)
+reply_read t text are = reply_said text (each_known (λ e. IfSome (text e) (IsText e)) are.known) t are.among are.form
 
 -- its type is given out
 pub reply_given : (r : Reply) → is_among given_out (reply_mti r) ≡ true

@@ -7,8 +7,9 @@ use Rattle.std.proofs.lemmas.List.{take-append-drop}
 use Rattle.std.proofs.lemmas.Slice.Eq.{bytes_eq-Decides}
 use Rattle.iso8583.specs.declared.codec_fault.CodecFault.{CodecFault}
 use Rattle.iso8583.specs.declared.codec_fault.CodecFault.TheVariants.{Short, BadMti}
+use Rattle.iso_laws.specs.Elements.{parts_of}
 use Rattle.iso_laws.specs.declared.mti.Mti.{Mti}
-use Rattle.iso_laws.specs.Types.{mti_text, parts_of, is_among}
+use Rattle.iso_laws.specs.Types.{mti_text, is_among}
 use Rattle.iso_laws.specs.Spelling.{Field}
 use Rattle.iso_laws.specs.Reading.{mti_at, header_at, whole_at, reading}
 use Rattle.iso_laws.specs.Faults.{NamesAnUnknownType}

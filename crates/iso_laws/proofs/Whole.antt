@@ -8,9 +8,10 @@ use Rattle.std.proofs.lemmas.List.{append-nil, nil_from_length}
 use Rattle.std.proofs.lemmas.Slice.Eq.{bytes_eq-Decides}
 use Rattle.iso8583.specs.declared.codec_fault.CodecFault.{CodecFault}
 use Rattle.iso8583.specs.declared.codec_fault.CodecFault.TheVariants.{Trailing}
+use Rattle.iso_laws.specs.Elements.{Part, parts_of}
 use Rattle.iso_laws.specs.declared.mti.Mti.{Mti}
 use Rattle.iso_laws.specs.declared.mti.Mti.TheVariants as mti
-use Rattle.iso_laws.specs.Types.{Part, mti_text, parts_of, is_among, bits_of}
+use Rattle.iso_laws.specs.Types.{mti_text, is_among, bits_of}
 use Rattle.iso_laws.specs.Spelling.{Field, field, bitmap_of, bitmap_bytes, spelling}
 use Rattle.iso_laws.specs.Reading.{◌>>=◌, fields_at, whole_at, presence_at, header_at, reading}
 use Rattle.iso_laws.proofs.Elements.{bind_ok}
@@ -28,14 +29,7 @@ pub record AreFields (t : Mti) (fields : List Field) : Type 0 where
 
 pub rising : (t : Mti) → is_rising 1 (parts_of t) ≡ true
 rising mti.Request = refl
-rising mti.RequestRepeat = refl
-rising mti.RequestReply = refl
-rising mti.Advice = refl
-rising mti.AdviceRepeat = refl
-rising mti.AdviceReply = refl
-rising mti.Reversal = refl
-rising mti.ReversalRepeat = refl
-rising mti.ReversalReply = refl
+rising _ = refl
 
 test_ok : {A : Type 0} (b : Bool) (d : CodecFault) (x y : A) → cond b (Ok x) (Err d) ≡ Ok y → (b ≡ true) × (x ≡ y)
 test_ok true d x y h = (refl, cc)

@@ -5,8 +5,9 @@ use Rattle.iso8583.specs.declared.codec_fault.CodecFault.{CodecFault}
 use Rattle.iso8583.specs.declared.codec_fault.CodecFault.TheVariants.{Short, BadMti, SecondaryBitmap, Unexpected, Missing, BadLength, BadCharacter, Trailing, BadValue}
 use Rattle.iso8583.specs.declared.message.Message.{Message}
 use Rattle.iso8583.specs.declared.reply.Reply.{Reply}
+use Rattle.iso_laws.specs.Elements.{parts_of}
 use Rattle.iso_laws.specs.declared.mti.Mti.{Mti}
-use Rattle.iso_laws.specs.Types.{mti_text, parts_of, is_among, taken_in, given_out}
+use Rattle.iso_laws.specs.Types.{mti_text, is_among, taken_in, given_out}
 use Rattle.iso_laws.specs.Spelling.{is_set, bitmap_bytes}
 use Rattle.iso_laws.specs.Messages.{Spells}
 use Rattle.iso_laws.specs.Replies.{SpellsReply}

@@ -1,9 +1,10 @@
-pub mod Contents
 pub mod Elements
 pub mod Faults
 pub mod FirstWrong
+pub mod Forms
 pub mod Messages
 pub mod Reading
 pub mod Replies
 pub mod Spelling
+pub mod Transactions
 pub mod Types

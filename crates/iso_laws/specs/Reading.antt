@@ -8,13 +8,14 @@ use Rattle.iso8583.specs.Number.{number_of}
 use Rattle.iso8583.specs.declared.codec_fault.CodecFault.{CodecFault}
 use Rattle.iso8583.specs.declared.codec_fault.CodecFault.TheVariants.{Short, BadMti, SecondaryBitmap, Unexpected, Missing, BadLength, BadCharacter, Trailing, BadValue}
 use Rattle.iso_laws.specs.declared.element.Element.{Element}
+use Rattle.iso_laws.specs.declared.element.Element.TheVariants as element
 use Rattle.iso_laws.specs.declared.shape.Shape.{Shape}
 use Rattle.iso_laws.specs.declared.shape.Shape.TheVariants.{Fixed, UpTo}
 use Rattle.iso_laws.specs.declared.rule.Rule.{Rule}
 use Rattle.iso_laws.specs.declared.rule.Rule.TheVariants.{Free, Scope, Verdict}
 use Rattle.iso_laws.specs.declared.mti.Mti.{Mti}
-use Rattle.iso_laws.specs.Elements.{element_number, shape_of, class_of, is_of_class, has_value}
-use Rattle.iso_laws.specs.Types.{Part, mti_text, parts_of}
+use Rattle.iso_laws.specs.Elements.{element_number, shape_of, class_of, is_of_class, has_value, Part, parts_of}
+use Rattle.iso_laws.specs.Types.{mti_text}
 use Rattle.iso_laws.specs.Spelling.{Field, with_field, is_set}
 
 infixl 10 ◌>>=◌
@@ -69,13 +70,17 @@ verdict_at approval text =
     if bytes_eq text (codes "000") then (if approval then Ok tt else Err (Missing 38))
     else (if approval then Err (Unexpected 38) else Ok tt)
 
--- what a rule finds by the bitmap in the text of an element, if it is there
+-- what a rule finds in the text of an element, if it is there, by which elements are there
+abbrev pub rule_of : Rule → (Element → Bool) → Option (List ℕ) → Result (Unit {0}) CodecFault
+rule_of Free there text = Ok tt
+rule_of Scope there None = Ok tt
+rule_of Scope there (Some text) = scope_at (there element.OriginalAmount) text
+rule_of Verdict there None = Ok tt
+rule_of Verdict there (Some text) = verdict_at (there element.Approval) text
+
+-- the same by the bitmap
 abbrev pub rule_at : Rule → ℕ → Option (List ℕ) → Result (Unit {0}) CodecFault
-rule_at Free bitmap text = Ok tt
-rule_at Scope bitmap None = Ok tt
-rule_at Scope bitmap (Some text) = scope_at (is_set bitmap 30) text
-rule_at Verdict bitmap None = Ok tt
-rule_at Verdict bitmap (Some text) = verdict_at (is_set bitmap 38) text
+rule_at rule bitmap text = rule_of rule (λ e. is_set bitmap (element_number e)) text
 
 -- an element, if it is there, in front of those that are read after it
 abbrev pub with_first : Element → Option (List ℕ) → Result (List Field × List ℕ) CodecFault → Result (List Field × List ℕ) CodecFault

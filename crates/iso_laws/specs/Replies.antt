@@ -1,6 +1,6 @@
 -- The replies that are given out, and how each is spelled.
 use Rattle.std.specs.Prelude.{◌≡◌, ℕ, ◌<◌, ◌^◌, List, Option, Some, None, codes}
-use Rattle.iso8583.specs.Number.{fixed_digits}
+use Rattle.iso8583.specs.Number.{number_of, fixed_digits}
 use Rattle.iso8583.specs.declared.answer.Answer.{Answer}
 use Rattle.iso8583.specs.declared.answer.Answer.TheVariants as answer
 use Rattle.iso8583.specs.declared.reply.Reply.{Reply}
@@ -10,9 +10,9 @@ use Rattle.iso_laws.specs.declared.element.Element.TheVariants as element
 use Rattle.iso_laws.specs.declared.mti.Mti.{Mti}
 use Rattle.iso_laws.specs.declared.mti.Mti.TheVariants as mti
 use Rattle.iso_laws.specs.Elements.{IsText}
-use Rattle.iso_laws.specs.Contents.{Content, content, content_fields, IsTransaction}
-use Rattle.iso_laws.specs.Messages.{account_text, IsAccount}
-use Rattle.iso_laws.specs.Spelling.{Field, spelling}
+use Rattle.iso_laws.specs.Messages.{account_text, account_from, IsAccount}
+use Rattle.iso_laws.specs.Spelling.{Field, Texts, text_or_none, fields, spelling}
+use Rattle.iso_laws.specs.Transactions.{transaction_texts, transaction_from, IsTransaction}
 
 -- 1110 to a request, 1130 to an advice, 1430 to a reversal
 abbrev pub answer_mti : Answer → Mti
@@ -52,17 +52,38 @@ answer_account (answer.Reversal a) = None
 abbrev pub reply_mti : Reply → Mti
 reply_mti r = answer_mti r.answer
 
--- the texts of a reply: beside its transaction those of elements 38, 39 and 102
-abbrev pub reply_content : Reply → Content
-reply_content r = content r.transaction None None (answer_approval r.answer) (Some (answer_action r.answer)) None (answer_account r.answer)
+-- the texts of a reply: those of its transaction, and those of elements 38, 39 and 102
+abbrev pub reply_texts : Reply → Texts
+reply_texts r element.Approval = answer_approval r.answer
+reply_texts r element.Action = Some (answer_action r.answer)
+reply_texts r element.Account = answer_account r.answer
+reply_texts r e = transaction_texts r.transaction e
 
 -- the elements of a reply, in rising number
 abbrev pub reply_fields : Reply → List Field
-reply_fields r = content_fields (reply_content r)
+reply_fields r = fields (reply_texts r)
 
 -- the one spelling of a reply
 abbrev pub reply_spelling : Reply → List ℕ
 reply_spelling r = spelling (reply_mti r) (reply_fields r)
+
+-- ---- a reply from its type and its texts
+
+-- by element 38, if it is there, else by element 39
+abbrev pub verdict_from : Option (List ℕ) → Option (List ℕ) → Verdict
+verdict_from (Some code) action = Approved (record { 0 = code })
+verdict_from None action = Declined (number_of (text_or_none action))
+
+-- a type that is not given out gives any answer
+abbrev pub answer_from : Mti → Texts → Answer
+answer_from mti.RequestReply x = answer.Request (verdict_from (x element.Approval) (x element.Action)) (account_from (x element.Account))
+answer_from mti.AdviceReply x = answer.Advice (number_of (text_or_none (x element.Action))) (account_from (x element.Account))
+answer_from _ x = answer.Reversal (number_of (text_or_none (x element.Action)))
+
+abbrev pub reply_from : Mti → Texts → Reply
+reply_from t x = record { transaction = transaction_from x; answer = answer_from t x }
+
+-- ---- their ranges
 
 -- an approval has a code of its kind, a decline an action that is not 000
 abbrev pub IsVerdict : Verdict → Type 0

@@ -7,7 +7,7 @@ use Rattle.iso_laws.specs.declared.element.Element.{Element}
 use Rattle.iso_laws.specs.declared.shape.Shape.{Shape}
 use Rattle.iso_laws.specs.declared.shape.Shape.TheVariants.{Fixed, UpTo}
 use Rattle.iso_laws.specs.declared.mti.Mti.{Mti}
-use Rattle.iso_laws.specs.Elements.{element_number, shape_of}
+use Rattle.iso_laws.specs.Elements.{element_number, shape_of, elements}
 use Rattle.iso_laws.specs.Types.{mti_text}
 
 -- an element and its text
@@ -23,6 +23,24 @@ with_field e (Some text) fields = (e, text) ∷ fields
 abbrev pub length_prefix : Shape → List ℕ → List ℕ
 length_prefix (Fixed size) text = []
 length_prefix (UpTo min max) text = fixed_digits 2 (length text)
+
+-- the texts of elements, of those that are there
+abbrev pub Texts : Type 0
+Texts = Element → Option (List ℕ)
+
+-- the text of an element, none where it is absent
+abbrev pub text_or_none : Option (List ℕ) → List ℕ
+text_or_none None = []
+text_or_none (Some text) = text
+
+-- those of these elements that are there
+abbrev pub fields_among : List Element → Texts → List Field
+fields_among [] text = []
+fields_among (e ∷ es) text = with_field e (text e) (fields_among es text)
+
+-- the elements that are there, in rising number
+abbrev pub fields : Texts → List Field
+fields text = fields_among elements text
 
 -- the spelling of one element: its text, behind its length where that may vary
 abbrev pub field : Field → List ℕ

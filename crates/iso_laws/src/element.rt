@@ -42,28 +42,38 @@ pub enum Element {
 }
 
 impl Element {
+    /// Its row of the table: number, shape and class of characters.
+    #[inline(always)]
+    fn row(self) -> (u8, Shape, Class)
+        ensures number { result.0 ≡ element_number self }
+        ensures shape { result.1 ≡ shape_of self }
+        ensures class { result.2 ≡ class_of self }
+    {
+        match self {
+            Element::Pan => (2, Shape::UpTo(12, 19), Class::Digits),
+            Element::Processing => (3, Shape::Fixed(6), Class::Digits),
+            Element::Amount => (4, Shape::Fixed(12), Class::Digits),
+            Element::Transmission => (7, Shape::Fixed(10), Class::Digits),
+            Element::Stan => (11, Shape::Fixed(6), Class::Digits),
+            Element::Stamp => (12, Shape::Fixed(12), Class::Digits),
+            Element::Function => (24, Shape::Fixed(3), Class::Digits),
+            Element::OriginalAmount => (30, Shape::Fixed(24), Class::Digits),
+            Element::Acquirer => (32, Shape::UpTo(1, 11), Class::Digits),
+            Element::Retrieval => (37, Shape::Fixed(12), Class::Alphanumeric),
+            Element::Approval => (38, Shape::Fixed(6), Class::Alphanumeric),
+            Element::Action => (39, Shape::Fixed(3), Class::Digits),
+            Element::Terminal => (41, Shape::Fixed(8), Class::Printable),
+            Element::Currency => (49, Shape::Fixed(3), Class::Digits),
+            Element::Original => (56, Shape::UpTo(25, 35), Class::Digits),
+            Element::Account => (102, Shape::UpTo(1, 28), Class::Printable),
+        }
+    }
+
     /// Its number, which is that of its bit.
     pub fn number(self) -> u8
         ensures { result ≡ element_number self }
     {
-        match self {
-            Element::Pan => 2,
-            Element::Processing => 3,
-            Element::Amount => 4,
-            Element::Transmission => 7,
-            Element::Stan => 11,
-            Element::Stamp => 12,
-            Element::Function => 24,
-            Element::OriginalAmount => 30,
-            Element::Acquirer => 32,
-            Element::Retrieval => 37,
-            Element::Approval => 38,
-            Element::Action => 39,
-            Element::Terminal => 41,
-            Element::Currency => 49,
-            Element::Original => 56,
-            Element::Account => 102,
-        }
+        self.row().0
     }
 
     /// Its bit in a bitmap of 128, of which bit 1 is the highest.
@@ -77,28 +87,13 @@ impl Element {
     pub fn shape(self) -> Shape
         ensures { result ≡ shape_of self }
     {
-        match self {
-            Element::Pan => Shape::UpTo(12, 19),
-            Element::Processing | Element::Stan | Element::Approval => Shape::Fixed(6),
-            Element::Amount | Element::Stamp | Element::Retrieval => Shape::Fixed(12),
-            Element::Transmission => Shape::Fixed(10),
-            Element::OriginalAmount => Shape::Fixed(24),
-            Element::Acquirer => Shape::UpTo(1, 11),
-            Element::Function | Element::Action | Element::Currency => Shape::Fixed(3),
-            Element::Terminal => Shape::Fixed(8),
-            Element::Original => Shape::UpTo(25, 35),
-            Element::Account => Shape::UpTo(1, 28),
-        }
+        self.row().1
     }
 
     /// The class of characters that its text is made of.
     pub fn class(self) -> Class
         ensures { result ≡ class_of self }
     {
-        match self {
-            Element::Retrieval | Element::Approval => Class::Alphanumeric,
-            Element::Terminal | Element::Account => Class::Printable,
-            _ => Class::Digits,
-        }
+        self.row().2
     }
 }

@@ -1,9 +1,7 @@
-use Rattle.iso_codec.proofs.Others.{all_texts, some_here, none_here}
+use Rattle.std.proofs.Common.{refl}
+use Rattle.iso_laws.specs.declared.element.Element.TheVariants as element
+use Rattle.iso_codec.proofs.Found.{missing}
 use Rattle.iso_codec.proofs.message.request_of.Goals as goal
 
-pub returns-clause-texts : goal.returns-clause-texts
-returns-clause-texts c =
-    let y = c.args.body.now in
-    let form = c.requires.form in
-    all_texts c.transaction_of.result c.args.front.now c.args.body.now _ _ _ _ _ _ c.transaction_of.ensures.texts
-    (some_here y.function c.in-Some.function _ c.in-Some.is c.function.ensures) (none_here y.original_amount form.original_amount) (none_here y.approval form.approval) (none_here y.action form.action) (none_here y.original form.original) c.account.ensures.value
+pub unreachable-requires : goal.unreachable-requires
+unreachable-requires c = missing c.args.texts.now.function (λ t. t.now) (c.requires.form.required element.Function refl) c.in_default.is

@@ -4,8 +4,11 @@ use Rattle.std.specs.Prelude.{codes}
 use Rattle.std.specs.Str.{bytes_eq}
 use Rattle.std.proofs.lemmas.Bool.{cases_lt}
 use Rattle.std.proofs.lemmas.Slice.Eq.{bytes_eq-Decides}
-use Rattle.iso8583.specs.Number.{fixed_digits}
+use Rattle.iso8583.specs.Number.{number_of, fixed_digits}
+use Rattle.iso8583.proofs.NumberLaws.{fixed_digits-number_of}
 use Rattle.iso8583.specs.declared.codec_fault.CodecFault.{CodecFault}
+use Rattle.iso_laws.specs.declared.element.Element.TheVariants as element
+use Rattle.iso_laws.specs.Elements.{IsText}
 use Rattle.iso_laws.specs.Reading.{scope_at, verdict_at}
 use Rattle.iso_laws.proofs.Codes.{zero_text}
 
@@ -59,3 +62,7 @@ declined_action text code h e =
           let same : bytes_eq text (codes "000") ≡ true = (bytes_eq-Decides text (codes "000")).1 text-is in
           absurd cc)
     ]
+
+-- an action that the rule takes without an approval code is a decline
+pub is_declined : (text : List ℕ) → IsText element.Action text → verdict_at false text ≡ Ok tt → 0 < number_of text
+is_declined text known h = declined_action text (number_of text) h (fixed_digits-number_of 3 text known.0 known.1)

@@ -13,9 +13,6 @@ use Rattle.std.proofs.lemmas.Slice.Eq.{bytes_eq-Decides}
 use Rattle.iso_laws.specs.declared.element.Element.TheVariants as element
 use Rattle.iso_laws.specs.Elements.{IsText, is_original_amount, twelve_zeros}
 
-pub digits_again : (text : List ℕ) → length text ≡ 12 → IsDigits text → fixed_digits 12 (number_of text) ≡ text
-digits_again text len digits = fixed_digits-number_of 12 text len digits
-
 digit_below : (c : ℕ) → is_ascii_digit c ≡ true → digit_value c < 10
 digit_below c h = let range = digit_bounds c h in grind (arith, nat_tests)
 
@@ -28,9 +25,6 @@ all_digits (c ∷ cs) h =
 pub amount_bound : (text : List ℕ) → length text ≡ 12 → IsDigits text → number_of text < 10 ^ 12
 amount_bound text len digits = rw len at (digits_value-lt 10 text (all_digits text digits))
 
-pub action_again : (text : List ℕ) → length text ≡ 3 → IsDigits text → fixed_digits 3 (number_of text) ≡ text
-action_again text len digits = fixed_digits-number_of 3 text len digits
-
 pub action_bound : (text : List ℕ) → length text ≡ 3 → IsDigits text → number_of text < 10 ^ 3
 action_bound text len digits = rw len at (digits_value-lt 10 text (all_digits text digits))
 
@@ -39,8 +33,9 @@ pub original_amount : (text : List ℕ) → IsText element.OriginalAmount text �
 original_amount text h =
     (length-take-le 12 text (omega (arith, h.0)), is_digits-take 12 text h.1, refl)
 
-pub original_again : (text : List ℕ) (n : ℕ) → IsText element.OriginalAmount text → fixed_digits 12 n ≡ take 12 text → fixed_digits 12 n ++ twelve_zeros ≡ text
+pub original_again : (text : List ℕ) → IsText element.OriginalAmount text → fixed_digits 12 (number_of (take 12 text)) ++ twelve_zeros ≡ text
 unfolding is_original_amount
-original_again text n h e =
+original_again text h =
+    let half = original_amount text h in
     let zeros : drop 12 text ≡ twelve_zeros = (bytes_eq-Decides (drop 12 text) twelve_zeros).0 h.2 in
-    rw (e, ← zeros) (take-append-drop 12 text)
+    rw (fixed_digits-number_of 12 (take 12 text) half.0 half.1, ← zeros) (take-append-drop 12 text)
