@@ -1,5 +1,5 @@
 -- What the program does for its words.
-use Rattle.std.specs.Prelude.{◌≡◌, ◌≢◌, ◌⊎◌, ℕ, List, [], ◌∷◌, ◌++◌, Option, Some, None, codes, string_bytes}
+use Rattle.std.specs.Prelude.{◌≡◌, ◌≢◌, ◌⊎◌, ℕ, Bool, List, [], ◌∷◌, ◌++◌, Option, Some, None, codes, string_bytes}
 use Rattle.app_runs.specs.Answers.{IsAnswerInDigits}
 use Rattle.app_runs.specs.SampleBook.{sample_rows}
 use Rattle.app_audit.specs.Texts.{audit_text, block_audit_text}
@@ -123,8 +123,8 @@ pub record Failing : Type 1 where
   pub writing : Type 0
   pub refused : Type 0
 
--- such calls are counted, and refusals known, so
-abbrev pub failing : {I O X : Type 0} → (I → ℕ) → (O → ℕ) → (X → List ℕ → Type 0) → Failing
+-- that a call failed, and that a name is refused, is known so
+abbrev pub failing : {I O X : Type 0} → (I → Bool) → (O → Bool) → (X → List ℕ → Type 0) → Failing
 failing inputs outputs refuses = record { reading = HasFailed inputs; writing = HasFailed outputs; refused = HasRefused refuses }
 
 -- Why what is asked for is not done, as the files were: the first fault of what they held, in the order of reading; a call that failed;

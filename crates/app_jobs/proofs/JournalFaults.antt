@@ -15,19 +15,6 @@ use Rattle.app_jobs.specs.Decided.{Holding, IsBookOf}
 use Rattle.app_jobs.specs.JobFault.{fault_of_read}
 use Rattle.app_jobs.specs.JournalFaults.{IsJournalFault, IsUnplayed, IsWrongJournal}
 
--- a journal that isn't opened or read
-pub unread_journal : (old : Holding) (name : List ℕ) (read_failed : Type 0) (e : ReadFault)
-    → (e ≡ read.Unreadable → (bytes : List ℕ) → old name bytes → read_failed) → IsJournalFault old name read_failed (fault_of_read e)
-unread_journal old name read_failed read.Unreadable h = h refl
-unread_journal old name read_failed read.OutOfMemory h = tt
-
--- a text that is no journal
-pub wrong_journal : (held : List ℕ → Type 0) (e : ReplayFault)
-    → ((n : ℕ) → e ≡ replay.Line n → (bytes : List ℕ) → held bytes → IsFirstWrongLine bytes n) → ((n : ℕ) → e ≢ replay.Unlogged n) → IsWrongJournal held e
-wrong_journal held (replay.Line n) line logged = line n refl
-wrong_journal held (replay.Unlogged n) line logged = absurd (logged n refl)
-wrong_journal held replay.OutOfMemory line logged = tt
-
 -- a journal that isn't played
 pub unplayed : {T : Type 0} (old : Holding) (book batch journal : List ℕ) (rows : Rows) (frames : List Frame) (entries : List Entry) (e : ReplayFault)
     → IsBookOf old book rows → ((bytes : List ℕ) → old batch bytes → IsBatchOf bytes frames)

@@ -28,9 +28,7 @@ IsBlockFileFault old name read_failed put_failed refused (Batch fault) =
 IsBlockFileFault old name read_failed put_failed refused Unreadable = (bytes : List ℕ) → old name bytes → read_failed
 IsBlockFileFault old name read_failed put_failed refused Unwritable = refused
 IsBlockFileFault old name read_failed put_failed refused OutOfMemory = Unit {0}
-IsBlockFileFault old name read_failed put_failed refused (Book fault) = ⊥
-IsBlockFileFault old name read_failed put_failed refused (Journal fault) = ⊥
-IsBlockFileFault old name read_failed put_failed refused (Text line) = ⊥
+IsBlockFileFault _ _ _ _ _ _ = ⊥
 
 -- the file of this name, where its bytes are known, is some block file
 abbrev pub IsSomeBlockFile : Holding → List ℕ → Type 0
@@ -50,10 +48,7 @@ IsBlockRepliesFault old name read_failed (Batch fault) =
     ((bytes : List ℕ) → old name bytes → IsTrue (is_of_bytes fault) → FailsAsBlockReplies bytes fault) × (fault ≢ Device)
 IsBlockRepliesFault old name read_failed Unreadable = (bytes : List ℕ) → old name bytes → read_failed
 IsBlockRepliesFault old name read_failed OutOfMemory = Unit {0}
-IsBlockRepliesFault old name read_failed Unwritable = ⊥
-IsBlockRepliesFault old name read_failed (Book fault) = ⊥
-IsBlockRepliesFault old name read_failed (Journal fault) = ⊥
-IsBlockRepliesFault old name read_failed (Text line) = ⊥
+IsBlockRepliesFault _ _ _ _ = ⊥
 
 -- the file of this name, where its bytes are known, is some file of replies of blocks
 abbrev pub IsSomeBlockReplies : Holding → List ℕ → Type 0

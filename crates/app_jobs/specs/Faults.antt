@@ -22,10 +22,7 @@ abbrev pub IsBookFault : Holding → List ℕ → Type 0 → JobFault → Type 0
 IsBookFault old name read_failed (Book fault) = (bytes : List ℕ) → old name bytes → IsAnswer (reading bytes) (Err fault)
 IsBookFault old name read_failed Unreadable = (bytes : List ℕ) → old name bytes → read_failed
 IsBookFault old name read_failed OutOfMemory = Unit {0}
-IsBookFault old name read_failed Unwritable = ⊥
-IsBookFault old name read_failed (Batch fault) = ⊥
-IsBookFault old name read_failed (Journal fault) = ⊥
-IsBookFault old name read_failed (Text line) = ⊥
+IsBookFault _ _ _ _ = ⊥
 
 -- Why the batch of this name is not answered: its first fault; a call on it, or on the file of the replies, failed or was refused; or
 -- memory ran out.
@@ -36,29 +33,19 @@ IsBatchFault old name read_failed put_failed refused (Batch fault) =
 IsBatchFault old name read_failed put_failed refused Unreadable = (bytes : List ℕ) → old name bytes → read_failed
 IsBatchFault old name read_failed put_failed refused Unwritable = refused
 IsBatchFault old name read_failed put_failed refused OutOfMemory = Unit {0}
-IsBatchFault old name read_failed put_failed refused (Book fault) = ⊥
-IsBatchFault old name read_failed put_failed refused (Journal fault) = ⊥
-IsBatchFault old name read_failed put_failed refused (Text line) = ⊥
+IsBatchFault _ _ _ _ _ _ = ⊥
 
 -- Why the replies to a batch that was decided are not written to their file: a call on it failed or was refused; or memory ran out.
 abbrev pub IsRepliesFault : Type 0 → Type 0 → JobFault → Type 0
 IsRepliesFault put_failed refused (Batch fault) = (¬ IsTrue (is_of_bytes fault)) × (fault ≡ Device → put_failed ⊎ refused)
 IsRepliesFault put_failed refused OutOfMemory = Unit {0}
-IsRepliesFault put_failed refused Unreadable = ⊥
-IsRepliesFault put_failed refused Unwritable = ⊥
-IsRepliesFault put_failed refused (Book fault) = ⊥
-IsRepliesFault put_failed refused (Journal fault) = ⊥
-IsRepliesFault put_failed refused (Text line) = ⊥
+IsRepliesFault _ _ _ = ⊥
 
 -- Why a file is not put in its place: it is refused, or memory ran out.
 abbrev pub IsPuttingFault : Type 0 → JobFault → Type 0
 IsPuttingFault refused Unwritable = refused
 IsPuttingFault refused OutOfMemory = Unit {0}
-IsPuttingFault refused Unreadable = ⊥
-IsPuttingFault refused (Book fault) = ⊥
-IsPuttingFault refused (Batch fault) = ⊥
-IsPuttingFault refused (Journal fault) = ⊥
-IsPuttingFault refused (Text line) = ⊥
+IsPuttingFault _ _ = ⊥
 
 -- a fault of what a file holds
 abbrev pub IsOfBytes : JobFault → Type 0
@@ -92,10 +79,7 @@ IsReplyFileFault old name read_failed (Batch fault) =
     ((bytes : List ℕ) → old name bytes → IsTrue (is_of_bytes fault) → FailsAsReplies bytes fault) × (fault ≢ Device)
 IsReplyFileFault old name read_failed Unreadable = (bytes : List ℕ) → old name bytes → read_failed
 IsReplyFileFault old name read_failed OutOfMemory = Unit {0}
-IsReplyFileFault old name read_failed Unwritable = ⊥
-IsReplyFileFault old name read_failed (Book fault) = ⊥
-IsReplyFileFault old name read_failed (Journal fault) = ⊥
-IsReplyFileFault old name read_failed (Text line) = ⊥
+IsReplyFileFault _ _ _ _ = ⊥
 
 -- why a book or the batch that was decided on it is not opened: the first fault in this order
 abbrev pub IsOpeningFault : Holding → List ℕ → List ℕ → Type 0 → JobFault → Type 0

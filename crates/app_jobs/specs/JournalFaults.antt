@@ -25,10 +25,7 @@ abbrev pub IsJournalFault : Holding → List ℕ → Type 0 → JobFault → Typ
 IsJournalFault old name read_failed (Journal fault) = IsWrongJournal (old name) fault
 IsJournalFault old name read_failed Unreadable = (bytes : List ℕ) → old name bytes → read_failed
 IsJournalFault old name read_failed OutOfMemory = Unit {0}
-IsJournalFault old name read_failed Unwritable = ⊥
-IsJournalFault old name read_failed (Book fault) = ⊥
-IsJournalFault old name read_failed (Batch fault) = ⊥
-IsJournalFault old name read_failed (Text line) = ⊥
+IsJournalFault _ _ _ _ = ⊥
 
 -- Played on the book and the batch, the entry of this number is the journal's first whose decision asks for a row that wasn't logged.
 pub record IsUnloggedIn (old : Holding) (book batch journal : List ℕ) (number : ℕ) : Type 0 where
@@ -49,12 +46,7 @@ IsUnplayed old book batch journal replay.OutOfMemory = Unit {0}
 
 abbrev pub IsPlayingFault : Holding → List ℕ → List ℕ → List ℕ → JobFault → Type 0
 IsPlayingFault old book batch journal (Journal fault) = IsUnplayed old book batch journal fault
-IsPlayingFault old book batch journal Unreadable = ⊥
-IsPlayingFault old book batch journal Unwritable = ⊥
-IsPlayingFault old book batch journal (Book fault) = ⊥
-IsPlayingFault old book batch journal (Batch fault) = ⊥
-IsPlayingFault old book batch journal (Text line) = ⊥
-IsPlayingFault old book batch journal OutOfMemory = ⊥
+IsPlayingFault _ _ _ _ _ = ⊥
 
 -- Why an audit with a journal finds nothing: what an audit may lack, in its order; then the first wrong line of the journal, or a call
 -- on its file that failed; then that it isn't played.

@@ -26,7 +26,7 @@ pub fn audit_batch<R: Threads, F: Files>(
     ensures audited { IfOk result (IsAudited (F.holds files.now)
         (string_bytes names.now.book) (string_bytes names.now.batch) (string_bytes names.now.replies) (string_bytes names.now.new_book)) }
     ensures fault { IfErr result (IsAuditingFault (F.holds files.now)
-        (string_bytes names.now.book) (string_bytes names.now.batch) (string_bytes names.now.replies) (string_bytes names.now.new_book) (HasFailed F.Input.failures)) }
+        (string_bytes names.now.book) (string_bytes names.now.batch) (string_bytes names.now.replies) (string_bytes names.now.new_book) (HasFailed F.Input.has_failed)) }
 {
     let run = open_run(rt, alloc, files, names)?;
     audit_run(alloc, &run)
@@ -54,7 +54,7 @@ pub fn audit_batch_with_journal<R: Threads, F: Files>(
     ensures audited { IfOk result (IsAuditedWithJournal (F.holds files.now)
         (string_bytes names.now.book) (string_bytes names.now.batch) (string_bytes names.now.replies) (string_bytes names.now.new_book) journal.now) }
     ensures fault { IfErr result (IsJournalAuditingFault (F.holds files.now)
-        (string_bytes names.now.book) (string_bytes names.now.batch) (string_bytes names.now.replies) (string_bytes names.now.new_book) journal.now (HasFailed F.Input.failures)) }
+        (string_bytes names.now.book) (string_bytes names.now.batch) (string_bytes names.now.replies) (string_bytes names.now.new_book) journal.now (HasFailed F.Input.has_failed)) }
 {
     let run = open_run(rt, alloc, files, names)?;
     let entries = open_journal(alloc, files, journal)?;
@@ -92,7 +92,7 @@ fn open_run<R: Threads, F: Files>(
         run.book run.frames.items run.replies.items run.after) }
     ensures count { IfOk result (λ run. length run.frames.items ≤ 65536) }
     ensures fault { IfErr result (IsFaultInOrder (F.holds files.now)
-        (string_bytes names.now.book) (string_bytes names.now.batch) (string_bytes names.now.replies) (string_bytes names.now.new_book) (HasFailed F.Input.failures) ⊥) }
+        (string_bytes names.now.book) (string_bytes names.now.batch) (string_bytes names.now.replies) (string_bytes names.now.new_book) (HasFailed F.Input.has_failed) ⊥) }
 {
     let (book, frames) = open_decided(rt, alloc, files, names)?;
     let (replies, after) = open_answers(rt, alloc, files, names)?;
@@ -113,7 +113,7 @@ fn open_decided<R: Threads, F: Files>(
 ) -> Result<(Book, Vec<Frame>), JobFault>
     ensures held { IfOk result (λ decided. AreDecided (F.holds files.now) (string_bytes names.now.book) (string_bytes names.now.batch) decided.0 decided.1.items) }
     ensures count { IfOk result (λ decided. length decided.1.items ≤ 65536) }
-    ensures fault { IfErr result (IsOpeningFault (F.holds files.now) (string_bytes names.now.book) (string_bytes names.now.batch) (HasFailed F.Input.failures)) }
+    ensures fault { IfErr result (IsOpeningFault (F.holds files.now) (string_bytes names.now.book) (string_bytes names.now.batch) (HasFailed F.Input.has_failed)) }
 {
     let book = open_book(rt, alloc, files, names.book.as_str())?;
     let frames = open_batch(alloc, files, names.batch.as_str())?;
@@ -128,7 +128,7 @@ fn open_answers<R: Threads, F: Files>(
     names: &BatchNames,
 ) -> Result<(Vec<ReplyBody>, Book), JobFault>
     ensures held { IfOk result (λ answers. AreAnswers (F.holds files.now) (string_bytes names.now.replies) (string_bytes names.now.new_book) answers.0.items answers.1) }
-    ensures fault { IfErr result (IsAnswersFault (F.holds files.now) (string_bytes names.now.replies) (string_bytes names.now.new_book) (HasFailed F.Input.failures)) }
+    ensures fault { IfErr result (IsAnswersFault (F.holds files.now) (string_bytes names.now.replies) (string_bytes names.now.new_book) (HasFailed F.Input.has_failed)) }
 {
     let replies = open_replies(alloc, files, names.replies.as_str())?;
     let after = open_book(rt, alloc, files, names.new_book.as_str())?;

@@ -28,7 +28,7 @@ pub fn audit_block_files<R: Threads, F: Files>(
     ensures audited { IfOk result (AreBlocksAudited (F.holds files.now)
         (string_bytes names.now.book) (string_bytes names.now.batch) (string_bytes names.now.replies) (string_bytes names.now.new_book)) }
     ensures fault { IfErr result (IsBlockAuditingFault (F.holds files.now)
-        (string_bytes names.now.book) (string_bytes names.now.batch) (string_bytes names.now.replies) (string_bytes names.now.new_book) (HasFailed F.Input.failures)) }
+        (string_bytes names.now.book) (string_bytes names.now.batch) (string_bytes names.now.replies) (string_bytes names.now.new_book) (HasFailed F.Input.has_failed)) }
 {
     let book = open_book(rt, alloc, files, names.book.as_str())?;
     let blocks = open_blocks(alloc, files, names.batch.as_str())?;
@@ -47,7 +47,7 @@ fn audit_answers<R: Threads, F: Files>(
     requires count { length blocks.now ≤ 1000 }
     requires each { All (λ block. length block.items ≤ 65536) blocks.now }
     ensures audited { IfOk result (AreAnswersAudited (F.holds files.now) (string_bytes names.now.replies) (string_bytes names.now.new_book) book.now (frames_of blocks.now)) }
-    ensures fault { IfErr result (IsBlockAnswersFault (F.holds files.now) (string_bytes names.now.replies) (string_bytes names.now.new_book) (HasFailed F.Input.failures)) }
+    ensures fault { IfErr result (IsBlockAnswersFault (F.holds files.now) (string_bytes names.now.replies) (string_bytes names.now.new_book) (HasFailed F.Input.has_failed)) }
 {
     let replies = open_block_replies(alloc, files, names.replies.as_str())?;
     let after = open_book(rt, alloc, files, names.new_book.as_str())?;
@@ -58,7 +58,7 @@ fn audit_answers<R: Threads, F: Files>(
 fn open_blocks<F: Files>(alloc: Global, files: &F, name: &str) -> Result<Vec<Vec<Frame>>, JobFault>
     ensures count { IfOk result (λ blocks. length blocks.items ≤ 1000) }
     ensures each { IfOk result (λ blocks. All (λ block. length block.items ≤ 65536) blocks.items) }
-    ensures fault { IfErr result (IsBlockFileFault (F.holds files.now) name.now (HasFailed F.Input.failures) ⊥ ⊥) }
+    ensures fault { IfErr result (IsBlockFileFault (F.holds files.now) name.now (HasFailed F.Input.has_failed) ⊥ ⊥) }
     ensures blocks { (bytes : List ℕ) → F.holds files.now name.now bytes → IfOk result (λ blocks. IsBlockFileOf bytes (frames_of blocks.items)) }
 {
     let mut input = files.open(name)?;
@@ -74,7 +74,7 @@ fn open_block_replies<F: Files>(
     files: &F,
     name: &str,
 ) -> Result<Vec<Vec<ReplyBody>>, JobFault>
-    ensures fault { IfErr result (IsBlockRepliesFault (F.holds files.now) name.now (HasFailed F.Input.failures)) }
+    ensures fault { IfErr result (IsBlockRepliesFault (F.holds files.now) name.now (HasFailed F.Input.has_failed)) }
     ensures replies { (bytes : List ℕ) → F.holds files.now name.now bytes → IfOk result (λ replies. IsBlockReplyFileOf bytes (replies_of replies.items)) }
 {
     let mut input = files.open(name)?;

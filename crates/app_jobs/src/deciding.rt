@@ -38,7 +38,7 @@ pub fn decide_batch<
         (string_bytes names.now.book) (string_bytes names.now.batch) (string_bytes names.now.replies) (string_bytes names.now.new_book)) }
     // The first fault, in the order of reading: the book's, then the batch's; or a call on a file failed, or memory ran out.
     ensures fault { IfErr result (IsDecidingFault (F.holds files.old) (string_bytes names.now.book) (string_bytes names.now.batch)
-        (HasFailed F.Input.failures) (HasFailed F.Output.failures) (HasRefused F.refuses)) }
+        (HasFailed F.Input.has_failed) (HasFailed F.Output.has_failed) (HasRefused F.refuses)) }
     // Nothing of an older new book is lost.
     ensures kept { OnErr result (string_bytes names.now.new_book ≢ string_bytes names.now.replies → (held : List ℕ)
         → F.holds files.old (string_bytes names.now.new_book) held → F.holds files.new (string_bytes names.now.new_book) held) }
@@ -70,7 +70,7 @@ fn answer_batch<F: Files, E: Fn(&Book, &[Frame]) -> Result<RunOutcome, AllocErro
         × ((bytes : List ℕ) → F.holds files.old (string_bytes names.now.batch) bytes → IsBatchOf bytes frames)
         × (F.is_known files.old → F.holds files.new (string_bytes names.now.replies) (replies_text (replies_to book.now frames)))) }
     ensures fault { IfErr result (IsBatchFault (F.holds files.old) (string_bytes names.now.batch)
-        (HasFailed F.Input.failures) (HasFailed F.Output.failures) (HasRefused F.refuses)) }
+        (HasFailed F.Input.has_failed) (HasFailed F.Output.has_failed) (HasRefused F.refuses)) }
     ensures unanswered { IfErr result (λ fault. IsOfBytes fault → F.is_known files.old
         → HoldsSameOrNothing (F.holds files.old) (F.holds files.new) (string_bytes names.now.replies)) }
     ensures known { F.is_known files.old → F.is_known files.new }

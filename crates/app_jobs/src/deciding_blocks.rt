@@ -1,4 +1,4 @@
-ghost use Rattle.std.specs.Prelude.{◌≡◌, ◌≢◌, ◌⊎◌, ◌≤◌, ◌+◌, ℕ, List, [], Some, None, Ok, Err, IfOk, IfErr, OnErr, IsTrue, length, string_bytes};
+ghost use Rattle.std.specs.Prelude.{◌≡◌, ◌≢◌, ◌≤◌, ℕ, List, Some, None, Ok, Err, IfOk, IfErr, OnErr, length, string_bytes};
 ghost use Rattle.file_batch.specs.Processing.{AnswersFold};
 ghost use Rattle.file_batch_laws.specs.declared.batch_fault.BatchFault.{BatchFault};
 ghost use Rattle.book_laws.specs.Text.{book_text};
@@ -39,7 +39,7 @@ pub fn decide_blocks<
         (string_bytes names.now.book) (string_bytes names.now.batch) (string_bytes names.now.replies) (string_bytes names.now.new_book) fault count) }
     // The first fault, in the order of reading: the book's, then the block file's; or a call on a file failed, or memory ran out.
     ensures fault { IfErr result (λ halt. IsBlocksFault (F.holds files.old) (string_bytes names.now.book) (string_bytes names.now.batch)
-        (HasFailed F.Input.failures) (HasFailed F.Output.failures) (HasRefused F.refuses) halt.fault) }
+        (HasFailed F.Input.has_failed) (HasFailed F.Output.has_failed) (HasRefused F.refuses) halt.fault) }
     // Where no new book was written, nothing of the older one is lost.
     ensures kept { IfErr result (λ halt. halt.kept ≡ None → (held : List ℕ) → string_bytes names.now.new_book ≢ string_bytes names.now.replies
         → F.holds files.old (string_bytes names.now.new_book) held → F.holds files.new (string_bytes names.now.new_book) held) }
@@ -71,9 +71,9 @@ fn answer_blocks<F: Files, E: Fn(&Book, &[Frame]) -> Result<RunOutcome, AllocErr
     ensures some { IfOk result (λ processed. IfErr processed (λ halted. AreFirstAnswered (F.is_known files.old) (F.holds files.old) (F.holds files.new)
         (string_bytes names.now.batch) (string_bytes names.now.replies) book halted.book halted.fault halted.blocks)) }
     ensures stopped { IfOk result (λ processed. IfErr processed (λ halted. IsBlockFileFault (F.holds files.old) (string_bytes names.now.batch)
-        (HasFailed F.Input.failures) (HasFailed F.Output.failures) (HasRefused F.refuses) (JobFault.Batch halted.fault))) }
+        (HasFailed F.Input.has_failed) (HasFailed F.Output.has_failed) (HasRefused F.refuses) (JobFault.Batch halted.fault))) }
     ensures fault { IfErr result (IsBlockFileFault (F.holds files.old) (string_bytes names.now.batch)
-        (HasFailed F.Input.failures) (HasFailed F.Output.failures) (HasRefused F.refuses)) }
+        (HasFailed F.Input.has_failed) (HasFailed F.Output.has_failed) (HasRefused F.refuses)) }
     ensures known { F.is_known files.old → F.is_known files.new }
     ensures others { (other held : List ℕ) → other ≢ string_bytes names.now.replies → F.holds files.old other held → F.holds files.new other held }
 {

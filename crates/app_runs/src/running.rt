@@ -1,4 +1,4 @@
-ghost use Rattle.std.specs.Prelude.{◌≡◌, ◌≢◌, ◌≤◌, ℕ, List, IfOk, IfErr, OnErr, length, string_bytes};
+ghost use Rattle.std.specs.Prelude.{◌≢◌, ◌≤◌, ℕ, List, IfOk, IfErr, OnErr, length, string_bytes};
 ghost use Rattle.file_batch.specs.Processing.{AnswersFold};
 ghost use Rattle.file_devices.specs.Failing.{HasFailed, HasRefused};
 ghost use Rattle.app_jobs.specs.Decided.{IsDecided};
@@ -31,7 +31,7 @@ pub fn run_batch<R: Clock + Threads + Wait + Sync, F: Files>(
     ensures decided { IfOk result (IsDecided (F.is_known files.old) (F.holds files.old) (F.holds files.new)
         (string_bytes names.now.book) (string_bytes names.now.batch) (string_bytes names.now.replies) (string_bytes names.now.new_book)) }
     ensures fault { IfErr result (IsDecidingFault (F.holds files.old) (string_bytes names.now.book) (string_bytes names.now.batch)
-        (HasFailed F.Input.failures) (HasFailed F.Output.failures) (HasRefused F.refuses)) }
+        (HasFailed F.Input.has_failed) (HasFailed F.Output.has_failed) (HasRefused F.refuses)) }
     ensures kept { OnErr result (string_bytes names.now.new_book ≢ string_bytes names.now.replies → (held : List ℕ)
         → F.holds files.old (string_bytes names.now.new_book) held → F.holds files.new (string_bytes names.now.new_book) held) }
     ensures unanswered { IfErr result (λ fault. IsOfBytes fault → F.is_known files.old

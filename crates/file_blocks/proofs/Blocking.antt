@@ -57,23 +57,23 @@ pub begun : (rows : Rows) (reads : Type 0) (bytes left : List ℕ) (puts : Type 
 begun rows reads bytes left puts old new failed same block read (inl s) = inl s
 begun rows reads bytes left puts old new failed same block read (inr p) = inr (p.0, block, left, read, p.1)
 
-as_begun : (rows : Rows) (reads reads' : Type 0) (left : List ℕ) (puts puts' : Type 0) (mid new : List ℕ) (failed failed' same : Type 0) → (reads → reads') → (puts → puts') → (same → new ≡ mid) → (failed → failed')
-    → same ⊎ BeginsBlock rows reads' left puts' mid new failed → (puts → new ≡ mid) ⊎ BeginsBlock rows reads left puts mid new failed'
-as_begun rows reads reads' left puts puts' mid new failed failed' same r p eq f (inl s) = inl (λ known. eq s)
-as_begun rows reads reads' left puts puts' mid new failed failed' same r p eq f (inr b) = inr (f b.0, b.1, b.2, λ known. b.3 (r known), λ known. b.4 (p known))
+as_begun : (rows : Rows) (reads reads' : Type 0) (left : List ℕ) (puts puts' : Type 0) (mid new : List ℕ) (failed same : Type 0) → (reads → reads') → (puts → puts') → (same → new ≡ mid)
+    → same ⊎ BeginsBlock rows reads' left puts' mid new failed → (puts → new ≡ mid) ⊎ BeginsBlock rows reads left puts mid new failed
+as_begun rows reads reads' left puts puts' mid new failed same r p eq (inl s) = inl (λ known. eq s)
+as_begun rows reads reads' left puts puts' mid new failed same r p eq (inr b) = inr (b.0, b.1, b.2, λ known. b.3 (r known), λ known. b.4 (p known))
 
-pub halts : (total : ℕ) (opening : Rows) (before after : KeptBlocks) (reads reads' : Type 0) (bytes left : List ℕ) (puts puts' : Type 0) (old mid new : List ℕ) (e : BatchFault) (failed failed' same : Type 0)
+pub halts : (total : ℕ) (opening : Rows) (before after : KeptBlocks) (reads reads' : Type 0) (bytes left : List ℕ) (puts puts' : Type 0) (old mid new : List ℕ) (e : BatchFault) (failed same : Type 0)
     → AreDecided opening before.book before.blocks before.messages reads bytes left puts old mid → after ≡ before → before.blocks < total → (reads → reads') → (puts → puts')
-    → (reads' → IsTrue (is_of_bytes e) → block_at left ≡ Err e) → same ⊎ BeginsBlock before.book reads' left puts' mid new failed → (same → new ≡ mid) → (failed → failed')
-    → StopsBehind total opening after.book after.blocks reads bytes puts old new e failed'
-halts total opening before after reads reads' bytes left puts puts' old mid new e failed failed' same so_far is lt r p fault next eq f =
-    subst (λ (k : KeptBlocks). StopsBehind total opening k.book k.blocks reads bytes puts old new e failed') (sym is) (record {
+    → (reads' → IsTrue (is_of_bytes e) → block_at left ≡ Err e) → same ⊎ BeginsBlock before.book reads' left puts' mid new failed → (same → new ≡ mid)
+    → StopsBehind total opening after.book after.blocks reads bytes puts old new e failed
+halts total opening before after reads reads' bytes left puts puts' old mid new e failed same so_far is lt r p fault next eq =
+    subst (λ (k : KeptBlocks). StopsBehind total opening k.book k.blocks reads bytes puts old new e failed) (sym is) (record {
       messages = before.messages;
       left = left;
       mid = mid;
       kept = so_far;
       fails = λ known of_bytes. inl (lt, fault (r known) of_bytes);
-      begun = as_begun before.book reads reads' left puts puts' mid new failed failed' same r p eq f next;
+      begun = as_begun before.book reads reads' left puts puts' mid new failed same r p eq next;
     })
 
 -- all blocks are kept, and something stands behind them, or it can't be seen
@@ -125,21 +125,21 @@ moved opening rows count messages reads reads' bytes left puts puts' old old' ne
   put = λ known. so_far.put (p known) ∙ ap (λ (x : List ℕ). x ++ blocks_text (replies_to_blocks opening so_far.blocks)) (eq known);
 }
 
-moved_begun : (rows : Rows) (reads reads' : Type 0) (left : List ℕ) (puts puts' : Type 0) (mid new : List ℕ) (failed failed' : Type 0) → (reads → reads') → (puts → puts') → (failed' → failed)
-    → (puts' → new ≡ mid) ⊎ BeginsBlock rows reads' left puts' mid new failed' → (puts → new ≡ mid) ⊎ BeginsBlock rows reads left puts mid new failed
-moved_begun rows reads reads' left puts puts' mid new failed failed' r p f (inl same) = inl (λ known. same (p known))
-moved_begun rows reads reads' left puts puts' mid new failed failed' r p f (inr b) = inr (f b.0, b.1, b.2, λ known. b.3 (r known), λ known. b.4 (p known))
+moved_begun : (rows : Rows) (reads reads' : Type 0) (left : List ℕ) (puts puts' : Type 0) (mid new : List ℕ) (failed : Type 0) → (reads → reads') → (puts → puts')
+    → (puts' → new ≡ mid) ⊎ BeginsBlock rows reads' left puts' mid new failed → (puts → new ≡ mid) ⊎ BeginsBlock rows reads left puts mid new failed
+moved_begun rows reads reads' left puts puts' mid new failed r p (inl same) = inl (λ known. same (p known))
+moved_begun rows reads reads' left puts puts' mid new failed r p (inr b) = inr (b.0, b.1, b.2, λ known. b.3 (r known), λ known. b.4 (p known))
 
-pub halts_moved : (total : ℕ) (opening rows : Rows) (count : ℕ) (reads reads' : Type 0) (bytes : List ℕ) (puts puts' : Type 0) (old old' new : List ℕ) (e : BatchFault) (failed failed' : Type 0)
-    → StopsBehind total opening rows count reads' bytes puts' old' new e failed' → (reads → reads') → (puts → puts') → (puts → old' ≡ old) → (failed' → failed)
+pub halts_moved : (total : ℕ) (opening rows : Rows) (count : ℕ) (reads reads' : Type 0) (bytes : List ℕ) (puts puts' : Type 0) (old old' new : List ℕ) (e : BatchFault) (failed : Type 0)
+    → StopsBehind total opening rows count reads' bytes puts' old' new e failed → (reads → reads') → (puts → puts') → (puts → old' ≡ old)
     → StopsBehind total opening rows count reads bytes puts old new e failed
-halts_moved total opening rows count reads reads' bytes puts puts' old old' new e failed failed' stops r p eq f = record {
+halts_moved total opening rows count reads reads' bytes puts puts' old old' new e failed stops r p eq = record {
   messages = stops.messages;
   left = stops.left;
   mid = stops.mid;
   kept = moved opening rows count stops.messages reads reads' bytes stops.left puts puts' old old' stops.mid stops.kept r p eq;
   fails = λ known. stops.fails (r known);
-  begun = moved_begun rows reads reads' stops.left puts puts' stops.mid new failed failed' r p f stops.begun;
+  begun = moved_begun rows reads reads' stops.left puts puts' stops.mid new failed r p stops.begun;
 }
 
 pub halts_in_head : (opening : Rows) (count : ℕ) (reads : Type 0) (bytes : List ℕ) (total : ℕ) (behind : List ℕ) (puts : Type 0) (old new : List ℕ) (e : BatchFault) (failed same : Type 0)

@@ -1,8 +1,8 @@
 //! Block files and their replies, read whole.
 
-ghost use Rattle.std.specs.Prelude.{◌≡◌, ◌+◌, ◌<◌, ◌≤◌, ◌^◌, [], length, vec_len, IfOk, OnOk};
+ghost use Rattle.std.specs.Prelude.{◌≡◌, ◌≤◌, [], length, vec_len, IfOk, OnOk};
 ghost use Rattle.std.specs.List.{All};
-ghost use Rattle.file_batch_laws.specs.BatchFault.{failures_after};
+ghost use Rattle.file_batch.specs.Device.{UsesDevice};
 ghost use Rattle.file_blocks.specs.BlockFiles.{GivesBlocks, GivesBlockFile};
 ghost use Rattle.file_batch.specs.Window.{ahead};
 
@@ -20,9 +20,7 @@ fn read_blocks_of<R: Source>(
     source: &mut R,
     count: u32,
 ) -> Result<Vec<Vec<Frame>>, BatchFault>
-    requires room { R.failures source.old + 1 < 2 ^ 64 }
-    ensures failures { R.failures source.new ≡ failures_after result (R.failures source.old) }
-    ensures known { R.is_known source.old → R.is_known source.new }
+    ensures device { UsesDevice R.is_known R.has_failed source.old source.new result }
     ensures count { IfOk result (λ blocks. vec_len blocks ≡ count) }
     ensures each { IfOk result (λ blocks. All (λ block. length block.items ≤ 65536) blocks.items) }
     ensures gives { R.is_known source.old → GivesBlocks count (ahead window.old (R.remaining source.old)) result (ahead window.new (R.remaining source.new)) }
@@ -41,9 +39,7 @@ fn read_block_file<R: Source>(
     alloc: Global,
     source: &mut R,
 ) -> Result<Vec<Vec<Frame>>, BatchFault>
-    requires room { R.failures source.old + 1 < 2 ^ 64 }
-    ensures failures { R.failures source.new ≡ failures_after result (R.failures source.old) }
-    ensures known { R.is_known source.old → R.is_known source.new }
+    ensures device { UsesDevice R.is_known R.has_failed source.old source.new result }
     ensures count { IfOk result (λ blocks. length blocks.items ≤ 1000) }
     ensures each { IfOk result (λ blocks. All (λ block. length block.items ≤ 65536) blocks.items) }
     ensures gives { R.is_known source.old → GivesBlockFile (ahead window.old (R.remaining source.old)) result }
@@ -59,9 +55,7 @@ fn read_block_file<R: Source>(
 /// order. The source is at its end then. `Device` is the fault exactly where a call of the source failed; and memory
 /// can run out.
 pub fn read_blocks<R: Source>(alloc: Global, source: &mut R) -> Result<Vec<Vec<Frame>>, BatchFault>
-    requires room { R.failures source.old + 1 < 2 ^ 64 }
-    ensures failures { R.failures source.new ≡ failures_after result (R.failures source.old) }
-    ensures known { R.is_known source.old → R.is_known source.new }
+    ensures device { UsesDevice R.is_known R.has_failed source.old source.new result }
     ensures count { IfOk result (λ blocks. length blocks.items ≤ 1000) }
     ensures each { IfOk result (λ blocks. All (λ block. length block.items ≤ 65536) blocks.items) }
     ensures gives { R.is_known source.old → GivesBlockFile (R.remaining source.old) result }

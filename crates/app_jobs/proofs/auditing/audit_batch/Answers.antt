@@ -8,7 +8,7 @@ pub returns-in_err-run-clause-fault : goal.returns-in_err-run-clause-fault
 returns-in_err-run-clause-fault g c =
     let p = err_from_is_err_and c.from_residual.result c.from_residual.ensures.1 in
     rw (p.1, p.2) (of_four (g.F.Files.holds c.args.files.now) (string_bytes c.args.names.now.book) (string_bytes c.args.names.now.batch) (string_bytes c.args.names.now.replies) (string_bytes c.args.names.now.new_book)
-    (HasFailed g.F.Input.Source.failures) _ c.in_err-run.field-0.0 c.in_err-run.ensures.fault)
+    (HasFailed g.F.Input.Source.has_failed) _ c.in_err-run.field-0.0 c.in_err-run.ensures.fault)
 
 pub returns-clause-audited : goal.returns-clause-audited
 returns-clause-audited g c = IfOk-weaker c.audit_run.result _ _ (λ found finds. record {
@@ -27,4 +27,4 @@ pub returns-clause-fault : goal.returns-clause-fault
 returns-clause-fault g c =
     let run = c.in_ok-run.run' in
     IfErr-weaker c.audit_run.result _ _ (λ fault none. behind_four (g.F.Files.holds c.args.files.now) (string_bytes c.args.names.now.book) (string_bytes c.args.names.now.batch) (string_bytes c.args.names.now.replies) (string_bytes c.args.names.now.new_book)
-    run.book run.frames.items run.replies.items run.after (HasFailed g.F.Input.Source.failures) _ fault c.in_ok-run.ensures.held none) c.audit_run.ensures.fault
+    run.book run.frames.items run.replies.items run.after (HasFailed g.F.Input.Source.has_failed) _ fault c.in_ok-run.ensures.held none) c.audit_run.ensures.fault

@@ -10,13 +10,13 @@ pub returns-in_err-run-clause-fault : goal.returns-in_err-run-clause-fault
 returns-in_err-run-clause-fault g c =
     let p = err_from_is_err_and c.from_residual.result c.from_residual.ensures.1 in
     rw (p.1, p.2) (of_four (g.F.Files.holds c.args.files.now) (string_bytes c.args.names.now.book) (string_bytes c.args.names.now.batch) (string_bytes c.args.names.now.replies) (string_bytes c.args.names.now.new_book)
-    (HasFailed g.F.Input.Source.failures) _ c.in_err-run.field-0.0 c.in_err-run.ensures.fault)
+    (HasFailed g.F.Input.Source.has_failed) _ c.in_err-run.field-0.0 c.in_err-run.ensures.fault)
 
 pub returns-in_err-entries-clause-fault : goal.returns-in_err-entries-clause-fault
 returns-in_err-entries-clause-fault g c =
     let p = err_from_is_err_and c.from_residual-in_err-entries.result c.from_residual-in_err-entries.ensures.1 in
     rw (p.1, p.2) (behind_four (g.F.Files.holds c.args.files.now) (string_bytes c.args.names.now.book) (string_bytes c.args.names.now.batch) (string_bytes c.args.names.now.replies) (string_bytes c.args.names.now.new_book)
-    c.in_ok-run.run'.book c.in_ok-run.run'.frames.items c.in_ok-run.run'.replies.items c.in_ok-run.run'.after (HasFailed g.F.Input.Source.failures) _ c.in_err-entries.field-0.0
+    c.in_ok-run.run'.book c.in_ok-run.run'.frames.items c.in_ok-run.run'.replies.items c.in_ok-run.run'.after (HasFailed g.F.Input.Source.has_failed) _ c.in_err-entries.field-0.0
     c.in_ok-run.ensures.held (inl c.in_err-entries.ensures.fault))
 
 pub returns-in-Ok-clause-audited : goal.returns-in-Ok-clause-audited
@@ -41,7 +41,7 @@ returns-clause-fault g c =
     let held = c.in_ok-run.ensures.held in
     let unlogged = rw (c.deref.ensures.value, c.deref-2.ensures.value) at c.in-Err.ensures.unlogged in
     behind_four (g.F.Files.holds c.args.files.now) (string_bytes c.args.names.now.book) (string_bytes c.args.names.now.batch) (string_bytes c.args.names.now.replies) (string_bytes c.args.names.now.new_book)
-    run.book run.frames.items run.replies.items run.after (HasFailed g.F.Input.Source.failures) _ (Journal c.in-Err.fault) held
+    run.book run.frames.items run.replies.items run.after (HasFailed g.F.Input.Source.has_failed) _ (Journal c.in-Err.fault) held
     (inr (unplayed (g.F.Files.holds c.args.files.now) (string_bytes c.args.names.now.book) (string_bytes c.args.names.now.batch) c.args.journal.now
     run.book run.frames.items c.in_ok-entries.entries.items c.in-Err.fault held.opening held.messages c.in_ok-entries.ensures.are c.in_ok-entries.ensures.entries
     unlogged c.in-Err.ensures.lines))

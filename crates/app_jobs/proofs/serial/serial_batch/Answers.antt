@@ -35,8 +35,8 @@ returns-in_err-put_answered-clause-fault g c =
     rw (p.1, p.2) (inr (
       (c.in_ok-book.book, book),
       elim c.in_err-put_answered.ensures.fault [
-        | inl x ↦ inl (of_replies (g.F.Files.holds c.args.files.now) (string_bytes c.args.names.now.batch) (HasFailed g.F.Input.Source.failures)
-            (HasFailed g.F.Output.Sink.failures) (HasRefused g.F.Files.refuses) _ x)
+        | inl x ↦ inl (of_replies (g.F.Files.holds c.args.files.now) (string_bytes c.args.names.now.batch) (HasFailed g.F.Input.Source.has_failed)
+            (HasFailed g.F.Output.Sink.has_failed) (HasRefused g.F.Files.refuses) _ x)
         | inr y ↦ inr ((decided.0, decided.2), y)
       ],
     ))

@@ -9,8 +9,8 @@ returns-in_err-read_end-clause-gives g c = λ known.
     let p = err_from_is_err_and c.from_residual-in_err-read_end.result c.from_residual-in_err-read_end.ensures.1 in
     let behind = ahead c.read_block_head.new.window (g.R.Source.remaining c.read_block_head.new.source) in
     let left = ahead c.read_reply_blocks.new.window (g.R.Source.remaining c.read_reply_blocks.new.source) in
-    let in_head = c.in_ok-count.ensures.known known in
-    let in_blocks = c.in_ok-blocks.ensures.known in_head in
+    let in_head = c.in_ok-count.ensures.device.known known in
+    let in_blocks = c.in_ok-blocks.ensures.device.known in_head in
     let given = c.in_ok-blocks.ensures.gives in_head in
     rw (p.1, p.2) (λ of_bytes. inr (
       c.in_ok-count.count,
@@ -23,20 +23,8 @@ pub returns-clause-gives : goal.returns-clause-gives
 returns-clause-gives g c = λ known.
     let behind = ahead c.read_block_head.new.window (g.R.Source.remaining c.read_block_head.new.source) in
     let left = ahead c.read_reply_blocks.new.window (g.R.Source.remaining c.read_reply_blocks.new.source) in
-    let in_head = c.in_ok-count.ensures.known known in
-    let in_blocks = c.in_ok-blocks.ensures.known in_head in
+    let in_head = c.in_ok-count.ensures.device.known known in
+    let in_blocks = c.in_ok-blocks.ensures.device.known in_head in
     let given = c.in_ok-blocks.ensures.gives in_head in
     is_file (ahead c.args.window.now (g.R.Source.remaining c.args.source.now)) behind left c.in_ok-count.count c.in_ok-blocks.blocks.items
     (c.in_ok-count.ensures.gives known) given.0 given.1 (c.in_ok-read_end.ensures.gives in_blocks)
-
-pub returns-in_err-count-clause-known : goal.returns-in_err-count-clause-known
-returns-in_err-count-clause-known g c = c.read_block_head.ensures.known
-
-pub returns-in_err-blocks-clause-known : goal.returns-in_err-blocks-clause-known
-returns-in_err-blocks-clause-known g c = λ known. c.read_reply_blocks.ensures.known (c.read_block_head.ensures.known known)
-
-pub returns-in_err-read_end-clause-known : goal.returns-in_err-read_end-clause-known
-returns-in_err-read_end-clause-known g c = λ known. c.read_end.ensures.known (c.read_reply_blocks.ensures.known (c.read_block_head.ensures.known known))
-
-pub returns-clause-known : goal.returns-clause-known
-returns-clause-known g c = λ known. c.read_end.ensures.known (c.read_reply_blocks.ensures.known (c.read_block_head.ensures.known known))

@@ -15,8 +15,7 @@ loop-left-init g c =
     let none : length (frames_in (sent c.args.self.now.outbound)) ≡ 0 = rw c.requires.none refl in
     record {
       ends = search rules;
-      kept = refl;
-      known = λ known. known;
+      device = search rules;
       count = omega (arith, none);
       so_far = λ known. starts c.args.count c.args.count (frames_in (sent c.args.self.now.outbound)) bytes (rw c.requires.none refl) refl;
       told = λ head told. told;
@@ -48,7 +47,7 @@ returns-in_err-read_into-clause-gives g c =
     let rest = c.loop-left.left - c.min-size.result in
     let both : c.loop-left.left ≡ k + rest = omega (arith, c.min-size.ensures) in
     rw (p.1, p.2) (λ known. ends_by c.in_err-read_into.field-0.0 frames k rest bytes total
-    (c.in_err-read_into.ensures.gives (c.loop-left.invariant.known known))
+    (c.in_err-read_into.ensures.gives (c.loop-left.invariant.device.known known))
     (subst (λ (n : ℕ). SoFar frames n bytes total) both (c.loop-left.invariant.so_far known)))
 
 pub hand_over-requires : goal.hand_over-requires
@@ -76,11 +75,10 @@ loop-left-preserved g c =
         producer_on c.args.self.now.outbound c.loop-left.self.outbound c.hand_over.new.outbound ends.0 (rw c.free_piece.ensures.ends.0 at c.hand_over.ensures.ring),
         consumer_on c.args.self.now.inbound c.loop-left.self.inbound c.free_piece.new.self.inbound ends.1 c.free_piece.ensures.ends.1,
       );
-      kept = c.in_ok-read_into.ensures.failures ∙ c.loop-left.invariant.kept;
-      known = λ known. c.in_ok-read_into.ensures.known (c.loop-left.invariant.known known);
+      device = search rules;
       count = rw gone (omega (arith, count_of_one_more outbound piece (length frames) refl, many, c.loop-left.invariant.count, c.min-size.ensures));
       so_far = λ known.
-          let given = c.in_ok-read_into.ensures.gives (c.loop-left.invariant.known known) in
+          let given = c.in_ok-read_into.ensures.gives (c.loop-left.invariant.device.known known) in
           rw (gone, frames_of_one_more outbound piece) (goes_on_by frames c.read_into.new.frames.items k rest bytes given.0
           (ahead c.read_into.new.self (g.R.Source.remaining c.read_into.new.source)) total given.1 given.2
           (subst (λ (n : ℕ). SoFar frames n bytes total) both (c.loop-left.invariant.so_far known)));

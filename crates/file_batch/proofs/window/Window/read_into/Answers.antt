@@ -7,8 +7,7 @@ use Rattle.file_batch.proofs.window.Window.read_into.Goals as goal
 
 pub loop-init : goal.loop-init
 loop-init g c = record {
-  kept = search rules;
-  known = λ known. known;
+  device = search rules;
   count = search rules;
   frames = λ known. starts c.args.count _ c.clear.new.self.items _ c.clear.ensures.items (omega arith);
 }
@@ -19,15 +18,14 @@ returns-in_err-read_body-clause-gives g c = λ known.
     rw (p.1, p.2) (ends c.in_err-read_body.field-0.0 c.loop.frames.items c.args.count c.loop.counter
     (ahead c.loop.self (g.R.Source.remaining c.loop.source))
     (bodies_at c.args.count (ahead c.args.self.now (g.R.Source.remaining c.args.source.now)))
-    c.loop-test.true (c.in_err-read_body.ensures.gives (c.loop.invariant.known known)) (c.loop.invariant.frames known))
+    c.loop-test.true (c.in_err-read_body.ensures.gives (c.loop.invariant.device.known known)) (c.loop.invariant.frames known))
 
 pub loop-preserved : goal.loop-preserved
 loop-preserved g c =
     let after = c.read_body.new.self in
     let added : c.push.new.self.items ≡ c.loop.frames.items ++ c.frame_of.result ∷ [] = c.in_ok-push.ensures.items in
     record {
-      kept = search rules;
-      known = λ known. c.in_ok-read_body.ensures.known (c.loop.invariant.known known);
+      device = search rules;
       count = grind arith;
       frames = λ known. rw added (goes_on c.loop.frames.items c.args.count c.loop.counter
           (ahead c.loop.self (g.R.Source.remaining c.loop.source))
@@ -35,7 +33,7 @@ loop-preserved g c =
           (ahead after (g.R.Source.remaining c.read_body.new.source))
           c.frame_of.result
           (bodies_at c.args.count (ahead c.args.self.now (g.R.Source.remaining c.args.source.now)))
-          c.loop-test.true (c.in_ok-read_body.ensures.gives (c.loop.invariant.known known)) (rw c.deref.ensures.value at c.frame_of.ensures) (c.loop.invariant.frames known));
+          c.loop-test.true (c.in_ok-read_body.ensures.gives (c.loop.invariant.device.known known)) (rw c.deref.ensures.value at c.frame_of.ensures) (c.loop.invariant.frames known));
     }
 
 pub returns-clause-gives : goal.returns-clause-gives
@@ -44,12 +42,3 @@ returns-clause-gives g c = λ known.
     (ahead c.loop.self (g.R.Source.remaining c.loop.source))
     (bodies_at c.args.count (ahead c.args.self.now (g.R.Source.remaining c.args.source.now)))
     c.loop-test.false (c.loop.invariant.frames known)
-
-pub returns-in_err-read_body-clause-known : goal.returns-in_err-read_body-clause-known
-returns-in_err-read_body-clause-known g c = λ known. c.read_body.ensures.known (c.loop.invariant.known known)
-
-pub returns-in_err-push-clause-known : goal.returns-in_err-push-clause-known
-returns-in_err-push-clause-known g c = λ known. c.read_body.ensures.known (c.loop.invariant.known known)
-
-pub returns-clause-known : goal.returns-clause-known
-returns-clause-known g c = c.loop.invariant.known

@@ -10,8 +10,8 @@ returns-in_err-read_end-clause-gives g c = λ known.
     let p = err_from_is_err_and c.from_residual-in_err-read_end.result c.from_residual-in_err-read_end.ensures.1 in
     let behind = ahead c.read_head.new.self (g.R.Source.remaining c.read_head.new.source) in
     let left = ahead c.read_replies.new.self (g.R.Source.remaining c.read_replies.new.source) in
-    let in_head = c.in_ok-count.ensures.known known in
-    let in_replies = c.in_ok-replies.ensures.known in_head in
+    let in_head = c.in_ok-count.ensures.device.known known in
+    let in_replies = c.in_ok-replies.ensures.device.known in_head in
     rw (p.1, p.2) (λ of_bytes. inr (
       c.in_ok-count.count,
       behind,
@@ -24,19 +24,7 @@ returns-clause-gives g c = λ known.
     let bytes = ahead c.args.self.now (g.R.Source.remaining c.args.source.now) in
     let behind = ahead c.read_head.new.self (g.R.Source.remaining c.read_head.new.source) in
     let left = ahead c.read_replies.new.self (g.R.Source.remaining c.read_replies.new.source) in
-    let in_head = c.in_ok-count.ensures.known known in
+    let in_head = c.in_ok-count.ensures.device.known known in
     let given = c.in_ok-replies.ensures.gives in_head in
-    let end = c.in_ok-read_end.ensures.gives (c.in_ok-replies.ensures.known in_head) in
+    let end = c.in_ok-read_end.ensures.gives (c.in_ok-replies.ensures.device.known in_head) in
     (given.0, is_whole replies_magic bytes c.in_ok-count.count behind given.0 left (c.in_ok-count.ensures.gives known) given.1 end, given.2)
-
-pub returns-in_err-count-clause-known : goal.returns-in_err-count-clause-known
-returns-in_err-count-clause-known g c = c.read_head.ensures.known
-
-pub returns-in_err-replies-clause-known : goal.returns-in_err-replies-clause-known
-returns-in_err-replies-clause-known g c = λ known. c.read_replies.ensures.known (c.read_head.ensures.known known)
-
-pub returns-in_err-read_end-clause-known : goal.returns-in_err-read_end-clause-known
-returns-in_err-read_end-clause-known g c = λ known. c.read_end.ensures.known (c.read_replies.ensures.known (c.read_head.ensures.known known))
-
-pub returns-clause-known : goal.returns-clause-known
-returns-clause-known g c = λ known. c.read_end.ensures.known (c.read_replies.ensures.known (c.read_head.ensures.known known))
