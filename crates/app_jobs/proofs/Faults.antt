@@ -29,6 +29,12 @@ none_of_putting refused (Book fault) h o = h
 none_of_putting refused (Batch fault) h o = h
 none_of_putting refused _ h o = o
 
+-- nor that replies are not written to theirs
+pub none_of_replies : (put_failed refused : Type 0) (e : JobFault) → IsRepliesFault put_failed refused e → ¬ IsOfBytes e
+none_of_replies put_failed refused (Batch fault) h o = h.0 o
+none_of_replies put_failed refused (Book fault) h o = h
+none_of_replies put_failed refused _ h o = o
+
 -- of two devices one failed, for a fault of a batch
 pub one_failed : {X Y : Type 0} (reading : X → Bool) (putting : Y → Bool) (refused : Type 0) (x : X) (y : Y) → (reading x || putting y) ≡ true
     → HasFailed reading ⊎ (HasFailed putting ⊎ refused)

@@ -9,15 +9,16 @@ use Rattle.file_batch_laws.specs.Files.{head_text}
 use Rattle.file_batch_laws.specs.declared.batch_fault.BatchFault.{BatchFault}
 use Rattle.file_batch_laws.specs.declared.batch_fault.BatchFault.TheVariants.{Device}
 use Rattle.issuer_rows.specs.Fold.{Rows, replies_to}
+use Rattle.file_devices.specs.BatchNames.{Names}
 use Rattle.app_jobs.specs.DecidedBlocks.{AreFirstAnswered}
 use Rattle.app_jobs.specs.Decided.{Holding}
 
-pub before_head : (known : Type 0) (old new : Holding) (batch replies : List ℕ) (rows after : Rows) (fault : BatchFault) (count : ℕ)
+pub before_head : (known : Type 0) (old new : Holding) (names : Names) (rows after : Rows) (fault : BatchFault) (count : ℕ)
     (reads : Type 0) (bytes written : List ℕ) (same : Type 0)
-    → ((held : List ℕ) → old batch held → reads × (bytes ≡ held)) → (known → new replies written) → (known → same → written ≡ [])
+    → ((held : List ℕ) → old names.batch held → reads × (bytes ≡ held)) → (known → new names.replies written) → (known → same → written ≡ [])
     → StopsBefore rows after count reads bytes fault same
-    → AreFirstAnswered known old new batch replies rows after fault count
-before_head known old new batch replies rows after fault count reads bytes written same opened closed empty h =
+    → AreFirstAnswered known old new names rows after fault count
+before_head known old new names rows after fault count reads bytes written same opened closed empty h =
     record {
       blocks = [];
       number = h.0;
@@ -28,12 +29,12 @@ before_head known old new batch replies rows after fault count reads bytes writt
       answered = λ k. (written, closed k, inl (refl, head_text block_replies_magic 0, rw (empty k h.2) refl));
     }
 
-pub in_head : (known : Type 0) (old new : Holding) (batch replies : List ℕ) (rows after : Rows) (fault : BatchFault) (count : ℕ)
+pub in_head : (known : Type 0) (old new : Holding) (names : Names) (rows after : Rows) (fault : BatchFault) (count : ℕ)
     (reads : Type 0) (bytes : List ℕ) (puts : Type 0) (start written : List ℕ) (failed : Type 0)
-    → (known → new replies written) → (known → puts) → (known → start ≡ []) → (failed → ¬ IsTrue (is_of_bytes fault))
+    → (known → new names.replies written) → (known → puts) → (known → start ≡ []) → (failed → ¬ IsTrue (is_of_bytes fault))
     → StopsInHead rows after count reads bytes puts start written failed
-    → AreFirstAnswered known old new batch replies rows after fault count
-in_head known old new batch replies rows after fault count reads bytes puts start written failed closed put empty device h =
+    → AreFirstAnswered known old new names rows after fault count
+in_head known old new names rows after fault count reads bytes puts start written failed closed put empty device h =
     record {
       blocks = [];
       number = h.0;
@@ -46,12 +47,12 @@ in_head known old new batch replies rows after fault count reads bytes puts star
           (written, closed k, inl (refl, part.1, rw (part.2, empty k) part.3));
     }
 
-pub behind_head : (known : Type 0) (old new : Holding) (batch replies : List ℕ) (rows after : Rows) (fault : BatchFault) (count : ℕ)
+pub behind_head : (known : Type 0) (old new : Holding) (names : Names) (rows after : Rows) (fault : BatchFault) (count : ℕ)
     (reads : Type 0) (bytes : List ℕ) (puts : Type 0) (start written : List ℕ) (failed : Type 0)
-    → ((held : List ℕ) → old batch held → reads × (bytes ≡ held)) → (known → new replies written) → (known → puts) → (known → start ≡ [])
+    → ((held : List ℕ) → old names.batch held → reads × (bytes ≡ held)) → (known → new names.replies written) → (known → puts) → (known → start ≡ [])
     → StopsInBlocks rows after count reads bytes puts start written fault failed
-    → AreFirstAnswered known old new batch replies rows after fault count
-behind_head known old new batch replies rows after fault count reads bytes puts start written failed opened closed put empty h =
+    → AreFirstAnswered known old new names rows after fault count
+behind_head known old new names rows after fault count reads bytes puts start written failed opened closed put empty h =
     let kept = h.3.kept in
     record {
       blocks = kept.blocks;

@@ -9,6 +9,7 @@ use Rattle.book_laws.specs.Reading.{IsAnswer, reading}
 use Rattle.issuer_rows.specs.Fold.{Rows}
 use Rattle.issuer_rows.specs.declared.frame.Frame.{Frame}
 use Rattle.issuer_rows.specs.declared.reply_body.ReplyBody.{ReplyBody}
+use Rattle.file_devices.specs.BatchNames.{Names}
 use Rattle.app_jobs.specs.Decided.{Holding, IsBookOf}
 use Rattle.app_jobs.specs.declared.job_fault.JobFault.{JobFault}
 use Rattle.app_jobs.specs.declared.job_fault.JobFault.TheVariants.{Unreadable, Unwritable, Book, Batch, Journal, Text, OutOfMemory}
@@ -67,11 +68,11 @@ IsSomeReplyFile old name = (answers : List ReplyBody) × ((bytes : List ℕ) →
 
 -- Why a batch is not decided on a book: the first fault of the book; or, behind a sound book, the first of the batch, or a call on a file
 -- that failed; or, behind both, that a file is not put in its place.
-abbrev pub IsDecidingFault : Holding → List ℕ → List ℕ → Type 0 → Type 0 → Type 0 → JobFault → Type 0
-IsDecidingFault old book batch read_failed put_failed refused fault =
-    IsBookFault old book read_failed fault
-    ⊎ (IsSomeBook old book × (IsBatchFault old batch read_failed put_failed refused fault
-    ⊎ (IsSomeBatch old batch × IsPuttingFault refused fault)))
+abbrev pub IsDecidingFault : Holding → Names → Type 0 → Type 0 → Type 0 → JobFault → Type 0
+IsDecidingFault old names read_failed put_failed refused fault =
+    IsBookFault old names.book read_failed fault
+    ⊎ (IsSomeBook old names.book × (IsBatchFault old names.batch read_failed put_failed refused fault
+    ⊎ (IsSomeBatch old names.batch × IsPuttingFault refused fault)))
 
 -- Why the file of this name gives no replies: its first fault; a call on it failed; or memory ran out.
 abbrev pub IsReplyFileFault : Holding → List ℕ → Type 0 → JobFault → Type 0
@@ -82,26 +83,26 @@ IsReplyFileFault old name read_failed OutOfMemory = Unit {0}
 IsReplyFileFault _ _ _ _ = ⊥
 
 -- why a book or the batch that was decided on it is not opened: the first fault in this order
-abbrev pub IsOpeningFault : Holding → List ℕ → List ℕ → Type 0 → JobFault → Type 0
-IsOpeningFault old book batch read_failed fault =
-    IsBookFault old book read_failed fault ⊎ (IsSomeBook old book × IsBatchFault old batch read_failed ⊥ ⊥ fault)
+abbrev pub IsOpeningFault : Holding → Names → Type 0 → JobFault → Type 0
+IsOpeningFault old names read_failed fault =
+    IsBookFault old names.book read_failed fault ⊎ (IsSomeBook old names.book × IsBatchFault old names.batch read_failed ⊥ ⊥ fault)
 
 -- why replies or the book after them are not opened: the first fault in this order
-abbrev pub IsAnswersFault : Holding → List ℕ → List ℕ → Type 0 → JobFault → Type 0
-IsAnswersFault old replies new_book read_failed fault =
-    IsReplyFileFault old replies read_failed fault ⊎ (IsSomeReplyFile old replies × IsBookFault old new_book read_failed fault)
+abbrev pub IsAnswersFault : Holding → Names → Type 0 → JobFault → Type 0
+IsAnswersFault old names read_failed fault =
+    IsReplyFileFault old names.replies read_failed fault ⊎ (IsSomeReplyFile old names.replies × IsBookFault old names.new_book read_failed fault)
 
 -- Why an audit finds nothing: the first fault of the book, of the batch, of the replies or of the new book, where those before it in this
 -- order have none, or a call on a file that failed; or, behind all four, another.
-abbrev pub IsFaultInOrder : Holding → List ℕ → List ℕ → List ℕ → List ℕ → Type 0 → Type 0 → JobFault → Type 0
-IsFaultInOrder old book batch replies new_book read_failed behind fault =
-    IsBookFault old book read_failed fault
-    ⊎ (IsSomeBook old book × (IsBatchFault old batch read_failed ⊥ ⊥ fault
-    ⊎ (IsSomeBatch old batch × (IsReplyFileFault old replies read_failed fault
-    ⊎ (IsSomeReplyFile old replies × (IsBookFault old new_book read_failed fault
-    ⊎ (IsSomeBook old new_book × behind)))))))
+abbrev pub IsFaultInOrder : Holding → Names → Type 0 → Type 0 → JobFault → Type 0
+IsFaultInOrder old names read_failed behind fault =
+    IsBookFault old names.book read_failed fault
+    ⊎ (IsSomeBook old names.book × (IsBatchFault old names.batch read_failed ⊥ ⊥ fault
+    ⊎ (IsSomeBatch old names.batch × (IsReplyFileFault old names.replies read_failed fault
+    ⊎ (IsSomeReplyFile old names.replies × (IsBookFault old names.new_book read_failed fault
+    ⊎ (IsSomeBook old names.new_book × behind)))))))
 
 -- Behind all four only memory may run out.
-abbrev pub IsAuditingFault : Holding → List ℕ → List ℕ → List ℕ → List ℕ → Type 0 → JobFault → Type 0
-IsAuditingFault old book batch replies new_book read_failed fault =
-    IsFaultInOrder old book batch replies new_book read_failed (fault ≡ OutOfMemory) fault
+abbrev pub IsAuditingFault : Holding → Names → Type 0 → JobFault → Type 0
+IsAuditingFault old names read_failed fault =
+    IsFaultInOrder old names read_failed (fault ≡ OutOfMemory) fault

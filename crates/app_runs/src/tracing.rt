@@ -5,10 +5,12 @@ ghost use Rattle.file_batch_laws.specs.BatchFault.{is_of_bytes};
 ghost use Rattle.file_batch_laws.specs.Files.{replies_text};
 ghost use Rattle.file_batch_laws.specs.Frames.{IsBatchOf};
 ghost use Rattle.file_batch_laws.specs.Reading.{bodies_of, batch_magic};
+ghost use Rattle.file_devices.specs.BatchNames.{names_of};
 ghost use Rattle.file_devices.specs.Failing.{HasFailed, HasRefused};
 ghost use Rattle.stm_journal_text.specs.Journal.{AreEntries, journal_text};
 ghost use Rattle.issuer_rows.specs.Fold.{replies_to};
 ghost use Rattle.issuer_rows.specs.declared.frame.Frame.{Frame};
+ghost use Rattle.app_jobs.specs.Deciding.{PutsFile};
 ghost use Rattle.app_jobs.specs.Faults.{HoldsSameOrNothing, IsBatchFault, IsDecidingFault, IsOfBytes, IsPuttingFault};
 ghost use Rattle.app_runs.specs.Journaled.{IsDecidedWithJournal, IsRunJournal, IsRunPut};
 
@@ -38,8 +40,8 @@ pub fn run_batch_with_journal<R: Clock + Threads + Wait + Sync, F: Files>(
     journal: &str,
 ) -> Result<usize, JobFault>
     ensures decided { IfOk result (IsDecidedWithJournal (F.is_known files.old) (F.holds files.old) (F.holds files.new)
-        (string_bytes names.now.book) (string_bytes names.now.batch) (string_bytes names.now.replies) (string_bytes names.now.new_book) journal.now) }
-    ensures fault { IfErr result (IsDecidingFault (F.holds files.old) (string_bytes names.now.book) (string_bytes names.now.batch)
+        (names_of names.now) journal.now) }
+    ensures fault { IfErr result (IsDecidingFault (F.holds files.old) (names_of names.now)
         (HasFailed F.Input.has_failed) (HasFailed F.Output.has_failed) (HasRefused F.refuses)) }
     // Nothing of an older new book is lost.
     ensures kept { OnErr result (string_bytes names.now.new_book ≢ string_bytes names.now.replies → string_bytes names.now.new_book ≢ journal.now → (held : List ℕ)
@@ -148,11 +150,9 @@ fn put_journal<F: Files>(
     name: &str,
     entries: &[Entry],
 ) -> Result<(), JobFault>
-    ensures ok { OnOk result (F.is_known files.old → F.holds files.new name.now (journal_text entries.now)) }
+    ensures puts { PutsFile F.is_known F.holds (HasRefused F.refuses) files.old files.new name.now
+        (F.holds files.new name.now (journal_text entries.now)) result }
     ensures are { OnOk result (AreEntries entries.now) }
-    ensures fault { IfErr result (IsPuttingFault (HasRefused F.refuses)) }
-    ensures known { F.is_known files.old → F.is_known files.new }
-    ensures others { (other held : List ℕ) → other ≢ name.now → F.holds files.old other held → F.holds files.new other held }
 {
     let text = write_journal(alloc, entries)?;
     Ok(files.replace(name, &mut Whole::new(&text))?)

@@ -39,11 +39,11 @@ returns-in-Ok-clause-some g c =
     from_both c.process_blocks-processed.result _ _ _ (λ halted failed h.
     let sum = rw (c.in_ok-blocks.ensures.fresh, c.in_ok-replies.ensures.fresh) at failed in
     elim h [
-      | inl before ↦ before_head _ _ _ _ _ _ _ _ _ reads bytes written (after ≡ sink) opened closed (λ k same. rw same (empty k).1) before
+      | inl before ↦ before_head _ _ _ _ _ _ _ _ reads bytes written (after ≡ sink) opened closed (λ k same. rw same (empty k).1) before
       | inr later ↦ elim later [
-        | inl head ↦ in_head _ _ _ _ _ _ _ _ _ reads bytes puts start written one closed (λ k. (empty k).0) (λ k. (empty k).1)
+        | inl head ↦ in_head _ _ _ _ _ _ _ _ reads bytes puts start written one closed (λ k. (empty k).0) (λ k. (empty k).1)
             (λ alone. device_alone halted.fault (g.F.Input.Source.has_failed c.process_blocks-processed.new.source) (g.F.Output.Sink.has_failed after) sum alone) head
-        | inr behind ↦ behind_head _ _ _ _ _ _ _ _ _ reads bytes puts start written one opened closed (λ k. (empty k).0) (λ k. (empty k).1) behind
+        | inr behind ↦ behind_head _ _ _ _ _ _ _ _ reads bytes puts start written one opened closed (λ k. (empty k).0) (λ k. (empty k).1) behind
       ]
     ]) c.process_blocks-processed.ensures.failed c.process_blocks-processed.ensures.halted
 
