@@ -77,6 +77,7 @@ impl Window {
         Ok(frames)
     }
 
+    #[tactic(auto, unfolding(file_batch_laws::specs::Reading::bodies_of))]
     fn read_file<R: Source>(
         &mut self,
         alloc: Global,

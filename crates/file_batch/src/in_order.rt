@@ -174,6 +174,7 @@ fn decide_bodies<T: Threads + Wait + Sync, R: Source, F: Decide + Sync>(
 /// Reads a batch file, all of the source, decides it on the book in the order of its messages, by any local decision, and makes the text
 /// of its reply file. Messages are decided in a thread of their own while the next ones are read. `Device` is the fault exactly where a
 /// call of the source failed; and memory can run out.
+#[tactic(auto, unfolding(file_batch_laws::specs::Reading::bodies_of))]
 pub fn decide_in_order<T: Threads + Wait + Sync, R: Source, F: Decide + Sync>(
     rt: &T,
     alloc: Global,

@@ -5,35 +5,6 @@ use Rattle.file_batch.specs.Window.{ahead}
 use Rattle.file_batch.proofs.ReadBodies.{is_whole, head_fails, bodies_fail, end_fails}
 use Rattle.file_batch.proofs.in_order.decide_in_order.Goals as goal
 
-pub returns-in_err-count-clause-decides : goal.returns-in_err-count-clause-decides
-returns-in_err-count-clause-decides g c =
-    let p = err_from_is_err_and c.from_residual-in_err-count.result c.from_residual-in_err-count.ensures.1 in
-    let bytes = g.R.Source.remaining c.args.source.now in
-    let whole : ahead c.in_ok-window.window bytes ≡ bytes = ap (λ (x : List ℕ). x ++ bytes) c.in_ok-window.ensures in
-    rw (p.1, p.2) (λ known of_bytes. head_fails batch_magic bytes c.in_err-count.field-0.0 (rw whole at (c.in_err-count.ensures.gives known of_bytes)))
-
-pub returns-in_err-answered-clause-decides : goal.returns-in_err-answered-clause-decides
-returns-in_err-answered-clause-decides g c =
-    let p = err_from_is_err_and c.from_residual-in_err-answered.result c.from_residual-in_err-answered.ensures.1 in
-    let bytes = g.R.Source.remaining c.args.source.now in
-    let whole : ahead c.in_ok-window.window bytes ≡ bytes = ap (λ (x : List ℕ). x ++ bytes) c.in_ok-window.ensures in
-    let behind = ahead c.read_head.new.self (g.R.Source.remaining c.read_head.new.source) in
-    rw (p.1, p.2) (λ known of_bytes. bodies_fail batch_magic bytes c.in_ok-count.count behind c.in_err-answered.field-0.0
-    (rw whole at (c.in_ok-count.ensures.gives known)) (c.in_err-answered.ensures.decides (c.in_ok-count.ensures.device.known known) of_bytes))
-
-pub returns-in_err-read_end-clause-decides : goal.returns-in_err-read_end-clause-decides
-returns-in_err-read_end-clause-decides g c =
-    let p = err_from_is_err_and c.from_residual-in_err-read_end.result c.from_residual-in_err-read_end.ensures.1 in
-    let bytes = g.R.Source.remaining c.args.source.now in
-    let whole : ahead c.in_ok-window.window bytes ≡ bytes = ap (λ (x : List ℕ). x ++ bytes) c.in_ok-window.ensures in
-    let behind = ahead c.read_head.new.self (g.R.Source.remaining c.read_head.new.source) in
-    let left = ahead c.decide_bodies.new.window (g.R.Source.remaining c.decide_bodies.new.source) in
-    rw (p.1, p.2) (λ known of_bytes.
-    let in_head = c.in_ok-count.ensures.device.known known in
-    let given = c.in_ok-answered.ensures.decides.2 in_head in
-    end_fails batch_magic bytes c.in_ok-count.count behind given.0 left c.in_err-read_end.field-0.0
-    (rw whole at (c.in_ok-count.ensures.gives known)) given.1 (c.in_err-read_end.ensures.gives (c.in_ok-answered.ensures.device.known in_head) of_bytes))
-
 pub returns-clause-decides : goal.returns-clause-decides
 returns-clause-decides g c =
     let bytes = g.R.Source.remaining c.args.source.now in

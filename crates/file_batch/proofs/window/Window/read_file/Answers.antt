@@ -13,25 +13,3 @@ returns-clause-gives g c = λ known.
     let given = c.in_ok-frames.ensures.gives in_head in
     let end = c.in_ok-read_end.ensures.gives (c.in_ok-frames.ensures.device.known in_head) in
     (given.0, is_whole batch_magic bytes c.in_ok-count.count behind given.0 left (c.in_ok-count.ensures.gives known) given.1 end, given.2)
-
-pub returns-in_err-count-clause-gives : goal.returns-in_err-count-clause-gives
-returns-in_err-count-clause-gives g c = λ known.
-    let p = err_from_is_err_and c.from_residual.result c.from_residual.ensures.1 in
-    rw (p.1, p.2) (λ of_bytes. head_fails batch_magic (ahead c.args.self.now (g.R.Source.remaining c.args.source.now)) c.in_err-count.field-0.0 (c.in_err-count.ensures.gives known of_bytes))
-
-pub returns-in_err-frames-clause-gives : goal.returns-in_err-frames-clause-gives
-returns-in_err-frames-clause-gives g c = λ known.
-    let p = err_from_is_err_and c.from_residual-in_err-frames.result c.from_residual-in_err-frames.ensures.1 in
-    let behind = ahead c.read_head.new.self (g.R.Source.remaining c.read_head.new.source) in
-    rw (p.1, p.2) (λ of_bytes. bodies_fail batch_magic (ahead c.args.self.now (g.R.Source.remaining c.args.source.now)) c.in_ok-count.count behind c.in_err-frames.field-0.0
-    (c.in_ok-count.ensures.gives known) (c.in_err-frames.ensures.gives (c.in_ok-count.ensures.device.known known) of_bytes))
-
-pub returns-in_err-read_end-clause-gives : goal.returns-in_err-read_end-clause-gives
-returns-in_err-read_end-clause-gives g c = λ known.
-    let p = err_from_is_err_and c.from_residual-in_err-read_end.result c.from_residual-in_err-read_end.ensures.1 in
-    let behind = ahead c.read_head.new.self (g.R.Source.remaining c.read_head.new.source) in
-    let left = ahead c.read_frames.new.self (g.R.Source.remaining c.read_frames.new.source) in
-    let in_head = c.in_ok-count.ensures.device.known known in
-    let given = c.in_ok-frames.ensures.gives in_head in
-    rw (p.1, p.2) (λ of_bytes. end_fails batch_magic (ahead c.args.self.now (g.R.Source.remaining c.args.source.now)) c.in_ok-count.count behind given.0 left c.in_err-read_end.field-0.0
-    (c.in_ok-count.ensures.gives known) given.1 (c.in_err-read_end.ensures.gives (c.in_ok-frames.ensures.device.known in_head) of_bytes))

@@ -1,7 +1,9 @@
-use Rattle.std.proofs.Common.{rules, ◌≡◌, ◌++◌, ◌∷◌, [], arith, refl}
+use Rattle.std.proofs.Common.{rules, ◌≡◌, ℕ, ◌+◌, ◌++◌, ◌∷◌, [], arith, refl, subst}
 use Rattle.std.proofs.lemmas.Result.{err_from_is_err_and}
 use Rattle.file_batch.specs.Window.{ahead}
-use Rattle.file_batch.proofs.ReadReplies.{starts, goes_on, fails_in_body, fails_in_text, is_done}
+use Rattle.file_batch_laws.specs.Replies.{IsReplyText, RepliesAt}
+use Rattle.file_batch.proofs.ReadBodies.{goes_on, one, starts}
+use Rattle.file_batch.proofs.ReadReplies.{fails_in_body, fails_in_text}
 use Rattle.file_batch.proofs.window.Window.read_replies.Goals as goal
 
 pub loop-index-init : goal.loop-index-init
@@ -9,7 +11,7 @@ loop-index-init g c = record {
   device = search rules;
   within = omega arith;
   count = search rules;
-  replies = λ known. rw c.new-replies.ensures.items (starts (ahead c.args.self.now (g.R.Source.remaining c.args.source.now)));
+  replies = λ known. rw c.new-replies.ensures.items (starts IsReplyText (ahead c.args.self.now (g.R.Source.remaining c.args.source.now)));
 }
 
 pub returns-in_err-read_body-clause-gives : goal.returns-in_err-read_body-clause-gives
@@ -35,12 +37,17 @@ loop-index-preserved g c =
       device = search rules;
       within = omega (arith, c.loop-index-test.true);
       count = grind arith;
-      replies = λ known. rw added (goes_on c.loop-index.index (ahead c.args.self.now (g.R.Source.remaining c.args.source.now)) c.loop-index.replies.items
-          (ahead c.loop-index.self (g.R.Source.remaining c.loop-index.source)) after.field.items (ahead after (g.R.Source.remaining c.read_body.new.source)) c.in-Some.reply
-          (c.loop-index.invariant.replies known) (c.in_ok-read_body.ensures.gives (c.loop-index.invariant.device.known known)) (rw c.deref.ensures.value at c.in-Some.ensures.found));
+      replies = λ known.
+          let mid = ahead c.loop-index.self (g.R.Source.remaining c.loop-index.source) in
+          let left = ahead after (g.R.Source.remaining c.read_body.new.source) in
+          rw added (goes_on IsReplyText c.loop-index.index 1 (c.loop-index.index + 1) _ mid left c.loop-index.replies.items (c.in-Some.reply ∷ []) refl
+          (c.loop-index.invariant.replies known) (one IsReplyText mid after.field.items left c.in-Some.reply
+          (c.in_ok-read_body.ensures.gives (c.loop-index.invariant.device.known known)) (rw c.deref.ensures.value at c.in-Some.ensures.found)));
     }
 
 pub returns-clause-gives : goal.returns-clause-gives
 returns-clause-gives g c = λ known.
-    is_done c.loop-index.index c.args.count (ahead c.args.self.now (g.R.Source.remaining c.args.source.now)) c.loop-index.replies.items
-    (ahead c.loop-index.self (g.R.Source.remaining c.loop-index.source)) (omega (arith, c.loop-index-test.false, c.loop-index.invariant.within)) (c.loop-index.invariant.replies known)
+    let same : c.loop-index.index ≡ c.args.count = omega (arith, c.loop-index-test.false, c.loop-index.invariant.within) in
+    subst (λ (n : ℕ). RepliesAt n (ahead c.args.self.now (g.R.Source.remaining c.args.source.now)) c.loop-index.replies.items
+    (ahead c.loop-index.self (g.R.Source.remaining c.loop-index.source))) same
+    (c.loop-index.invariant.replies known)
