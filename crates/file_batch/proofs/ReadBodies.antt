@@ -105,17 +105,3 @@ pub is_whole : (magic bytes : List ℕ) (count : ℕ) (behind : List ℕ) (bodie
     → bodies_of magic bytes ≡ Ok bodies
 unfolding bodies_of
 is_whole magic bytes count behind bodies left head read end = rw (head, read, end) refl
-
--- the first fault: in the head, in a body, or behind the last one
-pub head_fails : (magic bytes : List ℕ) (e : BatchFault) → head_at magic bytes ≡ Err e → bodies_of magic bytes ≡ Err e
-unfolding bodies_of
-head_fails magic bytes e head = rw head refl
-
-pub bodies_fail : (magic bytes : List ℕ) (count : ℕ) (behind : List ℕ) (e : BatchFault) → head_at magic bytes ≡ Ok (count, behind) → bodies_at count behind ≡ Err e → bodies_of magic bytes ≡ Err e
-unfolding bodies_of
-bodies_fail magic bytes count behind e head read = rw (head, read) refl
-
-pub end_fails : (magic bytes : List ℕ) (count : ℕ) (behind : List ℕ) (bodies : Bodies) (left : List ℕ) (e : BatchFault) → head_at magic bytes ≡ Ok (count, behind) → bodies_at count behind ≡ Ok (bodies, left)
-    → ended left ≡ Err e → bodies_of magic bytes ≡ Err e
-unfolding bodies_of
-end_fails magic bytes count behind bodies left e head read end = rw (head, read, end) refl

@@ -76,28 +76,12 @@ impl Window {
         self.read_into(source, count, &mut frames)?;
         Ok(frames)
     }
-
-    #[tactic(auto, unfolding(file_batch_laws::specs::Reading::bodies_of))]
-    fn read_file<R: Source>(
-        &mut self,
-        alloc: Global,
-        source: &mut R,
-    ) -> Result<Vec<Frame>, BatchFault>
-        ensures device { UsesDevice R.is_known R.has_failed source.old source.new result }
-        ensures count { IfOk result (λ frames. length frames.items ≤ 65536) }
-        ensures gives { R.is_known source.old → GivesBatch result (ahead self.old (R.remaining source.old)) }
-        ensures end { OnOk result (R.is_known source.old → R.remaining source.new ≡ []) }
-    {
-        let count = self.read_head(source, b"I83B")?;
-        let frames = self.read_frames(alloc, source, count)?;
-        self.read_end(source)?;
-        Ok(frames)
-    }
 }
 
 /// Reads a batch file, all of the source: `I83B`, version 1, the number of bodies, and each behind its length. Returns a frame for each
 /// body, in order, or the first fault in reading order. The source is at its end then. `Device` is the fault exactly where a call of the
 /// source failed; and memory can run out.
+#[tactic(auto, unfolding(file_batch_laws::specs::Reading::bodies_of))]
 pub fn read_batch<R: Source>(alloc: Global, source: &mut R) -> Result<Vec<Frame>, BatchFault>
     ensures device { UsesDevice R.is_known R.has_failed source.old source.new result }
     ensures count { IfOk result (λ frames. length frames.items ≤ 65536) }
@@ -105,5 +89,8 @@ pub fn read_batch<R: Source>(alloc: Global, source: &mut R) -> Result<Vec<Frame>
     ensures end { OnOk result (R.is_known source.old → R.remaining source.new ≡ []) }
 {
     let mut window = Window::new(alloc)?;
-    window.read_file(alloc, source)
+    let count = window.read_head(source, b"I83B")?;
+    let frames = window.read_frames(alloc, source, count)?;
+    window.read_end(source)?;
+    Ok(frames)
 }

@@ -1,8 +1,7 @@
 use Rattle.std.proofs.Common.{◌≡◌, ℕ, List, ◌++◌, ap}
-use Rattle.std.proofs.lemmas.Result.{err_from_is_err_and}
 use Rattle.file_batch_laws.specs.Reading.{batch_magic}
 use Rattle.file_batch.specs.Window.{ahead}
-use Rattle.file_batch.proofs.ReadBodies.{is_whole, head_fails, bodies_fail, end_fails}
+use Rattle.file_batch.proofs.ReadBodies.{is_whole}
 use Rattle.file_batch.proofs.in_order.decide_in_order.Goals as goal
 
 pub returns-clause-decides : goal.returns-clause-decides
