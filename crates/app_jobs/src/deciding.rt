@@ -1,6 +1,6 @@
-ghost use Rattle.std.specs.Prelude.{◌≡◌, ◌≢◌, ◌≤◌, ℕ, List, IfOk, IfErr, length, string_bytes};
+ghost use Rattle.std.specs.Prelude.{◌≡◌, ◌≢◌, ℕ, List, IfOk, IfErr, string_bytes};
 ghost use Rattle.std.specs.FinMap as map;
-ghost use Rattle.file_batch.specs.Processing.{IsFold, AnswersFold};
+ghost use Rattle.file_batch.specs.Processing.{IsDecider, IsFold};
 ghost use Rattle.file_batch_laws.specs.Files.{replies_text};
 ghost use Rattle.file_batch_laws.specs.Frames.{IsBatchOf};
 ghost use Rattle.book_laws.specs.Text.{book_text};
@@ -33,8 +33,7 @@ pub fn decide_batch<
     E: Fn(&Book, &[Frame]) -> Result<RunOutcome, AllocError>,
 >(rt: &R, alloc: Global, files: &mut F, names: &BatchNames, decide: &E) -> Result<usize, JobFault>
     // It may be called with a batch, and what it returns is the fold.
-    requires called { (rows : _) (frames : _) → length frames.now ≤ 65536 → E.pre decide.now rows frames }
-    requires fold { (rows : _) (frames : _) (answer : _) → E.post decide.now rows frames answer → AnswersFold rows.now frames.now answer }
+    requires decider { IsDecider E.pre E.post (λ rows. rows.now) (λ frames. frames.now) decide.now }
     ensures decides { DecidesFiles F.is_known F.holds (HasFailed F.Input.has_failed) (HasFailed F.Output.has_failed) (HasRefused F.refuses)
         files.old files.new (names_of names.now) result }
 {
@@ -52,8 +51,7 @@ fn answer_batch<F: Files, E: Fn(&Book, &[Frame]) -> Result<RunOutcome, AllocErro
     book: &Book,
     decide: &E,
 ) -> Result<RunOutcome, JobFault>
-    requires called { (rows : _) (frames : _) → length frames.now ≤ 65536 → E.pre decide.now rows frames }
-    requires fold { (rows : _) (frames : _) (answer : _) → E.post decide.now rows frames answer → AnswersFold rows.now frames.now answer }
+    requires decider { IsDecider E.pre E.post (λ rows. rows.now) (λ frames. frames.now) decide.now }
     ensures ok { IfOk result (λ outcome. (frames : List Frame) × IsFold book.now frames outcome
         × ((bytes : List ℕ) → F.holds files.old (string_bytes names.now.batch) bytes → IsBatchOf bytes frames)
         × (F.is_known files.old → F.holds files.new (string_bytes names.now.replies) (replies_text (replies_to book.now frames)))) }

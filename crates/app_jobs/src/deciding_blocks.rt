@@ -1,5 +1,5 @@
-ghost use Rattle.std.specs.Prelude.{◌≡◌, ◌≢◌, ◌≤◌, ℕ, List, Some, None, Ok, Err, IfOk, IfErr, OnErr, length, string_bytes};
-ghost use Rattle.file_batch.specs.Processing.{AnswersFold};
+ghost use Rattle.std.specs.Prelude.{◌≡◌, ◌≢◌, ℕ, List, Some, None, Ok, Err, IfOk, IfErr, OnErr, string_bytes};
+ghost use Rattle.file_batch.specs.Processing.{IsDecider};
 ghost use Rattle.book_laws.specs.Text.{book_text};
 ghost use Rattle.file_devices.specs.BatchNames.{names_of};
 ghost use Rattle.file_devices.specs.Failing.{HasFailed, HasRefused};
@@ -30,8 +30,7 @@ pub fn decide_blocks<
     E: Fn(&Book, &[Frame]) -> Result<RunOutcome, AllocError>,
 >(rt: &R, alloc: Global, files: &mut F, names: &BatchNames, decide: &E) -> Result<BlockCount, Halt>
     // It may be called with a block, and what it returns is the fold.
-    requires called { (rows : _) (frames : _) → length frames.now ≤ 65536 → E.pre decide.now rows frames }
-    requires fold { (rows : _) (frames : _) (answer : _) → E.post decide.now rows frames answer → AnswersFold rows.now frames.now answer }
+    requires decider { IsDecider E.pre E.post (λ rows. rows.now) (λ frames. frames.now) decide.now }
     ensures decides { DecidesBlockFiles F.is_known F.holds (HasFailed F.Input.has_failed) (HasFailed F.Output.has_failed) (HasRefused F.refuses)
         files.old files.new (names_of names.now) result }
 {
@@ -51,8 +50,7 @@ fn answer_blocks<F: Files, E: Fn(&Book, &[Frame]) -> Result<RunOutcome, AllocErr
     book: Book,
     decide: &E,
 ) -> Result<Result<BlocksOutcome, Halted>, JobFault>
-    requires called { (rows : _) (frames : _) → length frames.now ≤ 65536 → E.pre decide.now rows frames }
-    requires fold { (rows : _) (frames : _) (answer : _) → E.post decide.now rows frames answer → AnswersFold rows.now frames.now answer }
+    requires decider { IsDecider E.pre E.post (λ rows. rows.now) (λ frames. frames.now) decide.now }
     ensures ok { IfOk result (λ processed. IfOk processed (λ outcome. AreBlocksAnswered (F.is_known files.old) (F.holds files.old) (F.holds files.new)
         (names_of names.now) book outcome.book outcome.blocks outcome.messages)) }
     ensures some { IfOk result (λ processed. IfErr processed (λ halted. AreFirstAnswered (F.is_known files.old) (F.holds files.old) (F.holds files.new)

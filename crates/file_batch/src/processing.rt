@@ -7,7 +7,7 @@ ghost use Rattle.file_batch_laws.specs.Reading.{bodies_of, batch_magic};
 ghost use Rattle.file_batch_laws.specs.Files.{replies_text};
 ghost use Rattle.file_batch_laws.specs.Frames.{IsBatchOf};
 ghost use Rattle.file_batch.specs.Writing.{AppendsPart};
-ghost use Rattle.file_batch.specs.Processing.{IsFold, AnswersFold};
+ghost use Rattle.file_batch.specs.Processing.{IsDecider, IsFold};
 
 use crate::frames::read_batch;
 use crate::replies::write_replies;
@@ -26,8 +26,7 @@ fn answer<W: Sink, E: Fn(&Book, &[Frame]) -> Result<RunOutcome, AllocError>>(
     decide: &E,
 ) -> Result<RunOutcome, BatchFault>
     requires count { length frames.now ≤ 65536 }
-    requires called { (rows : _) (frames : _) → length frames.now ≤ 65536 → E.pre decide.now rows frames }
-    requires fold { (rows : _) (frames : _) (answer : _) → E.post decide.now rows frames answer → AnswersFold rows.now frames.now answer }
+    requires decider { IsDecider E.pre E.post (λ rows. rows.now) (λ frames. frames.now) decide.now }
     ensures device { UsesDevice W.is_known W.has_failed sink.old sink.new result }
     ensures ok { IfOk result (λ outcome. W.is_known sink.old → W.written sink.new ≡ W.written sink.old ++ replies_text outcome.replies.items) }
     ensures answered { IfOk result (λ outcome. E.post decide.now book.entry frames.entry (Ok outcome)) }
@@ -51,8 +50,7 @@ pub fn process<R: Source, W: Sink, E: Fn(&Book, &[Frame]) -> Result<RunOutcome, 
     decide: &E,
 ) -> Result<RunOutcome, BatchFault>
     // It may be called with a batch, and what it returns is the fold.
-    requires called { (rows : _) (frames : _) → length frames.now ≤ 65536 → E.pre decide.now rows frames }
-    requires fold { (rows : _) (frames : _) (answer : _) → E.post decide.now rows frames answer → AnswersFold rows.now frames.now answer }
+    requires decider { IsDecider E.pre E.post (λ rows. rows.now) (λ frames. frames.now) decide.now }
     ensures devices { UsesDevices R.is_known R.has_failed W.is_known W.has_failed source.old source.new sink.old sink.new result }
     ensures ok { IfOk result (λ outcome. (frames : List Frame) × IsFold book.now frames outcome
         × (R.is_known source.old → IsBatchOf (R.remaining source.old) frames)

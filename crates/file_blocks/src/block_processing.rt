@@ -1,7 +1,7 @@
-ghost use Rattle.std.specs.Prelude.{◌≡◌, ◌⊎◌, ◌||◌, ◌≤◌, [], length, IfOk, IfErr, IsTrue, OnOk};
+ghost use Rattle.std.specs.Prelude.{◌≡◌, ◌⊎◌, ◌||◌, [], IfOk, IfErr, IsTrue, OnOk};
 ghost use Rattle.file_batch_laws.specs.BatchFault.{failed_at};
 ghost use Rattle.file_blocks.specs.Blocks.{AreAllDecided, StopsBefore, StopsInHead, StopsInBlocks};
-ghost use Rattle.file_batch.specs.Processing.{AnswersFold};
+ghost use Rattle.file_batch.specs.Processing.{IsDecider};
 
 use crate::kept_blocks::KeptBlocks;
 use file_batch_laws::BatchFault;
@@ -46,8 +46,7 @@ pub fn process_blocks<R: Source, W: Sink, E: Fn(&Book, &[Frame]) -> Result<RunOu
     decide: &E,
 ) -> Result<BlocksOutcome, Halted>
     // It may be called with a block, and what it returns is the fold.
-    requires called { (rows : _) (frames : _) → length frames.now ≤ 65536 → E.pre decide.now rows frames }
-    requires fold { (rows : _) (frames : _) (answer : _) → E.post decide.now rows frames answer → AnswersFold rows.now frames.now answer }
+    requires decider { IsDecider E.pre E.post (λ rows. rows.now) (λ frames. frames.now) decide.now }
     ensures none_failed { OnOk result ((R.has_failed source.new || W.has_failed sink.new) ≡ (R.has_failed source.old || W.has_failed sink.old)) }
     ensures failed { IfErr result (λ halted.
         (R.has_failed source.new || W.has_failed sink.new) ≡ failed_at halted.fault (R.has_failed source.old || W.has_failed sink.old)) }

@@ -7,7 +7,7 @@ ghost use Rattle.file_batch_laws.specs.Blocks.{block_text, block_at, block_repli
 ghost use Rattle.file_batch_laws.specs.Files.{head_text};
 ghost use Rattle.file_blocks.specs.Blocks.{AreDecided, AreAllDecided, BeginsBlock, StopsBehind, StopsBefore, StopsInHead, StopsInBlocks, IsAnswered};
 ghost use Rattle.file_batch.specs.Writing.{AppendsPart};
-ghost use Rattle.file_batch.specs.Processing.{AnswersFold};
+ghost use Rattle.file_batch.specs.Processing.{IsDecider};
 ghost use Rattle.file_batch.specs.Window.{ahead};
 
 use crate::blocks::{read_block, read_block_head, write_block};
@@ -65,8 +65,7 @@ impl KeptBlocks {
         decide: &E,
     ) -> Result<(), BatchFault>
         requires count { length frames.now ≤ 65536 }
-        requires called { (rows : _) (frames : _) → length frames.now ≤ 65536 → E.pre decide.now rows frames }
-        requires fold { (rows : _) (frames : _) (answer : _) → E.post decide.now rows frames answer → AnswersFold rows.now frames.now answer }
+        requires decider { IsDecider E.pre E.post (λ rows. rows.now) (λ frames. frames.now) decide.now }
         requires blocks { self.old.blocks + 1 < 2 ^ 32 }
         requires messages { self.old.messages + 65536 < 2 ^ 32 }
         ensures device { UsesDevice W.is_known W.has_failed sink.old sink.new result }
@@ -94,8 +93,7 @@ impl KeptBlocks {
         sink: &mut W,
         decide: &E,
     ) -> Result<(), BatchFault>
-        requires called { (rows : _) (frames : _) → length frames.now ≤ 65536 → E.pre decide.now rows frames }
-        requires fold { (rows : _) (frames : _) (answer : _) → E.post decide.now rows frames answer → AnswersFold rows.now frames.now answer }
+        requires decider { IsDecider E.pre E.post (λ rows. rows.now) (λ frames. frames.now) decide.now }
         requires blocks { self.old.blocks + 1 < 2 ^ 32 }
         requires messages { self.old.messages + 65536 < 2 ^ 32 }
         ensures devices { UsesDevices R.is_known R.has_failed W.is_known W.has_failed source.old source.new sink.old sink.new result }
@@ -123,8 +121,7 @@ impl KeptBlocks {
         decide: &E,
         count: u32,
     ) -> Result<(), BatchFault>
-        requires called { (rows : _) (frames : _) → length frames.now ≤ 65536 → E.pre decide.now rows frames }
-        requires fold { (rows : _) (frames : _) (answer : _) → E.post decide.now rows frames answer → AnswersFold rows.now frames.now answer }
+        requires decider { IsDecider E.pre E.post (λ rows. rows.now) (λ frames. frames.now) decide.now }
         requires none { (self.old.blocks ≡ 0) × (self.old.messages ≡ 0) }
         requires most { count ≤ 1000 }
         ensures devices { UsesDevices R.is_known R.has_failed W.is_known W.has_failed source.old source.new sink.old sink.new result }
@@ -148,8 +145,7 @@ impl KeptBlocks {
         W: Sink,
         E: Fn(&Book, &[Frame]) -> Result<RunOutcome, AllocError>,
     >(&mut self, alloc: Global, source: &mut R, sink: &mut W, decide: &E) -> Result<(), BatchFault>
-        requires called { (rows : _) (frames : _) → length frames.now ≤ 65536 → E.pre decide.now rows frames }
-        requires fold { (rows : _) (frames : _) (answer : _) → E.post decide.now rows frames answer → AnswersFold rows.now frames.now answer }
+        requires decider { IsDecider E.pre E.post (λ rows. rows.now) (λ frames. frames.now) decide.now }
         requires none { (self.old.blocks ≡ 0) × (self.old.messages ≡ 0) }
         ensures devices { UsesDevices R.is_known R.has_failed W.is_known W.has_failed source.old source.new sink.old sink.new result }
         ensures end { OnOk result (R.is_known source.old → R.remaining source.new ≡ []) }

@@ -7,7 +7,7 @@ pub returns-in_err-write_replies-clause-fault : goal.returns-in_err-write_replie
 returns-in_err-write_replies-clause-fault g c =
     let p = err_from_is_err_and c.from_residual-in_err-write_replies.result c.from_residual-in_err-write_replies.ensures.1 in
     let frames = c.args.frames.now in
-    let folded = c.requires.fold c.args.book c.args.frames _ c.in_ok-outcome.ensures in
+    let folded = c.requires.decider.fold c.args.book c.args.frames _ c.in_ok-outcome.ensures in
     let replies = c.in_ok-outcome.outcome.replies.items in
     let same : length replies ≡ length frames = ap length folded.0 ∙ as_many c.args.book.now frames in
     let few : length replies ≤ 65536 = rw same c.requires.count in
