@@ -18,16 +18,9 @@ number_of_fault Blocks = 10
 
 -- a fault that the bytes alone determine
 abbrev pub is_of_bytes : BatchFault → Bool
-is_of_bytes Magic = true
-is_of_bytes Version = true
-is_of_bytes Count = true
-is_of_bytes Length = true
-is_of_bytes Ended = true
-is_of_bytes Trailing = true
 is_of_bytes Device = false
 is_of_bytes OutOfMemory = false
-is_of_bytes (Body i) = true
-is_of_bytes Blocks = true
+is_of_bytes _ = true
 
 -- whether a call of a device has failed after a fault: it has where the fault is the device's, and else as before
 abbrev pub failed_at : BatchFault → Bool → Bool

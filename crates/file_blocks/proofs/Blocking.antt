@@ -11,6 +11,7 @@ use Rattle.file_batch_laws.specs.Reading.{ended}
 use Rattle.file_batch_laws.specs.declared.batch_fault.BatchFault.{BatchFault}
 use Rattle.file_blocks.specs.Blocks.{AreDecided, AreAllDecided, BeginsBlock, StopsBehind, StopsBefore, StopsInHead, StopsInBlocks, IsAnswered}
 use Rattle.file_batch.specs.Writing.{AppendsPart}
+use Rattle.file_blocks.proofs.ReadBlocks.{nothing_left, one_more}
 use Rattle.file_blocks.specs.declared.kept_blocks.KeptBlocks.{KeptBlocks}
 
 one_more_rows : (rows : Rows) (blocks : List (List Frame)) (block : List Frame) → rows_after_blocks rows (blocks ++ block ∷ []) ≡ rows_after (rows_after_blocks rows blocks) block
@@ -28,10 +29,6 @@ one_more_count : (blocks : List (List Frame)) (block : List Frame) → messages_
 one_more_count [] block = omega arith
 one_more_count (b ∷ blocks) block = omega (arith, one_more_count blocks block)
 
-pub one_more_read : (bytes : List ℕ) (blocks : List (List Frame)) (left : List ℕ) (block : List Frame) (after : List ℕ) → AreBlocks bytes blocks left → IsBlock left block after → AreBlocks bytes (blocks ++ block ∷ []) after
-one_more_read bytes [] left block after are next = (after, subst (λ (b : List ℕ). IsBlock b block after) (sym are) next, refl)
-one_more_read bytes (b ∷ blocks) left block after are next = (are.0, are.1, one_more_read are.0 blocks left block after are.2 next)
-
 pub starts : (opening : Rows) (reads : Type 0) (bytes : List ℕ) (puts : Type 0) (old : List ℕ) → AreDecided opening opening 0 0 reads bytes bytes puts old old
 starts opening reads bytes puts old =
     record { blocks = []; number = refl; all = refl; book = refl; read = λ known. refl; put = λ known. sym (append-nil old) }
@@ -47,7 +44,7 @@ goes_on opening before after reads reads' bytes left left' puts puts' old mid ne
       number = omega (arith, length-append blocks (block ∷ []), so_far.number, next.number);
       all = omega (arith, one_more_count blocks block, so_far.all, next.all);
       book = next.book ∙ ap (λ (r : Rows). rows_after r block) so_far.book ∙ sym (one_more_rows opening blocks block);
-      read = λ known. one_more_read bytes blocks left block left' (so_far.read known) (next.read (still_read known));
+      read = λ known. one_more IsBlock bytes blocks left block left' (so_far.read known) (next.read (still_read known));
       put = λ known. rw (next.put (still_put known), so_far.put known, one_more_text opening blocks block, ← so_far.book) (append_assoc old (blocks_text (replies_to_blocks opening blocks)) (block_text (replies_to before.book block)));
     }
 
@@ -92,10 +89,6 @@ halts_behind total opening rows count messages reads reads' bytes left puts old 
 as_many : (rows : Rows) (blocks : List (List Frame)) → length (replies_to_blocks rows blocks) ≡ length blocks
 as_many rows [] = refl
 as_many rows (block ∷ blocks) = ap suc (as_many (rows_after rows block) blocks)
-
-pub nothing_left : (left : List ℕ) → ended left ≡ Ok tt → left ≡ []
-nothing_left [] e = refl
-nothing_left (b ∷ bytes) e = absurd cc
 
 pub finishes : (opening rows : Rows) (count messages total : ℕ) (reads : Type 0) (bytes behind left : List ℕ) (puts : Type 0) (old mid new : List ℕ)
     → AreDecided opening rows count messages reads behind left puts mid new → count ≡ total → (reads → block_head_at blocks_magic bytes ≡ Ok (total, behind)) → (reads → ended left ≡ Ok tt)

@@ -1,7 +1,10 @@
-use Rattle.std.proofs.Common.{◌≡◌, ℕ, List, ◌++◌, ap, inr}
+use Rattle.std.proofs.Common.{◌≡◌, ℕ, List, ◌++◌, ap, inr, ◌∙◌}
 use Rattle.std.proofs.lemmas.Result.{err_from_is_err_and}
 use Rattle.file_batch.specs.Window.{ahead}
-use Rattle.file_blocks.proofs.ReadBlocks.{fails_behind, is_file}
+use Rattle.file_batch_laws.specs.Blocks.{IsBlock, blocks_magic}
+use Rattle.file_blocks.specs.BlockFiles.{frames_of}
+use Rattle.std.proofs.lemmas.List.{length-map}
+use Rattle.file_blocks.proofs.ReadBlocks.{is_file}
 use Rattle.file_blocks.proofs.block_files.read_blocks.Goals as goal
 
 pub returns-in_err-read_end-clause-gives : goal.returns-in_err-read_end-clause-gives
@@ -18,7 +21,12 @@ returns-in_err-read_end-clause-gives g c = λ known.
       c.in_ok-count.count,
       behind,
       rw whole at (c.in_ok-count.ensures.gives known),
-      fails_behind c.in_ok-count.count behind c.in_ok-blocks.blocks.items left c.in_err-read_end.field-0.0 given.0 given.1 (c.in_err-read_end.ensures.gives in_blocks of_bytes),
+      (
+        frames_of c.in_ok-blocks.blocks.items,
+        left,
+        given.0,
+        inr (length-map c.in_ok-blocks.blocks.items (λ block. block.items) ∙ given.1, c.in_err-read_end.ensures.gives in_blocks of_bytes),
+      ),
     ))
 
 pub returns-clause-gives : goal.returns-clause-gives
@@ -30,5 +38,5 @@ returns-clause-gives g c = λ known.
     let in_head = c.in_ok-count.ensures.device.known known in
     let in_blocks = c.in_ok-blocks.ensures.device.known in_head in
     let given = c.in_ok-blocks.ensures.gives in_head in
-    is_file bytes behind left c.in_ok-count.count c.in_ok-blocks.blocks.items
+    is_file IsBlock blocks_magic bytes behind left c.in_ok-count.count c.in_ok-blocks.blocks.items
     (rw whole at (c.in_ok-count.ensures.gives known)) given.0 given.1 (c.in_ok-read_end.ensures.gives in_blocks)
