@@ -38,4 +38,4 @@ pub behind_four : (old : Holding) (names : Names) (rows : Rows) (frames : List F
     (read_failed behind : Type 0) (fault : JobFault) → AreHeld old names rows frames answers rows_after_it
     → behind → IsFaultInOrder old names read_failed behind fault
 behind_four old names rows frames answers rows_after_it read_failed behind fault held h =
-    inr ((rows, held.opening), inr ((frames, held.messages), inr ((answers, held.answered), inr ((rows_after_it, held.after), h))))
+    inr ((rows, held.decided.opening), inr ((frames, held.decided.messages), inr ((answers, held.answered.answered), inr ((rows_after_it, held.answered.after), h))))

@@ -20,12 +20,10 @@ pub record AreAnswers (old : Holding) (names : Names) (answers : List ReplyBody)
   pub answered : (bytes : List ℕ) → old names.replies bytes → IsReplyFileOf bytes answers
   pub after : IsBookOf old names.new_book rows_after_it
 
--- The files, as far as it is known what they hold, hold this book, this batch, these replies, and this book after it.
+-- Both.
 pub record AreHeld (old : Holding) (names : Names) (rows : Rows) (frames : List Frame) (answers : List ReplyBody) (rows_after_it : Rows) : Type 0 where
-  pub opening : IsBookOf old names.book rows
-  pub messages : (bytes : List ℕ) → old names.batch bytes → IsBatchOf bytes frames
-  pub answered : (bytes : List ℕ) → old names.replies bytes → IsReplyFileOf bytes answers
-  pub after : IsBookOf old names.new_book rows_after_it
+  pub decided : AreDecided old names rows frames
+  pub answered : AreAnswers old names answers rows_after_it
 
 -- Replies and new book, as the files hold them, are compared with what deciding the batch on the book comes to.
 pub record IsAudited (old : Holding) (names : Names) (found : Audit) : Type 0 where
@@ -33,8 +31,5 @@ pub record IsAudited (old : Holding) (names : Names) (found : Audit) : Type 0 wh
   pub frames : List Frame
   pub answers : List ReplyBody
   pub rows_after_it : Rows
-  pub opening : IsBookOf old names.book rows
-  pub messages : (bytes : List ℕ) → old names.batch bytes → IsBatchOf bytes frames
-  pub answered : (bytes : List ℕ) → old names.replies bytes → IsReplyFileOf bytes answers
-  pub after : IsBookOf old names.new_book rows_after_it
+  pub held : AreHeld old names rows frames answers rows_after_it
   pub finds : Finds answers rows_after_it (replies_to rows frames) (rows_after rows frames) found

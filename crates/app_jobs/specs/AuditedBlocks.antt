@@ -21,10 +21,6 @@ pub record AreAnswersAudited (old : Holding) (names : Names) (rows : Rows) (bloc
 pub record AreBlocksAudited (old : Holding) (names : Names) (found : BlockAudit) : Type 0 where
   pub rows : Rows
   pub blocks : List (List Frame)
-  pub answers : List (List ReplyBody)
-  pub rows_after_them : Rows
   pub opening : IsBookOf old names.book rows
   pub read : (bytes : List ℕ) → old names.batch bytes → IsBlockFileOf bytes blocks
-  pub answered : (bytes : List ℕ) → old names.replies bytes → IsBlockReplyFileOf bytes answers
-  pub after : IsBookOf old names.new_book rows_after_them
-  pub finds : FindsInBlocks answers rows_after_them (replies_to_blocks rows blocks) (rows_after_blocks rows blocks) found
+  pub answers : AreAnswersAudited old names rows blocks found

@@ -10,7 +10,8 @@ use Rattle.issuer_rows.specs.Fold.{Rows}
 use Rattle.issuer_rows.specs.declared.frame.Frame.{Frame}
 use Rattle.issuer_rows.specs.declared.reply_body.ReplyBody.{ReplyBody}
 use Rattle.file_devices.specs.BatchNames.{Names}
-use Rattle.app_jobs.specs.Decided.{Holding, IsBookOf}
+use Rattle.app_jobs.specs.Audited.{AreHeld}
+use Rattle.app_jobs.specs.Decided.{Holding}
 
 -- Replies and new book, as the files hold them, are compared with what the journal, as its file holds it, plays to.
 pub record IsAuditedWithJournal (old : Holding) (names : Names) (journal : List ℕ) (found : Audit) : Type 0 where
@@ -19,10 +20,7 @@ pub record IsAuditedWithJournal (old : Holding) (names : Names) (journal : List 
   pub answers : List ReplyBody
   pub rows_after_it : Rows
   pub entries : List Entry
-  pub opening : IsBookOf old names.book rows
-  pub messages : (bytes : List ℕ) → old names.batch bytes → IsBatchOf bytes frames
-  pub answered : (bytes : List ℕ) → old names.replies bytes → IsReplyFileOf bytes answers
-  pub after : IsBookOf old names.new_book rows_after_it
+  pub held : AreHeld old names rows frames answers rows_after_it
   pub are : AreEntries entries
   pub logged : (bytes : List ℕ) → old journal bytes → bytes ≡ journal_text entries
   pub finds : FindsInPlay rows frames entries answers rows_after_it found

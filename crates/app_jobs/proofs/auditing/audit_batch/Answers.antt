@@ -17,10 +17,7 @@ returns-clause-audited g c = IfOk-weaker c.audit_run.result _ _ (λ found finds.
   frames = c.in_ok-run.run'.frames.items;
   answers = c.in_ok-run.run'.replies.items;
   rows_after_it = c.in_ok-run.run'.after;
-  opening = c.in_ok-run.ensures.held.opening;
-  messages = c.in_ok-run.ensures.held.messages;
-  answered = c.in_ok-run.ensures.held.answered;
-  after = c.in_ok-run.ensures.held.after;
+  held = c.in_ok-run.ensures.held;
   finds = finds;
 }) c.audit_run.ensures.finds
 

@@ -27,10 +27,7 @@ returns-in-Ok-clause-audited g c = record {
   answers = c.in_ok-run.run'.replies.items;
   rows_after_it = c.in_ok-run.run'.after;
   entries = c.in_ok-entries.entries.items;
-  opening = c.in_ok-run.ensures.held.opening;
-  messages = c.in_ok-run.ensures.held.messages;
-  answered = c.in_ok-run.ensures.held.answered;
-  after = c.in_ok-run.ensures.held.after;
+  held = c.in_ok-run.ensures.held;
   are = c.in_ok-entries.ensures.are;
   logged = λ bytes h. c.in_ok-entries.ensures.entries bytes h;
   finds = rw (c.deref.ensures.value, c.deref-2.ensures.value, c.deref-3.ensures.value) at c.in-Ok.ensures.finds;
@@ -44,5 +41,5 @@ returns-clause-fault g c =
     behind_four (g.F.Files.holds c.args.files.now) (names_of c.args.names.now)
     run.book run.frames.items run.replies.items run.after (HasFailed g.F.Input.Source.has_failed) _ (Journal c.in-Err.fault) held
     (inr (unplayed (g.F.Files.holds c.args.files.now) (names_of c.args.names.now) c.args.journal.now
-    run.book run.frames.items c.in_ok-entries.entries.items c.in-Err.fault held.opening held.messages c.in_ok-entries.ensures.are c.in_ok-entries.ensures.entries
+    run.book run.frames.items c.in_ok-entries.entries.items c.in-Err.fault held.decided.opening held.decided.messages c.in_ok-entries.ensures.are c.in_ok-entries.ensures.entries
     unlogged c.in-Err.ensures.lines))

@@ -5,14 +5,6 @@ use Rattle.file_devices.specs.Failing.{HasFailed}
 use Rattle.app_jobs.proofs.Audits.{of_first_two, of_last_two}
 use Rattle.app_jobs.proofs.auditing.open_run.Goals as goal
 
-pub returns-clause-held : goal.returns-clause-held
-returns-clause-held g c = record {
-  opening = c.in_ok-book.ensures.held.opening;
-  messages = c.in_ok-book.ensures.held.messages;
-  answered = c.in_ok-replies.ensures.held.answered;
-  after = c.in_ok-replies.ensures.held.after;
-}
-
 pub returns-in_err-book-clause-fault : goal.returns-in_err-book-clause-fault
 returns-in_err-book-clause-fault g c =
     let p = err_from_is_err_and c.from_residual.result c.from_residual.ensures.1 in
