@@ -8,14 +8,7 @@ use Rattle.file_listing.specs.Bodies.{body_of}
 use Rattle.app_arguments.specs.declared.command.Command.{Command}
 use Rattle.app_arguments.specs.declared.command.Command.TheVariants.{Help, Version, One, Serial, Run, RunWithJournal, Blocks, Audit, AuditBlocks, Show, Pack}
 use Rattle.app_arguments.specs.declared.asked.BatchArguments.{BatchArguments}
-use Rattle.file_devices.specs.declared.batch_names.BatchNames.{BatchNames}
-
--- the names of the files of a batch or of blocks: what is read, and what is written
-pub record Names : Type 0 where
-  pub book : Text
-  pub batch : Text
-  pub replies : Text
-  pub new_book : Text
+pub use Rattle.file_devices.specs.BatchNames.{Names, names_of}
 
 -- help; the version; one body on the sample book; a batch, one message after another, or by so many workers of an engine, or with a
 -- journal; blocks by so many workers of an engine; an audit of a batch, against a journal or without, or of blocks; what a file
@@ -122,14 +115,6 @@ asked (name, rows) =
     else (if bytes_eq name (codes "audit-blocks") then audit_blocks_in rows
     else (if bytes_eq name (codes "show") then show_in rows
     else (if bytes_eq name (codes "pack") then pack_in rows else None)))))))
-
-abbrev pub names_of : BatchNames → Names
-names_of names = record {
-  book = string_bytes names.book;
-  batch = string_bytes names.batch;
-  replies = string_bytes names.replies;
-  new_book = string_bytes names.new_book;
-}
 
 abbrev pub names_of_arguments : BatchArguments → Names
 names_of_arguments words = record {

@@ -19,8 +19,8 @@ use Rattle.app_commands.specs.declared.report.Report.{Report}
 
 -- a fault of blocks, with those that are kept or with none
 pub halted : (known : Type 0) (old new : Holding) (devices : Failing) (names : Names) (workers : ℕ) (engine : Engine) (fault : JobFault) (kept : Option ℕ)
-    → ((count : ℕ) → kept ≡ Some count → (why : BatchFault) × (fault ≡ Batch why) × AreBlocksKept known old new names.book names.batch names.replies names.new_book why count)
-    → (kept ≡ None → IsBookAsItWas old new names) → IsBlocksFault old names.book names.batch devices.reading devices.writing devices.refused fault
+    → ((count : ℕ) → kept ≡ Some count → (why : BatchFault) × (fault ≡ Batch why) × AreBlocksKept known old new names why count)
+    → (kept ≡ None → IsBookAsItWas old new names) → IsBlocksFault old names devices.reading devices.writing devices.refused fault
     → IsFaultIn known old new devices (blocks names workers engine) (fault_and_kept fault kept)
 halted known old new devices names workers engine fault (Some count) some none why = (some count refl, why)
 halted known old new devices names workers engine fault None some none why = (none refl, why)

@@ -1,5 +1,5 @@
 -- What the program does for its words.
-use Rattle.std.specs.Prelude.{◌≡◌, ◌≢◌, ◌⊎◌, ℕ, List, [], ◌∷◌, ◌++◌, Option, Some, None, codes, string_bytes}
+use Rattle.std.specs.Prelude.{◌≡◌, ◌≢◌, ◌⊎◌, ℕ, Bool, List, [], ◌∷◌, ◌++◌, Option, Some, None, codes, string_bytes}
 use Rattle.app_runs.specs.Answers.{IsAnswerInDigits}
 use Rattle.app_runs.specs.SampleBook.{sample_rows}
 use Rattle.app_audit.specs.Texts.{audit_text, block_audit_text}
@@ -69,19 +69,19 @@ IsDoneAs known old new (help text) (report.Help told) = string_bytes told ≡ te
 IsDoneAs known old new version report.Version = Unit {0}
 IsDoneAs known old new (one body) (report.Answer text) = IsAnswerInDigits sample_rows body (string_bytes text)
 IsDoneAs known old new (serial names) (report.Decided count) =
-    IsDecided known old new names.book names.batch names.replies names.new_book count
+    IsDecided known old new names count
 IsDoneAs known old new (run names workers engine) (report.Decided count) =
-    IsDecided known old new names.book names.batch names.replies names.new_book count
+    IsDecided known old new names count
 IsDoneAs known old new (run_with_journal names workers journal) (report.Decided count) =
-    IsDecidedWithJournal known old new names.book names.batch names.replies names.new_book journal count
+    IsDecidedWithJournal known old new names journal count
 IsDoneAs known old new (blocks names workers engine) (report.DecidedBlocks count) =
-    AreBlocksDecided known old new names.book names.batch names.replies names.new_book count.blocks count.messages
+    AreBlocksDecided known old new names count.blocks count.messages
 IsDoneAs known old new (audit names None) (report.Audited found text) =
-    IsAudited old names.book names.batch names.replies names.new_book found × (text.items ≡ audit_text found)
+    IsAudited old names found × (text.items ≡ audit_text found)
 IsDoneAs known old new (audit names (Some journal)) (report.Audited found text) =
-    IsAuditedWithJournal old names.book names.batch names.replies names.new_book journal found × (text.items ≡ audit_text found)
+    IsAuditedWithJournal old names journal found × (text.items ≡ audit_text found)
 IsDoneAs known old new (audit_blocks names) (report.AuditedBlocks found text) =
-    AreBlocksAudited old names.book names.batch names.replies names.new_book found × (text.items ≡ block_audit_text found)
+    AreBlocksAudited old names found × (text.items ≡ block_audit_text found)
 IsDoneAs known old new (show file) (report.Lines text) = (bytes : List ℕ) → old file bytes → IsShown bytes text.items
 IsDoneAs known old new (pack text batch) (report.Packed count) = IsPacked known old new text batch count
 IsDoneAs known old new what told = ⊥
@@ -89,7 +89,7 @@ IsDoneAs known old new what told = ⊥
 -- Some first blocks are kept, so many, and the files hold what these come to; behind them this fault came.
 abbrev pub IsHaltedAs : Type 0 → Holding → Holding → Asked → JobFault → ℕ → Type 0
 IsHaltedAs known old new (blocks names workers engine) fault kept =
-    (why : BatchFault) × (fault ≡ Batch why) × AreBlocksKept known old new names.book names.batch names.replies names.new_book why kept
+    (why : BatchFault) × (fault ≡ Batch why) × AreBlocksKept known old new names why kept
 IsHaltedAs known old new what fault kept = ⊥
 
 -- the file of the new book, where it is not that of the replies, holds what it held
@@ -123,8 +123,8 @@ pub record Failing : Type 1 where
   pub writing : Type 0
   pub refused : Type 0
 
--- such calls are counted, and refusals known, so
-abbrev pub failing : {I O X : Type 0} → (I → ℕ) → (O → ℕ) → (X → List ℕ → Type 0) → Failing
+-- that a call failed, and that a name is refused, is known so
+abbrev pub failing : {I O X : Type 0} → (I → Bool) → (O → Bool) → (X → List ℕ → Type 0) → Failing
 failing inputs outputs refuses = record { reading = HasFailed inputs; writing = HasFailed outputs; refused = HasRefused refuses }
 
 -- Why what is asked for is not done, as the files were: the first fault of what they held, in the order of reading; a call that failed;
@@ -133,15 +133,15 @@ abbrev pub IsJobFault : Holding → Failing → Asked → JobFault → Type 0
 IsJobFault old devices (help text) fault = ⊥
 IsJobFault old devices version fault = ⊥
 IsJobFault old devices (one body) fault = ⊥
-IsJobFault old devices (serial names) fault = IsDecidingFault old names.book names.batch devices.reading devices.writing devices.refused fault
-IsJobFault old devices (run names workers engine) fault = IsDecidingFault old names.book names.batch devices.reading devices.writing devices.refused fault
+IsJobFault old devices (serial names) fault = IsDecidingFault old names devices.reading devices.writing devices.refused fault
+IsJobFault old devices (run names workers engine) fault = IsDecidingFault old names devices.reading devices.writing devices.refused fault
 IsJobFault old devices (run_with_journal names workers journal) fault =
-    IsDecidingFault old names.book names.batch devices.reading devices.writing devices.refused fault
-IsJobFault old devices (blocks names workers engine) fault = IsBlocksFault old names.book names.batch devices.reading devices.writing devices.refused fault
-IsJobFault old devices (audit names None) fault = IsAuditingFault old names.book names.batch names.replies names.new_book devices.reading fault
+    IsDecidingFault old names devices.reading devices.writing devices.refused fault
+IsJobFault old devices (blocks names workers engine) fault = IsBlocksFault old names devices.reading devices.writing devices.refused fault
+IsJobFault old devices (audit names None) fault = IsAuditingFault old names devices.reading fault
 IsJobFault old devices (audit names (Some journal)) fault =
-    IsJournalAuditingFault old names.book names.batch names.replies names.new_book journal devices.reading fault
-IsJobFault old devices (audit_blocks names) fault = IsBlockAuditingFault old names.book names.batch names.replies names.new_book devices.reading fault
+    IsJournalAuditingFault old names journal devices.reading fault
+IsJobFault old devices (audit_blocks names) fault = IsBlockAuditingFault old names devices.reading fault
 IsJobFault old devices (show file) fault = IsShowingFault old file devices.reading fault
 IsJobFault old devices (pack text batch) fault = IsPackingFault old text devices.reading devices.writing devices.refused fault
 

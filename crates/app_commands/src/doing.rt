@@ -26,7 +26,7 @@ pub(crate) fn done<R: Clock + Threads + Wait + Sync, F: Files>(
 ) -> Result<Report, Fault>
     ensures done { MatchResult result
         (IsDoneAs (F.is_known files.old) (F.holds files.old) (F.holds files.new) (asked_of command))
-        (IsFaultIn (F.is_known files.old) (F.holds files.old) (F.holds files.new) (failing F.Input.failures F.Output.failures F.refuses) (asked_of command)) }
+        (IsFaultIn (F.is_known files.old) (F.holds files.old) (F.holds files.new) (failing F.Input.has_failed F.Output.has_failed F.refuses) (asked_of command)) }
     ensures others { (other held : List ℕ) → Spares (asked_of command) other → F.holds files.old other held → F.holds files.new other held }
 {
     match command {
@@ -68,7 +68,7 @@ fn serial<R: Threads + Wait + Sync, F: Files>(
 ) -> Result<Report, Fault>
     ensures done { MatchResult result
         (IsDoneAs (F.is_known files.old) (F.holds files.old) (F.holds files.new) (serial (names_of names.now)))
-        (IsFaultIn (F.is_known files.old) (F.holds files.old) (F.holds files.new) (failing F.Input.failures F.Output.failures F.refuses) (serial (names_of names.now))) }
+        (IsFaultIn (F.is_known files.old) (F.holds files.old) (F.holds files.new) (failing F.Input.has_failed F.Output.has_failed F.refuses) (serial (names_of names.now))) }
     ensures others { (other held : List ℕ) → Spares (serial (names_of names.now)) other → F.holds files.old other held → F.holds files.new other held }
 {
     let count = serial_batch(rt, alloc, files, names)?;
@@ -86,7 +86,7 @@ fn run<R: Clock + Threads + Wait + Sync, F: Files>(
 ) -> Result<Report, Fault>
     ensures done { MatchResult result
         (IsDoneAs (F.is_known files.old) (F.holds files.old) (F.holds files.new) (run (names_of names.now) workers engine))
-        (IsFaultIn (F.is_known files.old) (F.holds files.old) (F.holds files.new) (failing F.Input.failures F.Output.failures F.refuses) (run (names_of names.now) workers engine)) }
+        (IsFaultIn (F.is_known files.old) (F.holds files.old) (F.holds files.new) (failing F.Input.has_failed F.Output.has_failed F.refuses) (run (names_of names.now) workers engine)) }
     ensures others { (other held : List ℕ) → Spares (run (names_of names.now) workers engine) other → F.holds files.old other held → F.holds files.new other held }
 {
     let count = run_batch(rt, alloc, files, names, workers, engine)?;
@@ -104,7 +104,7 @@ fn run_with_journal<R: Clock + Threads + Wait + Sync, F: Files>(
 ) -> Result<Report, Fault>
     ensures done { MatchResult result
         (IsDoneAs (F.is_known files.old) (F.holds files.old) (F.holds files.new) (run_with_journal (names_of names.now) workers journal.now))
-        (IsFaultIn (F.is_known files.old) (F.holds files.old) (F.holds files.new) (failing F.Input.failures F.Output.failures F.refuses) (run_with_journal (names_of names.now) workers journal.now)) }
+        (IsFaultIn (F.is_known files.old) (F.holds files.old) (F.holds files.new) (failing F.Input.has_failed F.Output.has_failed F.refuses) (run_with_journal (names_of names.now) workers journal.now)) }
     ensures others { (other held : List ℕ) → Spares (run_with_journal (names_of names.now) workers journal.now) other → F.holds files.old other held → F.holds files.new other held }
 {
     let count = run_batch_with_journal(rt, alloc, files, names, workers, journal)?;
@@ -122,7 +122,7 @@ fn blocks<R: Clock + Threads + Wait + Sync, F: Files>(
 ) -> Result<Report, Fault>
     ensures done { MatchResult result
         (IsDoneAs (F.is_known files.old) (F.holds files.old) (F.holds files.new) (blocks (names_of names.now) workers engine))
-        (IsFaultIn (F.is_known files.old) (F.holds files.old) (F.holds files.new) (failing F.Input.failures F.Output.failures F.refuses) (blocks (names_of names.now) workers engine)) }
+        (IsFaultIn (F.is_known files.old) (F.holds files.old) (F.holds files.new) (failing F.Input.has_failed F.Output.has_failed F.refuses) (blocks (names_of names.now) workers engine)) }
     ensures others { (other held : List ℕ) → Spares (blocks (names_of names.now) workers engine) other → F.holds files.old other held → F.holds files.new other held }
 {
     let count = run_blocks(rt, alloc, files, names, workers, engine)?;
@@ -138,7 +138,7 @@ fn audited<R: Threads, F: Files>(
 ) -> Result<Report, Fault>
     ensures { MatchResult result
         (IsDoneAs (F.is_known files.now) (F.holds files.now) (F.holds files.now) (audit (names_of names.now) None))
-        (IsFaultIn (F.is_known files.now) (F.holds files.now) (F.holds files.now) (failing F.Input.failures F.Output.failures F.refuses) (audit (names_of names.now) None)) }
+        (IsFaultIn (F.is_known files.now) (F.holds files.now) (F.holds files.now) (failing F.Input.has_failed F.Output.has_failed F.refuses) (audit (names_of names.now) None)) }
 {
     let found = audit_batch(rt, alloc, files, names)?;
     let text = audit_text(alloc, &found)?;
@@ -155,7 +155,7 @@ fn audited_with_journal<R: Threads, F: Files>(
 ) -> Result<Report, Fault>
     ensures { MatchResult result
         (IsDoneAs (F.is_known files.now) (F.holds files.now) (F.holds files.now) (audit (names_of names.now) (Some journal.now)))
-        (IsFaultIn (F.is_known files.now) (F.holds files.now) (F.holds files.now) (failing F.Input.failures F.Output.failures F.refuses) (audit (names_of names.now) (Some journal.now))) }
+        (IsFaultIn (F.is_known files.now) (F.holds files.now) (F.holds files.now) (failing F.Input.has_failed F.Output.has_failed F.refuses) (audit (names_of names.now) (Some journal.now))) }
 {
     let found = audit_batch_with_journal(rt, alloc, files, names, journal)?;
     let text = audit_text(alloc, &found)?;
@@ -171,7 +171,7 @@ fn audited_blocks<R: Threads, F: Files>(
 ) -> Result<Report, Fault>
     ensures { MatchResult result
         (IsDoneAs (F.is_known files.now) (F.holds files.now) (F.holds files.now) (audit_blocks (names_of names.now)))
-        (IsFaultIn (F.is_known files.now) (F.holds files.now) (F.holds files.now) (failing F.Input.failures F.Output.failures F.refuses) (audit_blocks (names_of names.now))) }
+        (IsFaultIn (F.is_known files.now) (F.holds files.now) (F.holds files.now) (failing F.Input.has_failed F.Output.has_failed F.refuses) (audit_blocks (names_of names.now))) }
 {
     let found = audit_block_files(rt, alloc, files, names)?;
     let text = block_audit_text(alloc, &found)?;
@@ -182,7 +182,7 @@ fn audited_blocks<R: Threads, F: Files>(
 fn show<F: Files>(alloc: Global, files: &F, file: &str) -> Result<Report, Fault>
     ensures { MatchResult result
         (IsDoneAs (F.is_known files.now) (F.holds files.now) (F.holds files.now) (show file.now))
-        (IsFaultIn (F.is_known files.now) (F.holds files.now) (F.holds files.now) (failing F.Input.failures F.Output.failures F.refuses) (show file.now)) }
+        (IsFaultIn (F.is_known files.now) (F.holds files.now) (F.holds files.now) (failing F.Input.has_failed F.Output.has_failed F.refuses) (show file.now)) }
 {
     let text = show_file(alloc, files, file)?;
     Ok(Report::Lines(text))
@@ -192,7 +192,7 @@ fn show<F: Files>(alloc: Global, files: &F, file: &str) -> Result<Report, Fault>
 fn pack<F: Files>(alloc: Global, files: &mut F, text: &str, batch: &str) -> Result<Report, Fault>
     ensures done { MatchResult result
         (IsDoneAs (F.is_known files.old) (F.holds files.old) (F.holds files.new) (pack text.now batch.now))
-        (IsFaultIn (F.is_known files.old) (F.holds files.old) (F.holds files.new) (failing F.Input.failures F.Output.failures F.refuses) (pack text.now batch.now)) }
+        (IsFaultIn (F.is_known files.old) (F.holds files.old) (F.holds files.new) (failing F.Input.has_failed F.Output.has_failed F.refuses) (pack text.now batch.now)) }
     ensures others { (other held : List ℕ) → Spares (pack text.now batch.now) other → F.holds files.old other held → F.holds files.new other held }
 {
     let count = pack_batch(alloc, files, text, batch)?;

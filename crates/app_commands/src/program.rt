@@ -29,7 +29,7 @@ pub fn act<R: Clock + Threads + Wait + Sync, F: Files, O: Write, E: Write>(
     err: &mut Printer<E>,
 ) -> u8
     ensures status { result ≤ 3 }
-    ensures acted { IsActed (F.is_known files.old) (F.holds files.old) (F.holds files.new) (failing F.Input.failures F.Output.failures F.refuses) (map string_bytes words.now)
+    ensures acted { IsActed (F.is_known files.old) (F.holds files.old) (F.holds files.new) (failing F.Input.has_failed F.Output.has_failed F.refuses) (map string_bytes words.now)
         (record { out = printed O.contents out.old; err = printed E.contents err.old })
         (record { out = printed O.contents out.new; err = printed E.contents err.new }) result }
     // A file that is none of those that are written for what the words ask for stays as it was.
@@ -56,7 +56,7 @@ fn answer<R: Clock + Threads + Wait + Sync, F: Files>(
 ) -> Result<Report, Fault>
     ensures answered { MatchResult result
         (IsAskedFor (F.is_known files.old) (F.holds files.old) (F.holds files.new) (map string_bytes words.now))
-        (IsFaultOf (F.is_known files.old) (F.holds files.old) (F.holds files.new) (failing F.Input.failures F.Output.failures F.refuses) (map string_bytes words.now)) }
+        (IsFaultOf (F.is_known files.old) (F.holds files.old) (F.holds files.new) (failing F.Input.has_failed F.Output.has_failed F.refuses) (map string_bytes words.now)) }
     ensures others { (other held : List ℕ) → AreSparing (map string_bytes words.now) other → F.holds files.old other held → F.holds files.new other held }
 {
     let command = read_arguments(alloc, words)?;

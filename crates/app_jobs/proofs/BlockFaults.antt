@@ -1,8 +1,8 @@
 -- Faults of block files.
-use Rattle.std.proofs.Common.{◌≡◌, ◌⊎◌, ℕ, ◌+◌, List, inl, inr, refl}
+use Rattle.std.proofs.Common.{◌≡◌, ◌⊎◌, ◌||◌, ℕ, Bool, false, List, inl, inr, refl}
 use Rattle.std.specs.Prelude.{IsTrue}
 use Rattle.file_blocks.specs.Blocks.{StopsBefore, StopsInHead, StopsInBlocks}
-use Rattle.file_batch_laws.specs.BatchFault.{failures_at, is_of_bytes}
+use Rattle.file_batch_laws.specs.BatchFault.{failed_at, is_of_bytes}
 use Rattle.file_batch_laws.specs.declared.batch_fault.BatchFault.{BatchFault}
 use Rattle.file_devices.specs.Failing.{HasFailed}
 use Rattle.file_devices.specs.declared.read_fault.ReadFault.{ReadFault}
@@ -30,9 +30,9 @@ first_fault rows after count reads bytes puts start written fault same failed de
     inr (behind.0, behind.1, behind.2 r, (kept.blocks, behind.3.left, kept.read r, rw kept.number (behind.3.fails r t)))
 
 -- why blocks stop, where both devices had not failed before
-pub stopped : (old : Holding) (batch : List ℕ) {X Y : Type 0} (reading : X → ℕ) (putting : Y → ℕ) (refused : Type 0)
+pub stopped : (old : Holding) (batch : List ℕ) {X Y : Type 0} (reading : X → Bool) (putting : Y → Bool) (refused : Type 0)
     (rows after : Rows) (count : ℕ) (reads : Type 0) (bytes : List ℕ) (puts : Type 0) (start written : List ℕ) (fault : BatchFault) (same failed : Type 0)
-    (x : X) (y : Y) → reading x + putting y ≡ failures_at fault 0 → (failed → putting y ≡ 1)
+    (x : X) (y : Y) → (reading x || putting y) ≡ failed_at fault false → (failed → IsTrue (putting y))
     → ((held : List ℕ) → old batch held → reads × (bytes ≡ held))
     → StopsBefore rows after count reads bytes fault same
     ⊎ (StopsInHead rows after count reads bytes puts start written failed ⊎ StopsInBlocks rows after count reads bytes puts start written fault failed)
@@ -41,27 +41,9 @@ stopped old batch reading putting refused rows after count reads bytes puts star
   (λ held o t. rw (← (opened held o).1) (first_fault rows after count reads bytes puts start written fault same failed
       (λ f. device_alone fault (reading x) (putting y) sum (alone f)) h (opened held o).0 t)),
   (λ d.
-      let once = rw d at sum in
-      elim (one_failed reading putting x y once) [ inl a ↦ inl a | inr b ↦ inr (inl b) ]),
+      let failing = rw d at sum in
+      one_failed reading putting refused x y failing),
 )
-
--- a block file that isn't opened
-pub unread_blocks : (old : Holding) (name : List ℕ) (read_failed put_failed refused : Type 0) (e : ReadFault)
-    → (e ≡ read.Unreadable → (bytes : List ℕ) → ¬ old name bytes) → IsBlockFileFault old name read_failed put_failed refused (fault_of_read e)
-unread_blocks old name read_failed put_failed refused read.Unreadable h = λ bytes o. absurd (h refl bytes o)
-unread_blocks old name read_failed put_failed refused read.OutOfMemory h = tt
-
--- replies that aren't opened
-pub unread_block_replies : (old : Holding) (name : List ℕ) (read_failed : Type 0) (e : ReadFault)
-    → (e ≡ read.Unreadable → (bytes : List ℕ) → ¬ old name bytes) → IsBlockRepliesFault old name read_failed (fault_of_read e)
-unread_block_replies old name read_failed read.Unreadable h = λ bytes o. absurd (h refl bytes o)
-unread_block_replies old name read_failed read.OutOfMemory h = tt
-
--- replies that can't be made
-pub unmade_blocks : (old : Holding) (name : List ℕ) (read_failed put_failed refused : Type 0) (e : WriteFault)
-    → (e ≡ write.Unwritable → refused) → IsBlockFileFault old name read_failed put_failed refused (fault_of_write e)
-unmade_blocks old name read_failed put_failed refused write.Unwritable h = h refl
-unmade_blocks old name read_failed put_failed refused write.OutOfMemory h = tt
 
 -- replies that can't be closed
 pub unclosed_blocks : (old : Holding) (name : List ℕ) (read_failed put_failed refused : Type 0) (e : WriteFault)

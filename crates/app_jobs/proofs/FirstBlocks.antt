@@ -1,22 +1,24 @@
 -- What a halt of blocks leaves in a file that was empty.
-use Rattle.std.proofs.Common.{◌≡◌, ℕ, ◌+◌, List, [], ◌++◌, refl, sym, ◌∙◌, inl, inr, arith, Result, Ok, Err, IfErr, IsTrue}
+use Rattle.std.proofs.Common.{◌≡◌, ℕ, List, [], ◌++◌, refl, sym, ◌∙◌, inl, inr, Bool, false, ◌||◌, Result, Ok, Err, IfErr, IsTrue}
+use Rattle.std.proofs.lemmas.Bool.{or_parts}
 use Rattle.std.proofs.lemmas.List.{append-nil}
 use Rattle.file_blocks.specs.Blocks.{StopsBefore, StopsInHead, StopsInBlocks}
-use Rattle.file_batch_laws.specs.BatchFault.{failures_at, is_of_bytes}
+use Rattle.file_batch_laws.specs.BatchFault.{failed_at, is_of_bytes}
 use Rattle.file_batch_laws.specs.Blocks.{block_replies_magic, block_text, blocks_text, replies_to_blocks, rows_after_blocks}
 use Rattle.file_batch_laws.specs.Files.{head_text}
 use Rattle.file_batch_laws.specs.declared.batch_fault.BatchFault.{BatchFault}
-use Rattle.file_batch_laws.specs.declared.batch_fault.BatchFault.TheVariants.{Magic, Version, Count, Length, Ended, Trailing, Device, OutOfMemory, Body, Blocks}
+use Rattle.file_batch_laws.specs.declared.batch_fault.BatchFault.TheVariants.{Device}
 use Rattle.issuer_rows.specs.Fold.{Rows, replies_to}
+use Rattle.file_devices.specs.BatchNames.{Names}
 use Rattle.app_jobs.specs.DecidedBlocks.{AreFirstAnswered}
 use Rattle.app_jobs.specs.Decided.{Holding}
 
-pub before_head : (known : Type 0) (old new : Holding) (batch replies : List ℕ) (rows after : Rows) (fault : BatchFault) (count : ℕ)
+pub before_head : (known : Type 0) (old new : Holding) (names : Names) (rows after : Rows) (fault : BatchFault) (count : ℕ)
     (reads : Type 0) (bytes written : List ℕ) (same : Type 0)
-    → ((held : List ℕ) → old batch held → reads × (bytes ≡ held)) → (known → new replies written) → (known → same → written ≡ [])
+    → ((held : List ℕ) → old names.batch held → reads × (bytes ≡ held)) → (known → new names.replies written) → (known → same → written ≡ [])
     → StopsBefore rows after count reads bytes fault same
-    → AreFirstAnswered known old new batch replies rows after fault count
-before_head known old new batch replies rows after fault count reads bytes written same opened closed empty h =
+    → AreFirstAnswered known old new names rows after fault count
+before_head known old new names rows after fault count reads bytes written same opened closed empty h =
     record {
       blocks = [];
       number = h.0;
@@ -27,12 +29,12 @@ before_head known old new batch replies rows after fault count reads bytes writt
       answered = λ k. (written, closed k, inl (refl, head_text block_replies_magic 0, rw (empty k h.2) refl));
     }
 
-pub in_head : (known : Type 0) (old new : Holding) (batch replies : List ℕ) (rows after : Rows) (fault : BatchFault) (count : ℕ)
+pub in_head : (known : Type 0) (old new : Holding) (names : Names) (rows after : Rows) (fault : BatchFault) (count : ℕ)
     (reads : Type 0) (bytes : List ℕ) (puts : Type 0) (start written : List ℕ) (failed : Type 0)
-    → (known → new replies written) → (known → puts) → (known → start ≡ []) → (failed → ¬ IsTrue (is_of_bytes fault))
+    → (known → new names.replies written) → (known → puts) → (known → start ≡ []) → (failed → ¬ IsTrue (is_of_bytes fault))
     → StopsInHead rows after count reads bytes puts start written failed
-    → AreFirstAnswered known old new batch replies rows after fault count
-in_head known old new batch replies rows after fault count reads bytes puts start written failed closed put empty device h =
+    → AreFirstAnswered known old new names rows after fault count
+in_head known old new names rows after fault count reads bytes puts start written failed closed put empty device h =
     record {
       blocks = [];
       number = h.0;
@@ -45,12 +47,12 @@ in_head known old new batch replies rows after fault count reads bytes puts star
           (written, closed k, inl (refl, part.1, rw (part.2, empty k) part.3));
     }
 
-pub behind_head : (known : Type 0) (old new : Holding) (batch replies : List ℕ) (rows after : Rows) (fault : BatchFault) (count : ℕ)
+pub behind_head : (known : Type 0) (old new : Holding) (names : Names) (rows after : Rows) (fault : BatchFault) (count : ℕ)
     (reads : Type 0) (bytes : List ℕ) (puts : Type 0) (start written : List ℕ) (failed : Type 0)
-    → ((held : List ℕ) → old batch held → reads × (bytes ≡ held)) → (known → new replies written) → (known → puts) → (known → start ≡ [])
+    → ((held : List ℕ) → old names.batch held → reads × (bytes ≡ held)) → (known → new names.replies written) → (known → puts) → (known → start ≡ [])
     → StopsInBlocks rows after count reads bytes puts start written fault failed
-    → AreFirstAnswered known old new batch replies rows after fault count
-behind_head known old new batch replies rows after fault count reads bytes puts start written failed opened closed put empty h =
+    → AreFirstAnswered known old new names rows after fault count
+behind_head known old new names rows after fault count reads bytes puts start written failed opened closed put empty h =
     let kept = h.3.kept in
     record {
       blocks = kept.blocks;
@@ -78,17 +80,11 @@ behind_head known old new batch replies rows after fault count reads bytes puts 
     }
 
 -- one device alone failed, so that the fault is of no bytes
-pub device_alone : (fault : BatchFault) (reading putting : ℕ) → reading + putting ≡ failures_at fault 0 → putting ≡ 1 → ¬ IsTrue (is_of_bytes fault)
-device_alone Magic reading putting sum one of_bytes = absurd (omega (arith, sum, one))
-device_alone Version reading putting sum one of_bytes = absurd (omega (arith, sum, one))
-device_alone Count reading putting sum one of_bytes = absurd (omega (arith, sum, one))
-device_alone Length reading putting sum one of_bytes = absurd (omega (arith, sum, one))
-device_alone Ended reading putting sum one of_bytes = absurd (omega (arith, sum, one))
-device_alone Trailing reading putting sum one of_bytes = absurd (omega (arith, sum, one))
-device_alone Device reading putting sum one of_bytes = absurd cc
-device_alone OutOfMemory reading putting sum one of_bytes = absurd cc
-device_alone (Body i) reading putting sum one of_bytes = absurd (omega (arith, sum, one))
-device_alone Blocks reading putting sum one of_bytes = absurd (omega (arith, sum, one))
+pub device_alone : (fault : BatchFault) (reading putting : Bool) → (reading || putting) ≡ failed_at fault false → IsTrue putting → ¬ IsTrue (is_of_bytes fault)
+device_alone Device reading putting failed alone of_bytes = absurd cc
+device_alone _ reading putting failed alone of_bytes =
+    let none : putting ≡ false = (or_parts reading putting failed).1 in
+    absurd (cc (none, alone))
 
 -- what follows from two facts of an error
 pub from_both : {T E : Type 0} (r : Result T E) (P Q S : E → Type 0) → ((e : E) → P e → Q e → S e) → IfErr r P → IfErr r Q → IfErr r S

@@ -11,30 +11,18 @@ use Rattle.stm_journal_text.specs.declared.replay_fault.ReplayFault.TheVariants 
 use Rattle.issuer_rows.specs.Fold.{Rows}
 use Rattle.issuer_rows.specs.declared.frame.Frame.{Frame}
 use Rattle.stm_core_laws.specs.Play.{opening_play}
+use Rattle.file_devices.specs.BatchNames.{Names}
 use Rattle.app_jobs.specs.Decided.{Holding, IsBookOf}
 use Rattle.app_jobs.specs.JobFault.{fault_of_read}
 use Rattle.app_jobs.specs.JournalFaults.{IsJournalFault, IsUnplayed, IsWrongJournal}
 
--- a journal that isn't opened or read
-pub unread_journal : (old : Holding) (name : List ℕ) (read_failed : Type 0) (e : ReadFault)
-    → (e ≡ read.Unreadable → (bytes : List ℕ) → old name bytes → read_failed) → IsJournalFault old name read_failed (fault_of_read e)
-unread_journal old name read_failed read.Unreadable h = h refl
-unread_journal old name read_failed read.OutOfMemory h = tt
-
--- a text that is no journal
-pub wrong_journal : (held : List ℕ → Type 0) (e : ReplayFault)
-    → ((n : ℕ) → e ≡ replay.Line n → (bytes : List ℕ) → held bytes → IsFirstWrongLine bytes n) → ((n : ℕ) → e ≢ replay.Unlogged n) → IsWrongJournal held e
-wrong_journal held (replay.Line n) line logged = line n refl
-wrong_journal held (replay.Unlogged n) line logged = absurd (logged n refl)
-wrong_journal held replay.OutOfMemory line logged = tt
-
 -- a journal that isn't played
-pub unplayed : {T : Type 0} (old : Holding) (book batch journal : List ℕ) (rows : Rows) (frames : List Frame) (entries : List Entry) (e : ReplayFault)
-    → IsBookOf old book rows → ((bytes : List ℕ) → old batch bytes → IsBatchOf bytes frames)
+pub unplayed : {T : Type 0} (old : Holding) (names : Names) (journal : List ℕ) (rows : Rows) (frames : List Frame) (entries : List Entry) (e : ReplayFault)
+    → IsBookOf old names.book rows → ((bytes : List ℕ) → old names.batch bytes → IsBatchOf bytes frames)
     → AreEntries entries → ((bytes : List ℕ) → old journal bytes → bytes ≡ journal_text entries)
     → ((n : ℕ) → Path (Result T ReplayFault) (Err e) (Err (replay.Unlogged n)) → IsFirstUnlogged (opening_play rows frames greatest) entries n)
-    → ((n : ℕ) → ¬ Path (Result T ReplayFault) (Err e) (Err (replay.Line n))) → IsUnplayed old book batch journal e
-unplayed old book batch journal rows frames entries (replay.Unlogged n) opening messages are logged unlogged lines =
+    → ((n : ℕ) → ¬ Path (Result T ReplayFault) (Err e) (Err (replay.Line n))) → IsUnplayed old names journal e
+unplayed old names journal rows frames entries (replay.Unlogged n) opening messages are logged unlogged lines =
     record { rows = rows; frames = frames; entries = entries; opening = opening; messages = messages; are = are; logged = logged; first = unlogged n refl }
-unplayed old book batch journal rows frames entries (replay.Line n) opening messages are logged unlogged lines = absurd (lines n refl)
-unplayed old book batch journal rows frames entries replay.OutOfMemory opening messages are logged unlogged lines = tt
+unplayed old names journal rows frames entries (replay.Line n) opening messages are logged unlogged lines = absurd (lines n refl)
+unplayed old names journal rows frames entries replay.OutOfMemory opening messages are logged unlogged lines = tt

@@ -75,21 +75,6 @@ pub text_fits : (bytes : List ℕ) (bodies : List (Vec ℕ)) → bodies_of bytes
     → AreBodies (bytes_of bodies)
 text_fits bytes bodies is few = (rw length-map few, lines_fit 1 (lines_of bytes) (bytes_of bodies) is)
 
--- a text that isn't read
-pub unread_text : (old : Holding) (name : List ℕ) (read_failed : Type 0) (e : ReadFault)
-    → (e ≡ read.Unreadable → (bytes : List ℕ) → old name bytes → read_failed) → IsTextFault old name read_failed (fault_of_read e)
-unread_text old name read_failed read.Unreadable h = h refl
-unread_text old name read_failed read.OutOfMemory h = tt
-
--- a text that has no bodies, or too many
-pub no_bodies : (old : Holding) (name : List ℕ) (read_failed : Type 0) (e : ListingFault)
-    → ((n : ℕ) → e ≡ text.Line n → (bytes : List ℕ) → old name bytes → bodies_of bytes ≡ Err n)
-    → (e ≡ text.Count → (bytes : List ℕ) → old name bytes → HasTooMany bytes)
-    → IsTextFault old name read_failed (fault_of_text e)
-no_bodies old name read_failed (text.Line n) line count = line n refl
-no_bodies old name read_failed text.Count line count = (refl, count refl)
-no_bodies old name read_failed text.OutOfMemory line count = tt
-
 -- a batch that can't be made
 pub unmade_batch : (put_failed refused : Type 0) (e : WriteFault) → (e ≡ write.Unwritable → refused) → IsUnwritten put_failed refused (fault_of_write e)
 unmade_batch put_failed refused write.Unwritable h = h refl

@@ -7,33 +7,29 @@ use Rattle.file_batch_laws.specs.Replies.{IsReplyFileOf}
 use Rattle.issuer_rows.specs.Fold.{Rows, rows_after, replies_to}
 use Rattle.issuer_rows.specs.declared.frame.Frame.{Frame}
 use Rattle.issuer_rows.specs.declared.reply_body.ReplyBody.{ReplyBody}
+use Rattle.file_devices.specs.BatchNames.{Names}
 use Rattle.app_jobs.specs.Decided.{Holding, IsBookOf}
 
 -- The files, as far as it is known what they hold, hold this book and this batch.
-pub record AreDecided (old : Holding) (book batch : List ℕ) (rows : Rows) (frames : List Frame) : Type 0 where
-  pub opening : IsBookOf old book rows
-  pub messages : (bytes : List ℕ) → old batch bytes → IsBatchOf bytes frames
+pub record AreDecided (old : Holding) (names : Names) (rows : Rows) (frames : List Frame) : Type 0 where
+  pub opening : IsBookOf old names.book rows
+  pub messages : (bytes : List ℕ) → old names.batch bytes → IsBatchOf bytes frames
 
 -- They hold these replies, and this book after them.
-pub record AreAnswers (old : Holding) (replies new_book : List ℕ) (answers : List ReplyBody) (rows_after_it : Rows) : Type 0 where
-  pub answered : (bytes : List ℕ) → old replies bytes → IsReplyFileOf bytes answers
-  pub after : IsBookOf old new_book rows_after_it
+pub record AreAnswers (old : Holding) (names : Names) (answers : List ReplyBody) (rows_after_it : Rows) : Type 0 where
+  pub answered : (bytes : List ℕ) → old names.replies bytes → IsReplyFileOf bytes answers
+  pub after : IsBookOf old names.new_book rows_after_it
 
--- The files, as far as it is known what they hold, hold this book, this batch, these replies, and this book after it.
-pub record AreHeld (old : Holding) (book batch replies new_book : List ℕ) (rows : Rows) (frames : List Frame) (answers : List ReplyBody) (rows_after_it : Rows) : Type 0 where
-  pub opening : IsBookOf old book rows
-  pub messages : (bytes : List ℕ) → old batch bytes → IsBatchOf bytes frames
-  pub answered : (bytes : List ℕ) → old replies bytes → IsReplyFileOf bytes answers
-  pub after : IsBookOf old new_book rows_after_it
+-- Both.
+pub record AreHeld (old : Holding) (names : Names) (rows : Rows) (frames : List Frame) (answers : List ReplyBody) (rows_after_it : Rows) : Type 0 where
+  pub decided : AreDecided old names rows frames
+  pub answered : AreAnswers old names answers rows_after_it
 
 -- Replies and new book, as the files hold them, are compared with what deciding the batch on the book comes to.
-pub record IsAudited (old : Holding) (book batch replies new_book : List ℕ) (found : Audit) : Type 0 where
+pub record IsAudited (old : Holding) (names : Names) (found : Audit) : Type 0 where
   pub rows : Rows
   pub frames : List Frame
   pub answers : List ReplyBody
   pub rows_after_it : Rows
-  pub opening : IsBookOf old book rows
-  pub messages : (bytes : List ℕ) → old batch bytes → IsBatchOf bytes frames
-  pub answered : (bytes : List ℕ) → old replies bytes → IsReplyFileOf bytes answers
-  pub after : IsBookOf old new_book rows_after_it
+  pub held : AreHeld old names rows frames answers rows_after_it
   pub finds : Finds answers rows_after_it (replies_to rows frames) (rows_after rows frames) found

@@ -6,24 +6,21 @@ use Rattle.file_batch_laws.specs.Blocks.{IsBlockFileOf, IsBlockReplyFileOf, rows
 use Rattle.issuer_rows.specs.Fold.{Rows}
 use Rattle.issuer_rows.specs.declared.frame.Frame.{Frame}
 use Rattle.issuer_rows.specs.declared.reply_body.ReplyBody.{ReplyBody}
+use Rattle.file_devices.specs.BatchNames.{Names}
 use Rattle.app_jobs.specs.Decided.{Holding, IsBookOf}
 
 -- Replies and new book, as the files hold them, are compared with what deciding these blocks on these rows, one after another, comes to.
-pub record AreAnswersAudited (old : Holding) (replies new_book : List ℕ) (rows : Rows) (blocks : List (List Frame)) (found : BlockAudit) : Type 0 where
+pub record AreAnswersAudited (old : Holding) (names : Names) (rows : Rows) (blocks : List (List Frame)) (found : BlockAudit) : Type 0 where
   pub answers : List (List ReplyBody)
   pub rows_after_them : Rows
-  pub answered : (bytes : List ℕ) → old replies bytes → IsBlockReplyFileOf bytes answers
-  pub after : IsBookOf old new_book rows_after_them
+  pub answered : (bytes : List ℕ) → old names.replies bytes → IsBlockReplyFileOf bytes answers
+  pub after : IsBookOf old names.new_book rows_after_them
   pub finds : FindsInBlocks answers rows_after_them (replies_to_blocks rows blocks) (rows_after_blocks rows blocks) found
 
 -- Replies and new book, as the files hold them, are compared with what deciding the blocks on the book, one after another, comes to.
-pub record AreBlocksAudited (old : Holding) (book batch replies new_book : List ℕ) (found : BlockAudit) : Type 0 where
+pub record AreBlocksAudited (old : Holding) (names : Names) (found : BlockAudit) : Type 0 where
   pub rows : Rows
   pub blocks : List (List Frame)
-  pub answers : List (List ReplyBody)
-  pub rows_after_them : Rows
-  pub opening : IsBookOf old book rows
-  pub read : (bytes : List ℕ) → old batch bytes → IsBlockFileOf bytes blocks
-  pub answered : (bytes : List ℕ) → old replies bytes → IsBlockReplyFileOf bytes answers
-  pub after : IsBookOf old new_book rows_after_them
-  pub finds : FindsInBlocks answers rows_after_them (replies_to_blocks rows blocks) (rows_after_blocks rows blocks) found
+  pub opening : IsBookOf old names.book rows
+  pub read : (bytes : List ℕ) → old names.batch bytes → IsBlockFileOf bytes blocks
+  pub answers : AreAnswersAudited old names rows blocks found

@@ -8,6 +8,7 @@ use Rattle.file_batch_laws.specs.declared.batch_fault.BatchFault.{BatchFault}
 use Rattle.file_batch_laws.specs.declared.batch_fault.BatchFault.TheVariants.{Device}
 use Rattle.issuer_rows.specs.declared.frame.Frame.{Frame}
 use Rattle.issuer_rows.specs.declared.reply_body.ReplyBody.{ReplyBody}
+use Rattle.file_devices.specs.BatchNames.{Names}
 use Rattle.app_jobs.specs.Decided.{Holding}
 use Rattle.app_jobs.specs.Faults.{IsBookFault, IsPuttingFault, IsSomeBook}
 use Rattle.app_jobs.specs.declared.job_fault.JobFault.{JobFault}
@@ -28,9 +29,7 @@ IsBlockFileFault old name read_failed put_failed refused (Batch fault) =
 IsBlockFileFault old name read_failed put_failed refused Unreadable = (bytes : List ℕ) → old name bytes → read_failed
 IsBlockFileFault old name read_failed put_failed refused Unwritable = refused
 IsBlockFileFault old name read_failed put_failed refused OutOfMemory = Unit {0}
-IsBlockFileFault old name read_failed put_failed refused (Book fault) = ⊥
-IsBlockFileFault old name read_failed put_failed refused (Journal fault) = ⊥
-IsBlockFileFault old name read_failed put_failed refused (Text line) = ⊥
+IsBlockFileFault _ _ _ _ _ _ = ⊥
 
 -- the file of this name, where its bytes are known, is some block file
 abbrev pub IsSomeBlockFile : Holding → List ℕ → Type 0
@@ -38,11 +37,11 @@ IsSomeBlockFile old name = (blocks : List (List Frame)) × ((bytes : List ℕ) �
 
 -- Why not all blocks are decided: the first fault of the book; or, behind a sound book, the first of the block file, or a call on a file
 -- that failed; or, behind both, that a file is not put in its place.
-abbrev pub IsBlocksFault : Holding → List ℕ → List ℕ → Type 0 → Type 0 → Type 0 → JobFault → Type 0
-IsBlocksFault old book batch read_failed put_failed refused fault =
-    IsBookFault old book read_failed fault
-    ⊎ (IsSomeBook old book × (IsBlockFileFault old batch read_failed put_failed refused fault
-    ⊎ (IsSomeBlockFile old batch × IsPuttingFault refused fault)))
+abbrev pub IsBlocksFault : Holding → Names → Type 0 → Type 0 → Type 0 → JobFault → Type 0
+IsBlocksFault old names read_failed put_failed refused fault =
+    IsBookFault old names.book read_failed fault
+    ⊎ (IsSomeBook old names.book × (IsBlockFileFault old names.batch read_failed put_failed refused fault
+    ⊎ (IsSomeBlockFile old names.batch × IsPuttingFault refused fault)))
 
 -- Why the file of this name gives no replies of blocks: its first fault; a call on it failed; or memory ran out.
 abbrev pub IsBlockRepliesFault : Holding → List ℕ → Type 0 → JobFault → Type 0
@@ -50,10 +49,7 @@ IsBlockRepliesFault old name read_failed (Batch fault) =
     ((bytes : List ℕ) → old name bytes → IsTrue (is_of_bytes fault) → FailsAsBlockReplies bytes fault) × (fault ≢ Device)
 IsBlockRepliesFault old name read_failed Unreadable = (bytes : List ℕ) → old name bytes → read_failed
 IsBlockRepliesFault old name read_failed OutOfMemory = Unit {0}
-IsBlockRepliesFault old name read_failed Unwritable = ⊥
-IsBlockRepliesFault old name read_failed (Book fault) = ⊥
-IsBlockRepliesFault old name read_failed (Journal fault) = ⊥
-IsBlockRepliesFault old name read_failed (Text line) = ⊥
+IsBlockRepliesFault _ _ _ _ = ⊥
 
 -- the file of this name, where its bytes are known, is some file of replies of blocks
 abbrev pub IsSomeBlockReplies : Holding → List ℕ → Type 0
@@ -61,16 +57,16 @@ IsSomeBlockReplies old name = (answers : List (List ReplyBody)) × ((bytes : Lis
 
 -- Why an audit of blocks finds nothing behind a sound book and block file: the first fault of the replies or of the new book; or a call on
 -- a file failed; or memory ran out.
-abbrev pub IsBlockAnswersFault : Holding → List ℕ → List ℕ → Type 0 → JobFault → Type 0
-IsBlockAnswersFault old replies new_book read_failed fault =
-    IsBlockRepliesFault old replies read_failed fault
-    ⊎ (IsSomeBlockReplies old replies × (IsBookFault old new_book read_failed fault
-    ⊎ (IsSomeBook old new_book × (fault ≡ OutOfMemory))))
+abbrev pub IsBlockAnswersFault : Holding → Names → Type 0 → JobFault → Type 0
+IsBlockAnswersFault old names read_failed fault =
+    IsBlockRepliesFault old names.replies read_failed fault
+    ⊎ (IsSomeBlockReplies old names.replies × (IsBookFault old names.new_book read_failed fault
+    ⊎ (IsSomeBook old names.new_book × (fault ≡ OutOfMemory))))
 
 -- Why an audit of blocks finds nothing: the first fault of the book, of the block file, of the replies or of the new book, where those
 -- before it in this order have none; or a call on a file failed; or memory ran out.
-abbrev pub IsBlockAuditingFault : Holding → List ℕ → List ℕ → List ℕ → List ℕ → Type 0 → JobFault → Type 0
-IsBlockAuditingFault old book batch replies new_book read_failed fault =
-    IsBookFault old book read_failed fault
-    ⊎ (IsSomeBook old book × (IsBlockFileFault old batch read_failed ⊥ ⊥ fault
-    ⊎ (IsSomeBlockFile old batch × IsBlockAnswersFault old replies new_book read_failed fault)))
+abbrev pub IsBlockAuditingFault : Holding → Names → Type 0 → JobFault → Type 0
+IsBlockAuditingFault old names read_failed fault =
+    IsBookFault old names.book read_failed fault
+    ⊎ (IsSomeBook old names.book × (IsBlockFileFault old names.batch read_failed ⊥ ⊥ fault
+    ⊎ (IsSomeBlockFile old names.batch × IsBlockAnswersFault old names read_failed fault)))

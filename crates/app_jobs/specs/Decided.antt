@@ -1,4 +1,5 @@
 -- What files hold after a batch was decided.
+use Rattle.file_devices.specs.BatchNames.{Names}
 use Rattle.std.specs.Prelude.{◌≡◌, ◌≢◌, ℕ, List, Ok, length}
 use Rattle.file_batch_laws.specs.Files.{replies_text}
 use Rattle.file_batch_laws.specs.Frames.{IsBatchOf}
@@ -17,11 +18,11 @@ IsBookOf old name rows = (bytes : List ℕ) → old name bytes → IsAnswer (rea
 
 -- The book and the batch that the files held were decided one after another. Where it is known what files hold, the file of the new book
 -- holds the text of the book after that, and the file of the replies, where it is another, theirs. So many messages were decided.
-pub record IsDecided (known : Type 0) (old new : Holding) (book batch replies new_book : List ℕ) (count : ℕ) : Type 0 where
+pub record IsDecided (known : Type 0) (old new : Holding) (names : Names) (count : ℕ) : Type 0 where
   pub rows : Rows
   pub frames : List Frame
   pub counted : count ≡ length (replies_to rows frames)
-  pub opening : IsBookOf old book rows
-  pub messages : (bytes : List ℕ) → old batch bytes → IsBatchOf bytes frames
-  pub after : known → new new_book (book_text (rows_after rows frames))
-  pub answered : known → replies ≢ new_book → new replies (replies_text (replies_to rows frames))
+  pub opening : IsBookOf old names.book rows
+  pub messages : (bytes : List ℕ) → old names.batch bytes → IsBatchOf bytes frames
+  pub after : known → new names.new_book (book_text (rows_after rows frames))
+  pub answered : known → names.replies ≢ names.new_book → new names.replies (replies_text (replies_to rows frames))

@@ -7,20 +7,21 @@ use Rattle.file_batch_laws.specs.declared.batch_fault.BatchFault.{BatchFault}
 use Rattle.book_laws.specs.Text.{book_text}
 use Rattle.issuer_rows.specs.Fold.{Rows, replies_to}
 use Rattle.issuer_rows.specs.declared.frame.Frame.{Frame}
+use Rattle.file_devices.specs.BatchNames.{Names}
 use Rattle.app_jobs.specs.Decided.{Holding, IsBookOf}
 
 -- The book and the blocks that the files held were decided, each block on the book after those before it. Where it is known what files
 -- hold, the file of the new book holds the text of the book after all blocks, and the file of the replies, where it is another, theirs.
 -- So many blocks and messages were decided.
-pub record AreBlocksDecided (known : Type 0) (old new : Holding) (book batch replies new_book : List ℕ) (count messages : ℕ) : Type 0 where
+pub record AreBlocksDecided (known : Type 0) (old new : Holding) (names : Names) (count messages : ℕ) : Type 0 where
   pub rows : Rows
   pub blocks : List (List Frame)
   pub number : count ≡ length blocks
   pub all : messages ≡ messages_in blocks
-  pub opening : IsBookOf old book rows
-  pub read : (bytes : List ℕ) → old batch bytes → IsBlockFileOf bytes blocks
-  pub after : known → new new_book (book_text (rows_after_blocks rows blocks))
-  pub answered : known → replies ≢ new_book → new replies (block_replies_text (replies_to_blocks rows blocks))
+  pub opening : IsBookOf old names.book rows
+  pub read : (bytes : List ℕ) → old names.batch bytes → IsBlockFileOf bytes blocks
+  pub after : known → new names.new_book (book_text (rows_after_blocks rows blocks))
+  pub answered : known → names.replies ≢ names.new_book → new names.replies (block_replies_text (replies_to_blocks rows blocks))
 
 -- the bytes begin with the head of a file of so many blocks, of which the first ones are these
 abbrev pub BeginsWithBlocks : ℕ → List ℕ → List (List Frame) → Type 0
@@ -47,35 +48,35 @@ AreBegunReplies total rows blocks held =
 
 -- The blocks that the files held were decided on these rows, all of them, and come to these other rows; where it is known what files
 -- hold, their replies are in their file.
-pub record AreBlocksAnswered (known : Type 0) (old new : Holding) (batch replies : List ℕ) (rows after : Rows) (count messages : ℕ) : Type 0 where
+pub record AreBlocksAnswered (known : Type 0) (old new : Holding) (names : Names) (rows after : Rows) (count messages : ℕ) : Type 0 where
   pub blocks : List (List Frame)
   pub number : count ≡ length blocks
   pub all : messages ≡ messages_in blocks
   pub book : after ≡ rows_after_blocks rows blocks
-  pub read : (bytes : List ℕ) → old batch bytes → IsBlockFileOf bytes blocks
-  pub answered : known → new replies (block_replies_text (replies_to_blocks rows blocks))
+  pub read : (bytes : List ℕ) → old names.batch bytes → IsBlockFileOf bytes blocks
+  pub answered : known → new names.replies (block_replies_text (replies_to_blocks rows blocks))
 
 -- The same of some first blocks, so many. Behind them reading stopped with the fault, or memory or a device failed.
-pub record AreFirstAnswered (known : Type 0) (old new : Holding) (batch replies : List ℕ) (rows after : Rows) (fault : BatchFault) (count : ℕ) : Type 0 where
+pub record AreFirstAnswered (known : Type 0) (old new : Holding) (names : Names) (rows after : Rows) (fault : BatchFault) (count : ℕ) : Type 0 where
   pub blocks : List (List Frame)
   pub number : count ≡ length blocks
   pub total : ℕ
   pub book : after ≡ rows_after_blocks rows blocks
-  pub read : (bytes : List ℕ) → old batch bytes → (blocks ≡ []) ⊎ BeginsWithBlocks total bytes blocks
-  pub fails : (bytes : List ℕ) → old batch bytes → IsTrue (is_of_bytes fault) → FailsBehindBlocks total bytes blocks fault
-  pub answered : known → (held : List ℕ) × new replies held × (IsBegunHead total blocks held ⊎ AreBegunReplies total rows blocks held)
+  pub read : (bytes : List ℕ) → old names.batch bytes → (blocks ≡ []) ⊎ BeginsWithBlocks total bytes blocks
+  pub fails : (bytes : List ℕ) → old names.batch bytes → IsTrue (is_of_bytes fault) → FailsBehindBlocks total bytes blocks fault
+  pub answered : known → (held : List ℕ) × new names.replies held × (IsBegunHead total blocks held ⊎ AreBegunReplies total rows blocks held)
 
 -- Some blocks are kept, so many: the first ones of the block file that was held, each decided on the book after those before it.
 -- Behind them reading stopped with the fault, or memory or a device failed. Where it is known what files hold, the file of the new
 -- book holds the text of the book after them, and that of the replies, where it is another, theirs.
-pub record AreBlocksKept (known : Type 0) (old new : Holding) (book batch replies new_book : List ℕ) (fault : BatchFault) (count : ℕ) : Type 0 where
+pub record AreBlocksKept (known : Type 0) (old new : Holding) (names : Names) (fault : BatchFault) (count : ℕ) : Type 0 where
   pub rows : Rows
   pub blocks : List (List Frame)
   pub number : count ≡ length blocks
   pub total : ℕ
-  pub opening : IsBookOf old book rows
-  pub read : (bytes : List ℕ) → old batch bytes → (blocks ≡ []) ⊎ BeginsWithBlocks total bytes blocks
-  pub fails : (bytes : List ℕ) → old batch bytes → IsTrue (is_of_bytes fault) → FailsBehindBlocks total bytes blocks fault
-  pub after : known → new new_book (book_text (rows_after_blocks rows blocks))
-  pub answered : known → replies ≢ new_book → (held : List ℕ) × new replies held
+  pub opening : IsBookOf old names.book rows
+  pub read : (bytes : List ℕ) → old names.batch bytes → (blocks ≡ []) ⊎ BeginsWithBlocks total bytes blocks
+  pub fails : (bytes : List ℕ) → old names.batch bytes → IsTrue (is_of_bytes fault) → FailsBehindBlocks total bytes blocks fault
+  pub after : known → new names.new_book (book_text (rows_after_blocks rows blocks))
+  pub answered : known → names.replies ≢ names.new_book → (held : List ℕ) × new names.replies held
       × (IsBegunHead total blocks held ⊎ AreBegunReplies total rows blocks held)

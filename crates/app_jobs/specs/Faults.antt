@@ -9,6 +9,7 @@ use Rattle.book_laws.specs.Reading.{IsAnswer, reading}
 use Rattle.issuer_rows.specs.Fold.{Rows}
 use Rattle.issuer_rows.specs.declared.frame.Frame.{Frame}
 use Rattle.issuer_rows.specs.declared.reply_body.ReplyBody.{ReplyBody}
+use Rattle.file_devices.specs.BatchNames.{Names}
 use Rattle.app_jobs.specs.Decided.{Holding, IsBookOf}
 use Rattle.app_jobs.specs.declared.job_fault.JobFault.{JobFault}
 use Rattle.app_jobs.specs.declared.job_fault.JobFault.TheVariants.{Unreadable, Unwritable, Book, Batch, Journal, Text, OutOfMemory}
@@ -22,10 +23,7 @@ abbrev pub IsBookFault : Holding → List ℕ → Type 0 → JobFault → Type 0
 IsBookFault old name read_failed (Book fault) = (bytes : List ℕ) → old name bytes → IsAnswer (reading bytes) (Err fault)
 IsBookFault old name read_failed Unreadable = (bytes : List ℕ) → old name bytes → read_failed
 IsBookFault old name read_failed OutOfMemory = Unit {0}
-IsBookFault old name read_failed Unwritable = ⊥
-IsBookFault old name read_failed (Batch fault) = ⊥
-IsBookFault old name read_failed (Journal fault) = ⊥
-IsBookFault old name read_failed (Text line) = ⊥
+IsBookFault _ _ _ _ = ⊥
 
 -- Why the batch of this name is not answered: its first fault; a call on it, or on the file of the replies, failed or was refused; or
 -- memory ran out.
@@ -36,29 +34,19 @@ IsBatchFault old name read_failed put_failed refused (Batch fault) =
 IsBatchFault old name read_failed put_failed refused Unreadable = (bytes : List ℕ) → old name bytes → read_failed
 IsBatchFault old name read_failed put_failed refused Unwritable = refused
 IsBatchFault old name read_failed put_failed refused OutOfMemory = Unit {0}
-IsBatchFault old name read_failed put_failed refused (Book fault) = ⊥
-IsBatchFault old name read_failed put_failed refused (Journal fault) = ⊥
-IsBatchFault old name read_failed put_failed refused (Text line) = ⊥
+IsBatchFault _ _ _ _ _ _ = ⊥
 
 -- Why the replies to a batch that was decided are not written to their file: a call on it failed or was refused; or memory ran out.
 abbrev pub IsRepliesFault : Type 0 → Type 0 → JobFault → Type 0
 IsRepliesFault put_failed refused (Batch fault) = (¬ IsTrue (is_of_bytes fault)) × (fault ≡ Device → put_failed ⊎ refused)
 IsRepliesFault put_failed refused OutOfMemory = Unit {0}
-IsRepliesFault put_failed refused Unreadable = ⊥
-IsRepliesFault put_failed refused Unwritable = ⊥
-IsRepliesFault put_failed refused (Book fault) = ⊥
-IsRepliesFault put_failed refused (Journal fault) = ⊥
-IsRepliesFault put_failed refused (Text line) = ⊥
+IsRepliesFault _ _ _ = ⊥
 
 -- Why a file is not put in its place: it is refused, or memory ran out.
 abbrev pub IsPuttingFault : Type 0 → JobFault → Type 0
 IsPuttingFault refused Unwritable = refused
 IsPuttingFault refused OutOfMemory = Unit {0}
-IsPuttingFault refused Unreadable = ⊥
-IsPuttingFault refused (Book fault) = ⊥
-IsPuttingFault refused (Batch fault) = ⊥
-IsPuttingFault refused (Journal fault) = ⊥
-IsPuttingFault refused (Text line) = ⊥
+IsPuttingFault _ _ = ⊥
 
 -- a fault of what a file holds
 abbrev pub IsOfBytes : JobFault → Type 0
@@ -80,11 +68,11 @@ IsSomeReplyFile old name = (answers : List ReplyBody) × ((bytes : List ℕ) →
 
 -- Why a batch is not decided on a book: the first fault of the book; or, behind a sound book, the first of the batch, or a call on a file
 -- that failed; or, behind both, that a file is not put in its place.
-abbrev pub IsDecidingFault : Holding → List ℕ → List ℕ → Type 0 → Type 0 → Type 0 → JobFault → Type 0
-IsDecidingFault old book batch read_failed put_failed refused fault =
-    IsBookFault old book read_failed fault
-    ⊎ (IsSomeBook old book × (IsBatchFault old batch read_failed put_failed refused fault
-    ⊎ (IsSomeBatch old batch × IsPuttingFault refused fault)))
+abbrev pub IsDecidingFault : Holding → Names → Type 0 → Type 0 → Type 0 → JobFault → Type 0
+IsDecidingFault old names read_failed put_failed refused fault =
+    IsBookFault old names.book read_failed fault
+    ⊎ (IsSomeBook old names.book × (IsBatchFault old names.batch read_failed put_failed refused fault
+    ⊎ (IsSomeBatch old names.batch × IsPuttingFault refused fault)))
 
 -- Why the file of this name gives no replies: its first fault; a call on it failed; or memory ran out.
 abbrev pub IsReplyFileFault : Holding → List ℕ → Type 0 → JobFault → Type 0
@@ -92,32 +80,29 @@ IsReplyFileFault old name read_failed (Batch fault) =
     ((bytes : List ℕ) → old name bytes → IsTrue (is_of_bytes fault) → FailsAsReplies bytes fault) × (fault ≢ Device)
 IsReplyFileFault old name read_failed Unreadable = (bytes : List ℕ) → old name bytes → read_failed
 IsReplyFileFault old name read_failed OutOfMemory = Unit {0}
-IsReplyFileFault old name read_failed Unwritable = ⊥
-IsReplyFileFault old name read_failed (Book fault) = ⊥
-IsReplyFileFault old name read_failed (Journal fault) = ⊥
-IsReplyFileFault old name read_failed (Text line) = ⊥
+IsReplyFileFault _ _ _ _ = ⊥
 
 -- why a book or the batch that was decided on it is not opened: the first fault in this order
-abbrev pub IsOpeningFault : Holding → List ℕ → List ℕ → Type 0 → JobFault → Type 0
-IsOpeningFault old book batch read_failed fault =
-    IsBookFault old book read_failed fault ⊎ (IsSomeBook old book × IsBatchFault old batch read_failed ⊥ ⊥ fault)
+abbrev pub IsOpeningFault : Holding → Names → Type 0 → JobFault → Type 0
+IsOpeningFault old names read_failed fault =
+    IsBookFault old names.book read_failed fault ⊎ (IsSomeBook old names.book × IsBatchFault old names.batch read_failed ⊥ ⊥ fault)
 
 -- why replies or the book after them are not opened: the first fault in this order
-abbrev pub IsAnswersFault : Holding → List ℕ → List ℕ → Type 0 → JobFault → Type 0
-IsAnswersFault old replies new_book read_failed fault =
-    IsReplyFileFault old replies read_failed fault ⊎ (IsSomeReplyFile old replies × IsBookFault old new_book read_failed fault)
+abbrev pub IsAnswersFault : Holding → Names → Type 0 → JobFault → Type 0
+IsAnswersFault old names read_failed fault =
+    IsReplyFileFault old names.replies read_failed fault ⊎ (IsSomeReplyFile old names.replies × IsBookFault old names.new_book read_failed fault)
 
 -- Why an audit finds nothing: the first fault of the book, of the batch, of the replies or of the new book, where those before it in this
 -- order have none, or a call on a file that failed; or, behind all four, another.
-abbrev pub IsFaultInOrder : Holding → List ℕ → List ℕ → List ℕ → List ℕ → Type 0 → Type 0 → JobFault → Type 0
-IsFaultInOrder old book batch replies new_book read_failed behind fault =
-    IsBookFault old book read_failed fault
-    ⊎ (IsSomeBook old book × (IsBatchFault old batch read_failed ⊥ ⊥ fault
-    ⊎ (IsSomeBatch old batch × (IsReplyFileFault old replies read_failed fault
-    ⊎ (IsSomeReplyFile old replies × (IsBookFault old new_book read_failed fault
-    ⊎ (IsSomeBook old new_book × behind)))))))
+abbrev pub IsFaultInOrder : Holding → Names → Type 0 → Type 0 → JobFault → Type 0
+IsFaultInOrder old names read_failed behind fault =
+    IsBookFault old names.book read_failed fault
+    ⊎ (IsSomeBook old names.book × (IsBatchFault old names.batch read_failed ⊥ ⊥ fault
+    ⊎ (IsSomeBatch old names.batch × (IsReplyFileFault old names.replies read_failed fault
+    ⊎ (IsSomeReplyFile old names.replies × (IsBookFault old names.new_book read_failed fault
+    ⊎ (IsSomeBook old names.new_book × behind)))))))
 
 -- Behind all four only memory may run out.
-abbrev pub IsAuditingFault : Holding → List ℕ → List ℕ → List ℕ → List ℕ → Type 0 → JobFault → Type 0
-IsAuditingFault old book batch replies new_book read_failed fault =
-    IsFaultInOrder old book batch replies new_book read_failed (fault ≡ OutOfMemory) fault
+abbrev pub IsAuditingFault : Holding → Names → Type 0 → JobFault → Type 0
+IsAuditingFault old names read_failed fault =
+    IsFaultInOrder old names read_failed (fault ≡ OutOfMemory) fault

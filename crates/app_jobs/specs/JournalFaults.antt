@@ -9,6 +9,7 @@ use Rattle.stm_journal_text.specs.declared.replay_fault.ReplayFault.TheVariants 
 use Rattle.issuer_rows.specs.Fold.{Rows}
 use Rattle.issuer_rows.specs.declared.frame.Frame.{Frame}
 use Rattle.stm_core_laws.specs.Play.{opening_play}
+use Rattle.file_devices.specs.BatchNames.{Names}
 use Rattle.app_jobs.specs.Decided.{Holding, IsBookOf}
 use Rattle.app_jobs.specs.Faults.{IsFaultInOrder}
 use Rattle.app_jobs.specs.declared.job_fault.JobFault.{JobFault}
@@ -25,40 +26,32 @@ abbrev pub IsJournalFault : Holding → List ℕ → Type 0 → JobFault → Typ
 IsJournalFault old name read_failed (Journal fault) = IsWrongJournal (old name) fault
 IsJournalFault old name read_failed Unreadable = (bytes : List ℕ) → old name bytes → read_failed
 IsJournalFault old name read_failed OutOfMemory = Unit {0}
-IsJournalFault old name read_failed Unwritable = ⊥
-IsJournalFault old name read_failed (Book fault) = ⊥
-IsJournalFault old name read_failed (Batch fault) = ⊥
-IsJournalFault old name read_failed (Text line) = ⊥
+IsJournalFault _ _ _ _ = ⊥
 
 -- Played on the book and the batch, the entry of this number is the journal's first whose decision asks for a row that wasn't logged.
-pub record IsUnloggedIn (old : Holding) (book batch journal : List ℕ) (number : ℕ) : Type 0 where
+pub record IsUnloggedIn (old : Holding) (names : Names) (journal : List ℕ) (number : ℕ) : Type 0 where
   pub rows : Rows
   pub frames : List Frame
   pub entries : List Entry
-  pub opening : IsBookOf old book rows
-  pub messages : (bytes : List ℕ) → old batch bytes → IsBatchOf bytes frames
+  pub opening : IsBookOf old names.book rows
+  pub messages : (bytes : List ℕ) → old names.batch bytes → IsBatchOf bytes frames
   pub are : AreEntries entries
   pub logged : (bytes : List ℕ) → old journal bytes → bytes ≡ journal_text entries
   pub first : IsFirstUnlogged (opening_play rows frames greatest) entries number
 
 -- why the journal isn't played: a decision asks for a row that wasn't logged; or memory ran out
-abbrev pub IsUnplayed : Holding → List ℕ → List ℕ → List ℕ → ReplayFault → Type 0
-IsUnplayed old book batch journal (replay.Unlogged n) = IsUnloggedIn old book batch journal n
-IsUnplayed old book batch journal (replay.Line n) = ⊥
-IsUnplayed old book batch journal replay.OutOfMemory = Unit {0}
+abbrev pub IsUnplayed : Holding → Names → List ℕ → ReplayFault → Type 0
+IsUnplayed old names journal (replay.Unlogged n) = IsUnloggedIn old names journal n
+IsUnplayed old names journal (replay.Line n) = ⊥
+IsUnplayed old names journal replay.OutOfMemory = Unit {0}
 
-abbrev pub IsPlayingFault : Holding → List ℕ → List ℕ → List ℕ → JobFault → Type 0
-IsPlayingFault old book batch journal (Journal fault) = IsUnplayed old book batch journal fault
-IsPlayingFault old book batch journal Unreadable = ⊥
-IsPlayingFault old book batch journal Unwritable = ⊥
-IsPlayingFault old book batch journal (Book fault) = ⊥
-IsPlayingFault old book batch journal (Batch fault) = ⊥
-IsPlayingFault old book batch journal (Text line) = ⊥
-IsPlayingFault old book batch journal OutOfMemory = ⊥
+abbrev pub IsPlayingFault : Holding → Names → List ℕ → JobFault → Type 0
+IsPlayingFault old names journal (Journal fault) = IsUnplayed old names journal fault
+IsPlayingFault _ _ _ _ = ⊥
 
 -- Why an audit with a journal finds nothing: what an audit may lack, in its order; then the first wrong line of the journal, or a call
 -- on its file that failed; then that it isn't played.
-abbrev pub IsJournalAuditingFault : Holding → List ℕ → List ℕ → List ℕ → List ℕ → List ℕ → Type 0 → JobFault → Type 0
-IsJournalAuditingFault old book batch replies new_book journal read_failed fault =
-    IsFaultInOrder old book batch replies new_book read_failed
-    (IsJournalFault old journal read_failed fault ⊎ IsPlayingFault old book batch journal fault) fault
+abbrev pub IsJournalAuditingFault : Holding → Names → List ℕ → Type 0 → JobFault → Type 0
+IsJournalAuditingFault old names journal read_failed fault =
+    IsFaultInOrder old names read_failed
+    (IsJournalFault old journal read_failed fault ⊎ IsPlayingFault old names journal fault) fault

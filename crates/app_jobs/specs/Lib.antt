@@ -2,6 +2,7 @@ pub mod Audited
 pub mod AuditedBlocks
 pub mod BlockFaults
 pub mod Decided
+pub mod Deciding
 pub mod DecidedBlocks
 pub mod Faults
 pub mod JobFault

@@ -27,19 +27,14 @@ IsTextFault old name read_failed (Batch fault) =
     (fault ≡ Count) × ((bytes : List ℕ) → old name bytes → HasTooMany bytes)
 IsTextFault old name read_failed Unreadable = (bytes : List ℕ) → old name bytes → read_failed
 IsTextFault old name read_failed OutOfMemory = Unit {0}
-IsTextFault old name read_failed Unwritable = ⊥
-IsTextFault old name read_failed (Book fault) = ⊥
-IsTextFault old name read_failed (Journal fault) = ⊥
+IsTextFault _ _ _ _ = ⊥
 
 -- why bodies are not written to a file: a call on it failed or was refused; or memory ran out
 abbrev pub IsUnwritten : Type 0 → Type 0 → JobFault → Type 0
 IsUnwritten put_failed refused (Batch fault) = (¬ IsTrue (is_of_bytes fault)) × (fault ≡ Device → put_failed ⊎ refused)
 IsUnwritten put_failed refused Unwritable = refused
 IsUnwritten put_failed refused OutOfMemory = Unit {0}
-IsUnwritten put_failed refused Unreadable = ⊥
-IsUnwritten put_failed refused (Book fault) = ⊥
-IsUnwritten put_failed refused (Journal fault) = ⊥
-IsUnwritten put_failed refused (Text line) = ⊥
+IsUnwritten _ _ _ = ⊥
 
 -- Why a text is not packed: what it lacks; or, where it has bodies, that they are not written to the file of the batch.
 abbrev pub IsPackingFault : Holding → List ℕ → Type 0 → Type 0 → Type 0 → JobFault → Type 0

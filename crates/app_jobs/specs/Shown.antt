@@ -42,7 +42,5 @@ abbrev pub IsShowingFault : Holding → List ℕ → Type 0 → JobFault → Typ
 IsShowingFault old name read_failed (Batch fault) = IsTrue (is_of_bytes fault) × ((bytes : List ℕ) → old name bytes → FailsAsShown bytes fault)
 IsShowingFault old name read_failed Unreadable = (bytes : List ℕ) → old name bytes → read_failed
 IsShowingFault old name read_failed OutOfMemory = Unit {0}
-IsShowingFault old name read_failed Unwritable = ⊥
-IsShowingFault old name read_failed (Book fault) = ⊥
-IsShowingFault old name read_failed (Journal fault) = ⊥
-IsShowingFault old name read_failed (Text line) = ⊥
+
+IsShowingFault _ _ _ _ = ⊥

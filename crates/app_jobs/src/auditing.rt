@@ -1,5 +1,6 @@
-ghost use Rattle.std.specs.Prelude.{◌≡◌, ◌≤◌, IfOk, IfErr, length, string_bytes};
+ghost use Rattle.std.specs.Prelude.{◌≡◌, ◌≤◌, IfOk, IfErr, length};
 ghost use Rattle.app_audit.specs.Finding.{Finds};
+ghost use Rattle.file_devices.specs.BatchNames.{names_of};
 ghost use Rattle.file_devices.specs.Failing.{HasFailed};
 ghost use Rattle.issuer_rows.specs.Fold.{replies_to, rows_after};
 ghost use Rattle.app_jobs.specs.Audited.{AreAnswers, AreDecided, AreHeld, IsAudited};
@@ -24,9 +25,9 @@ pub fn audit_batch<R: Threads, F: Files>(
     names: &BatchNames,
 ) -> Result<Audit, JobFault>
     ensures audited { IfOk result (IsAudited (F.holds files.now)
-        (string_bytes names.now.book) (string_bytes names.now.batch) (string_bytes names.now.replies) (string_bytes names.now.new_book)) }
+        (names_of names.now)) }
     ensures fault { IfErr result (IsAuditingFault (F.holds files.now)
-        (string_bytes names.now.book) (string_bytes names.now.batch) (string_bytes names.now.replies) (string_bytes names.now.new_book) (HasFailed F.Input.failures)) }
+        (names_of names.now) (HasFailed F.Input.has_failed)) }
 {
     let run = open_run(rt, alloc, files, names)?;
     audit_run(alloc, &run)
@@ -52,9 +53,9 @@ pub fn audit_batch_with_journal<R: Threads, F: Files>(
     journal: &str,
 ) -> Result<Audit, JobFault>
     ensures audited { IfOk result (IsAuditedWithJournal (F.holds files.now)
-        (string_bytes names.now.book) (string_bytes names.now.batch) (string_bytes names.now.replies) (string_bytes names.now.new_book) journal.now) }
+        (names_of names.now) journal.now) }
     ensures fault { IfErr result (IsJournalAuditingFault (F.holds files.now)
-        (string_bytes names.now.book) (string_bytes names.now.batch) (string_bytes names.now.replies) (string_bytes names.now.new_book) journal.now (HasFailed F.Input.failures)) }
+        (names_of names.now) journal.now (HasFailed F.Input.has_failed)) }
 {
     let run = open_run(rt, alloc, files, names)?;
     let entries = open_journal(alloc, files, journal)?;
@@ -88,11 +89,11 @@ fn open_run<R: Threads, F: Files>(
     names: &BatchNames,
 ) -> Result<AuditedRun, JobFault>
     ensures held { IfOk result (λ run. AreHeld (F.holds files.now)
-        (string_bytes names.now.book) (string_bytes names.now.batch) (string_bytes names.now.replies) (string_bytes names.now.new_book)
+        (names_of names.now)
         run.book run.frames.items run.replies.items run.after) }
     ensures count { IfOk result (λ run. length run.frames.items ≤ 65536) }
     ensures fault { IfErr result (IsFaultInOrder (F.holds files.now)
-        (string_bytes names.now.book) (string_bytes names.now.batch) (string_bytes names.now.replies) (string_bytes names.now.new_book) (HasFailed F.Input.failures) ⊥) }
+        (names_of names.now) (HasFailed F.Input.has_failed) ⊥) }
 {
     let (book, frames) = open_decided(rt, alloc, files, names)?;
     let (replies, after) = open_answers(rt, alloc, files, names)?;
@@ -111,9 +112,9 @@ fn open_decided<R: Threads, F: Files>(
     files: &F,
     names: &BatchNames,
 ) -> Result<(Book, Vec<Frame>), JobFault>
-    ensures held { IfOk result (λ decided. AreDecided (F.holds files.now) (string_bytes names.now.book) (string_bytes names.now.batch) decided.0 decided.1.items) }
+    ensures held { IfOk result (λ decided. AreDecided (F.holds files.now) (names_of names.now) decided.0 decided.1.items) }
     ensures count { IfOk result (λ decided. length decided.1.items ≤ 65536) }
-    ensures fault { IfErr result (IsOpeningFault (F.holds files.now) (string_bytes names.now.book) (string_bytes names.now.batch) (HasFailed F.Input.failures)) }
+    ensures fault { IfErr result (IsOpeningFault (F.holds files.now) (names_of names.now) (HasFailed F.Input.has_failed)) }
 {
     let book = open_book(rt, alloc, files, names.book.as_str())?;
     let frames = open_batch(alloc, files, names.batch.as_str())?;
@@ -127,8 +128,8 @@ fn open_answers<R: Threads, F: Files>(
     files: &F,
     names: &BatchNames,
 ) -> Result<(Vec<ReplyBody>, Book), JobFault>
-    ensures held { IfOk result (λ answers. AreAnswers (F.holds files.now) (string_bytes names.now.replies) (string_bytes names.now.new_book) answers.0.items answers.1) }
-    ensures fault { IfErr result (IsAnswersFault (F.holds files.now) (string_bytes names.now.replies) (string_bytes names.now.new_book) (HasFailed F.Input.failures)) }
+    ensures held { IfOk result (λ answers. AreAnswers (F.holds files.now) (names_of names.now) answers.0.items answers.1) }
+    ensures fault { IfErr result (IsAnswersFault (F.holds files.now) (names_of names.now) (HasFailed F.Input.has_failed)) }
 {
     let replies = open_replies(alloc, files, names.replies.as_str())?;
     let after = open_book(rt, alloc, files, names.new_book.as_str())?;

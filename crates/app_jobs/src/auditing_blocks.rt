@@ -1,7 +1,8 @@
-ghost use Rattle.std.specs.Prelude.{◌≤◌, ℕ, List, IfOk, IfErr, length, string_bytes};
+ghost use Rattle.std.specs.Prelude.{◌≤◌, ℕ, List, IfOk, IfErr, length};
 ghost use Rattle.std.specs.List.{All};
 ghost use Rattle.file_blocks.specs.BlockFiles.{frames_of, replies_of};
 ghost use Rattle.file_batch_laws.specs.Blocks.{IsBlockFileOf, IsBlockReplyFileOf};
+ghost use Rattle.file_devices.specs.BatchNames.{names_of};
 ghost use Rattle.file_devices.specs.Failing.{HasFailed};
 ghost use Rattle.app_jobs.specs.AuditedBlocks.{AreAnswersAudited, AreBlocksAudited};
 ghost use Rattle.app_jobs.specs.BlockFaults.{IsBlockAnswersFault, IsBlockAuditingFault, IsBlockFileFault, IsBlockRepliesFault};
@@ -26,9 +27,9 @@ pub fn audit_block_files<R: Threads, F: Files>(
     names: &BatchNames,
 ) -> Result<BlockAudit, JobFault>
     ensures audited { IfOk result (AreBlocksAudited (F.holds files.now)
-        (string_bytes names.now.book) (string_bytes names.now.batch) (string_bytes names.now.replies) (string_bytes names.now.new_book)) }
+        (names_of names.now)) }
     ensures fault { IfErr result (IsBlockAuditingFault (F.holds files.now)
-        (string_bytes names.now.book) (string_bytes names.now.batch) (string_bytes names.now.replies) (string_bytes names.now.new_book) (HasFailed F.Input.failures)) }
+        (names_of names.now) (HasFailed F.Input.has_failed)) }
 {
     let book = open_book(rt, alloc, files, names.book.as_str())?;
     let blocks = open_blocks(alloc, files, names.batch.as_str())?;
@@ -46,8 +47,8 @@ fn audit_answers<R: Threads, F: Files>(
 ) -> Result<BlockAudit, JobFault>
     requires count { length blocks.now ≤ 1000 }
     requires each { All (λ block. length block.items ≤ 65536) blocks.now }
-    ensures audited { IfOk result (AreAnswersAudited (F.holds files.now) (string_bytes names.now.replies) (string_bytes names.now.new_book) book.now (frames_of blocks.now)) }
-    ensures fault { IfErr result (IsBlockAnswersFault (F.holds files.now) (string_bytes names.now.replies) (string_bytes names.now.new_book) (HasFailed F.Input.failures)) }
+    ensures audited { IfOk result (AreAnswersAudited (F.holds files.now) (names_of names.now) book.now (frames_of blocks.now)) }
+    ensures fault { IfErr result (IsBlockAnswersFault (F.holds files.now) (names_of names.now) (HasFailed F.Input.has_failed)) }
 {
     let replies = open_block_replies(alloc, files, names.replies.as_str())?;
     let after = open_book(rt, alloc, files, names.new_book.as_str())?;
@@ -58,7 +59,7 @@ fn audit_answers<R: Threads, F: Files>(
 fn open_blocks<F: Files>(alloc: Global, files: &F, name: &str) -> Result<Vec<Vec<Frame>>, JobFault>
     ensures count { IfOk result (λ blocks. length blocks.items ≤ 1000) }
     ensures each { IfOk result (λ blocks. All (λ block. length block.items ≤ 65536) blocks.items) }
-    ensures fault { IfErr result (IsBlockFileFault (F.holds files.now) name.now (HasFailed F.Input.failures) ⊥ ⊥) }
+    ensures fault { IfErr result (IsBlockFileFault (F.holds files.now) name.now (HasFailed F.Input.has_failed) ⊥ ⊥) }
     ensures blocks { (bytes : List ℕ) → F.holds files.now name.now bytes → IfOk result (λ blocks. IsBlockFileOf bytes (frames_of blocks.items)) }
 {
     let mut input = files.open(name)?;
@@ -74,7 +75,7 @@ fn open_block_replies<F: Files>(
     files: &F,
     name: &str,
 ) -> Result<Vec<Vec<ReplyBody>>, JobFault>
-    ensures fault { IfErr result (IsBlockRepliesFault (F.holds files.now) name.now (HasFailed F.Input.failures)) }
+    ensures fault { IfErr result (IsBlockRepliesFault (F.holds files.now) name.now (HasFailed F.Input.has_failed)) }
     ensures replies { (bytes : List ℕ) → F.holds files.now name.now bytes → IfOk result (λ replies. IsBlockReplyFileOf bytes (replies_of replies.items)) }
 {
     let mut input = files.open(name)?;

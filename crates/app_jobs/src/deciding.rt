@@ -1,14 +1,15 @@
-ghost use Rattle.std.specs.Prelude.{◌≡◌, ◌≢◌, ◌≤◌, ℕ, List, IfOk, IfErr, OnOk, OnErr, length, string_bytes};
+ghost use Rattle.std.specs.Prelude.{◌≡◌, ◌≢◌, ℕ, List, IfOk, IfErr, string_bytes};
 ghost use Rattle.std.specs.FinMap as map;
-ghost use Rattle.file_batch.specs.Processing.{IsFold, AnswersFold};
+ghost use Rattle.file_batch.specs.Processing.{IsDecider, IsFold};
 ghost use Rattle.file_batch_laws.specs.Files.{replies_text};
 ghost use Rattle.file_batch_laws.specs.Frames.{IsBatchOf};
 ghost use Rattle.book_laws.specs.Text.{book_text};
+ghost use Rattle.file_devices.specs.BatchNames.{names_of};
 ghost use Rattle.file_devices.specs.Failing.{HasFailed, HasRefused};
 ghost use Rattle.issuer_rows.specs.Fold.{Rows, replies_to};
 ghost use Rattle.issuer_rows.specs.declared.frame.Frame.{Frame};
-ghost use Rattle.app_jobs.specs.Decided.{IsDecided};
-ghost use Rattle.app_jobs.specs.Faults.{HoldsSameOrNothing, IsBatchFault, IsDecidingFault, IsOfBytes, IsPuttingFault};
+ghost use Rattle.app_jobs.specs.Deciding.{DecidesFiles, PutsFile};
+ghost use Rattle.app_jobs.specs.Faults.{HoldsSameOrNothing, IsBatchFault, IsOfBytes};
 
 use crate::job_fault::{JobFault, fault_of_closing};
 use crate::opening::open_book;
@@ -32,23 +33,9 @@ pub fn decide_batch<
     E: Fn(&Book, &[Frame]) -> Result<RunOutcome, AllocError>,
 >(rt: &R, alloc: Global, files: &mut F, names: &BatchNames, decide: &E) -> Result<usize, JobFault>
     // It may be called with a batch, and what it returns is the fold.
-    requires called { (rows : _) (frames : _) → length frames.now ≤ 65536 → E.pre decide.now rows frames }
-    requires fold { (rows : _) (frames : _) (answer : _) → E.post decide.now rows frames answer → AnswersFold rows.now frames.now answer }
-    ensures decided { IfOk result (IsDecided (F.is_known files.old) (F.holds files.old) (F.holds files.new)
-        (string_bytes names.now.book) (string_bytes names.now.batch) (string_bytes names.now.replies) (string_bytes names.now.new_book)) }
-    // The first fault, in the order of reading: the book's, then the batch's; or a call on a file failed, or memory ran out.
-    ensures fault { IfErr result (IsDecidingFault (F.holds files.old) (string_bytes names.now.book) (string_bytes names.now.batch)
-        (HasFailed F.Input.failures) (HasFailed F.Output.failures) (HasRefused F.refuses)) }
-    // Nothing of an older new book is lost.
-    ensures kept { OnErr result (string_bytes names.now.new_book ≢ string_bytes names.now.replies → (held : List ℕ)
-        → F.holds files.old (string_bytes names.now.new_book) held → F.holds files.new (string_bytes names.now.new_book) held) }
-    // No reply is written before all of the batch is read.
-    ensures unanswered { IfErr result (λ fault. IsOfBytes fault → F.is_known files.old
-        → HoldsSameOrNothing (F.holds files.old) (F.holds files.new) (string_bytes names.now.replies)) }
-    // Other files stay as they were.
-    ensures others { (other held : List ℕ) → other ≢ string_bytes names.now.replies → other ≢ string_bytes names.now.new_book
-        → F.holds files.old other held → F.holds files.new other held }
-    ensures known { F.is_known files.old → F.is_known files.new }
+    requires decider { IsDecider E.pre E.post (λ rows. rows.now) (λ frames. frames.now) decide.now }
+    ensures decides { DecidesFiles F.is_known F.holds (HasFailed F.Input.has_failed) (HasFailed F.Output.has_failed) (HasRefused F.refuses)
+        files.old files.new (names_of names.now) result }
 {
     let book = open_book(rt, alloc, files, names.book.as_str())?;
     let outcome = answer_batch(alloc, files, names, &book, decide)?;
@@ -64,13 +51,12 @@ fn answer_batch<F: Files, E: Fn(&Book, &[Frame]) -> Result<RunOutcome, AllocErro
     book: &Book,
     decide: &E,
 ) -> Result<RunOutcome, JobFault>
-    requires called { (rows : _) (frames : _) → length frames.now ≤ 65536 → E.pre decide.now rows frames }
-    requires fold { (rows : _) (frames : _) (answer : _) → E.post decide.now rows frames answer → AnswersFold rows.now frames.now answer }
+    requires decider { IsDecider E.pre E.post (λ rows. rows.now) (λ frames. frames.now) decide.now }
     ensures ok { IfOk result (λ outcome. (frames : List Frame) × IsFold book.now frames outcome
         × ((bytes : List ℕ) → F.holds files.old (string_bytes names.now.batch) bytes → IsBatchOf bytes frames)
         × (F.is_known files.old → F.holds files.new (string_bytes names.now.replies) (replies_text (replies_to book.now frames)))) }
     ensures fault { IfErr result (IsBatchFault (F.holds files.old) (string_bytes names.now.batch)
-        (HasFailed F.Input.failures) (HasFailed F.Output.failures) (HasRefused F.refuses)) }
+        (HasFailed F.Input.has_failed) (HasFailed F.Output.has_failed) (HasRefused F.refuses)) }
     ensures unanswered { IfErr result (λ fault. IsOfBytes fault → F.is_known files.old
         → HoldsSameOrNothing (F.holds files.old) (F.holds files.new) (string_bytes names.now.replies)) }
     ensures known { F.is_known files.old → F.is_known files.new }
@@ -96,11 +82,8 @@ pub fn put_book<R: Threads + Wait + Sync, F: Files>(
     name: &str,
     book: &Book,
 ) -> Result<(), JobFault>
-    ensures ok { OnOk result (F.is_known files.old → F.holds files.new name.now (book_text book.now)) }
-    ensures kept { OnErr result ((held : List ℕ) → F.holds files.old name.now held → F.holds files.new name.now held) }
-    ensures fault { IfErr result (IsPuttingFault (HasRefused F.refuses)) }
-    ensures known { F.is_known files.old → F.is_known files.new }
-    ensures others { (other held : List ℕ) → other ≢ name.now → F.holds files.old other held → F.holds files.new other held }
+    ensures puts { PutsFile F.is_known F.holds (HasRefused F.refuses) files.old files.new name.now
+        (F.holds files.new name.now (book_text book.now)) result }
 {
     put_text::<Brand, R, F>(rt, alloc, files, Target { name }, book)
 }
@@ -120,11 +103,8 @@ fn put_text<B: OfRows + Send + Sync, R: Threads + Wait + Sync, F: Files>(
     book: &Book,
 ) -> Result<(), JobFault>
     requires { map.entries book.now ≡ B.rows }
-    ensures ok { OnOk result (F.is_known files.old → F.holds files.new target.entry.name.now (book_text book.now)) }
-    ensures kept { OnErr result ((held : List ℕ) → F.holds files.old target.entry.name.now held → F.holds files.new target.entry.name.now held) }
-    ensures fault { IfErr result (IsPuttingFault (HasRefused F.refuses)) }
-    ensures known { F.is_known files.old → F.is_known files.new }
-    ensures others { (other held : List ℕ) → other ≢ target.entry.name.now → F.holds files.old other held → F.holds files.new other held }
+    ensures puts { PutsFile F.is_known F.holds (HasRefused F.refuses) files.old files.new target.entry.name.now
+        (F.holds files.new target.entry.name.now (book_text book.now)) result }
 {
     let sorting: Sorting<'_, B> = Sorting::new(alloc, book);
     let writer = BookWriter::new(&sorting)?;
@@ -138,11 +118,8 @@ fn put_helped<B: OfRows + Send + Sync, R: Threads + Wait + Sync, F: Files>(
     name: &str,
     writer: &BookWriter<'_, '_, B>,
 ) -> Result<(), JobFault>
-    ensures ok { OnOk result (F.is_known files.old → (book : Rows) → B.rows ≡ map.entries book → F.holds files.new name.now (book_text book)) }
-    ensures kept { OnErr result ((held : List ℕ) → F.holds files.old name.now held → F.holds files.new name.now held) }
-    ensures fault { IfErr result (IsPuttingFault (HasRefused F.refuses)) }
-    ensures known { F.is_known files.old → F.is_known files.new }
-    ensures others { (other held : List ℕ) → other ≢ name.now → F.holds files.old other held → F.holds files.new other held }
+    ensures puts { PutsFile F.is_known F.holds (HasRefused F.refuses) files.old files.new name.now
+        ((book : Rows) → B.rows ≡ map.entries book → F.holds files.new name.now (book_text book)) result }
 {
     let helpers = writer.helpers(rt);
     if helpers == 0 {
@@ -152,11 +129,8 @@ fn put_helped<B: OfRows + Send + Sync, R: Threads + Wait + Sync, F: Files>(
         rt,
         &mut || writer.help_in(rt, helpers),
         &mut || -> Result<(), JobFault>
-            ensures ok { OnOk result (F.is_known files.entry.now → (book : Rows) → B.rows ≡ map.entries book → F.holds files.exit.now name.entry.now (book_text book)) }
-            ensures kept { OnErr result ((held : List ℕ) → F.holds files.entry.now name.entry.now held → F.holds files.exit.now name.entry.now held) }
-            ensures fault { IfErr result (IsPuttingFault (HasRefused F.refuses)) }
-            ensures known { F.is_known files.entry.now → F.is_known files.exit.now }
-            ensures others { (other held : List ℕ) → other ≢ name.entry.now → F.holds files.entry.now other held → F.holds files.exit.now other held }
+            ensures puts { PutsFile F.is_known F.holds (HasRefused F.refuses) files.entry.now files.exit.now name.entry.now
+                ((book : Rows) → B.rows ≡ map.entries book → F.holds files.exit.now name.entry.now (book_text book)) result }
         {
             let put = put_pieces(rt, files, name, writer);
             writer.close();
@@ -173,11 +147,8 @@ pub(crate) fn put_pieces<B: OfRows, R: Wait, F: Files>(
     name: &str,
     writer: &BookWriter<'_, '_, B>,
 ) -> Result<(), JobFault>
-    ensures ok { OnOk result (F.is_known files.old → (book : Rows) → B.rows ≡ map.entries book → F.holds files.new name.now (book_text book)) }
-    ensures kept { OnErr result ((held : List ℕ) → F.holds files.old name.now held → F.holds files.new name.now held) }
-    ensures fault { IfErr result (IsPuttingFault (HasRefused F.refuses)) }
-    ensures known { F.is_known files.old → F.is_known files.new }
-    ensures others { (other held : List ℕ) → other ≢ name.now → F.holds files.old other held → F.holds files.new other held }
+    ensures puts { PutsFile F.is_known F.holds (HasRefused F.refuses) files.old files.new name.now
+        ((book : Rows) → B.rows ≡ map.entries book → F.holds files.new name.now (book_text book)) result }
 {
     let mut text = writer.pieces(rt)?;
     Ok(files.replace(name, &mut text)?)

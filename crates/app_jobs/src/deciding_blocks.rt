@@ -1,10 +1,11 @@
-ghost use Rattle.std.specs.Prelude.{◌≡◌, ◌≢◌, ◌⊎◌, ◌≤◌, ◌+◌, ℕ, List, [], Some, None, Ok, Err, IfOk, IfErr, OnErr, IsTrue, length, string_bytes};
-ghost use Rattle.file_batch.specs.Processing.{AnswersFold};
-ghost use Rattle.file_batch_laws.specs.declared.batch_fault.BatchFault.{BatchFault};
+ghost use Rattle.std.specs.Prelude.{◌≡◌, ◌≢◌, ℕ, List, Some, None, Ok, Err, IfOk, IfErr, OnErr, string_bytes};
+ghost use Rattle.file_batch.specs.Processing.{IsDecider};
 ghost use Rattle.book_laws.specs.Text.{book_text};
+ghost use Rattle.file_devices.specs.BatchNames.{names_of};
 ghost use Rattle.file_devices.specs.Failing.{HasFailed, HasRefused};
-ghost use Rattle.app_jobs.specs.DecidedBlocks.{AreBlocksDecided, AreBlocksKept, AreBlocksAnswered, AreFirstAnswered};
-ghost use Rattle.app_jobs.specs.BlockFaults.{IsBlockFileFault, IsBlocksFault};
+ghost use Rattle.app_jobs.specs.Deciding.{DecidesBlockFiles};
+ghost use Rattle.app_jobs.specs.DecidedBlocks.{AreBlocksAnswered, AreFirstAnswered};
+ghost use Rattle.app_jobs.specs.BlockFaults.{IsBlockFileFault};
 ghost use Rattle.app_jobs.specs.Faults.{IsPuttingFault};
 
 use crate::block_count::BlockCount;
@@ -29,24 +30,9 @@ pub fn decide_blocks<
     E: Fn(&Book, &[Frame]) -> Result<RunOutcome, AllocError>,
 >(rt: &R, alloc: Global, files: &mut F, names: &BatchNames, decide: &E) -> Result<BlockCount, Halt>
     // It may be called with a block, and what it returns is the fold.
-    requires called { (rows : _) (frames : _) → length frames.now ≤ 65536 → E.pre decide.now rows frames }
-    requires fold { (rows : _) (frames : _) (answer : _) → E.post decide.now rows frames answer → AnswersFold rows.now frames.now answer }
-    ensures decided { IfOk result (λ count. AreBlocksDecided (F.is_known files.old) (F.holds files.old) (F.holds files.new)
-        (string_bytes names.now.book) (string_bytes names.now.batch) (string_bytes names.now.replies) (string_bytes names.now.new_book) count.blocks count.messages) }
-    // Blocks are kept behind a fault of the block file, its replies, or out of memory.
-    ensures halted { IfErr result (λ halt. (count : ℕ) → halt.kept ≡ Some count → (fault : BatchFault) × (halt.fault ≡ JobFault.Batch fault)
-        × AreBlocksKept (F.is_known files.old) (F.holds files.old) (F.holds files.new)
-        (string_bytes names.now.book) (string_bytes names.now.batch) (string_bytes names.now.replies) (string_bytes names.now.new_book) fault count) }
-    // The first fault, in the order of reading: the book's, then the block file's; or a call on a file failed, or memory ran out.
-    ensures fault { IfErr result (λ halt. IsBlocksFault (F.holds files.old) (string_bytes names.now.book) (string_bytes names.now.batch)
-        (HasFailed F.Input.failures) (HasFailed F.Output.failures) (HasRefused F.refuses) halt.fault) }
-    // Where no new book was written, nothing of the older one is lost.
-    ensures kept { IfErr result (λ halt. halt.kept ≡ None → (held : List ℕ) → string_bytes names.now.new_book ≢ string_bytes names.now.replies
-        → F.holds files.old (string_bytes names.now.new_book) held → F.holds files.new (string_bytes names.now.new_book) held) }
-    // Other files stay as they were.
-    ensures others { (other held : List ℕ) → other ≢ string_bytes names.now.replies → other ≢ string_bytes names.now.new_book
-        → F.holds files.old other held → F.holds files.new other held }
-    ensures known { F.is_known files.old → F.is_known files.new }
+    requires decider { IsDecider E.pre E.post (λ rows. rows.now) (λ frames. frames.now) decide.now }
+    ensures decides { DecidesBlockFiles F.is_known F.holds (HasFailed F.Input.has_failed) (HasFailed F.Output.has_failed) (HasRefused F.refuses)
+        files.old files.new (names_of names.now) result }
 {
     let book = open_book(rt, alloc, files, names.book.as_str())?;
     match answer_blocks(alloc, files, names, book, decide)? {
@@ -64,16 +50,15 @@ fn answer_blocks<F: Files, E: Fn(&Book, &[Frame]) -> Result<RunOutcome, AllocErr
     book: Book,
     decide: &E,
 ) -> Result<Result<BlocksOutcome, Halted>, JobFault>
-    requires called { (rows : _) (frames : _) → length frames.now ≤ 65536 → E.pre decide.now rows frames }
-    requires fold { (rows : _) (frames : _) (answer : _) → E.post decide.now rows frames answer → AnswersFold rows.now frames.now answer }
+    requires decider { IsDecider E.pre E.post (λ rows. rows.now) (λ frames. frames.now) decide.now }
     ensures ok { IfOk result (λ processed. IfOk processed (λ outcome. AreBlocksAnswered (F.is_known files.old) (F.holds files.old) (F.holds files.new)
-        (string_bytes names.now.batch) (string_bytes names.now.replies) book outcome.book outcome.blocks outcome.messages)) }
+        (names_of names.now) book outcome.book outcome.blocks outcome.messages)) }
     ensures some { IfOk result (λ processed. IfErr processed (λ halted. AreFirstAnswered (F.is_known files.old) (F.holds files.old) (F.holds files.new)
-        (string_bytes names.now.batch) (string_bytes names.now.replies) book halted.book halted.fault halted.blocks)) }
+        (names_of names.now) book halted.book halted.fault halted.blocks)) }
     ensures stopped { IfOk result (λ processed. IfErr processed (λ halted. IsBlockFileFault (F.holds files.old) (string_bytes names.now.batch)
-        (HasFailed F.Input.failures) (HasFailed F.Output.failures) (HasRefused F.refuses) (JobFault.Batch halted.fault))) }
+        (HasFailed F.Input.has_failed) (HasFailed F.Output.has_failed) (HasRefused F.refuses) (JobFault.Batch halted.fault))) }
     ensures fault { IfErr result (IsBlockFileFault (F.holds files.old) (string_bytes names.now.batch)
-        (HasFailed F.Input.failures) (HasFailed F.Output.failures) (HasRefused F.refuses)) }
+        (HasFailed F.Input.has_failed) (HasFailed F.Output.has_failed) (HasRefused F.refuses)) }
     ensures known { F.is_known files.old → F.is_known files.new }
     ensures others { (other held : List ℕ) → other ≢ string_bytes names.now.replies → F.holds files.old other held → F.holds files.new other held }
 {

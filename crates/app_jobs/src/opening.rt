@@ -24,7 +24,7 @@ pub fn open_book<R: Threads, F: Files>(
     name: &str,
 ) -> Result<Book, JobFault>
     ensures book { IfOk result (IsBookOf (F.holds files.now) name.now) }
-    ensures fault { IfErr result (IsBookFault (F.holds files.now) name.now (HasFailed F.Input.failures)) }
+    ensures fault { IfErr result (IsBookFault (F.holds files.now) name.now (HasFailed F.Input.has_failed)) }
 {
     let text = read_file(alloc, files, name)?;
     match read_book(rt, alloc, &text) {
@@ -40,7 +40,7 @@ pub(crate) fn open_batch<F: Files>(
     name: &str,
 ) -> Result<Vec<Frame>, JobFault>
     ensures count { IfOk result (λ frames. length frames.items ≤ 65536) }
-    ensures fault { IfErr result (IsBatchFault (F.holds files.now) name.now (HasFailed F.Input.failures) ⊥ ⊥) }
+    ensures fault { IfErr result (IsBatchFault (F.holds files.now) name.now (HasFailed F.Input.has_failed) ⊥ ⊥) }
     ensures frames { (bytes : List ℕ) → F.holds files.now name.now bytes → IfOk result (λ frames. IsBatchOf bytes frames.items) }
 {
     let mut input = files.open(name)?;
@@ -56,7 +56,7 @@ pub(crate) fn open_replies<F: Files>(
     files: &F,
     name: &str,
 ) -> Result<Vec<ReplyBody>, JobFault>
-    ensures fault { IfErr result (IsReplyFileFault (F.holds files.now) name.now (HasFailed F.Input.failures)) }
+    ensures fault { IfErr result (IsReplyFileFault (F.holds files.now) name.now (HasFailed F.Input.has_failed)) }
     ensures replies { (bytes : List ℕ) → F.holds files.now name.now bytes → IfOk result (λ replies. IsReplyFileOf bytes replies.items) }
 {
     let mut input = files.open(name)?;
@@ -74,7 +74,7 @@ pub(crate) fn open_journal<F: Files>(
     name: &str,
 ) -> Result<Vec<Entry>, JobFault>
     ensures are { IfOk result (λ entries. AreEntries entries.items) }
-    ensures fault { IfErr result (IsJournalFault (F.holds files.now) name.now (HasFailed F.Input.failures)) }
+    ensures fault { IfErr result (IsJournalFault (F.holds files.now) name.now (HasFailed F.Input.has_failed)) }
     ensures entries { (bytes : List ℕ) → F.holds files.now name.now bytes → IfOk result (λ entries. bytes ≡ journal_text entries.items) }
 {
     let text = read_file(alloc, files, name)?;

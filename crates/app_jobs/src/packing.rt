@@ -21,7 +21,7 @@ pub fn pack_batch<F: Files>(
     batch: &str,
 ) -> Result<usize, JobFault>
     ensures packed { IfOk result (IsPacked (F.is_known files.old) (F.holds files.old) (F.holds files.new) text.now batch.now) }
-    ensures fault { IfErr result (IsPackingFault (F.holds files.old) text.now (HasFailed F.Input.failures) (HasFailed F.Output.failures) (HasRefused F.refuses)) }
+    ensures fault { IfErr result (IsPackingFault (F.holds files.old) text.now (HasFailed F.Input.has_failed) (HasFailed F.Output.has_failed) (HasRefused F.refuses)) }
     // Other files stay as they were.
     ensures others { (other held : List ℕ) → other ≢ batch.now → F.holds files.old other held → F.holds files.new other held }
 {
@@ -33,7 +33,7 @@ pub fn pack_batch<F: Files>(
 // The bodies of the text of this name.
 fn open_text<F: Files>(alloc: Global, files: &F, name: &str) -> Result<Vec<Vec<u8>>, JobFault>
     ensures fit { IfOk result (λ bodies. AreBodies (bytes_of bodies.items)) }
-    ensures fault { IfErr result (IsTextFault (F.holds files.now) name.now (HasFailed F.Input.failures)) }
+    ensures fault { IfErr result (IsTextFault (F.holds files.now) name.now (HasFailed F.Input.has_failed)) }
     ensures bodies { IfOk result (λ bodies. (bytes : List ℕ) → F.holds files.now name.now bytes → bodies_of bytes ≡ Ok (bytes_of bodies.items)) }
 {
     let lines = read_file(alloc, files, name)?;
@@ -50,7 +50,7 @@ fn put_batch<F: Files>(
 ) -> Result<(), JobFault>
     requires { AreBodies (bytes_of bodies.now) }
     ensures put { OnOk result (F.is_known files.old → F.holds files.new name.now (batch_text (bytes_of bodies.now))) }
-    ensures fault { IfErr result (IsUnwritten (HasFailed F.Output.failures) (HasRefused F.refuses)) }
+    ensures fault { IfErr result (IsUnwritten (HasFailed F.Output.has_failed) (HasRefused F.refuses)) }
     ensures others { (other held : List ℕ) → other ≢ name.now → F.holds files.old other held → F.holds files.new other held }
 {
     let mut output = files.create(name)?;

@@ -1,13 +1,14 @@
-ghost use Rattle.std.specs.Prelude.{◌≡◌, ◌≢◌, ◌⊎◌, ◌+◌, ◌<◌, ◌^◌, ◌++◌, ℕ, List, [], IfOk, IfErr, IsSome, OnOk, OnErr, string_bytes};
+ghost use Rattle.std.specs.Prelude.{◌≡◌, ◌≢◌, ◌++◌, ℕ, List, [], false, IfOk, IfErr, IsSome, OnOk, OnErr, string_bytes};
 ghost use Rattle.std.specs.FinMap as map;
 ghost use Rattle.file_batch.specs.InOrder as in_order;
 ghost use Rattle.file_batch_laws.specs.Frames.{IsBatchOf};
 ghost use Rattle.book_laws.specs.Text.{book_text};
+ghost use Rattle.file_devices.specs.BatchNames.{names_of};
 ghost use Rattle.file_devices.specs.Failing.{HasFailed, HasRefused};
 ghost use Rattle.issuer_rows.specs.Fold.{Rows};
 ghost use Rattle.issuer_rows.specs.declared.frame.Frame.{Frame};
-ghost use Rattle.app_jobs.specs.Decided.{IsDecided};
-ghost use Rattle.app_jobs.specs.Faults.{HoldsSameOrNothing, IsBatchFault, IsDecidingFault, IsOfBytes, IsPuttingFault, IsRepliesFault};
+ghost use Rattle.app_jobs.specs.Deciding.{DecidesFiles, PutsAnswer};
+ghost use Rattle.app_jobs.specs.Faults.{HoldsSameOrNothing, IsBatchFault, IsRepliesFault};
 
 use crate::deciding::put_pieces;
 use crate::job_fault::{JobFault, fault_of_closing};
@@ -31,17 +32,8 @@ pub fn serial_batch<R: Threads + Wait + Sync, F: Files>(
     files: &mut F,
     names: &BatchNames,
 ) -> Result<usize, JobFault>
-    ensures decided { IfOk result (IsDecided (F.is_known files.old) (F.holds files.old) (F.holds files.new)
-        (string_bytes names.now.book) (string_bytes names.now.batch) (string_bytes names.now.replies) (string_bytes names.now.new_book)) }
-    ensures fault { IfErr result (IsDecidingFault (F.holds files.old) (string_bytes names.now.book) (string_bytes names.now.batch)
-        (HasFailed F.Input.failures) (HasFailed F.Output.failures) (HasRefused F.refuses)) }
-    ensures kept { OnErr result (string_bytes names.now.new_book ≢ string_bytes names.now.replies → (held : List ℕ)
-        → F.holds files.old (string_bytes names.now.new_book) held → F.holds files.new (string_bytes names.now.new_book) held) }
-    ensures unanswered { IfErr result (λ fault. IsOfBytes fault → F.is_known files.old
-        → HoldsSameOrNothing (F.holds files.old) (F.holds files.new) (string_bytes names.now.replies)) }
-    ensures others { (other held : List ℕ) → other ≢ string_bytes names.now.replies → other ≢ string_bytes names.now.new_book
-        → F.holds files.old other held → F.holds files.new other held }
-    ensures known { F.is_known files.old → F.is_known files.new }
+    ensures decides { DecidesFiles F.is_known F.holds (HasFailed F.Input.has_failed) (HasFailed F.Output.has_failed) (HasRefused F.refuses)
+        files.old files.new (names_of names.now) result }
 {
     let book = open_book(rt, alloc, files, names.book.as_str())?;
     let (answered, replies) = decide_file(rt, alloc, files, names, book)?;
@@ -60,10 +52,10 @@ fn decide_file<R: Threads + Wait + Sync, F: Files>(
 ) -> Result<(Answered, F::Output), JobFault>
     ensures decided { IfOk result (λ done. (frames : List Frame) × in_order.IsAnswered book frames done.0
         × ((bytes : List ℕ) → F.holds files.old (string_bytes names.now.batch) bytes → IsBatchOf bytes frames)) }
-    ensures output { IfOk result (λ done. (F.Output.failures done.1 ≡ 0)
+    ensures output { IfOk result (λ done. (F.Output.has_failed done.1 ≡ false)
         × (F.is_known files.old → F.Output.is_known done.1 × (F.Output.written done.1 ≡ []))) }
     ensures fault { IfErr result (IsBatchFault (F.holds files.old) (string_bytes names.now.batch)
-        (HasFailed F.Input.failures) (HasFailed F.Output.failures) (HasRefused F.refuses)) }
+        (HasFailed F.Input.has_failed) (HasFailed F.Output.has_failed) (HasRefused F.refuses)) }
     ensures unanswered { OnErr result (F.is_known files.old → HoldsSameOrNothing (F.holds files.old) (F.holds files.new) (string_bytes names.now.replies)) }
     ensures known { F.is_known files.old → F.is_known files.new }
     ensures others { (other held : List ℕ) → other ≢ string_bytes names.now.replies → F.holds files.old other held → F.holds files.new other held }
@@ -88,16 +80,9 @@ fn put_answered<R: Threads + Wait + Sync, F: Files>(
     answered: &Answered,
     replies: F::Output,
 ) -> Result<(), JobFault>
-    requires room { F.Output.failures replies + 1 < 2 ^ 64 }
-    ensures book { OnOk result (F.is_known files.old → F.holds files.new (string_bytes names.now.new_book) (book_text answered.now.decided.book)) }
-    ensures put { OnOk result (F.is_known files.old → F.Output.is_known replies → string_bytes names.now.replies ≢ string_bytes names.now.new_book
-        → F.holds files.new (string_bytes names.now.replies) (F.Output.written replies ++ answered.now.text.items)) }
-    ensures kept { OnErr result (string_bytes names.now.new_book ≢ string_bytes names.now.replies → (held : List ℕ)
-        → F.holds files.old (string_bytes names.now.new_book) held → F.holds files.new (string_bytes names.now.new_book) held) }
-    ensures fault { IfErr result (λ fault. IsRepliesFault (HasFailed F.Output.failures) (HasRefused F.refuses) fault ⊎ IsPuttingFault (HasRefused F.refuses) fault) }
-    ensures known { F.is_known files.old → F.is_known files.new }
-    ensures others { (other held : List ℕ) → other ≢ string_bytes names.now.replies → other ≢ string_bytes names.now.new_book
-        → F.holds files.old other held → F.holds files.new other held }
+    ensures puts { PutsAnswer F.is_known F.holds (HasFailed F.Output.has_failed) (HasRefused F.refuses) files.old files.new (names_of names.now)
+        (F.Output.is_known replies → F.holds files.new (string_bytes names.now.replies) (F.Output.written replies ++ answered.now.text.items))
+        (F.holds files.new (string_bytes names.now.new_book) (book_text answered.now.decided.book)) result }
 {
     put_both::<Brand, R, F>(rt, alloc, files, names, answered, replies)
 }
@@ -112,16 +97,9 @@ fn put_both<B: OfRows + Send + Sync, R: Threads + Wait + Sync, F: Files>(
     output: F::Output,
 ) -> Result<(), JobFault>
     requires rows { map.entries answered.now.decided.book ≡ B.rows }
-    requires room { F.Output.failures output + 1 < 2 ^ 64 }
-    ensures book { OnOk result (F.is_known files.old → F.holds files.new (string_bytes names.now.new_book) (book_text answered.now.decided.book)) }
-    ensures put { OnOk result (F.is_known files.old → F.Output.is_known output → string_bytes names.now.replies ≢ string_bytes names.now.new_book
-        → F.holds files.new (string_bytes names.now.replies) (F.Output.written output ++ answered.now.text.items)) }
-    ensures kept { OnErr result (string_bytes names.now.new_book ≢ string_bytes names.now.replies → (held : List ℕ)
-        → F.holds files.old (string_bytes names.now.new_book) held → F.holds files.new (string_bytes names.now.new_book) held) }
-    ensures fault { IfErr result (λ fault. IsRepliesFault (HasFailed F.Output.failures) (HasRefused F.refuses) fault ⊎ IsPuttingFault (HasRefused F.refuses) fault) }
-    ensures known { F.is_known files.old → F.is_known files.new }
-    ensures others { (other held : List ℕ) → other ≢ string_bytes names.now.replies → other ≢ string_bytes names.now.new_book
-        → F.holds files.old other held → F.holds files.new other held }
+    ensures puts { PutsAnswer F.is_known F.holds (HasFailed F.Output.has_failed) (HasRefused F.refuses) files.old files.new (names_of names.now)
+        (F.Output.is_known output → F.holds files.new (string_bytes names.now.replies) (F.Output.written output ++ answered.now.text.items))
+        (F.holds files.new (string_bytes names.now.new_book) (book_text answered.now.decided.book)) result }
 {
     let sorting: Sorting<'_, B> = Sorting::new(alloc, &answered.decided.book);
     let writer = BookWriter::new(&sorting)?;
@@ -140,18 +118,10 @@ fn put_helped<B: OfRows + Send + Sync, R: Threads + Wait + Sync, F: Files>(
     writer: &BookWriter<'_, '_, B>,
 ) -> Result<(), JobFault>
     requires some { IsSome replies.old }
-    requires room { (output : F.Output) → replies.old ≡ Some output → F.Output.failures output + 1 < 2 ^ 64 }
-    ensures book { OnOk result (F.is_known files.old → (book : Rows) → B.rows ≡ map.entries book
-        → F.holds files.new (string_bytes names.now.new_book) (book_text book)) }
-    ensures put { OnOk result (F.is_known files.old → (output : F.Output) → replies.old ≡ Some output → F.Output.is_known output
-        → string_bytes names.now.replies ≢ string_bytes names.now.new_book
-        → F.holds files.new (string_bytes names.now.replies) (F.Output.written output ++ text.now)) }
-    ensures kept { OnErr result (string_bytes names.now.new_book ≢ string_bytes names.now.replies → (held : List ℕ)
-        → F.holds files.old (string_bytes names.now.new_book) held → F.holds files.new (string_bytes names.now.new_book) held) }
-    ensures fault { IfErr result (λ fault. IsRepliesFault (HasFailed F.Output.failures) (HasRefused F.refuses) fault ⊎ IsPuttingFault (HasRefused F.refuses) fault) }
-    ensures known { F.is_known files.old → F.is_known files.new }
-    ensures others { (other held : List ℕ) → other ≢ string_bytes names.now.replies → other ≢ string_bytes names.now.new_book
-        → F.holds files.old other held → F.holds files.new other held }
+    ensures puts { PutsAnswer F.is_known F.holds (HasFailed F.Output.has_failed) (HasRefused F.refuses) files.old files.new (names_of names.now)
+        ((output : F.Output) → replies.old ≡ Some output → F.Output.is_known output
+        → F.holds files.new (string_bytes names.now.replies) (F.Output.written output ++ text.now))
+        ((book : Rows) → B.rows ≡ map.entries book → F.holds files.new (string_bytes names.now.new_book) (book_text book)) result }
 {
     let helpers = writer.helpers(rt);
     if helpers == 0 {
@@ -162,18 +132,10 @@ fn put_helped<B: OfRows + Send + Sync, R: Threads + Wait + Sync, F: Files>(
         &mut || writer.help_in(rt, helpers),
         &mut || -> Result<(), JobFault>
             requires some { IsSome replies.now }
-            requires room { (output : F.Output) → replies.now ≡ Some output → F.Output.failures output + 1 < 2 ^ 64 }
-            ensures book { OnOk result (F.is_known files.entry.now → (book : Rows) → B.rows ≡ map.entries book
-                → F.holds files.exit.now (string_bytes names.entry.now.new_book) (book_text book)) }
-            ensures put { OnOk result (F.is_known files.entry.now → (output : F.Output) → replies.entry.now ≡ Some output → F.Output.is_known output
-                → string_bytes names.entry.now.replies ≢ string_bytes names.entry.now.new_book
-                → F.holds files.exit.now (string_bytes names.entry.now.replies) (F.Output.written output ++ text.entry.now)) }
-            ensures kept { OnErr result (string_bytes names.entry.now.new_book ≢ string_bytes names.entry.now.replies → (held : List ℕ)
-                → F.holds files.entry.now (string_bytes names.entry.now.new_book) held → F.holds files.exit.now (string_bytes names.entry.now.new_book) held) }
-            ensures fault { IfErr result (λ fault. IsRepliesFault (HasFailed F.Output.failures) (HasRefused F.refuses) fault ⊎ IsPuttingFault (HasRefused F.refuses) fault) }
-            ensures known { F.is_known files.entry.now → F.is_known files.exit.now }
-            ensures others { (other held : List ℕ) → other ≢ string_bytes names.entry.now.replies → other ≢ string_bytes names.entry.now.new_book
-                → F.holds files.entry.now other held → F.holds files.exit.now other held }
+            ensures puts { PutsAnswer F.is_known F.holds (HasFailed F.Output.has_failed) (HasRefused F.refuses) files.entry.now files.exit.now (names_of names.entry.now)
+                ((output : F.Output) → replies.entry.now ≡ Some output → F.Output.is_known output
+                → F.holds files.exit.now (string_bytes names.entry.now.replies) (F.Output.written output ++ text.entry.now))
+                ((book : Rows) → B.rows ≡ map.entries book → F.holds files.exit.now (string_bytes names.entry.now.new_book) (book_text book)) result }
         {
             let put = put_in_turn(rt, files, names, text, replies, writer);
             writer.close();
@@ -193,18 +155,10 @@ fn put_in_turn<B: OfRows, R: Wait, F: Files>(
     writer: &BookWriter<'_, '_, B>,
 ) -> Result<(), JobFault>
     requires some { IsSome replies.old }
-    requires room { (output : F.Output) → replies.old ≡ Some output → F.Output.failures output + 1 < 2 ^ 64 }
-    ensures book { OnOk result (F.is_known files.old → (book : Rows) → B.rows ≡ map.entries book
-        → F.holds files.new (string_bytes names.now.new_book) (book_text book)) }
-    ensures put { OnOk result (F.is_known files.old → (output : F.Output) → replies.old ≡ Some output → F.Output.is_known output
-        → string_bytes names.now.replies ≢ string_bytes names.now.new_book
-        → F.holds files.new (string_bytes names.now.replies) (F.Output.written output ++ text.now)) }
-    ensures kept { OnErr result (string_bytes names.now.new_book ≢ string_bytes names.now.replies → (held : List ℕ)
-        → F.holds files.old (string_bytes names.now.new_book) held → F.holds files.new (string_bytes names.now.new_book) held) }
-    ensures fault { IfErr result (λ fault. IsRepliesFault (HasFailed F.Output.failures) (HasRefused F.refuses) fault ⊎ IsPuttingFault (HasRefused F.refuses) fault) }
-    ensures known { F.is_known files.old → F.is_known files.new }
-    ensures others { (other held : List ℕ) → other ≢ string_bytes names.now.replies → other ≢ string_bytes names.now.new_book
-        → F.holds files.old other held → F.holds files.new other held }
+    ensures puts { PutsAnswer F.is_known F.holds (HasFailed F.Output.has_failed) (HasRefused F.refuses) files.old files.new (names_of names.now)
+        ((output : F.Output) → replies.old ≡ Some output → F.Output.is_known output
+        → F.holds files.new (string_bytes names.now.replies) (F.Output.written output ++ text.now))
+        ((book : Rows) → B.rows ≡ map.entries book → F.holds files.new (string_bytes names.now.new_book) (book_text book)) result }
 {
     let output = replies.take().unwrap();
     put_replies(files, names.replies.as_str(), text, output)?;
@@ -218,10 +172,9 @@ fn put_replies<F: Files>(
     text: &[u8],
     mut replies: F::Output,
 ) -> Result<(), JobFault>
-    requires room { F.Output.failures replies + 1 < 2 ^ 64 }
     ensures put { OnOk result (F.is_known files.old → F.Output.is_known replies
         → F.holds files.new name.now (F.Output.written replies ++ text.now)) }
-    ensures fault { IfErr result (IsRepliesFault (HasFailed F.Output.failures) (HasRefused F.refuses)) }
+    ensures fault { IfErr result (IsRepliesFault (HasFailed F.Output.has_failed) (HasRefused F.refuses)) }
     ensures known { F.is_known files.old → F.is_known files.new }
     ensures others { (other held : List ℕ) → other ≢ name.now → F.holds files.old other held → F.holds files.new other held }
 {

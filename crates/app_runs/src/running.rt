@@ -1,8 +1,8 @@
-ghost use Rattle.std.specs.Prelude.{◌≡◌, ◌≢◌, ◌≤◌, ℕ, List, IfOk, IfErr, OnErr, length, string_bytes};
+ghost use Rattle.std.specs.Prelude.{◌≤◌, length};
 ghost use Rattle.file_batch.specs.Processing.{AnswersFold};
+ghost use Rattle.file_devices.specs.BatchNames.{names_of};
 ghost use Rattle.file_devices.specs.Failing.{HasFailed, HasRefused};
-ghost use Rattle.app_jobs.specs.Decided.{IsDecided};
-ghost use Rattle.app_jobs.specs.Faults.{HoldsSameOrNothing, IsDecidingFault, IsOfBytes};
+ghost use Rattle.app_jobs.specs.Deciding.{DecidesFiles};
 
 use app_jobs::{JobFault, decide_batch};
 use engine_locked::run;
@@ -28,17 +28,8 @@ pub fn run_batch<R: Clock + Threads + Wait + Sync, F: Files>(
     workers: Workers,
     engine: Engine,
 ) -> Result<usize, JobFault>
-    ensures decided { IfOk result (IsDecided (F.is_known files.old) (F.holds files.old) (F.holds files.new)
-        (string_bytes names.now.book) (string_bytes names.now.batch) (string_bytes names.now.replies) (string_bytes names.now.new_book)) }
-    ensures fault { IfErr result (IsDecidingFault (F.holds files.old) (string_bytes names.now.book) (string_bytes names.now.batch)
-        (HasFailed F.Input.failures) (HasFailed F.Output.failures) (HasRefused F.refuses)) }
-    ensures kept { OnErr result (string_bytes names.now.new_book ≢ string_bytes names.now.replies → (held : List ℕ)
-        → F.holds files.old (string_bytes names.now.new_book) held → F.holds files.new (string_bytes names.now.new_book) held) }
-    ensures unanswered { IfErr result (λ fault. IsOfBytes fault → F.is_known files.old
-        → HoldsSameOrNothing (F.holds files.old) (F.holds files.new) (string_bytes names.now.replies)) }
-    ensures others { (other held : List ℕ) → other ≢ string_bytes names.now.replies → other ≢ string_bytes names.now.new_book
-        → F.holds files.old other held → F.holds files.new other held }
-    ensures known { F.is_known files.old → F.is_known files.new }
+    ensures decides { DecidesFiles F.is_known F.holds (HasFailed F.Input.has_failed) (HasFailed F.Output.has_failed) (HasRefused F.refuses)
+        files.old files.new (names_of names.now) result }
 {
     let decide = |book: &Book, frames: &[Frame]| -> Result<RunOutcome, AllocError>
         requires { length frames.now ≤ 65536 }

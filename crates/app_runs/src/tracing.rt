@@ -1,13 +1,16 @@
-ghost use Rattle.std.specs.Prelude.{◌≡◌, ◌≢◌, ◌+◌, ◌<◌, ◌^◌, ◌++◌, ℕ, List, Ok, Err, IfOk, IfErr, OnOk, OnErr, IsTrue, length, string_bytes};
+ghost use Rattle.std.specs.Prelude.{◌≡◌, ◌≢◌, ◌++◌, ℕ, List, Ok, Err, IfOk, IfErr, OnOk, OnErr, IsTrue, string_bytes};
 ghost use Rattle.file_batch.specs.Processing.{IsFold};
-ghost use Rattle.file_batch_laws.specs.BatchFault.{failures_after, is_of_bytes};
+ghost use Rattle.file_batch.specs.Device.{UsesDevices};
+ghost use Rattle.file_batch_laws.specs.BatchFault.{is_of_bytes};
 ghost use Rattle.file_batch_laws.specs.Files.{replies_text};
 ghost use Rattle.file_batch_laws.specs.Frames.{IsBatchOf};
 ghost use Rattle.file_batch_laws.specs.Reading.{bodies_of, batch_magic};
+ghost use Rattle.file_devices.specs.BatchNames.{names_of};
 ghost use Rattle.file_devices.specs.Failing.{HasFailed, HasRefused};
 ghost use Rattle.stm_journal_text.specs.Journal.{AreEntries, journal_text};
 ghost use Rattle.issuer_rows.specs.Fold.{replies_to};
 ghost use Rattle.issuer_rows.specs.declared.frame.Frame.{Frame};
+ghost use Rattle.app_jobs.specs.Deciding.{PutsFile};
 ghost use Rattle.app_jobs.specs.Faults.{HoldsSameOrNothing, IsBatchFault, IsDecidingFault, IsOfBytes, IsPuttingFault};
 ghost use Rattle.app_runs.specs.Journaled.{IsDecidedWithJournal, IsRunJournal, IsRunPut};
 
@@ -37,9 +40,9 @@ pub fn run_batch_with_journal<R: Clock + Threads + Wait + Sync, F: Files>(
     journal: &str,
 ) -> Result<usize, JobFault>
     ensures decided { IfOk result (IsDecidedWithJournal (F.is_known files.old) (F.holds files.old) (F.holds files.new)
-        (string_bytes names.now.book) (string_bytes names.now.batch) (string_bytes names.now.replies) (string_bytes names.now.new_book) journal.now) }
-    ensures fault { IfErr result (IsDecidingFault (F.holds files.old) (string_bytes names.now.book) (string_bytes names.now.batch)
-        (HasFailed F.Input.failures) (HasFailed F.Output.failures) (HasRefused F.refuses)) }
+        (names_of names.now) journal.now) }
+    ensures fault { IfErr result (IsDecidingFault (F.holds files.old) (names_of names.now)
+        (HasFailed F.Input.has_failed) (HasFailed F.Output.has_failed) (HasRefused F.refuses)) }
     // Nothing of an older new book is lost.
     ensures kept { OnErr result (string_bytes names.now.new_book ≢ string_bytes names.now.replies → string_bytes names.now.new_book ≢ journal.now → (held : List ℕ)
         → F.holds files.old (string_bytes names.now.new_book) held → F.holds files.new (string_bytes names.now.new_book) held) }
@@ -74,7 +77,7 @@ fn answer_traced<R: Clock + Threads + Wait + Sync, F: Files>(
         × ((bytes : List ℕ) → F.holds files.old (string_bytes names.now.batch) bytes → IsBatchOf bytes frames)
         × (F.is_known files.old → F.holds files.new (string_bytes names.now.replies) (replies_text (replies_to book.now frames)))) }
     ensures fault { IfErr result (IsBatchFault (F.holds files.old) (string_bytes names.now.batch)
-        (HasFailed F.Input.failures) (HasFailed F.Output.failures) (HasRefused F.refuses)) }
+        (HasFailed F.Input.has_failed) (HasFailed F.Output.has_failed) (HasRefused F.refuses)) }
     ensures unanswered { IfErr result (λ fault. IsOfBytes fault → F.is_known files.old
         → HoldsSameOrNothing (F.holds files.old) (F.holds files.new) (string_bytes names.now.replies)) }
     ensures known { F.is_known files.old → F.is_known files.new }
@@ -104,10 +107,7 @@ fn trace_batch<R: Clock + Threads + Wait + Sync, S: Source, W: Sink>(
     sink: &mut W,
     workers: Workers,
 ) -> Result<TracedRun, BatchFault>
-    requires source { S.failures source.old + 1 < 2 ^ 64 }
-    requires sink { W.failures sink.old + 1 < 2 ^ 64 }
-    ensures failures { S.failures source.new + W.failures sink.new ≡ failures_after result (S.failures source.old + W.failures sink.old) }
-    ensures known { W.is_known sink.old → W.is_known sink.new }
+    ensures devices { UsesDevices S.is_known S.has_failed W.is_known W.has_failed source.old source.new sink.old sink.new result }
     ensures ok { IfOk result (λ run. (frames : List Frame) × IsFold book.now frames run.outcome × IsRunJournal book.now frames run.entries.items run.outcome.committed
         × (S.is_known source.old → IsBatchOf (S.remaining source.old) frames)
         × (W.is_known sink.old → W.written sink.new ≡ W.written sink.old ++ replies_text (replies_to book.now frames))) }
@@ -150,11 +150,9 @@ fn put_journal<F: Files>(
     name: &str,
     entries: &[Entry],
 ) -> Result<(), JobFault>
-    ensures ok { OnOk result (F.is_known files.old → F.holds files.new name.now (journal_text entries.now)) }
+    ensures puts { PutsFile F.is_known F.holds (HasRefused F.refuses) files.old files.new name.now
+        (F.holds files.new name.now (journal_text entries.now)) result }
     ensures are { OnOk result (AreEntries entries.now) }
-    ensures fault { IfErr result (IsPuttingFault (HasRefused F.refuses)) }
-    ensures known { F.is_known files.old → F.is_known files.new }
-    ensures others { (other held : List ℕ) → other ≢ name.now → F.holds files.old other held → F.holds files.new other held }
 {
     let text = write_journal(alloc, entries)?;
     Ok(files.replace(name, &mut Whole::new(&text))?)

@@ -6,32 +6,15 @@ use Rattle.iso8583.specs.Class.{is_digits}
 use Rattle.iso8583.specs.CodecFault.{number_of_fault, element_of_fault}
 use Rattle.iso8583.specs.declared.codec_fault.CodecFault.{CodecFault}
 use Rattle.iso8583.specs.declared.codec_fault.CodecFault.TheVariants.{Short, BadMti, SecondaryBitmap, Unexpected, Missing, BadLength, BadCharacter, Trailing, BadValue, OutOfMemory}
+use Rattle.file_batch_laws.proofs.ReadBack.{element_in, number_in}
 use Rattle.issuer_rows.specs.FrameFault.{fault_body}
 use Rattle.iso8583.specs.Number.{number_of, fixed_digits}
 
-pub length_of : (a b : ℕ) → length (70 ∷ (fixed_digits 2 a ++ fixed_digits 3 b)) ≡ 6
+length_of : (a b : ℕ) → length (70 ∷ (fixed_digits 2 a ++ fixed_digits 3 b)) ≡ 6
 length_of a b = omega (arith, length-append (fixed_digits 2 a) (fixed_digits 3 b), length-fixed_digits 2 a, length-fixed_digits 3 b)
 
-pub digits_of : (a b : ℕ) → is_digits (fixed_digits 2 a ++ fixed_digits 3 b) ≡ true
+digits_of : (a b : ℕ) → is_digits (fixed_digits 2 a ++ fixed_digits 3 b) ≡ true
 digits_of a b = is_digits-append (fixed_digits 2 a) (fixed_digits 3 b) (is_digits-fixed_digits 2 a) (is_digits-fixed_digits 3 b)
-
-pub number_named : (a b : ℕ) → a < 10 ^ 2 → number_of (take 2 (fixed_digits 2 a ++ fixed_digits 3 b)) ≡ a
-number_named a b lt = rw (take_at (fixed_digits 2 a) (fixed_digits 3 b) 2 (length-fixed_digits 2 a)) (number_of-fixed_digits 2 a lt)
-
-pub element_named : (a b : ℕ) → b < 10 ^ 3 → number_of (drop 2 (fixed_digits 2 a ++ fixed_digits 3 b)) ≡ b
-element_named a b lt = rw (drop_at (fixed_digits 2 a) (fixed_digits 3 b) 2 (length-fixed_digits 2 a)) (number_of-fixed_digits 3 b lt)
-
-number_below : (fault : CodecFault) → number_of_fault fault < 10 ^ 2
-number_below (Short n) = omega arith
-number_below BadMti = omega arith
-number_below SecondaryBitmap = omega arith
-number_below (Unexpected n) = omega arith
-number_below (Missing n) = omega arith
-number_below (BadLength n) = omega arith
-number_below (BadCharacter n) = omega arith
-number_below Trailing = omega arith
-number_below (BadValue n) = omega arith
-number_below OutOfMemory = omega arith
 
 rest_of : (n : ℕ) (body : List ℕ) → take (length body - n) (drop n body) ≡ drop n body
 rest_of n body = take_all (length body - n) (drop n body) (omega (arith, length-drop n body))
@@ -44,10 +27,10 @@ pub text_digits : (body : List ℕ) (fault : CodecFault) → body ≡ fault_body
 text_digits body fault is = ap is_digits (rest_of 1 body) ∙ ap (λ (b : List ℕ). is_digits (drop 1 b)) is ∙ digits_of (number_of_fault fault) (element_of_fault fault)
 
 pub text_number : (body : List ℕ) (fault : CodecFault) → body ≡ fault_body fault → number_of (take 2 (drop 1 body)) ≡ number_of_fault fault
-text_number body fault is = ap (λ (b : List ℕ). number_of (take 2 (drop 1 b))) is ∙ number_named (number_of_fault fault) (element_of_fault fault) (number_below fault)
+text_number body fault is = ap (λ (b : List ℕ). number_of (take 2 (drop 1 b))) is ∙ number_in fault
 
 pub text_element : (body : List ℕ) (fault : CodecFault) → element_of_fault fault < 256 → body ≡ fault_body fault → number_of (take (length body - 3) (drop 3 body)) ≡ element_of_fault fault
-text_element body fault lt is = ap number_of (rest_of 3 body) ∙ ap (λ (b : List ℕ). number_of (drop 3 b)) is ∙ element_named (number_of_fault fault) (element_of_fault fault) (omega (arith, lt))
+text_element body fault lt is = ap number_of (rest_of 3 body) ∙ ap (λ (b : List ℕ). number_of (drop 3 b)) is ∙ element_in fault lt
 
 pub clash : (b : Bool) → b ≡ true → b ≡ false → ⊥
 clash b yes' no' = absurd cc

@@ -3,6 +3,7 @@ use Rattle.std.proofs.Common.{◌≡◌, ℕ, ◌+◌, ◌<◌, ◌≤◌, List,
 use Rattle.std.specs.List.{flat_map}
 use Rattle.std.proofs.lemmas.List.{append-nil, take-append-drop, take_more, take_all}
 use Rattle.std.proofs.lemmas.List.Concat.{flat_map-append}
+use Rattle.file_batch_laws.specs.Files.{framed}
 use Rattle.file_batch.specs.Writing.{AppendsPart, Moves}
 
 -- what was written since the beginning, and what is about to be written, are the text so far
@@ -32,6 +33,10 @@ halts old new out text rest whole e p = (p.0, out ++ rest, p.1, e ∙ rw (← p.
 
 pub ends : (old new new' out text : List ℕ) → new' ≡ new ++ out → Progress old new out text → new' ≡ old ++ text
 ends old new new' out text e p = rw (e, p.1, append_assoc, p.2) refl
+
+-- the text of an item behind its length
+abbrev pub behind_length : {A : Type 0} → (A → List ℕ) → A → List ℕ
+behind_length text item = framed (text item)
 
 -- the texts of the first of these, behind a head
 abbrev pub so_many : {A : Type 0} → (A → List ℕ) → List ℕ → List A → ℕ → List ℕ

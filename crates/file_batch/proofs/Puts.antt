@@ -1,13 +1,13 @@
 -- One more call that wrote a part of the rest.
-use Rattle.std.proofs.Common.{◌≡◌, ◌≢◌, ℕ, zero, suc, ◌-◌, List, [], ◌++◌, length, take, drop, Ok, true, refl, sym, ap, ◌∙◌, append_assoc, arith}
+use Rattle.std.proofs.Common.{◌≡◌, ◌≢◌, ℕ, zero, suc, ◌-◌, List, [], ◌++◌, length, take, drop, Ok, Bool, true, refl, sym, ap, ◌∙◌, append_assoc, arith}
 use Rattle.std.proofs.lemmas.List.{append-nil, length-drop, take-append-drop, take_all, nil_from_length}
 use Rattle.std.specs.Bool.{◌==◌}
-use Rattle.file_devices.specs.Devices.{failures_after_put}
+use Rattle.file_devices.specs.Devices.{failed_after_put}
 
 -- a call that wrote a byte didn't fail
-pub none_failed : (count failures : ℕ) → count ≢ 0 → failures_after_put (Ok count) failures ≡ failures
-none_failed zero failures some = absurd (some refl)
-none_failed (suc n) failures some = refl
+pub none_failed : (count : ℕ) (failed : Bool) → count ≢ 0 → failed_after_put (Ok count) failed ≡ failed
+none_failed zero failed some = absurd (some refl)
+none_failed (suc n) failed some = refl
 
 -- a front was written, and then more of the rest
 abbrev pub IsPut : List ℕ → List ℕ → List ℕ → List ℕ → Type 0

@@ -1,3 +1,4 @@
+pub mod Device
 pub mod Writing
 pub mod Window
 pub mod Bodies

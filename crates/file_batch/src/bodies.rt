@@ -1,14 +1,16 @@
-ghost use Rattle.std.specs.Prelude.{◌≡◌, ◌↔◌, ◌+◌, ◌<◌, ◌≤◌, ◌^◌, ◌++◌, [], length, Err, IfErr, IsTrue, OnOk, OnErr, All};
+ghost use Rattle.std.specs.Prelude.{◌≡◌, ◌↔◌, ◌<◌, ◌≤◌, ◌++◌, length, Err, IfErr, IsTrue, OnOk, OnErr, All};
 ghost use Rattle.std.specs.List.{AllByRecursion};
-ghost use Rattle.file_batch_laws.specs.BatchFault.{failures_after, is_of_bytes};
+ghost use Rattle.file_batch_laws.specs.BatchFault.{is_of_bytes};
+ghost use Rattle.file_batch.specs.Device.{UsesDevice};
 ghost use Rattle.file_batch_laws.specs.Files.{IsBody, AreBodies, batch_text};
 ghost use Rattle.file_batch.specs.Bodies.{bytes_of};
 ghost use Rattle.file_batch.specs.Writing.{AppendsPart};
 
-use crate::writing::{PIECE, add_framed, add_head, put_all, put_piece};
+use crate::file_item::FileItem;
+use crate::writing::{PIECE, add_framed, put_items};
 use file_batch_laws::BatchFault;
 use file_devices::Sink;
-use std::alloc::Global;
+use std::alloc::{AllocError, Global};
 
 // Whether each body has 1 to 512 bytes.
 fn are_bodies(bodies: &[Vec<u8>]) -> bool
@@ -17,28 +19,14 @@ fn are_bodies(bodies: &[Vec<u8>]) -> bool
     bodies.iter().all(|body| matches!(body.len(), 1..=512))
 }
 
-// Writes the text of bodies that a file can have, a piece at a time, over memory in which nothing is about to be written.
-fn put_bodies<W: Sink>(
-    out: &mut Vec<u8>,
-    bodies: &[Vec<u8>],
-    sink: &mut W,
-) -> Result<(), BatchFault>
-    requires room { W.failures sink.old + 1 < 2 ^ 64 }
-    requires none { out.old.items ≡ [] }
-    requires count { length bodies.now ≤ 65536 }
-    requires each { All (λ body. IsBody body.items) bodies.now }
-    ensures failures { W.failures sink.new ≡ failures_after result (W.failures sink.old) }
-    ensures known { W.is_known sink.old → W.is_known sink.new }
-    ensures ok { OnOk result (W.is_known sink.old → W.written sink.new ≡ W.written sink.old ++ batch_text (bytes_of bodies.now)) }
-    ensures err { OnErr result (W.is_known sink.old → AppendsPart (W.written sink.old) (W.written sink.new) (batch_text (bytes_of bodies.now))) }
-    ensures fault { IfErr result (λ e. ¬ IsTrue (is_of_bytes e)) }
-{
-    add_head(out, b"I83B", bodies.len() as u32)?;
-    for body in bodies {
-        add_framed(out, body)?;
-        put_piece(sink, out)?;
+impl FileItem for Vec<u8> {
+    ghost text = { λ body. body.items };
+
+    ghost fits = { λ body. IsBody body.items };
+
+    fn add(&self, out: &mut Vec<u8>, _memory: &mut Vec<u8>) -> Result<(), AllocError> {
+        add_framed(out, self)
     }
-    put_all(sink, out)
 }
 
 /// Writes a batch file: `I83B`, version 1, the number of bodies, and each behind its length. After `Ok` the sink has
@@ -50,9 +38,7 @@ pub fn write_batch<W: Sink>(
     bodies: &[Vec<u8>],
     sink: &mut W,
 ) -> Result<(), BatchFault>
-    requires room { W.failures sink.old + 1 < 2 ^ 64 }
-    ensures failures { W.failures sink.new ≡ failures_after result (W.failures sink.old) }
-    ensures known { W.is_known sink.old → W.is_known sink.new }
+    ensures device { UsesDevice W.is_known W.has_failed sink.old sink.new result }
     ensures bodies { OnOk result (AreBodies (bytes_of bodies.now)) }
     ensures ok { OnOk result (W.is_known sink.old → W.written sink.new ≡ W.written sink.old ++ batch_text (bytes_of bodies.now)) }
     ensures err { OnErr result (W.is_known sink.old → AppendsPart (W.written sink.old) (W.written sink.new) (batch_text (bytes_of bodies.now))) }
@@ -68,5 +54,5 @@ pub fn write_batch<W: Sink>(
         return Err(BatchFault::Length);
     }
     let mut out = Vec::with_capacity(alloc, PIECE)?;
-    put_bodies(&mut out, bodies, sink)
+    put_items(&mut out, &mut Vec::new(alloc), b"I83B", bodies, sink)
 }

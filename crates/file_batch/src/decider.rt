@@ -23,7 +23,7 @@ pub(crate) struct Decider {
 impl Decider {
     ghost use Rattle.std.specs.Prelude.{◌≡◌, ◌+◌, ◌<◌, ◌^◌, length, OnOk, IfOk};
     ghost use Rattle.issuer_rows.specs.Fold.{Rows, rows_after, replies_to};
-    ghost use Rattle.rtrb.specs.Ring.{sent, received, SameProducer, SameConsumer};
+    ghost use Rattle.rtrb.specs.Ring.{received, SameProducer, SameConsumer};
     ghost use Rattle.file_batch.specs.Pieces.{HasDecided, frames_in};
 
     /// Nothing is decided on this book yet. There is room for the rows of so many messages.

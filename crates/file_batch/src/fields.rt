@@ -1,5 +1,5 @@
-ghost use Rattle.std.specs.Prelude.{◌≡◌, ◌+◌, ◌<◌, ◌≤◌, ◌^◌, length, IfOk, IfErr};
-ghost use Rattle.file_batch_laws.specs.BatchFault.{failures_after};
+ghost use Rattle.std.specs.Prelude.{◌≡◌, ◌<◌, ◌≤◌, length, IfOk, IfErr};
+ghost use Rattle.file_batch.specs.Device.{UsesDevice};
 ghost use Rattle.file_batch_laws.specs.Reading.{Gives, magic_at, number_at, version_at, count_at, head_at, length_at, body_at};
 ghost use Rattle.file_batch.specs.Window.{ahead};
 
@@ -12,9 +12,7 @@ impl Window {
     /// Reads the four letters that a file begins with. Others are `Magic`.
     #[tactic(auto, unfolding(file_batch_laws::specs::Reading::magic_at))]
     pub fn read_magic<R: Source>(&mut self, source: &mut R, magic: &[u8]) -> Result<(), BatchFault>
-        requires room { R.failures source.old + 1 < 2 ^ 64 }
-        ensures failures { R.failures source.new ≡ failures_after result (R.failures source.old) }
-        ensures known { R.is_known source.old → R.is_known source.new }
+        ensures device { UsesDevice R.is_known R.has_failed source.old source.new result }
         ensures memory { IfErr result (λ e. e ≡ BatchFault.OutOfMemory → length self.new.field.items < 4) }
         ensures gives { R.is_known source.old → Gives (λ _. magic.now) result
             (ahead self.new (R.remaining source.new)) (magic_at magic.now (ahead self.old (R.remaining source.old))) }
@@ -29,9 +27,7 @@ impl Window {
     // A number of two bytes.
     #[tactic(auto, unfolding(file_batch_laws::specs::Reading::number_at))]
     pub(crate) fn read_short<R: Source>(&mut self, source: &mut R) -> Result<u16, BatchFault>
-        requires room { R.failures source.old + 1 < 2 ^ 64 }
-        ensures failures { R.failures source.new ≡ failures_after result (R.failures source.old) }
-        ensures known { R.is_known source.old → R.is_known source.new }
+        ensures device { UsesDevice R.is_known R.has_failed source.old source.new result }
         ensures memory { IfErr result (λ e. e ≡ BatchFault.OutOfMemory → length self.new.field.items < 2) }
         ensures gives { R.is_known source.old → Gives (λ n. n) result
             (ahead self.new (R.remaining source.new)) (number_at 2 (ahead self.old (R.remaining source.old))) }
@@ -43,9 +39,7 @@ impl Window {
     /// Reads a number of four bytes, the highest first.
     #[tactic(auto, unfolding(file_batch_laws::specs::Reading::number_at))]
     pub fn read_long<R: Source>(&mut self, source: &mut R) -> Result<u32, BatchFault>
-        requires room { R.failures source.old + 1 < 2 ^ 64 }
-        ensures failures { R.failures source.new ≡ failures_after result (R.failures source.old) }
-        ensures known { R.is_known source.old → R.is_known source.new }
+        ensures device { UsesDevice R.is_known R.has_failed source.old source.new result }
         ensures memory { IfErr result (λ e. e ≡ BatchFault.OutOfMemory → length self.new.field.items < 4) }
         ensures gives { R.is_known source.old → Gives (λ n. n) result
             (ahead self.new (R.remaining source.new)) (number_at 4 (ahead self.old (R.remaining source.old))) }
@@ -57,9 +51,7 @@ impl Window {
     /// Reads the version, two bytes. Another than 1 is `Version`.
     #[tactic(auto, unfolding(file_batch_laws::specs::Reading::version_at))]
     pub fn read_version<R: Source>(&mut self, source: &mut R) -> Result<u16, BatchFault>
-        requires room { R.failures source.old + 1 < 2 ^ 64 }
-        ensures failures { R.failures source.new ≡ failures_after result (R.failures source.old) }
-        ensures known { R.is_known source.old → R.is_known source.new }
+        ensures device { UsesDevice R.is_known R.has_failed source.old source.new result }
         ensures memory { IfErr result (λ e. e ≡ BatchFault.OutOfMemory → length self.new.field.items < 2) }
         ensures gives { R.is_known source.old → Gives (λ n. n) result
             (ahead self.new (R.remaining source.new)) (version_at (ahead self.old (R.remaining source.old))) }
@@ -74,9 +66,7 @@ impl Window {
     /// Reads a count, four bytes. More than 65,536 is `Count`.
     #[tactic(auto, unfolding(file_batch_laws::specs::Reading::count_at))]
     pub fn read_count<R: Source>(&mut self, source: &mut R) -> Result<u32, BatchFault>
-        requires room { R.failures source.old + 1 < 2 ^ 64 }
-        ensures failures { R.failures source.new ≡ failures_after result (R.failures source.old) }
-        ensures known { R.is_known source.old → R.is_known source.new }
+        ensures device { UsesDevice R.is_known R.has_failed source.old source.new result }
         ensures memory { IfErr result (λ e. e ≡ BatchFault.OutOfMemory → length self.new.field.items < 4) }
         ensures most { IfOk result (λ n. n ≤ 65536) }
         ensures gives { R.is_known source.old → Gives (λ n. n) result
@@ -96,9 +86,7 @@ impl Window {
         source: &mut R,
         magic: &[u8],
     ) -> Result<u32, BatchFault>
-        requires room { R.failures source.old + 1 < 2 ^ 64 }
-        ensures failures { R.failures source.new ≡ failures_after result (R.failures source.old) }
-        ensures known { R.is_known source.old → R.is_known source.new }
+        ensures device { UsesDevice R.is_known R.has_failed source.old source.new result }
         ensures most { IfOk result (λ n. n ≤ 65536) }
         ensures gives { R.is_known source.old → Gives (λ n. n) result
             (ahead self.new (R.remaining source.new)) (head_at magic.now (ahead self.old (R.remaining source.old))) }
@@ -111,9 +99,7 @@ impl Window {
     // The length of a body.
     #[tactic(auto, unfolding(file_batch_laws::specs::Reading::length_at))]
     pub(crate) fn read_length<R: Source>(&mut self, source: &mut R) -> Result<u16, BatchFault>
-        requires room { R.failures source.old + 1 < 2 ^ 64 }
-        ensures failures { R.failures source.new ≡ failures_after result (R.failures source.old) }
-        ensures known { R.is_known source.old → R.is_known source.new }
+        ensures device { UsesDevice R.is_known R.has_failed source.old source.new result }
         ensures memory { IfErr result (λ e. e ≡ BatchFault.OutOfMemory → length self.new.field.items < 2) }
         ensures gives { R.is_known source.old → Gives (λ n. n) result
             (ahead self.new (R.remaining source.new)) (length_at (ahead self.old (R.remaining source.old))) }
@@ -128,9 +114,7 @@ impl Window {
     // The next body, into the field.
     #[tactic(auto, unfolding(file_batch_laws::specs::Reading::body_at))]
     pub(crate) fn read_body<R: Source>(&mut self, source: &mut R) -> Result<(), BatchFault>
-        requires room { R.failures source.old + 1 < 2 ^ 64 }
-        ensures failures { R.failures source.new ≡ failures_after result (R.failures source.old) }
-        ensures known { R.is_known source.old → R.is_known source.new }
+        ensures device { UsesDevice R.is_known R.has_failed source.old source.new result }
         ensures gives { R.is_known source.old → Gives (λ _. self.new.field.items) result
             (ahead self.new (R.remaining source.new)) (body_at (ahead self.old (R.remaining source.old))) }
     {

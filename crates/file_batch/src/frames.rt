@@ -1,5 +1,5 @@
-ghost use Rattle.std.specs.Prelude.{◌≡◌, ◌+◌, ◌<◌, ◌≤◌, ◌^◌, [], length, vec_len, IfOk, OnOk};
-ghost use Rattle.file_batch_laws.specs.BatchFault.{failures_after};
+ghost use Rattle.std.specs.Prelude.{◌≡◌, ◌≤◌, [], length, vec_len, IfOk, OnOk};
+ghost use Rattle.file_batch.specs.Device.{UsesDevice};
 ghost use Rattle.file_batch_laws.specs.Reading.{GivesWhole, bodies_at, ended};
 ghost use Rattle.file_batch_laws.specs.Frames.{IsFrameOf, GivesFrames, GivesBatch};
 ghost use Rattle.file_batch.specs.InOrder.{GivesInto};
@@ -28,9 +28,7 @@ fn frame_of(body: &[u8]) -> Frame
 impl Window {
     /// Sees that nothing is left. A byte that is left is `Trailing`.
     pub fn read_end<R: Source>(&mut self, source: &mut R) -> Result<(), BatchFault>
-        requires room { R.failures source.old + 1 < 2 ^ 64 }
-        ensures failures { R.failures source.new ≡ failures_after result (R.failures source.old) }
-        ensures known { R.is_known source.old → R.is_known source.new }
+        ensures device { UsesDevice R.is_known R.has_failed source.old source.new result }
         ensures gives { R.is_known source.old → GivesWhole (λ _. tt) result (ended (ahead self.old (R.remaining source.old))) }
         ensures end { OnOk result (R.is_known source.old → R.remaining source.new ≡ []) }
     {
@@ -48,9 +46,7 @@ impl Window {
         count: u32,
         frames: &mut Vec<Frame>,
     ) -> Result<(), BatchFault>
-        requires room { R.failures source.old + 1 < 2 ^ 64 }
-        ensures failures { R.failures source.new ≡ failures_after result (R.failures source.old) }
-        ensures known { R.is_known source.old → R.is_known source.new }
+        ensures device { UsesDevice R.is_known R.has_failed source.old source.new result }
         ensures count { OnOk result (vec_len frames.new ≡ count) }
         ensures gives { R.is_known source.old → GivesInto result frames.new.items
             (ahead self.new (R.remaining source.new)) (bodies_at count (ahead self.old (R.remaining source.old))) }
@@ -71,9 +67,7 @@ impl Window {
         source: &mut R,
         count: u32,
     ) -> Result<Vec<Frame>, BatchFault>
-        requires room { R.failures source.old + 1 < 2 ^ 64 }
-        ensures failures { R.failures source.new ≡ failures_after result (R.failures source.old) }
-        ensures known { R.is_known source.old → R.is_known source.new }
+        ensures device { UsesDevice R.is_known R.has_failed source.old source.new result }
         ensures count { IfOk result (λ frames. vec_len frames ≡ count) }
         ensures gives { R.is_known source.old → GivesFrames result
             (ahead self.new (R.remaining source.new)) (bodies_at count (ahead self.old (R.remaining source.old))) }
@@ -82,37 +76,21 @@ impl Window {
         self.read_into(source, count, &mut frames)?;
         Ok(frames)
     }
-
-    fn read_file<R: Source>(
-        &mut self,
-        alloc: Global,
-        source: &mut R,
-    ) -> Result<Vec<Frame>, BatchFault>
-        requires room { R.failures source.old + 1 < 2 ^ 64 }
-        ensures failures { R.failures source.new ≡ failures_after result (R.failures source.old) }
-        ensures known { R.is_known source.old → R.is_known source.new }
-        ensures count { IfOk result (λ frames. length frames.items ≤ 65536) }
-        ensures gives { R.is_known source.old → GivesBatch result (ahead self.old (R.remaining source.old)) }
-        ensures end { OnOk result (R.is_known source.old → R.remaining source.new ≡ []) }
-    {
-        let count = self.read_head(source, b"I83B")?;
-        let frames = self.read_frames(alloc, source, count)?;
-        self.read_end(source)?;
-        Ok(frames)
-    }
 }
 
 /// Reads a batch file, all of the source: `I83B`, version 1, the number of bodies, and each behind its length. Returns a frame for each
 /// body, in order, or the first fault in reading order. The source is at its end then. `Device` is the fault exactly where a call of the
 /// source failed; and memory can run out.
+#[tactic(auto, unfolding(file_batch_laws::specs::Reading::bodies_of))]
 pub fn read_batch<R: Source>(alloc: Global, source: &mut R) -> Result<Vec<Frame>, BatchFault>
-    requires room { R.failures source.old + 1 < 2 ^ 64 }
-    ensures failures { R.failures source.new ≡ failures_after result (R.failures source.old) }
-    ensures known { R.is_known source.old → R.is_known source.new }
+    ensures device { UsesDevice R.is_known R.has_failed source.old source.new result }
     ensures count { IfOk result (λ frames. length frames.items ≤ 65536) }
     ensures gives { R.is_known source.old → GivesBatch result (R.remaining source.old) }
     ensures end { OnOk result (R.is_known source.old → R.remaining source.new ≡ []) }
 {
     let mut window = Window::new(alloc)?;
-    window.read_file(alloc, source)
+    let count = window.read_head(source, b"I83B")?;
+    let frames = window.read_frames(alloc, source, count)?;
+    window.read_end(source)?;
+    Ok(frames)
 }

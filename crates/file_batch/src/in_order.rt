@@ -1,9 +1,9 @@
 //! A batch that is decided in the order of its messages, while it is read.
 
-ghost use Rattle.std.specs.Prelude.{◌≡◌, ℕ, List, [], ◌+◌, ◌<◌, ◌≤◌, ◌^◌, ◌++◌, length, IfOk, OnOk};
+ghost use Rattle.std.specs.Prelude.{◌≡◌, ℕ, List, [], ◌≤◌, ◌++◌, length, IfOk, OnOk};
 ghost use Rattle.issuer_rows.specs.Fold.{Rows, rows_after, replies_to};
 ghost use Rattle.rtrb.specs.Ring.{sent, received, SameProducer, SameConsumer};
-ghost use Rattle.file_batch_laws.specs.BatchFault.{failures_after};
+ghost use Rattle.file_batch.specs.Device.{UsesDevice};
 ghost use Rattle.file_batch_laws.specs.Files.{head_text};
 ghost use Rattle.file_batch_laws.specs.Reading.{bodies_at, replies_magic};
 ghost use Rattle.file_batch.specs.InOrder.{GivesInto, DecidesBodies, DecidesBatch, texts_of};
@@ -13,7 +13,6 @@ ghost use Rattle.file_batch.specs.Window.{ahead};
 use crate::decider::Decider;
 use crate::piece::OfOneBatch;
 use crate::reader::{PIECE, Reader};
-use crate::replies::add_reply;
 use crate::signals::Signals;
 use crate::window::Window;
 use crate::writing::add_head;
@@ -45,20 +44,6 @@ pub struct Answered {
     pub text: Vec<u8>,
 }
 
-// Appends the texts of replies, over memory for one of them.
-pub(crate) fn add_replies(
-    out: &mut Vec<u8>,
-    text: &mut Vec<u8>,
-    replies: &[ReplyBody],
-) -> Result<(), AllocError>
-    ensures { OnOk result (out.new.items ≡ out.old.items ++ texts_of replies.now) }
-{
-    for reply in replies {
-        add_reply(out, text, reply)?;
-    }
-    Ok(())
-}
-
 // The ends of what the thread that reads and the one that decides hand to each other, for a batch of so many messages on this book.
 fn joined_ends(alloc: Global, book: Book, count: u32) -> Result<(Reader, Decider), AllocError>
     requires { count ≤ 65536 }
@@ -88,14 +73,12 @@ fn work_together<T: Threads + Wait + Sync, R: Source, F: Decide + Sync>(
     source: &mut R,
     count: u32,
 ) -> Result<(), BatchFault>
-    requires source { R.failures source.old + 1 < 2 ^ 64 }
     requires few { count ≤ 65536 }
     requires none { sent reader.old.outbound ≡ [] }
     requires count { decider.old.prefix.count ≡ length (frames_in (received decider.old.inbound)) }
     ensures reader { SameProducer reader.old.outbound reader.new.outbound × SameConsumer reader.old.inbound reader.new.inbound }
     ensures decider { SameConsumer decider.old.inbound decider.new.inbound × SameProducer decider.old.outbound decider.new.outbound }
-    ensures failures { R.failures source.new ≡ failures_after result (R.failures source.old) }
-    ensures known { R.is_known source.old → R.is_known source.new }
+    ensures device { UsesDevice R.is_known R.has_failed source.old source.new result }
     ensures read { OnOk result (length (frames_in (sent reader.new.outbound)) ≡ count) }
     ensures gives { R.is_known source.old → GivesInto result (frames_in (sent reader.new.outbound))
         (ahead window.new (R.remaining source.new)) (bodies_at count (ahead window.old (R.remaining source.old))) }
@@ -111,12 +94,10 @@ fn work_together<T: Threads + Wait + Sync, R: Source, F: Decide + Sync>(
             ensures decided { (book : Rows) → HasDecided book decider.entry.now → OnOk result (HasDecided book decider.exit.now) }
         { decider.work(rt, alloc, decision, &signals) },
         &mut || -> Result<(), BatchFault>
-            requires source { R.failures source.now + 1 < 2 ^ 64 }
             requires few { count ≤ 65536 }
             requires none { sent reader.now.outbound ≡ [] }
             ensures ends { SameProducer reader.entry.now.outbound reader.exit.now.outbound × SameConsumer reader.entry.now.inbound reader.exit.now.inbound }
-            ensures failures { R.failures source.exit.now ≡ failures_after result (R.failures source.entry.now) }
-            ensures known { R.is_known source.entry.now → R.is_known source.exit.now }
+            ensures device { UsesDevice R.is_known R.has_failed source.entry.now source.exit.now result }
             ensures read { OnOk result (length (frames_in (sent reader.exit.now.outbound)) ≡ count) }
             ensures gives { R.is_known source.entry.now → GivesInto result (frames_in (sent reader.exit.now.outbound))
                 (ahead window.exit.now (R.remaining source.exit.now)) (bodies_at count (ahead window.entry.now (R.remaining source.entry.now))) }
@@ -161,10 +142,8 @@ fn decide_bodies<T: Threads + Wait + Sync, R: Source, F: Decide + Sync>(
     source: &mut R,
     count: u32,
 ) -> Result<Answered, BatchFault>
-    requires source { R.failures source.old + 1 < 2 ^ 64 }
     requires few { count ≤ 65536 }
-    ensures failures { R.failures source.new ≡ failures_after result (R.failures source.old) }
-    ensures known { R.is_known source.old → R.is_known source.new }
+    ensures device { UsesDevice R.is_known R.has_failed source.old source.new result }
     ensures decides { DecidesBodies book result (R.is_known source.old)
         (ahead window.new (R.remaining source.new)) (bodies_at count (ahead window.old (R.remaining source.old))) }
 {
@@ -195,6 +174,7 @@ fn decide_bodies<T: Threads + Wait + Sync, R: Source, F: Decide + Sync>(
 /// Reads a batch file, all of the source, decides it on the book in the order of its messages, by any local decision, and makes the text
 /// of its reply file. Messages are decided in a thread of their own while the next ones are read. `Device` is the fault exactly where a
 /// call of the source failed; and memory can run out.
+#[tactic(auto, unfolding(file_batch_laws::specs::Reading::bodies_of))]
 pub fn decide_in_order<T: Threads + Wait + Sync, R: Source, F: Decide + Sync>(
     rt: &T,
     alloc: Global,
@@ -202,9 +182,7 @@ pub fn decide_in_order<T: Threads + Wait + Sync, R: Source, F: Decide + Sync>(
     source: &mut R,
     decision: &F,
 ) -> Result<Answered, BatchFault>
-    requires source { R.failures source.old + 1 < 2 ^ 64 }
-    ensures failures { R.failures source.new ≡ failures_after result (R.failures source.old) }
-    ensures known { R.is_known source.old → R.is_known source.new }
+    ensures device { UsesDevice R.is_known R.has_failed source.old source.new result }
     ensures decides { DecidesBatch book result (R.is_known source.old) (R.remaining source.old) }
     ensures end { OnOk result (R.is_known source.old → R.remaining source.new ≡ []) }
 {

@@ -4,6 +4,7 @@
 mod bodies;
 mod decider;
 mod fields;
+mod file_item;
 mod frames;
 mod handing;
 mod in_order;
@@ -21,7 +22,7 @@ pub use file_batch_laws::BatchFault;
 pub use frames::read_batch;
 pub use in_order::{Answered, Decided, decide_in_order};
 pub use processing::process;
-pub use replies::{add_reply, write_replies};
+pub use replies::{add_replies, write_replies};
 pub use reply_reading::read_replies;
 pub use window::Window;
 pub use writing::{add_head, add_long, put_all};

@@ -1,12 +1,13 @@
-ghost use Rattle.std.specs.Prelude.{◌≡◌, ◌⊎◌, List, [], ◌+◌, ◌<◌, ◌≤◌, ◌^◌, ◌++◌, length, Ok, Err, IfOk, IfErr, OnOk, OnErr, IsTrue};
+ghost use Rattle.std.specs.Prelude.{◌≡◌, ◌⊎◌, List, [], ◌≤◌, ◌++◌, length, Ok, Err, IfOk, IfErr, OnOk, OnErr, IsTrue};
 ghost use Rattle.issuer_rows.specs.Fold.{replies_to};
 ghost use Rattle.issuer_rows.specs.declared.frame.Frame.{Frame};
-ghost use Rattle.file_batch_laws.specs.BatchFault.{failures_after, is_of_bytes};
+ghost use Rattle.file_batch_laws.specs.BatchFault.{is_of_bytes};
+ghost use Rattle.file_batch.specs.Device.{UsesDevice, UsesDevices};
 ghost use Rattle.file_batch_laws.specs.Reading.{bodies_of, batch_magic};
 ghost use Rattle.file_batch_laws.specs.Files.{replies_text};
 ghost use Rattle.file_batch_laws.specs.Frames.{IsBatchOf};
 ghost use Rattle.file_batch.specs.Writing.{AppendsPart};
-ghost use Rattle.file_batch.specs.Processing.{IsFold, AnswersFold};
+ghost use Rattle.file_batch.specs.Processing.{IsDecider, IsFold};
 
 use crate::frames::read_batch;
 use crate::replies::write_replies;
@@ -24,12 +25,9 @@ fn answer<W: Sink, E: Fn(&Book, &[Frame]) -> Result<RunOutcome, AllocError>>(
     sink: &mut W,
     decide: &E,
 ) -> Result<RunOutcome, BatchFault>
-    requires sink { W.failures sink.old + 1 < 2 ^ 64 }
     requires count { length frames.now ≤ 65536 }
-    requires called { (rows : _) (frames : _) → length frames.now ≤ 65536 → E.pre decide.now rows frames }
-    requires fold { (rows : _) (frames : _) (answer : _) → E.post decide.now rows frames answer → AnswersFold rows.now frames.now answer }
-    ensures failures { W.failures sink.new ≡ failures_after result (W.failures sink.old) }
-    ensures known { W.is_known sink.old → W.is_known sink.new }
+    requires decider { IsDecider E.pre E.post (λ rows. rows.now) (λ frames. frames.now) decide.now }
+    ensures device { UsesDevice W.is_known W.has_failed sink.old sink.new result }
     ensures ok { IfOk result (λ outcome. W.is_known sink.old → W.written sink.new ≡ W.written sink.old ++ replies_text outcome.replies.items) }
     ensures answered { IfOk result (λ outcome. E.post decide.now book.entry frames.entry (Ok outcome)) }
     ensures fault { IfErr result (λ e. ¬ IsTrue (is_of_bytes e)) }
@@ -51,13 +49,9 @@ pub fn process<R: Source, W: Sink, E: Fn(&Book, &[Frame]) -> Result<RunOutcome, 
     sink: &mut W,
     decide: &E,
 ) -> Result<RunOutcome, BatchFault>
-    requires source { R.failures source.old + 1 < 2 ^ 64 }
-    requires sink { W.failures sink.old + 1 < 2 ^ 64 }
     // It may be called with a batch, and what it returns is the fold.
-    requires called { (rows : _) (frames : _) → length frames.now ≤ 65536 → E.pre decide.now rows frames }
-    requires fold { (rows : _) (frames : _) (answer : _) → E.post decide.now rows frames answer → AnswersFold rows.now frames.now answer }
-    ensures failures { R.failures source.new + W.failures sink.new ≡ failures_after result (R.failures source.old + W.failures sink.old) }
-    ensures known { W.is_known sink.old → W.is_known sink.new }
+    requires decider { IsDecider E.pre E.post (λ rows. rows.now) (λ frames. frames.now) decide.now }
+    ensures devices { UsesDevices R.is_known R.has_failed W.is_known W.has_failed source.old source.new sink.old sink.new result }
     ensures ok { IfOk result (λ outcome. (frames : List Frame) × IsFold book.now frames outcome
         × (R.is_known source.old → IsBatchOf (R.remaining source.old) frames)
         × (W.is_known sink.old → W.written sink.new ≡ W.written sink.old ++ replies_text (replies_to book.now frames))) }

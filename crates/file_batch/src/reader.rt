@@ -1,6 +1,6 @@
 use crate::handing::{hand_over, wait_for};
-use crate::in_order::add_replies;
 use crate::piece::{OfOneBatch, Piece};
+use crate::replies::add_replies;
 use crate::signals::Signals;
 use crate::window::Window;
 use file_batch_laws::BatchFault;
@@ -30,8 +30,8 @@ pub(crate) struct Reader {
 }
 
 impl Reader {
-    ghost use Rattle.std.specs.Prelude.{◌≡◌, ◌+◌, ◌∷◌, ◌++◌, ◌<◌, ◌≤◌, ◌^◌, ℕ, List, [], length, IfErr, OnOk};
-    ghost use Rattle.file_batch_laws.specs.BatchFault.{failures_after};
+    ghost use Rattle.std.specs.Prelude.{◌≡◌, ◌++◌, ◌≤◌, ℕ, List, [], length, IfErr, OnOk};
+    ghost use Rattle.file_batch.specs.Device.{UsesDevice};
     ghost use Rattle.file_batch_laws.specs.Reading.{bodies_at};
     ghost use Rattle.rtrb.specs.Ring.{sent, received, known_items, SameProducer, SameConsumer};
     ghost use Rattle.file_batch.specs.InOrder.{GivesInto, texts_of};
@@ -68,12 +68,10 @@ impl Reader {
         count: u32,
         signals: &Signals,
     ) -> Result<(), BatchFault>
-        requires source { R.failures source.old + 1 < 2 ^ 64 }
         requires few { count ≤ 65536 }
         requires none { sent self.old.outbound ≡ [] }
         ensures ends { SameProducer self.old.outbound self.new.outbound × SameConsumer self.old.inbound self.new.inbound }
-        ensures failures { R.failures source.new ≡ failures_after result (R.failures source.old) }
-        ensures known { R.is_known source.old → R.is_known source.new }
+        ensures device { UsesDevice R.is_known R.has_failed source.old source.new result }
         ensures read { OnOk result (length (frames_in (sent self.new.outbound)) ≡ count) }
         ensures gives { R.is_known source.old → GivesInto result (frames_in (sent self.new.outbound))
             (ahead window.new (R.remaining source.new)) (bodies_at count (ahead window.old (R.remaining source.old))) }
@@ -98,12 +96,10 @@ impl Reader {
         count: u32,
         signals: &Signals,
     ) -> Result<(), BatchFault>
-        requires source { R.failures source.old + 1 < 2 ^ 64 }
         requires few { count ≤ 65536 }
         requires none { sent self.old.outbound ≡ [] }
         ensures ends { SameProducer self.old.outbound self.new.outbound × SameConsumer self.old.inbound self.new.inbound }
-        ensures failures { R.failures source.new ≡ failures_after result (R.failures source.old) }
-        ensures known { R.is_known source.old → R.is_known source.new }
+        ensures device { UsesDevice R.is_known R.has_failed source.old source.new result }
         ensures few { length (frames_in (sent self.new.outbound)) ≤ count }
         ensures read { OnOk result (length (frames_in (sent self.new.outbound)) ≡ count) }
         ensures gives { R.is_known source.old → GivesInto result (frames_in (sent self.new.outbound))

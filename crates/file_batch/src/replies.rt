@@ -1,9 +1,12 @@
-ghost use Rattle.std.specs.Prelude.{◌≡◌, ◌+◌, ◌<◌, ◌≤◌, ◌^◌, ◌++◌, [], length, Err, IfErr, OnOk, OnErr};
-ghost use Rattle.file_batch_laws.specs.BatchFault.{failures_after};
-ghost use Rattle.file_batch_laws.specs.Files.{reply_text, framed, replies_text};
-ghost use Rattle.file_batch.specs.Writing.{AppendsPart, IsWritingFault};
+ghost use Rattle.std.specs.Prelude.{◌≡◌, ◌<◌, ◌≤◌, ◌^◌, ◌++◌, length, Err, IfErr, IsTrue, OnOk, OnErr};
+ghost use Rattle.file_batch.specs.Device.{UsesDevice};
+ghost use Rattle.file_batch_laws.specs.Files.{reply_text, replies_text};
+ghost use Rattle.file_batch.specs.Writing.{AppendsPart};
+ghost use Rattle.file_batch.specs.InOrder.{texts_of};
+ghost use Rattle.file_batch_laws.specs.BatchFault.{is_of_bytes};
 
-use crate::writing::{PIECE, add_framed, add_head, put_all, put_piece};
+use crate::file_item::FileItem;
+use crate::writing::{PIECE, add_framed, put_items};
 use file_batch_laws::BatchFault;
 use file_devices::Sink;
 use iso_codec::encode_reply;
@@ -25,38 +28,30 @@ fn text_of(text: &mut Vec<u8>, reply: &ReplyBody) -> Result<(), AllocError>
     }
 }
 
-/// Appends the text of a reply behind its length, two bytes: `R` and its bytes or `F` and five digits of a fault. `text` is
-/// memory for it. Memory can run out.
-pub fn add_reply(out: &mut Vec<u8>, text: &mut Vec<u8>, reply: &ReplyBody) -> Result<(), AllocError>
-    ensures { OnOk result (out.new.items ≡ out.old.items ++ framed (reply_text reply.now)) }
-{
-    text_of(text, reply)?;
-    add_framed(out, text)
+impl FileItem for ReplyBody {
+    ghost text = { reply_text };
+
+    ghost fits = { λ _. Unit {0} };
+
+    fn add(&self, out: &mut Vec<u8>, memory: &mut Vec<u8>) -> Result<(), AllocError> {
+        text_of(memory, self)?;
+        add_framed(out, memory)
+    }
 }
 
-// Writes the text of so many replies that fit, a piece at a time, over memory in which nothing is about to be written, and memory for the
-// text of one reply.
-fn put_replies<W: Sink>(
+/// Appends the texts of replies, each behind its length, two bytes: `R` and its bytes or `F` and five digits of a fault. `text` is
+/// memory for one of them. Memory can run out.
+pub fn add_replies(
     out: &mut Vec<u8>,
     text: &mut Vec<u8>,
     replies: &[ReplyBody],
-    sink: &mut W,
-) -> Result<(), BatchFault>
-    requires room { W.failures sink.old + 1 < 2 ^ 64 }
-    requires none { out.old.items ≡ [] }
-    requires count { length replies.now ≤ 65536 }
-    ensures failures { W.failures sink.new ≡ failures_after result (W.failures sink.old) }
-    ensures known { W.is_known sink.old → W.is_known sink.new }
-    ensures ok { OnOk result (W.is_known sink.old → W.written sink.new ≡ W.written sink.old ++ replies_text replies.now) }
-    ensures err { OnErr result (W.is_known sink.old → AppendsPart (W.written sink.old) (W.written sink.new) (replies_text replies.now)) }
-    ensures fault { IfErr result (IsWritingFault (length replies.now)) }
+) -> Result<(), AllocError>
+    ensures { OnOk result (out.new.items ≡ out.old.items ++ texts_of replies.now) }
 {
-    add_head(out, b"I83R", replies.len() as u32)?;
     for reply in replies {
-        add_reply(out, text, reply)?;
-        put_piece(sink, out)?;
+        reply.add(out, text)?;
     }
-    put_all(sink, out)
+    Ok(())
 }
 
 /// Writes a reply file: `I83R`, version 1, the number of replies, and each behind its length, as `R` and its bytes or
@@ -68,18 +63,17 @@ pub fn write_replies<W: Sink>(
     replies: &[ReplyBody],
     sink: &mut W,
 ) -> Result<(), BatchFault>
-    requires room { W.failures sink.old + 1 < 2 ^ 64 }
-    ensures failures { W.failures sink.new ≡ failures_after result (W.failures sink.old) }
-    ensures known { W.is_known sink.old → W.is_known sink.new }
+    ensures device { UsesDevice W.is_known W.has_failed sink.old sink.new result }
     ensures ok { OnOk result (W.is_known sink.old → W.written sink.new ≡ W.written sink.old ++ replies_text replies.now) }
     ensures err { OnErr result (W.is_known sink.old → AppendsPart (W.written sink.old) (W.written sink.new) (replies_text replies.now)) }
     ensures many { 65536 < length replies.now → (result ≡ Err BatchFault.Count) × (sink.new ≡ sink.old) }
-    ensures fault { IfErr result (IsWritingFault (length replies.now)) }
+    // As many as a file can have are not written for a device or memory alone.
+    ensures fit { length replies.now ≤ 65536 → IfErr result (λ e. ¬ IsTrue (is_of_bytes e)) }
 {
     if replies.len() > 65_536 {
         return Err(BatchFault::Count);
     }
     let mut out = Vec::with_capacity(alloc, PIECE)?;
     let mut text = Vec::new(alloc);
-    put_replies(&mut out, &mut text, replies, sink)
+    put_items(&mut out, &mut text, b"I83R", replies, sink)
 }

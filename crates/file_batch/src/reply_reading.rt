@@ -4,7 +4,7 @@ ghost use Rattle.iso8583.specs.declared.codec_fault.CodecFault.{CodecFault};
 ghost use Rattle.issuer_rows.specs.FrameFault.{IsOfFrame};
 ghost use Rattle.issuer_rows.specs.declared.reply_body.ReplyBody.{ReplyBody};
 ghost use Rattle.issuer_rows.specs.declared.reply_body.ReplyBody.TheVariants.{Fault};
-ghost use Rattle.file_batch_laws.specs.BatchFault.{failures_after};
+ghost use Rattle.file_batch.specs.Device.{UsesDevice};
 ghost use Rattle.file_batch_laws.specs.Replies.{IsReplyText, GivesReplies, GivesReplyFile};
 ghost use Rattle.file_batch.specs.Window.{ahead};
 
@@ -89,10 +89,8 @@ impl Window {
         from: u32,
         count: u32,
     ) -> Result<Vec<ReplyBody>, BatchFault>
-        requires room { R.failures source.old + 1 < 2 ^ 64 }
         requires fits { from + count < 2 ^ 32 }
-        ensures failures { R.failures source.new ≡ failures_after result (R.failures source.old) }
-        ensures known { R.is_known source.old → R.is_known source.new }
+        ensures device { UsesDevice R.is_known R.has_failed source.old source.new result }
         ensures count { IfOk result (λ replies. vec_len replies ≡ count) }
         ensures gives { R.is_known source.old → GivesReplies from count (ahead self.old (R.remaining source.old)) result (ahead self.new (R.remaining source.new)) }
     {
@@ -106,38 +104,21 @@ impl Window {
         }
         Ok(replies)
     }
-
-    #[tactic(auto, unfolding(file_batch_laws::specs::Reading::bodies_of))]
-    fn read_reply_file<R: Source>(
-        &mut self,
-        alloc: Global,
-        source: &mut R,
-    ) -> Result<Vec<ReplyBody>, BatchFault>
-        requires room { R.failures source.old + 1 < 2 ^ 64 }
-        ensures failures { R.failures source.new ≡ failures_after result (R.failures source.old) }
-        ensures known { R.is_known source.old → R.is_known source.new }
-        ensures count { IfOk result (λ replies. length replies.items ≤ 65536) }
-        ensures gives { R.is_known source.old → GivesReplyFile (ahead self.old (R.remaining source.old)) result }
-        ensures end { OnOk result (R.is_known source.old → R.remaining source.new ≡ []) }
-    {
-        let count = self.read_head(source, b"I83R")?;
-        let replies = self.read_replies(alloc, source, 0, count)?;
-        self.read_end(source)?;
-        Ok(replies)
-    }
 }
 
 /// Reads a reply file, all of the source: `I83R`, version 1, the number of replies, and each behind its length. Returns the replies, in
 /// order, or the first fault in reading order. A body that is the text of no reply and of no fault is `Body` with its number, counted
 /// from 0. The source is at its end then. `Device` is the fault exactly where a call of the source failed; and memory can run out.
+#[tactic(auto, unfolding(file_batch_laws::specs::Reading::bodies_of))]
 pub fn read_replies<R: Source>(alloc: Global, source: &mut R) -> Result<Vec<ReplyBody>, BatchFault>
-    requires room { R.failures source.old + 1 < 2 ^ 64 }
-    ensures failures { R.failures source.new ≡ failures_after result (R.failures source.old) }
-    ensures known { R.is_known source.old → R.is_known source.new }
+    ensures device { UsesDevice R.is_known R.has_failed source.old source.new result }
     ensures count { IfOk result (λ replies. length replies.items ≤ 65536) }
     ensures gives { R.is_known source.old → GivesReplyFile (R.remaining source.old) result }
     ensures end { OnOk result (R.is_known source.old → R.remaining source.new ≡ []) }
 {
     let mut window = Window::new(alloc)?;
-    window.read_reply_file(alloc, source)
+    let count = window.read_head(source, b"I83R")?;
+    let replies = window.read_replies(alloc, source, 0, count)?;
+    window.read_end(source)?;
+    Ok(replies)
 }

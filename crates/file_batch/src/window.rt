@@ -23,8 +23,9 @@ pub struct Window {
 }
 
 impl Window {
-    ghost use Rattle.std.specs.Prelude.{◌≡◌, ◌+◌, ◌<◌, ◌≤◌, ◌^◌, ◌++◌, [], length, OnOk, OnErr, IfOk, IfErr, IsTrue};
-    ghost use Rattle.file_batch_laws.specs.BatchFault.{failures_after, is_of_bytes};
+    ghost use Rattle.std.specs.Prelude.{◌≡◌, ◌+◌, ◌<◌, ◌≤◌, ◌++◌, [], length, OnOk, OnErr, IfOk, IfErr, IsTrue};
+    ghost use Rattle.file_batch_laws.specs.BatchFault.{is_of_bytes};
+    ghost use Rattle.file_batch.specs.Device.{UsesDevice};
     ghost use Rattle.file_batch_laws.specs.Reading.{Gives, field_at};
     ghost use Rattle.file_batch.specs.Window.{part, ahead};
 
@@ -42,9 +43,7 @@ impl Window {
 
     // Takes the next piece, where all of the last one was read.
     fn refill<R: Source>(&mut self, source: &mut R) -> Result<(), BatchFault>
-        requires room { R.failures source.old + 1 < 2 ^ 64 }
-        ensures failures { R.failures source.new ≡ failures_after result (R.failures source.old) }
-        ensures known { R.is_known source.old → R.is_known source.new }
+        ensures device { UsesDevice R.is_known R.has_failed source.old source.new result }
         ensures some { OnOk result (self.new.start < self.new.end) }
         ensures bytes { OnOk result (R.is_known source.old → R.remaining source.old ≡ ahead self.new (R.remaining source.new)) }
         ensures ended { IfErr result (λ e. IsTrue (is_of_bytes e) → (e ≡ BatchFault.Ended) × (R.is_known source.old → R.remaining source.old ≡ [])) }
@@ -65,9 +64,7 @@ impl Window {
 
     /// Sees that a byte is there to be read.
     pub(crate) fn make_ready<R: Source>(&mut self, source: &mut R) -> Result<(), BatchFault>
-        requires room { R.failures source.old + 1 < 2 ^ 64 }
-        ensures failures { R.failures source.new ≡ failures_after result (R.failures source.old) }
-        ensures known { R.is_known source.old → R.is_known source.new }
+        ensures device { UsesDevice R.is_known R.has_failed source.old source.new result }
         ensures some { OnOk result (self.new.start < self.new.end) }
         ensures bytes { OnOk result (R.is_known source.old →
             ahead self.old (R.remaining source.old) ≡ ahead self.new (R.remaining source.new)) }
@@ -106,9 +103,7 @@ impl Window {
         source: &mut R,
         size: usize,
     ) -> Result<(), BatchFault>
-        requires room { R.failures source.old + 1 < 2 ^ 64 }
-        ensures failures { R.failures source.new ≡ failures_after result (R.failures source.old) }
-        ensures known { R.is_known source.old → R.is_known source.new }
+        ensures device { UsesDevice R.is_known R.has_failed source.old source.new result }
         ensures size { OnOk result (length self.new.field.items ≡ size) }
         // Only bytes of the field take memory: for a field that is whole memory never runs out.
         ensures memory { IfErr result (λ e. e ≡ BatchFault.OutOfMemory → length self.new.field.items < size) }

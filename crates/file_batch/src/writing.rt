@@ -1,9 +1,11 @@
-ghost use Rattle.std.specs.Prelude.{◌≡◌, ◌+◌, ◌<◌, ◌^◌, ◌++◌, length, IfErr, OnOk, OnErr};
+ghost use Rattle.std.specs.Prelude.{◌≡◌, ◌<◌, ◌≤◌, ◌^◌, ◌++◌, [], length, All, IfErr, IsTrue, OnOk, OnErr};
 ghost use Rattle.byteorder.specs.Endian.{big_bytes};
-ghost use Rattle.file_batch_laws.specs.BatchFault.{failures_after};
+ghost use Rattle.file_batch.specs.Device.{UsesDevice};
 ghost use Rattle.file_batch_laws.specs.Files.{framed, head_text};
-ghost use Rattle.file_batch.specs.Writing.{AppendsPart, Moves};
+ghost use Rattle.file_batch.specs.Writing.{AppendsPart, Moves, items_text};
+ghost use Rattle.file_batch_laws.specs.BatchFault.{is_of_bytes};
 
+use crate::file_item::FileItem;
 use byteorder::{BigEndian, ByteOrder};
 use file_batch_laws::BatchFault;
 use file_devices::Sink;
@@ -14,9 +16,7 @@ pub(crate) const PIECE: usize = 65_536;
 
 /// Writes all of the bytes. After a fault a beginning of them was written; it is `Device`, exactly where a call of the sink failed.
 pub fn put_all<W: Sink>(sink: &mut W, bytes: &[u8]) -> Result<(), BatchFault>
-    requires room { W.failures sink.old + 1 < 2 ^ 64 }
-    ensures failures { W.failures sink.new ≡ failures_after result (W.failures sink.old) }
-    ensures known { W.is_known sink.old → W.is_known sink.new }
+    ensures device { UsesDevice W.is_known W.has_failed sink.old sink.new result }
     ensures ok { OnOk result (W.is_known sink.old → W.written sink.new ≡ W.written sink.old ++ bytes.now) }
     ensures err { OnErr result (W.is_known sink.old → AppendsPart (W.written sink.old) (W.written sink.new) bytes.now) }
     ensures fault { IfErr result (λ e. e ≡ BatchFault.Device) }
@@ -34,9 +34,7 @@ pub fn put_all<W: Sink>(sink: &mut W, bytes: &[u8]) -> Result<(), BatchFault>
 
 /// Writes the bytes that are about to be written, where they make a piece.
 pub(crate) fn put_piece<W: Sink>(sink: &mut W, out: &mut Vec<u8>) -> Result<(), BatchFault>
-    requires room { W.failures sink.old + 1 < 2 ^ 64 }
-    ensures failures { W.failures sink.new ≡ failures_after result (W.failures sink.old) }
-    ensures known { W.is_known sink.old → W.is_known sink.new }
+    ensures device { UsesDevice W.is_known W.has_failed sink.old sink.new result }
     ensures ok { OnOk result (W.is_known sink.old → Moves (W.written sink.old) (W.written sink.new) out.old.items out.new.items) }
     ensures err { OnErr result (W.is_known sink.old → AppendsPart (W.written sink.old) (W.written sink.new) out.old.items) }
     ensures fault { IfErr result (λ e. e ≡ BatchFault.Device) }
@@ -84,4 +82,30 @@ pub(crate) fn add_framed(out: &mut Vec<u8>, body: &[u8]) -> Result<(), AllocErro
 {
     add_short(out, body.len() as u16)?;
     out.extend_from_slice(body)
+}
+
+/// Writes the text of a file with these letters and these items, a piece at a time, over memory in which nothing is about to be written,
+/// and memory for the text of one item.
+pub(crate) fn put_items<T: FileItem, W: Sink>(
+    out: &mut Vec<u8>,
+    text: &mut Vec<u8>,
+    magic: &[u8],
+    items: &[T],
+    sink: &mut W,
+) -> Result<(), BatchFault>
+    requires none { out.old.items ≡ [] }
+    requires count { length items.now ≤ 65536 }
+    requires each { All T.fits items.now }
+    ensures device { UsesDevice W.is_known W.has_failed sink.old sink.new result }
+    ensures ok { OnOk result (W.is_known sink.old → W.written sink.new ≡ W.written sink.old ++ items_text T.text magic.now items.now) }
+    ensures err { OnErr result (W.is_known sink.old
+        → AppendsPart (W.written sink.old) (W.written sink.new) (items_text T.text magic.now items.now)) }
+    ensures fault { IfErr result (λ e. ¬ IsTrue (is_of_bytes e)) }
+{
+    add_head(out, magic, items.len() as u32)?;
+    for item in items {
+        item.add(out, text)?;
+        put_piece(sink, out)?;
+    }
+    put_all(sink, out)
 }

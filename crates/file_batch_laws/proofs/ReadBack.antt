@@ -97,35 +97,20 @@ fault_from (suc (suc (suc (suc (suc (suc (suc (suc (suc zero))))))))) n = BadVal
 fault_from (suc (suc (suc (suc (suc (suc (suc (suc (suc (suc k)))))))))) n = OutOfMemory
 
 fault_again : (f : CodecFault) → fault_from (number_of_fault f) (element_of_fault f) ≡ f
-fault_again (Short n) = refl
 fault_again BadMti = refl
-fault_again SecondaryBitmap = refl
-fault_again (Unexpected n) = refl
-fault_again (Missing n) = refl
-fault_again (BadLength n) = refl
-fault_again (BadCharacter n) = refl
-fault_again Trailing = refl
-fault_again (BadValue n) = refl
-fault_again OutOfMemory = refl
+fault_again _ = refl
 
 number_below : (f : CodecFault) → number_of_fault f < 10 ^ 2
-number_below (Short n) = omega arith
 number_below BadMti = omega arith
-number_below SecondaryBitmap = omega arith
-number_below (Unexpected n) = omega arith
-number_below (Missing n) = omega arith
-number_below (BadLength n) = omega arith
-number_below (BadCharacter n) = omega arith
-number_below Trailing = omega arith
-number_below (BadValue n) = omega arith
-number_below OutOfMemory = omega arith
+number_below _ = omega arith
 
-number_in : (f : CodecFault) → number_of (take 2 (drop 1 (fault_body f))) ≡ number_of_fault f
+-- the digits of a fault's text are its number and its element
+pub number_in : (f : CodecFault) → number_of (take 2 (drop 1 (fault_body f))) ≡ number_of_fault f
 number_in f =
     let a = number_of_fault f in
     ap number_of (take_at (fixed_digits 2 a) (fixed_digits 3 (element_of_fault f)) 2 (length-fixed_digits 2 a)) ∙ number_of-fixed_digits 2 a (number_below f)
 
-element_in : (f : CodecFault) → element_of_fault f < 256 → number_of (drop 2 (drop 1 (fault_body f))) ≡ element_of_fault f
+pub element_in : (f : CodecFault) → element_of_fault f < 256 → number_of (drop 2 (drop 1 (fault_body f))) ≡ element_of_fault f
 element_in f lt =
     let a = number_of_fault f in
     ap number_of (drop_at (fixed_digits 2 a) (fixed_digits 3 (element_of_fault f)) 2 (length-fixed_digits 2 a)) ∙ number_of-fixed_digits 3 (element_of_fault f) (omega (arith, lt))

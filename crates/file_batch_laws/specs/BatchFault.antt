@@ -1,5 +1,5 @@
 -- Faults of files: their numbers, and which of them are of the bytes alone.
-use Rattle.std.specs.Prelude.{ℕ, ◌+◌, Bool, true, false, Result, Ok, Err}
+use Rattle.std.specs.Prelude.{ℕ, Bool, true, false, Result, Ok, Err}
 use Rattle.file_batch_laws.specs.declared.batch_fault.BatchFault.{BatchFault}
 use Rattle.file_batch_laws.specs.declared.batch_fault.BatchFault.TheVariants.{Magic, Version, Count, Length, Ended, Trailing, Device, OutOfMemory, Body, Blocks}
 
@@ -18,31 +18,16 @@ number_of_fault Blocks = 10
 
 -- a fault that the bytes alone determine
 abbrev pub is_of_bytes : BatchFault → Bool
-is_of_bytes Magic = true
-is_of_bytes Version = true
-is_of_bytes Count = true
-is_of_bytes Length = true
-is_of_bytes Ended = true
-is_of_bytes Trailing = true
 is_of_bytes Device = false
 is_of_bytes OutOfMemory = false
-is_of_bytes (Body i) = true
-is_of_bytes Blocks = true
+is_of_bytes _ = true
 
--- how often calls of a device failed after a fault: once more exactly where the fault is the device's
-abbrev pub failures_at : BatchFault → ℕ → ℕ
-failures_at Magic failures = failures
-failures_at Version failures = failures
-failures_at Count failures = failures
-failures_at Length failures = failures
-failures_at Ended failures = failures
-failures_at Trailing failures = failures
-failures_at Device failures = failures + 1
-failures_at OutOfMemory failures = failures
-failures_at (Body i) failures = failures
-failures_at Blocks failures = failures
+-- whether a call of a device has failed after a fault: it has where the fault is the device's, and else as before
+abbrev pub failed_at : BatchFault → Bool → Bool
+failed_at Device failed = true
+failed_at _ failed = failed
 
 -- the same of a result
-abbrev pub failures_after : {X : Type 0} → Result X BatchFault → ℕ → ℕ
-failures_after (Ok x) failures = failures
-failures_after (Err e) failures = failures_at e failures
+abbrev pub failed_after : {X : Type 0} → Result X BatchFault → Bool → Bool
+failed_after (Ok x) failed = failed
+failed_after (Err e) failed = failed_at e failed

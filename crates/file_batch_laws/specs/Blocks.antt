@@ -38,18 +38,26 @@ block_at bytes = do
   count ← count_at bytes
   bodies_at count.0 count.1
 
+-- these stand one after another, each as it is read, and these bytes are left
+abbrev pub InTurn : {A : Type 0} → (List ℕ → A → List ℕ → Type 0) → List ℕ → List A → List ℕ → Type 0
+InTurn is bytes [] left = bytes ≡ left
+InTurn is bytes (block ∷ blocks) left = (next : List ℕ) × is bytes block next × InTurn is next blocks left
+
+-- the bytes are a file that begins with these letters, and these are its blocks
+abbrev pub IsFileInTurn : {A : Type 0} → List ℕ → (List ℕ → A → List ℕ → Type 0) → List ℕ → List A → Type 0
+IsFileInTurn magic is bytes blocks = (behind : List ℕ) × (block_head_at magic bytes ≡ Ok (length blocks, behind)) × InTurn is behind blocks []
+
 -- the next block has these frames, and these bytes are left
 abbrev pub IsBlock : List ℕ → List Frame → List ℕ → Type 0
 IsBlock bytes block left = (bodies : List (List ℕ)) × (block_at bytes ≡ Ok (bodies, left)) × AreFramesOf bodies block
 
 -- the next blocks have these frames, one block after another, and these bytes are left
 abbrev pub AreBlocks : List ℕ → List (List Frame) → List ℕ → Type 0
-AreBlocks bytes [] left = bytes ≡ left
-AreBlocks bytes (block ∷ blocks) left = (next : List ℕ) × IsBlock bytes block next × AreBlocks next blocks left
+AreBlocks bytes blocks left = InTurn IsBlock bytes blocks left
 
 -- the bytes are a block file, and these are its blocks
 abbrev pub IsBlockFileOf : List ℕ → List (List Frame) → Type 0
-IsBlockFileOf bytes blocks = (behind : List ℕ) × (block_head_at blocks_magic bytes ≡ Ok (length blocks, behind)) × AreBlocks behind blocks []
+IsBlockFileOf bytes blocks = IsFileInTurn blocks_magic IsBlock bytes blocks
 
 -- behind some of so many blocks, reading stops with this fault: in the next block, or behind the last one
 abbrev pub FailsBehind : ℕ → ℕ → List ℕ → BatchFault → Type 0
@@ -65,12 +73,11 @@ IsReplyBlock bytes block left = (bodies : List (List ℕ)) × (block_at bytes �
 
 -- the next blocks have these replies, one block after another, and these bytes are left
 abbrev pub AreReplyBlocks : List ℕ → List (List ReplyBody) → List ℕ → Type 0
-AreReplyBlocks bytes [] left = bytes ≡ left
-AreReplyBlocks bytes (block ∷ blocks) left = (next : List ℕ) × IsReplyBlock bytes block next × AreReplyBlocks next blocks left
+AreReplyBlocks bytes blocks left = InTurn IsReplyBlock bytes blocks left
 
 -- the bytes are the reply file of a block file, and these are the replies of each block
 abbrev pub IsBlockReplyFileOf : List ℕ → List (List ReplyBody) → Type 0
-IsBlockReplyFileOf bytes blocks = (behind : List ℕ) × (block_head_at block_replies_magic bytes ≡ Ok (length blocks, behind)) × AreReplyBlocks behind blocks []
+IsBlockReplyFileOf bytes blocks = IsFileInTurn block_replies_magic IsReplyBlock bytes blocks
 
 -- the next block of replies has this fault: in its count, or in a body; its bodies are counted from one on
 abbrev pub FailsInReplyBlock : ℕ → List ℕ → BatchFault → Type 0

@@ -11,6 +11,7 @@ use Rattle.file_batch_laws.specs.Reading.{ended}
 use Rattle.file_batch_laws.specs.declared.batch_fault.BatchFault.{BatchFault}
 use Rattle.file_blocks.specs.Blocks.{AreDecided, AreAllDecided, BeginsBlock, StopsBehind, StopsBefore, StopsInHead, StopsInBlocks, IsAnswered}
 use Rattle.file_batch.specs.Writing.{AppendsPart}
+use Rattle.file_blocks.proofs.ReadBlocks.{nothing_left, one_more}
 use Rattle.file_blocks.specs.declared.kept_blocks.KeptBlocks.{KeptBlocks}
 
 one_more_rows : (rows : Rows) (blocks : List (List Frame)) (block : List Frame) → rows_after_blocks rows (blocks ++ block ∷ []) ≡ rows_after (rows_after_blocks rows blocks) block
@@ -28,10 +29,6 @@ one_more_count : (blocks : List (List Frame)) (block : List Frame) → messages_
 one_more_count [] block = omega arith
 one_more_count (b ∷ blocks) block = omega (arith, one_more_count blocks block)
 
-pub one_more_read : (bytes : List ℕ) (blocks : List (List Frame)) (left : List ℕ) (block : List Frame) (after : List ℕ) → AreBlocks bytes blocks left → IsBlock left block after → AreBlocks bytes (blocks ++ block ∷ []) after
-one_more_read bytes [] left block after are next = (after, subst (λ (b : List ℕ). IsBlock b block after) (sym are) next, refl)
-one_more_read bytes (b ∷ blocks) left block after are next = (are.0, are.1, one_more_read are.0 blocks left block after are.2 next)
-
 pub starts : (opening : Rows) (reads : Type 0) (bytes : List ℕ) (puts : Type 0) (old : List ℕ) → AreDecided opening opening 0 0 reads bytes bytes puts old old
 starts opening reads bytes puts old =
     record { blocks = []; number = refl; all = refl; book = refl; read = λ known. refl; put = λ known. sym (append-nil old) }
@@ -47,7 +44,7 @@ goes_on opening before after reads reads' bytes left left' puts puts' old mid ne
       number = omega (arith, length-append blocks (block ∷ []), so_far.number, next.number);
       all = omega (arith, one_more_count blocks block, so_far.all, next.all);
       book = next.book ∙ ap (λ (r : Rows). rows_after r block) so_far.book ∙ sym (one_more_rows opening blocks block);
-      read = λ known. one_more_read bytes blocks left block left' (so_far.read known) (next.read (still_read known));
+      read = λ known. one_more IsBlock bytes blocks left block left' (so_far.read known) (next.read (still_read known));
       put = λ known. rw (next.put (still_put known), so_far.put known, one_more_text opening blocks block, ← so_far.book) (append_assoc old (blocks_text (replies_to_blocks opening blocks)) (block_text (replies_to before.book block)));
     }
 
@@ -57,23 +54,23 @@ pub begun : (rows : Rows) (reads : Type 0) (bytes left : List ℕ) (puts : Type 
 begun rows reads bytes left puts old new failed same block read (inl s) = inl s
 begun rows reads bytes left puts old new failed same block read (inr p) = inr (p.0, block, left, read, p.1)
 
-as_begun : (rows : Rows) (reads reads' : Type 0) (left : List ℕ) (puts puts' : Type 0) (mid new : List ℕ) (failed failed' same : Type 0) → (reads → reads') → (puts → puts') → (same → new ≡ mid) → (failed → failed')
-    → same ⊎ BeginsBlock rows reads' left puts' mid new failed → (puts → new ≡ mid) ⊎ BeginsBlock rows reads left puts mid new failed'
-as_begun rows reads reads' left puts puts' mid new failed failed' same r p eq f (inl s) = inl (λ known. eq s)
-as_begun rows reads reads' left puts puts' mid new failed failed' same r p eq f (inr b) = inr (f b.0, b.1, b.2, λ known. b.3 (r known), λ known. b.4 (p known))
+as_begun : (rows : Rows) (reads reads' : Type 0) (left : List ℕ) (puts puts' : Type 0) (mid new : List ℕ) (failed same : Type 0) → (reads → reads') → (puts → puts') → (same → new ≡ mid)
+    → same ⊎ BeginsBlock rows reads' left puts' mid new failed → (puts → new ≡ mid) ⊎ BeginsBlock rows reads left puts mid new failed
+as_begun rows reads reads' left puts puts' mid new failed same r p eq (inl s) = inl (λ known. eq s)
+as_begun rows reads reads' left puts puts' mid new failed same r p eq (inr b) = inr (b.0, b.1, b.2, λ known. b.3 (r known), λ known. b.4 (p known))
 
-pub halts : (total : ℕ) (opening : Rows) (before after : KeptBlocks) (reads reads' : Type 0) (bytes left : List ℕ) (puts puts' : Type 0) (old mid new : List ℕ) (e : BatchFault) (failed failed' same : Type 0)
+pub halts : (total : ℕ) (opening : Rows) (before after : KeptBlocks) (reads reads' : Type 0) (bytes left : List ℕ) (puts puts' : Type 0) (old mid new : List ℕ) (e : BatchFault) (failed same : Type 0)
     → AreDecided opening before.book before.blocks before.messages reads bytes left puts old mid → after ≡ before → before.blocks < total → (reads → reads') → (puts → puts')
-    → (reads' → IsTrue (is_of_bytes e) → block_at left ≡ Err e) → same ⊎ BeginsBlock before.book reads' left puts' mid new failed → (same → new ≡ mid) → (failed → failed')
-    → StopsBehind total opening after.book after.blocks reads bytes puts old new e failed'
-halts total opening before after reads reads' bytes left puts puts' old mid new e failed failed' same so_far is lt r p fault next eq f =
-    subst (λ (k : KeptBlocks). StopsBehind total opening k.book k.blocks reads bytes puts old new e failed') (sym is) (record {
+    → (reads' → IsTrue (is_of_bytes e) → block_at left ≡ Err e) → same ⊎ BeginsBlock before.book reads' left puts' mid new failed → (same → new ≡ mid)
+    → StopsBehind total opening after.book after.blocks reads bytes puts old new e failed
+halts total opening before after reads reads' bytes left puts puts' old mid new e failed same so_far is lt r p fault next eq =
+    subst (λ (k : KeptBlocks). StopsBehind total opening k.book k.blocks reads bytes puts old new e failed) (sym is) (record {
       messages = before.messages;
       left = left;
       mid = mid;
       kept = so_far;
       fails = λ known of_bytes. inl (lt, fault (r known) of_bytes);
-      begun = as_begun before.book reads reads' left puts puts' mid new failed failed' same r p eq f next;
+      begun = as_begun before.book reads reads' left puts puts' mid new failed same r p eq next;
     })
 
 -- all blocks are kept, and something stands behind them, or it can't be seen
@@ -92,10 +89,6 @@ halts_behind total opening rows count messages reads reads' bytes left puts old 
 as_many : (rows : Rows) (blocks : List (List Frame)) → length (replies_to_blocks rows blocks) ≡ length blocks
 as_many rows [] = refl
 as_many rows (block ∷ blocks) = ap suc (as_many (rows_after rows block) blocks)
-
-pub nothing_left : (left : List ℕ) → ended left ≡ Ok tt → left ≡ []
-nothing_left [] e = refl
-nothing_left (b ∷ bytes) e = absurd cc
 
 pub finishes : (opening rows : Rows) (count messages total : ℕ) (reads : Type 0) (bytes behind left : List ℕ) (puts : Type 0) (old mid new : List ℕ)
     → AreDecided opening rows count messages reads behind left puts mid new → count ≡ total → (reads → block_head_at blocks_magic bytes ≡ Ok (total, behind)) → (reads → ended left ≡ Ok tt)
@@ -125,21 +118,21 @@ moved opening rows count messages reads reads' bytes left puts puts' old old' ne
   put = λ known. so_far.put (p known) ∙ ap (λ (x : List ℕ). x ++ blocks_text (replies_to_blocks opening so_far.blocks)) (eq known);
 }
 
-moved_begun : (rows : Rows) (reads reads' : Type 0) (left : List ℕ) (puts puts' : Type 0) (mid new : List ℕ) (failed failed' : Type 0) → (reads → reads') → (puts → puts') → (failed' → failed)
-    → (puts' → new ≡ mid) ⊎ BeginsBlock rows reads' left puts' mid new failed' → (puts → new ≡ mid) ⊎ BeginsBlock rows reads left puts mid new failed
-moved_begun rows reads reads' left puts puts' mid new failed failed' r p f (inl same) = inl (λ known. same (p known))
-moved_begun rows reads reads' left puts puts' mid new failed failed' r p f (inr b) = inr (f b.0, b.1, b.2, λ known. b.3 (r known), λ known. b.4 (p known))
+moved_begun : (rows : Rows) (reads reads' : Type 0) (left : List ℕ) (puts puts' : Type 0) (mid new : List ℕ) (failed : Type 0) → (reads → reads') → (puts → puts')
+    → (puts' → new ≡ mid) ⊎ BeginsBlock rows reads' left puts' mid new failed → (puts → new ≡ mid) ⊎ BeginsBlock rows reads left puts mid new failed
+moved_begun rows reads reads' left puts puts' mid new failed r p (inl same) = inl (λ known. same (p known))
+moved_begun rows reads reads' left puts puts' mid new failed r p (inr b) = inr (b.0, b.1, b.2, λ known. b.3 (r known), λ known. b.4 (p known))
 
-pub halts_moved : (total : ℕ) (opening rows : Rows) (count : ℕ) (reads reads' : Type 0) (bytes : List ℕ) (puts puts' : Type 0) (old old' new : List ℕ) (e : BatchFault) (failed failed' : Type 0)
-    → StopsBehind total opening rows count reads' bytes puts' old' new e failed' → (reads → reads') → (puts → puts') → (puts → old' ≡ old) → (failed' → failed)
+pub halts_moved : (total : ℕ) (opening rows : Rows) (count : ℕ) (reads reads' : Type 0) (bytes : List ℕ) (puts puts' : Type 0) (old old' new : List ℕ) (e : BatchFault) (failed : Type 0)
+    → StopsBehind total opening rows count reads' bytes puts' old' new e failed → (reads → reads') → (puts → puts') → (puts → old' ≡ old)
     → StopsBehind total opening rows count reads bytes puts old new e failed
-halts_moved total opening rows count reads reads' bytes puts puts' old old' new e failed failed' stops r p eq f = record {
+halts_moved total opening rows count reads reads' bytes puts puts' old old' new e failed stops r p eq = record {
   messages = stops.messages;
   left = stops.left;
   mid = stops.mid;
   kept = moved opening rows count stops.messages reads reads' bytes stops.left puts puts' old old' stops.mid stops.kept r p eq;
   fails = λ known. stops.fails (r known);
-  begun = moved_begun rows reads reads' stops.left puts puts' stops.mid new failed failed' r p f stops.begun;
+  begun = moved_begun rows reads reads' stops.left puts puts' stops.mid new failed r p stops.begun;
 }
 
 pub halts_in_head : (opening : Rows) (count : ℕ) (reads : Type 0) (bytes : List ℕ) (total : ℕ) (behind : List ℕ) (puts : Type 0) (old new : List ℕ) (e : BatchFault) (failed same : Type 0)

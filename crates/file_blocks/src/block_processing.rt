@@ -1,7 +1,7 @@
-ghost use Rattle.std.specs.Prelude.{◌≡◌, ◌⊎◌, ◌+◌, ◌<◌, ◌≤◌, ◌^◌, [], length, IfOk, IfErr, OnOk};
-ghost use Rattle.file_batch_laws.specs.BatchFault.{failures_at};
+ghost use Rattle.std.specs.Prelude.{◌≡◌, ◌⊎◌, ◌||◌, [], IfOk, IfErr, IsTrue, OnOk};
+ghost use Rattle.file_batch_laws.specs.BatchFault.{failed_at};
 ghost use Rattle.file_blocks.specs.Blocks.{AreAllDecided, StopsBefore, StopsInHead, StopsInBlocks};
-ghost use Rattle.file_batch.specs.Processing.{AnswersFold};
+ghost use Rattle.file_batch.specs.Processing.{IsDecider};
 
 use crate::kept_blocks::KeptBlocks;
 use file_batch_laws::BatchFault;
@@ -45,13 +45,11 @@ pub fn process_blocks<R: Source, W: Sink, E: Fn(&Book, &[Frame]) -> Result<RunOu
     sink: &mut W,
     decide: &E,
 ) -> Result<BlocksOutcome, Halted>
-    requires source { R.failures source.old + 1 < 2 ^ 64 }
-    requires sink { W.failures sink.old + 1 < 2 ^ 64 }
     // It may be called with a block, and what it returns is the fold.
-    requires called { (rows : _) (frames : _) → length frames.now ≤ 65536 → E.pre decide.now rows frames }
-    requires fold { (rows : _) (frames : _) (answer : _) → E.post decide.now rows frames answer → AnswersFold rows.now frames.now answer }
-    ensures none_failed { OnOk result (R.failures source.new + W.failures sink.new ≡ R.failures source.old + W.failures sink.old) }
-    ensures failed { IfErr result (λ halted. R.failures source.new + W.failures sink.new ≡ failures_at halted.fault (R.failures source.old + W.failures sink.old)) }
+    requires decider { IsDecider E.pre E.post (λ rows. rows.now) (λ frames. frames.now) decide.now }
+    ensures none_failed { OnOk result ((R.has_failed source.new || W.has_failed sink.new) ≡ (R.has_failed source.old || W.has_failed sink.old)) }
+    ensures failed { IfErr result (λ halted.
+        (R.has_failed source.new || W.has_failed sink.new) ≡ failed_at halted.fault (R.has_failed source.old || W.has_failed sink.old)) }
     ensures known { W.is_known sink.old → W.is_known sink.new }
     ensures end { OnOk result (R.is_known source.old → R.remaining source.new ≡ []) }
     ensures ok { IfOk result (λ outcome. AreAllDecided book outcome.book outcome.blocks outcome.messages
@@ -60,9 +58,9 @@ pub fn process_blocks<R: Source, W: Sink, E: Fn(&Book, &[Frame]) -> Result<RunOu
     ensures halted { IfErr result (λ halted.
         StopsBefore book halted.book halted.blocks (R.is_known source.old) (R.remaining source.old) halted.fault (sink.new ≡ sink.old)
         ⊎ (StopsInHead book halted.book halted.blocks (R.is_known source.old) (R.remaining source.old)
-        (W.is_known sink.old) (W.written sink.old) (W.written sink.new) (W.failures sink.new ≡ W.failures sink.old + 1)
+        (W.is_known sink.old) (W.written sink.old) (W.written sink.new) (IsTrue (W.has_failed sink.new))
         ⊎ StopsInBlocks book halted.book halted.blocks (R.is_known source.old) (R.remaining source.old)
-        (W.is_known sink.old) (W.written sink.old) (W.written sink.new) halted.fault (W.failures sink.new ≡ W.failures sink.old + 1))) }
+        (W.is_known sink.old) (W.written sink.old) (W.written sink.new) halted.fault (IsTrue (W.has_failed sink.new)))) }
 {
     let mut kept = KeptBlocks {
         blocks: 0,

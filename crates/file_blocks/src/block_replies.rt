@@ -2,7 +2,7 @@
 
 ghost use Rattle.std.specs.Prelude.{◌≡◌, ◌+◌, ◌<◌, ◌≤◌, ◌^◌, [], length, vec_len, IfOk, OnOk};
 ghost use Rattle.std.specs.List.{All};
-ghost use Rattle.file_batch_laws.specs.BatchFault.{failures_after};
+ghost use Rattle.file_batch.specs.Device.{UsesDevice};
 ghost use Rattle.file_blocks.specs.BlockFiles.{GivesReplyBlock, GivesReplyBlocks, GivesBlockReplyFile};
 ghost use Rattle.file_batch.specs.Window.{ahead};
 
@@ -20,10 +20,8 @@ fn read_reply_block<R: Source>(
     source: &mut R,
     from: u32,
 ) -> Result<Vec<ReplyBody>, BatchFault>
-    requires room { R.failures source.old + 1 < 2 ^ 64 }
     requires fits { from + 65536 < 2 ^ 32 }
-    ensures failures { R.failures source.new ≡ failures_after result (R.failures source.old) }
-    ensures known { R.is_known source.old → R.is_known source.new }
+    ensures device { UsesDevice R.is_known R.has_failed source.old source.new result }
     ensures count { IfOk result (λ block. vec_len block ≤ 65536) }
     ensures gives { R.is_known source.old → GivesReplyBlock from (ahead window.old (R.remaining source.old)) result (ahead window.new (R.remaining source.new)) }
 {
@@ -38,10 +36,8 @@ fn read_reply_blocks<R: Source>(
     source: &mut R,
     count: u32,
 ) -> Result<Vec<Vec<ReplyBody>>, BatchFault>
-    requires room { R.failures source.old + 1 < 2 ^ 64 }
     requires most { count ≤ 1000 }
-    ensures failures { R.failures source.new ≡ failures_after result (R.failures source.old) }
-    ensures known { R.is_known source.old → R.is_known source.new }
+    ensures device { UsesDevice R.is_known R.has_failed source.old source.new result }
     ensures count { IfOk result (λ blocks. vec_len blocks ≡ count) }
     ensures each { IfOk result (λ blocks. All (λ block. length block.items ≤ 65536) blocks.items) }
     ensures gives { R.is_known source.old → GivesReplyBlocks count (ahead window.old (R.remaining source.old)) result (ahead window.new (R.remaining source.new)) }
@@ -56,26 +52,6 @@ fn read_reply_blocks<R: Source>(
     Ok(blocks)
 }
 
-// The replies of each block of a whole file.
-fn read_block_reply_file<R: Source>(
-    window: &mut Window,
-    alloc: Global,
-    source: &mut R,
-) -> Result<Vec<Vec<ReplyBody>>, BatchFault>
-    requires room { R.failures source.old + 1 < 2 ^ 64 }
-    ensures failures { R.failures source.new ≡ failures_after result (R.failures source.old) }
-    ensures known { R.is_known source.old → R.is_known source.new }
-    ensures count { IfOk result (λ blocks. length blocks.items ≤ 1000) }
-    ensures each { IfOk result (λ blocks. All (λ block. length block.items ≤ 65536) blocks.items) }
-    ensures gives { R.is_known source.old → GivesBlockReplyFile (ahead window.old (R.remaining source.old)) result }
-    ensures end { OnOk result (R.is_known source.old → R.remaining source.new ≡ []) }
-{
-    let count = read_block_head(window, source, b"I83T")?;
-    let blocks = read_reply_blocks(window, alloc, source, count)?;
-    window.read_end(source)?;
-    Ok(blocks)
-}
-
 /// Reads the reply file of a block file, all of the source: `I83T`, version 1, the number of blocks, at most 1,000, and for each block
 /// its count and its replies as in a reply file. Returns the replies of each block, in order, or the first fault in reading order. A body
 /// that is the text of no reply and of no fault is `Body` with its number, counted from 0 over the whole file. The source is at its end
@@ -84,14 +60,15 @@ pub fn read_block_replies<R: Source>(
     alloc: Global,
     source: &mut R,
 ) -> Result<Vec<Vec<ReplyBody>>, BatchFault>
-    requires room { R.failures source.old + 1 < 2 ^ 64 }
-    ensures failures { R.failures source.new ≡ failures_after result (R.failures source.old) }
-    ensures known { R.is_known source.old → R.is_known source.new }
+    ensures device { UsesDevice R.is_known R.has_failed source.old source.new result }
     ensures count { IfOk result (λ blocks. length blocks.items ≤ 1000) }
     ensures each { IfOk result (λ blocks. All (λ block. length block.items ≤ 65536) blocks.items) }
     ensures gives { R.is_known source.old → GivesBlockReplyFile (R.remaining source.old) result }
     ensures end { OnOk result (R.is_known source.old → R.remaining source.new ≡ []) }
 {
     let mut window = Window::new(alloc)?;
-    read_block_reply_file(&mut window, alloc, source)
+    let count = read_block_head(&mut window, source, b"I83T")?;
+    let blocks = read_reply_blocks(&mut window, alloc, source, count)?;
+    window.read_end(source)?;
+    Ok(blocks)
 }

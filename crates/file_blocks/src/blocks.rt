@@ -1,13 +1,14 @@
-ghost use Rattle.std.specs.Prelude.{◌≡◌, ◌⊎◌, ◌+◌, ◌<◌, ◌≤◌, ◌^◌, ◌++◌, length, vec_len, IfOk, IfErr, OnOk, OnErr, IsTrue, Err};
+ghost use Rattle.std.specs.Prelude.{◌≡◌, ◌⊎◌, ◌<◌, ◌≤◌, ◌++◌, length, vec_len, IfOk, IfErr, OnOk, OnErr, IsTrue, Err};
 ghost use Rattle.issuer_rows.specs.declared.frame.Frame.{Frame};
-ghost use Rattle.file_batch_laws.specs.BatchFault.{failures_after, is_of_bytes};
+ghost use Rattle.file_batch_laws.specs.BatchFault.{is_of_bytes};
+ghost use Rattle.file_batch.specs.Device.{UsesDevice};
 ghost use Rattle.file_batch_laws.specs.Blocks.{block_text, block_at, block_count_at, block_head_at};
 ghost use Rattle.file_batch_laws.specs.Reading.{Gives};
 ghost use Rattle.file_batch_laws.specs.Frames.{GivesFrames};
 ghost use Rattle.file_batch.specs.Writing.{AppendsPart};
 ghost use Rattle.file_batch.specs.Window.{ahead};
 
-use file_batch::{Window, add_long, add_reply, put_all};
+use file_batch::{Window, add_long, add_replies, put_all};
 use file_batch_laws::BatchFault;
 use file_devices::{Sink, Source};
 use issuer_rows::{Frame, ReplyBody};
@@ -16,9 +17,7 @@ use std::alloc::{AllocError, Global};
 // The number of blocks.
 #[tactic(auto, unfolding(file_batch_laws::specs::Blocks::block_count_at))]
 fn read_block_count<R: Source>(window: &mut Window, source: &mut R) -> Result<u32, BatchFault>
-    requires room { R.failures source.old + 1 < 2 ^ 64 }
-    ensures failures { R.failures source.new ≡ failures_after result (R.failures source.old) }
-    ensures known { R.is_known source.old → R.is_known source.new }
+    ensures device { UsesDevice R.is_known R.has_failed source.old source.new result }
     ensures memory { IfErr result (λ e. e ≡ BatchFault.OutOfMemory → length window.new.field.items < 4) }
     ensures most { IfOk result (λ n. n ≤ 1000) }
     ensures gives { R.is_known source.old → Gives (λ n. n) result
@@ -38,9 +37,7 @@ pub(crate) fn read_block_head<R: Source>(
     source: &mut R,
     magic: &[u8],
 ) -> Result<u32, BatchFault>
-    requires room { R.failures source.old + 1 < 2 ^ 64 }
-    ensures failures { R.failures source.new ≡ failures_after result (R.failures source.old) }
-    ensures known { R.is_known source.old → R.is_known source.new }
+    ensures device { UsesDevice R.is_known R.has_failed source.old source.new result }
     ensures most { IfOk result (λ n. n ≤ 1000) }
     ensures gives { R.is_known source.old → Gives (λ n. n) result
         (ahead window.new (R.remaining source.new)) (block_head_at magic.now (ahead window.old (R.remaining source.old))) }
@@ -57,9 +54,7 @@ pub(crate) fn read_block<R: Source>(
     alloc: Global,
     source: &mut R,
 ) -> Result<Vec<Frame>, BatchFault>
-    requires room { R.failures source.old + 1 < 2 ^ 64 }
-    ensures failures { R.failures source.new ≡ failures_after result (R.failures source.old) }
-    ensures known { R.is_known source.old → R.is_known source.new }
+    ensures device { UsesDevice R.is_known R.has_failed source.old source.new result }
     ensures count { IfOk result (λ frames. vec_len frames ≤ 65536) }
     ensures gives { R.is_known source.old → GivesFrames result
         (ahead window.new (R.remaining source.new)) (block_at (ahead window.old (R.remaining source.old))) }
@@ -76,9 +71,7 @@ fn text_of_block(alloc: Global, replies: &[ReplyBody]) -> Result<Vec<u8>, AllocE
     let mut out = Vec::new(alloc);
     let mut text = Vec::new(alloc);
     add_long(&mut out, replies.len() as u32)?;
-    for reply in replies {
-        add_reply(&mut out, &mut text, reply)?;
-    }
+    add_replies(&mut out, &mut text, replies)?;
     Ok(out)
 }
 
@@ -89,11 +82,9 @@ pub(crate) fn write_block<W: Sink>(
     sink: &mut W,
 ) -> Result<(), BatchFault>
     requires many { length replies.now ≤ 65536 }
-    requires room { W.failures sink.old + 1 < 2 ^ 64 }
-    ensures failures { W.failures sink.new ≡ failures_after result (W.failures sink.old) }
-    ensures known { W.is_known sink.old → W.is_known sink.new }
+    ensures device { UsesDevice W.is_known W.has_failed sink.old sink.new result }
     ensures ok { OnOk result (W.is_known sink.old → W.written sink.new ≡ W.written sink.old ++ block_text replies.now) }
-    ensures err { OnErr result ((sink.new ≡ sink.old) ⊎ ((W.failures sink.new ≡ W.failures sink.old + 1)
+    ensures err { OnErr result ((sink.new ≡ sink.old) ⊎ ((IsTrue (W.has_failed sink.new))
         × (W.is_known sink.old → AppendsPart (W.written sink.old) (W.written sink.new) (block_text replies.now)))) }
     ensures fault { IfErr result (λ e. ¬ IsTrue (is_of_bytes e)) }
 {

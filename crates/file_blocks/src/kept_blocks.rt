@@ -1,12 +1,13 @@
 ghost use Rattle.std.specs.Prelude.{◌≡◌, ◌⊎◌, ◌+◌, ◌<◌, ◌≤◌, ◌^◌, ◌++◌, [], length, OnOk, OnErr, IfErr, IsTrue, Err};
 ghost use Rattle.issuer_rows.specs.Fold.{rows_after, replies_to};
 ghost use Rattle.issuer_rows.specs.declared.frame.Frame.{Frame};
-ghost use Rattle.file_batch_laws.specs.BatchFault.{failures_after, is_of_bytes};
+ghost use Rattle.file_batch_laws.specs.BatchFault.{is_of_bytes};
+ghost use Rattle.file_batch.specs.Device.{UsesDevice, UsesDevices};
 ghost use Rattle.file_batch_laws.specs.Blocks.{block_text, block_at, block_replies_magic};
 ghost use Rattle.file_batch_laws.specs.Files.{head_text};
 ghost use Rattle.file_blocks.specs.Blocks.{AreDecided, AreAllDecided, BeginsBlock, StopsBehind, StopsBefore, StopsInHead, StopsInBlocks, IsAnswered};
 ghost use Rattle.file_batch.specs.Writing.{AppendsPart};
-ghost use Rattle.file_batch.specs.Processing.{AnswersFold};
+ghost use Rattle.file_batch.specs.Processing.{IsDecider};
 ghost use Rattle.file_batch.specs.Window.{ahead};
 
 use crate::blocks::{read_block, read_block_head, write_block};
@@ -30,11 +31,9 @@ pub(crate) struct KeptBlocks {
 
 // Writes the head of the replies. Its text is made before the first byte is written.
 fn write_head<W: Sink>(alloc: Global, count: u32, sink: &mut W) -> Result<(), BatchFault>
-    requires room { W.failures sink.old + 1 < 2 ^ 64 }
-    ensures failures { W.failures sink.new ≡ failures_after result (W.failures sink.old) }
-    ensures known { W.is_known sink.old → W.is_known sink.new }
+    ensures device { UsesDevice W.is_known W.has_failed sink.old sink.new result }
     ensures ok { OnOk result (W.is_known sink.old → W.written sink.new ≡ W.written sink.old ++ head_text block_replies_magic count) }
-    ensures err { OnErr result ((sink.new ≡ sink.old) ⊎ ((W.failures sink.new ≡ W.failures sink.old + 1)
+    ensures err { OnErr result ((sink.new ≡ sink.old) ⊎ ((IsTrue (W.has_failed sink.new))
         × (W.is_known sink.old → AppendsPart (W.written sink.old) (W.written sink.new) (head_text block_replies_magic count)))) }
     ensures fault { IfErr result (λ e. ¬ IsTrue (is_of_bytes e)) }
 {
@@ -65,21 +64,18 @@ impl KeptBlocks {
         sink: &mut W,
         decide: &E,
     ) -> Result<(), BatchFault>
-        requires sink { W.failures sink.old + 1 < 2 ^ 64 }
         requires count { length frames.now ≤ 65536 }
-        requires called { (rows : _) (frames : _) → length frames.now ≤ 65536 → E.pre decide.now rows frames }
-        requires fold { (rows : _) (frames : _) (answer : _) → E.post decide.now rows frames answer → AnswersFold rows.now frames.now answer }
+        requires decider { IsDecider E.pre E.post (λ rows. rows.now) (λ frames. frames.now) decide.now }
         requires blocks { self.old.blocks + 1 < 2 ^ 32 }
         requires messages { self.old.messages + 65536 < 2 ^ 32 }
-        ensures failures { W.failures sink.new ≡ failures_after result (W.failures sink.old) }
-        ensures known { W.is_known sink.old → W.is_known sink.new }
+        ensures device { UsesDevice W.is_known W.has_failed sink.old sink.new result }
         ensures number { OnOk result (self.new.blocks ≡ self.old.blocks + 1) }
         ensures all { OnOk result (self.new.messages ≡ self.old.messages + length frames.now) }
         ensures book { OnOk result (self.new.book ≡ rows_after self.old.book frames.now) }
         ensures put { OnOk result (W.is_known sink.old → W.written sink.new ≡ W.written sink.old ++ block_text (replies_to self.old.book frames.now)) }
         ensures kept { OnErr result (self.new ≡ self.old) }
         ensures fault { IfErr result (λ e. ¬ IsTrue (is_of_bytes e)) }
-        ensures err { OnErr result ((sink.new ≡ sink.old) ⊎ ((W.failures sink.new ≡ W.failures sink.old + 1)
+        ensures err { OnErr result ((sink.new ≡ sink.old) ⊎ ((IsTrue (W.has_failed sink.new))
             × (W.is_known sink.old → AppendsPart (W.written sink.old) (W.written sink.new) (block_text (replies_to self.old.book frames.now))))) }
     {
         let outcome = decide(&self.book, frames)?;
@@ -97,16 +93,10 @@ impl KeptBlocks {
         sink: &mut W,
         decide: &E,
     ) -> Result<(), BatchFault>
-        requires source { R.failures source.old + 1 < 2 ^ 64 }
-        requires sink { W.failures sink.old + 1 < 2 ^ 64 }
-        requires called { (rows : _) (frames : _) → length frames.now ≤ 65536 → E.pre decide.now rows frames }
-        requires fold { (rows : _) (frames : _) (answer : _) → E.post decide.now rows frames answer → AnswersFold rows.now frames.now answer }
+        requires decider { IsDecider E.pre E.post (λ rows. rows.now) (λ frames. frames.now) decide.now }
         requires blocks { self.old.blocks + 1 < 2 ^ 32 }
         requires messages { self.old.messages + 65536 < 2 ^ 32 }
-        ensures failures { R.failures source.new + W.failures sink.new ≡ failures_after result (R.failures source.old + W.failures sink.old) }
-        ensures read_known { R.is_known source.old → R.is_known source.new }
-        ensures put_known { W.is_known sink.old → W.is_known sink.new }
-        ensures each { OnOk result ((R.failures source.new ≡ R.failures source.old) × (W.failures sink.new ≡ W.failures sink.old)) }
+        ensures devices { UsesDevices R.is_known R.has_failed W.is_known W.has_failed source.old source.new sink.old sink.new result }
         ensures most { OnOk result (self.new.messages ≤ self.old.messages + 65536) }
         ensures ok { OnOk result (IsAnswered self.old self.new (R.is_known source.old)
             (ahead window.old (R.remaining source.old)) (ahead window.new (R.remaining source.new))
@@ -114,7 +104,7 @@ impl KeptBlocks {
         ensures kept { OnErr result (self.new ≡ self.old) }
         ensures fault { IfErr result (λ e. R.is_known source.old → IsTrue (is_of_bytes e) → block_at (ahead window.old (R.remaining source.old)) ≡ Err e) }
         ensures err { OnErr result ((sink.new ≡ sink.old) ⊎ BeginsBlock self.old.book (R.is_known source.old) (ahead window.old (R.remaining source.old))
-            (W.is_known sink.old) (W.written sink.old) (W.written sink.new) (W.failures sink.new ≡ W.failures sink.old + 1)) }
+            (W.is_known sink.old) (W.written sink.old) (W.written sink.new) (IsTrue (W.has_failed sink.new))) }
     {
         let frames = read_block(window, alloc, source)?;
         self.answer(alloc, &frames, sink, decide)
@@ -131,23 +121,17 @@ impl KeptBlocks {
         decide: &E,
         count: u32,
     ) -> Result<(), BatchFault>
-        requires source { R.failures source.old + 1 < 2 ^ 64 }
-        requires sink { W.failures sink.old + 1 < 2 ^ 64 }
-        requires called { (rows : _) (frames : _) → length frames.now ≤ 65536 → E.pre decide.now rows frames }
-        requires fold { (rows : _) (frames : _) (answer : _) → E.post decide.now rows frames answer → AnswersFold rows.now frames.now answer }
+        requires decider { IsDecider E.pre E.post (λ rows. rows.now) (λ frames. frames.now) decide.now }
         requires none { (self.old.blocks ≡ 0) × (self.old.messages ≡ 0) }
         requires most { count ≤ 1000 }
-        ensures failures { R.failures source.new + W.failures sink.new ≡ failures_after result (R.failures source.old + W.failures sink.old) }
-        ensures read_known { R.is_known source.old → R.is_known source.new }
-        ensures put_known { W.is_known sink.old → W.is_known sink.new }
-        ensures each { OnOk result ((R.failures source.new ≡ R.failures source.old) × (W.failures sink.new ≡ W.failures sink.old)) }
+        ensures devices { UsesDevices R.is_known R.has_failed W.is_known W.has_failed source.old source.new sink.old sink.new result }
         ensures all { OnOk result (self.new.blocks ≡ count) }
         ensures ok { OnOk result (AreDecided self.old.book self.new.book self.new.blocks self.new.messages
             (R.is_known source.old) (ahead window.old (R.remaining source.old)) (ahead window.new (R.remaining source.new))
             (W.is_known sink.old) (W.written sink.old) (W.written sink.new)) }
         ensures err { IfErr result (λ e. StopsBehind count self.old.book self.new.book self.new.blocks
             (R.is_known source.old) (ahead window.old (R.remaining source.old))
-            (W.is_known sink.old) (W.written sink.old) (W.written sink.new) e (W.failures sink.new ≡ W.failures sink.old + 1)) }
+            (W.is_known sink.old) (W.written sink.old) (W.written sink.new) e (IsTrue (W.has_failed sink.new))) }
     {
         for _ in 0..count {
             self.step(alloc, window, source, sink, decide)?;
@@ -161,22 +145,18 @@ impl KeptBlocks {
         W: Sink,
         E: Fn(&Book, &[Frame]) -> Result<RunOutcome, AllocError>,
     >(&mut self, alloc: Global, source: &mut R, sink: &mut W, decide: &E) -> Result<(), BatchFault>
-        requires source { R.failures source.old + 1 < 2 ^ 64 }
-        requires sink { W.failures sink.old + 1 < 2 ^ 64 }
-        requires called { (rows : _) (frames : _) → length frames.now ≤ 65536 → E.pre decide.now rows frames }
-        requires fold { (rows : _) (frames : _) (answer : _) → E.post decide.now rows frames answer → AnswersFold rows.now frames.now answer }
+        requires decider { IsDecider E.pre E.post (λ rows. rows.now) (λ frames. frames.now) decide.now }
         requires none { (self.old.blocks ≡ 0) × (self.old.messages ≡ 0) }
-        ensures failures { R.failures source.new + W.failures sink.new ≡ failures_after result (R.failures source.old + W.failures sink.old) }
-        ensures known { W.is_known sink.old → W.is_known sink.new }
+        ensures devices { UsesDevices R.is_known R.has_failed W.is_known W.has_failed source.old source.new sink.old sink.new result }
         ensures end { OnOk result (R.is_known source.old → R.remaining source.new ≡ []) }
         ensures ok { OnOk result (AreAllDecided self.old.book self.new.book self.new.blocks self.new.messages
             (R.is_known source.old) (R.remaining source.old) (W.is_known sink.old) (W.written sink.old) (W.written sink.new)) }
         ensures err { IfErr result (λ e.
             StopsBefore self.old.book self.new.book self.new.blocks (R.is_known source.old) (R.remaining source.old) e (sink.new ≡ sink.old)
             ⊎ (StopsInHead self.old.book self.new.book self.new.blocks (R.is_known source.old) (R.remaining source.old)
-            (W.is_known sink.old) (W.written sink.old) (W.written sink.new) (W.failures sink.new ≡ W.failures sink.old + 1)
+            (W.is_known sink.old) (W.written sink.old) (W.written sink.new) (IsTrue (W.has_failed sink.new))
             ⊎ StopsInBlocks self.old.book self.new.book self.new.blocks (R.is_known source.old) (R.remaining source.old)
-            (W.is_known sink.old) (W.written sink.old) (W.written sink.new) e (W.failures sink.new ≡ W.failures sink.old + 1))) }
+            (W.is_known sink.old) (W.written sink.old) (W.written sink.new) e (IsTrue (W.has_failed sink.new)))) }
     {
         let mut window = Window::new(alloc)?;
         let count = read_block_head(&mut window, source, b"I83M")?;

@@ -1,5 +1,5 @@
 -- What calls of sources and sinks do.
-use Rattle.std.specs.Prelude.{ℕ, zero, suc, ◌+◌, List, [], Option, Some, None, Result, Ok, Err}
+use Rattle.std.specs.Prelude.{ℕ, zero, suc, List, [], Bool, true, Option, Some, None, Result, Ok, Err}
 use Rattle.file_devices.specs.declared.broken.Broken.{Broken}
 
 -- the bytes, where they are known
@@ -7,8 +7,13 @@ abbrev pub known_bytes : Option (List ℕ) → List ℕ
 known_bytes (Some bytes) = bytes
 known_bytes None = []
 
--- how often writes failed after one more: one that fails, or writes no byte, is a failure
-abbrev pub failures_after_put : Result ℕ Broken → ℕ → ℕ
-failures_after_put (Ok zero) failures = failures + 1
-failures_after_put (Ok (suc n)) failures = failures
-failures_after_put (Err broken) failures = failures + 1
+-- whether a call has failed after one more that reads
+abbrev pub failed_after_take : Result ℕ Broken → Bool → Bool
+failed_after_take (Ok n) failed = failed
+failed_after_take (Err broken) failed = true
+
+-- the same of one that writes: it fails where it writes no byte, too
+abbrev pub failed_after_put : Result ℕ Broken → Bool → Bool
+failed_after_put (Ok zero) failed = true
+failed_after_put (Ok (suc n)) failed = failed
+failed_after_put (Err broken) failed = true

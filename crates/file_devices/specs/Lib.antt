@@ -1,3 +1,4 @@
+pub mod BatchNames
 pub mod Devices
 pub mod Failing
 pub mod Held

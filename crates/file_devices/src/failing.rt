@@ -1,6 +1,6 @@
 //! A source and a sink in memory that fail at a stated call.
 
-ghost use Rattle.std.specs.Prelude.{◌≡◌, ◌<◌, ◌≤◌, ◌++◌, [], length, take, IfOk, OnErr};
+ghost use Rattle.std.specs.Prelude.{◌≡◌, ◌<◌, ◌≤◌, ◌++◌, [], false, length, take, IfOk, OnErr};
 
 use crate::broken::Broken;
 use crate::sink::Sink;
@@ -13,7 +13,7 @@ pub struct FailingSource<'a> {
     rest: &'a [u8],
     piece: usize,
     answers: u64,
-    failures: u64,
+    has_failed: bool,
     ghost room: { 0 < piece },
 }
 
@@ -23,13 +23,13 @@ impl<'a> FailingSource<'a> {
         requires { 0 < piece }
         ensures bytes { result.rest.now ≡ bytes.now }
         ensures answers { result.answers ≡ answers }
-        ensures failures { result.failures ≡ 0 }
+        ensures fresh { result.has_failed ≡ false }
     {
         FailingSource {
             rest: bytes,
             piece,
             answers,
-            failures: 0,
+            has_failed: false,
         }
     }
 }
@@ -39,11 +39,11 @@ impl Source for FailingSource<'_> {
 
     ghost remaining = { λ source. source.rest.now };
 
-    ghost failures = { λ source. source.failures };
+    ghost has_failed = { λ source. source.has_failed };
 
     fn take(&mut self, buffer: &mut [u8]) -> Result<usize, Broken> {
         if self.answers == 0 {
-            self.failures += 1;
+            self.has_failed = true;
             return Err(Broken);
         }
         self.answers -= 1;
@@ -61,7 +61,7 @@ pub struct FailingSink {
     taken: Vec<u8>,
     piece: usize,
     answers: u64,
-    failures: u64,
+    has_failed: bool,
 }
 
 impl FailingSink {
@@ -70,13 +70,13 @@ impl FailingSink {
     pub fn new(alloc: Global, piece: usize, answers: u64) -> FailingSink
         ensures taken { result.taken.items ≡ [] }
         ensures answers { result.answers ≡ answers }
-        ensures failures { result.failures ≡ 0 }
+        ensures fresh { result.has_failed ≡ false }
     {
         FailingSink {
             taken: Vec::new(alloc),
             piece,
             answers,
-            failures: 0,
+            has_failed: false,
         }
     }
 
@@ -89,7 +89,7 @@ impl FailingSink {
 
     // Takes the front of the bytes, where a call is answered.
     fn take_front(&mut self, bytes: &[u8]) -> Result<usize, Broken>
-        ensures failures { self.new.failures ≡ self.old.failures }
+        ensures failed { self.new.has_failed ≡ self.old.has_failed }
         ensures count { IfOk result (λ n. n ≤ length bytes.now) }
         ensures bytes { IfOk result (λ n. self.new.taken.items ≡ self.old.taken.items ++ take n bytes.now) }
         ensures err { OnErr result (self.new.taken.items ≡ self.old.taken.items) }
@@ -111,12 +111,12 @@ impl Sink for FailingSink {
 
     ghost written = { λ sink. sink.taken.items };
 
-    ghost failures = { λ sink. sink.failures };
+    ghost has_failed = { λ sink. sink.has_failed };
 
     fn put(&mut self, bytes: &[u8]) -> Result<usize, Broken> {
         let taken = self.take_front(bytes);
         if matches!(taken, Ok(0) | Err(_)) {
-            self.failures += 1;
+            self.has_failed = true;
         }
         taken
     }

@@ -1,4 +1,4 @@
-ghost use Rattle.std.specs.Prelude.{◌≡◌, ◌≢◌, ◌⊎◌, ℕ, List, [], Err, IfOk, OnOk, OnErr};
+ghost use Rattle.std.specs.Prelude.{◌≡◌, ◌≢◌, ◌⊎◌, ℕ, List, [], false, Err, IfOk, OnOk, OnErr};
 
 use crate::pieces::Pieces;
 use crate::read_fault::ReadFault;
@@ -22,13 +22,13 @@ pub trait Files {
 
     /// Opens a file to read it. One that holds known bytes is opened, unless memory runs out.
     fn open(&self, name: &str) -> Result<Self::Input, ReadFault>
-        ensures failures { IfOk result (λ input. Self.Input.failures input ≡ 0) }
+        ensures fresh { IfOk result (λ input. Self.Input.has_failed input ≡ false) }
         ensures bytes { (bytes : List ℕ) → holds self.now name.now bytes → IfOk result (λ input. Self.Input.is_known input × (Self.Input.remaining input ≡ bytes)) }
         ensures absent { result ≡ Err ReadFault.Unreadable → (bytes : List ℕ) → ¬ holds self.now name.now bytes };
 
     /// Makes a file, or empties the one of that name, to write it. Other files stay.
     fn create(&mut self, name: &str) -> Result<Self::Output, WriteFault>
-        ensures failures { IfOk result (λ output. Self.Output.failures output ≡ 0) }
+        ensures fresh { IfOk result (λ output. Self.Output.has_failed output ≡ false) }
         ensures empty { IfOk result (λ output. is_known self.old → Self.Output.is_known output × (Self.Output.written output ≡ [])) }
         ensures refused { result ≡ Err WriteFault.Unwritable → refuses self.old name.now }
         ensures known { is_known self.old → is_known self.new }

@@ -1,4 +1,4 @@
-ghost use Rattle.std.specs.Prelude.{◌≡◌, ◌+◌, ◌<◌, ◌^◌, ◌++◌, ℕ, List, [], false, length, Err, IfOk, OnOk};
+ghost use Rattle.std.specs.Prelude.{◌≡◌, ◌<◌, ◌++◌, ℕ, List, [], false, length, Err, IfOk, IsTrue, OnOk};
 ghost use Rattle.file_devices.specs.Failing.{HasFailed};
 
 use crate::files::Files;
@@ -12,7 +12,7 @@ const PIECE: usize = 65_536;
 /// What the file of this name holds, whole. One that holds known bytes is read, unless a call of its device fails or memory runs out.
 pub fn read_file<F: Files>(alloc: Global, files: &F, name: &str) -> Result<Vec<u8>, ReadFault>
     ensures read { (bytes : List ℕ) → F.holds files.now name.now bytes → IfOk result (λ read. read.items ≡ bytes) }
-    ensures unreadable { result ≡ Err ReadFault.Unreadable → (bytes : List ℕ) → F.holds files.now name.now bytes → HasFailed F.Input.failures }
+    ensures unreadable { result ≡ Err ReadFault.Unreadable → (bytes : List ℕ) → F.holds files.now name.now bytes → HasFailed F.Input.has_failed }
 {
     let mut input = files.open(name)?;
     read_rest(alloc, &mut input)
@@ -20,9 +20,8 @@ pub fn read_file<F: Files>(alloc: Global, files: &F, name: &str) -> Result<Vec<u
 
 // All that the source still gives.
 fn read_rest<S: Source>(alloc: Global, source: &mut S) -> Result<Vec<u8>, ReadFault>
-    requires { S.failures source.old + 1 < 2 ^ 64 }
     ensures read { S.is_known source.old → IfOk result (λ read. read.items ≡ S.remaining source.old) }
-    ensures unreadable { result ≡ Err ReadFault.Unreadable → 0 < S.failures source.new }
+    ensures unreadable { result ≡ Err ReadFault.Unreadable → IsTrue (S.has_failed source.new) }
 {
     let mut piece = empty_piece(alloc)?;
     let mut read = Vec::new(alloc);
@@ -43,10 +42,9 @@ fn read_pieces<S: Source>(
     piece: &mut [u8],
     read: &mut Vec<u8>,
 ) -> Result<(), ReadFault>
-    requires room { S.failures source.old + 1 < 2 ^ 64 }
     requires some { 0 < length piece.old }
     ensures read { S.is_known source.old → OnOk result (read.new.items ≡ read.old.items ++ S.remaining source.old) }
-    ensures unreadable { result ≡ Err ReadFault.Unreadable → 0 < S.failures source.new }
+    ensures unreadable { result ≡ Err ReadFault.Unreadable → IsTrue (S.has_failed source.new) }
 {
     for _ in 0..u64::MAX {
         if !read_piece(source, piece, read)? {
@@ -63,10 +61,8 @@ fn read_piece<S: Source>(
     piece: &mut [u8],
     read: &mut Vec<u8>,
 ) -> Result<bool, ReadFault>
-    requires room { S.failures source.old + 1 < 2 ^ 64 }
     requires some { 0 < length piece.old }
-    ensures kept { OnOk result (S.failures source.new ≡ S.failures source.old) }
-    ensures unreadable { result ≡ Err ReadFault.Unreadable → 0 < S.failures source.new }
+    ensures unreadable { result ≡ Err ReadFault.Unreadable → IsTrue (S.has_failed source.new) }
     ensures known { S.is_known source.old → S.is_known source.new }
     ensures size { length piece.new ≡ length piece.old }
     ensures bytes { OnOk result (S.is_known source.old →

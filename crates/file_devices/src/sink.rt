@@ -1,5 +1,5 @@
-ghost use Rattle.std.specs.Prelude.{◌≡◌, ℕ, ◌+◌, ◌<◌, ◌≤◌, ◌^◌, ◌++◌, List, length, take, IfOk, OnErr, IsSome};
-ghost use Rattle.file_devices.specs.Devices.{known_bytes, failures_after_put};
+ghost use Rattle.std.specs.Prelude.{◌≡◌, ℕ, ◌≤◌, ◌++◌, List, Bool, false, length, take, IfOk, OnErr, IsSome};
+ghost use Rattle.file_devices.specs.Devices.{known_bytes, failed_after_put};
 
 use crate::broken::Broken;
 use std::io::Write;
@@ -10,14 +10,13 @@ pub trait Sink {
     ghost is_known: { Self → Type 0 };
     // The bytes that were written, where they are known.
     ghost written: { Self → List ℕ };
-    // How many calls failed. One that writes no byte counts as one.
-    ghost failures: { Self → ℕ };
+    // Whether a call has failed. One that writes no byte counts as one.
+    ghost has_failed: { Self → Bool };
 
     /// Writes a first part of the bytes, and returns how many they are. That it writes none is a failure.
     fn put(&mut self, bytes: &[u8]) -> Result<usize, Broken>
-        requires { failures self.old + 1 < 2 ^ 64 }
         ensures count { IfOk result (λ n. n ≤ length bytes.now) }
-        ensures failed { failures self.new ≡ failures_after_put result (failures self.old) }
+        ensures failed { has_failed self.new ≡ failed_after_put result (has_failed self.old) }
         ensures known { is_known self.old → is_known self.new }
         ensures bytes { IfOk result (λ n. is_known self.old → written self.new ≡ written self.old ++ take n bytes.now) }
         ensures kept { OnErr result (is_known self.old → written self.new ≡ written self.old) };
@@ -27,18 +26,18 @@ pub trait Sink {
 #[derive(Drop)]
 pub struct IntoWrite<W> {
     writer: W,
-    failures: u64,
+    has_failed: bool,
 }
 
 impl<W: Write> IntoWrite<W> {
     /// A sink over this writer. No call has failed yet.
     pub fn new(writer: W) -> IntoWrite<W>
         ensures writer { result.writer ≡ writer }
-        ensures failures { result.failures ≡ 0 }
+        ensures fresh { result.has_failed ≡ false }
     {
         IntoWrite {
             writer,
-            failures: 0,
+            has_failed: false,
         }
     }
 
@@ -62,17 +61,17 @@ impl<W: Write> Sink for IntoWrite<W> {
 
     ghost written = { λ sink. known_bytes (W.contents sink.writer) };
 
-    ghost failures = { λ sink. sink.failures };
+    ghost has_failed = { λ sink. sink.has_failed };
 
     fn put(&mut self, bytes: &[u8]) -> Result<usize, Broken> {
         match self.writer.write(bytes) {
             Ok(0) => {
-                self.failures += 1;
+                self.has_failed = true;
                 Ok(0)
             }
             Ok(count) => Ok(count),
             Err(_) => {
-                self.failures += 1;
+                self.has_failed = true;
                 Err(Broken)
             }
         }

@@ -1,5 +1,5 @@
-ghost use Rattle.std.specs.Prelude.{◌≡◌, ℕ, ◌+◌, ◌<◌, ◌≤◌, ◌^◌, ◌++◌, List, [], length, take, drop, IfOk, OnOk, OnErr, IsSome};
-ghost use Rattle.file_devices.specs.Devices.{known_bytes};
+ghost use Rattle.std.specs.Prelude.{◌≡◌, ℕ, ◌<◌, ◌≤◌, ◌++◌, List, [], Bool, false, length, take, IfOk, OnErr, IsSome};
+ghost use Rattle.file_devices.specs.Devices.{known_bytes, failed_after_take};
 
 use crate::broken::Broken;
 use std::io::Read;
@@ -10,15 +10,13 @@ pub trait Source {
     ghost is_known: { Self → Type 0 };
     // The bytes that are still to come, where they are known.
     ghost remaining: { Self → List ℕ };
-    // How many calls failed.
-    ghost failures: { Self → ℕ };
+    // Whether a call has failed.
+    ghost has_failed: { Self → Bool };
 
     /// Takes the next bytes into the buffer, and returns how many; 0 for a buffer that isn't empty is the end.
     fn take(&mut self, buffer: &mut [u8]) -> Result<usize, Broken>
-        requires { failures self.old + 1 < 2 ^ 64 }
         ensures count { IfOk result (λ n. n ≤ length buffer.new) }
-        ensures ok { OnOk result (failures self.new ≡ failures self.old) }
-        ensures err { OnErr result (failures self.new ≡ failures self.old + 1) }
+        ensures failed { has_failed self.new ≡ failed_after_take result (has_failed self.old) }
         ensures known { is_known self.old → is_known self.new }
         ensures bytes { IfOk result (λ n. is_known self.old → remaining self.old ≡ take n buffer.new ++ remaining self.new) }
         ensures end { IfOk result (λ n. is_known self.old → n ≡ 0 → 0 < length buffer.new → remaining self.old ≡ []) }
@@ -30,7 +28,7 @@ impl Source for &[u8] {
 
     ghost remaining = { λ source. source.now };
 
-    ghost failures = { λ _. 0 };
+    ghost has_failed = { λ _. false };
 
     fn take(&mut self, buffer: &mut [u8]) -> Result<usize, Broken> {
         let count = self.len().min(buffer.len());
@@ -45,18 +43,18 @@ impl Source for &[u8] {
 #[derive(Drop)]
 pub struct FromRead<R> {
     reader: R,
-    failures: u64,
+    has_failed: bool,
 }
 
 impl<R: Read> FromRead<R> {
     /// A source over this reader. No call has failed yet.
     pub fn new(reader: R) -> FromRead<R>
         ensures reader { result.reader ≡ reader }
-        ensures failures { result.failures ≡ 0 }
+        ensures fresh { result.has_failed ≡ false }
     {
         FromRead {
             reader,
-            failures: 0,
+            has_failed: false,
         }
     }
 }
@@ -66,13 +64,13 @@ impl<R: Read> Source for FromRead<R> {
 
     ghost remaining = { λ source. known_bytes (R.remaining source.reader) };
 
-    ghost failures = { λ source. source.failures };
+    ghost has_failed = { λ source. source.has_failed };
 
     fn take(&mut self, buffer: &mut [u8]) -> Result<usize, Broken> {
         match self.reader.read(buffer) {
             Ok(count) => Ok(count),
             Err(_) => {
-                self.failures += 1;
+                self.has_failed = true;
                 Err(Broken)
             }
         }

@@ -1,6 +1,6 @@
 //! Batch files that are decided one body after another, in both ways.
 
-ghost use Rattle.std.specs.Prelude.{◌+◌, ◌<◌, ◌≤◌, ◌^◌, length};
+ghost use Rattle.std.specs.Prelude.{◌≤◌, length};
 ghost use Rattle.file_batch.specs.Processing.{AnswersFold};
 
 use file_batch::{BatchFault, decide_in_order, process, put_all};
@@ -45,8 +45,6 @@ pub(crate) fn process_serially<T: Threads + Wait + Sync, R: Source, W: Sink>(
     source: &mut R,
     sink: &mut W,
 ) -> Result<Book, BatchFault>
-    requires source { R.failures source.old + 1 < 2 ^ 64 }
-    requires sink { W.failures sink.old + 1 < 2 ^ 64 }
 {
     match way {
         Way::Whole => process_whole(alloc, book, source, sink),
@@ -60,8 +58,6 @@ fn process_whole<R: Source, W: Sink>(
     source: &mut R,
     sink: &mut W,
 ) -> Result<Book, BatchFault>
-    requires source { R.failures source.old + 1 < 2 ^ 64 }
-    requires sink { W.failures sink.old + 1 < 2 ^ 64 }
 {
     let decide = |book: &Book, frames: &[Frame]| -> Result<RunOutcome, AllocError>
         requires { length frames.now ≤ 65536 }
@@ -80,8 +76,6 @@ fn process_while_reading<T: Threads + Wait + Sync, R: Source, W: Sink>(
     source: &mut R,
     sink: &mut W,
 ) -> Result<Book, BatchFault>
-    requires source { R.failures source.old + 1 < 2 ^ 64 }
-    requires sink { W.failures sink.old + 1 < 2 ^ 64 }
 {
     let book = book.copy()?;
     let answered = match decide_in_order(rt, alloc, book, source, &Shipped) {

@@ -1,6 +1,6 @@
 //! Block files that are decided on a book, one body after another.
 
-ghost use Rattle.std.specs.Prelude.{◌+◌, ◌<◌, ◌≤◌, ◌^◌, length};
+ghost use Rattle.std.specs.Prelude.{◌≤◌, length};
 ghost use Rattle.file_batch.specs.Processing.{AnswersFold};
 
 use file_batch::BatchFault;
@@ -39,8 +39,6 @@ pub(crate) fn decided<R: Source, W: Sink>(
     source: &mut R,
     sink: &mut W,
 ) -> Result<Came, AllocError>
-    requires source { R.failures source.old + 1 < 2 ^ 64 }
-    requires sink { W.failures sink.old + 1 < 2 ^ 64 }
 {
     let decide = |book: &Book, frames: &[Frame]| -> Result<RunOutcome, AllocError>
         requires { length frames.now ≤ 65536 }

@@ -6,5 +6,6 @@ use Rattle.app_commands.proofs.doing.blocks.Goals as goal
 pub returns-in_err-count-clause-done : goal.returns-in_err-count-clause-done
 returns-in_err-count-clause-done g c =
     let p = err_from_is_err_and c.from_residual.result c.from_residual.ensures.1 in
+    let blocks = c.in_err-count.ensures.decides in
     rw (p.1, p.2) (halted _ _ _ _ (names_of c.args.names.now) c.args.workers c.args.engine c.in_err-count.field-0.0.fault c.in_err-count.field-0.0.kept
-    c.in_err-count.ensures.halted (λ none apart held. c.in_err-count.ensures.kept none held apart) c.in_err-count.ensures.fault)
+    blocks.halted (λ none apart held. blocks.kept none held apart) blocks.fault)

@@ -7,13 +7,9 @@ pub returns-clause-audited : goal.returns-clause-audited
 returns-clause-audited g c = IfOk-weaker c.audit_answers.result _ _ (λ found h. record {
   rows = c.in_ok-book.book;
   blocks = frames_of c.in_ok-blocks.blocks.items;
-  answers = h.answers;
-  rows_after_them = h.rows_after_them;
   opening = λ bytes o. c.in_ok-book.ensures.book bytes (rw c.as_str.ensures.value o);
   read = λ bytes o. c.in_ok-blocks.ensures.blocks bytes (rw c.as_str-2.ensures.value o);
-  answered = h.answered;
-  after = h.after;
-  finds = h.finds;
+  answers = h;
 }) (rw c.deref.ensures.value at c.audit_answers.ensures.audited)
 
 pub returns-in_err-blocks-clause-fault : goal.returns-in_err-blocks-clause-fault

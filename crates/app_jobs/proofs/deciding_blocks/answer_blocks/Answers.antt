@@ -1,4 +1,4 @@
-use Rattle.std.proofs.Common.{◌≡◌, ◌+◌, inl, inr, refl, string_bytes}
+use Rattle.std.proofs.Common.{◌≡◌, IsTrue, inl, inr, refl, string_bytes}
 use Rattle.std.proofs.lemmas.Result.{IfOk-weaker}
 use Rattle.file_devices.specs.Failing.{HasFailed, HasRefused}
 use Rattle.app_jobs.proofs.BlockFaults.{stopped, unclosed_blocks}
@@ -31,19 +31,19 @@ returns-in-Ok-clause-some g c =
     let puts = g.F.Output.Sink.is_known sink in
     let start = g.F.Output.Sink.written sink in
     let written = g.F.Output.Sink.written after in
-    let one = g.F.Output.Sink.failures after ≡ g.F.Output.Sink.failures sink + 1 in
+    let one = IsTrue (g.F.Output.Sink.has_failed after) in
     let empty = c.in_ok-replies.ensures.empty in
     let opened = rw c.as_str.ensures.value at c.in_ok-blocks.ensures.bytes in
     let closing = rw c.as_str-3.ensures.value at c.in-Ok.ensures.written in
     let closed : g.F.Files.is_known c.args.files.now → g.F.Files.holds c.close-closed.new.self (string_bytes c.args.names.now.replies) written = λ k. closing (c.in_ok-replies.ensures.known k) (c.process_blocks-processed.ensures.known (empty k).0) in
     from_both c.process_blocks-processed.result _ _ _ (λ halted failed h.
-    let sum = rw (c.in_ok-blocks.ensures.failures, c.in_ok-replies.ensures.failures) at failed in
+    let sum = rw (c.in_ok-blocks.ensures.fresh, c.in_ok-replies.ensures.fresh) at failed in
     elim h [
-      | inl before ↦ before_head _ _ _ _ _ _ _ _ _ reads bytes written (after ≡ sink) opened closed (λ k same. rw same (empty k).1) before
+      | inl before ↦ before_head _ _ _ _ _ _ _ _ reads bytes written (after ≡ sink) opened closed (λ k same. rw same (empty k).1) before
       | inr later ↦ elim later [
-        | inl head ↦ in_head _ _ _ _ _ _ _ _ _ reads bytes puts start written one closed (λ k. (empty k).0) (λ k. (empty k).1)
-            (λ alone. device_alone halted.fault (g.F.Input.Source.failures c.process_blocks-processed.new.source) (g.F.Output.Sink.failures after) sum (rw c.in_ok-replies.ensures.failures at alone)) head
-        | inr behind ↦ behind_head _ _ _ _ _ _ _ _ _ reads bytes puts start written one opened closed (λ k. (empty k).0) (λ k. (empty k).1) behind
+        | inl head ↦ in_head _ _ _ _ _ _ _ _ reads bytes puts start written one closed (λ k. (empty k).0) (λ k. (empty k).1)
+            (λ alone. device_alone halted.fault (g.F.Input.Source.has_failed c.process_blocks-processed.new.source) (g.F.Output.Sink.has_failed after) sum alone) head
+        | inr behind ↦ behind_head _ _ _ _ _ _ _ _ reads bytes puts start written one opened closed (λ k. (empty k).0) (λ k. (empty k).1) behind
       ]
     ]) c.process_blocks-processed.ensures.failed c.process_blocks-processed.ensures.halted
 
@@ -54,17 +54,17 @@ returns-in-Ok-clause-stopped g c =
     let after = c.process_blocks-processed.new.sink in
     let opened = rw c.as_str.ensures.value at c.in_ok-blocks.ensures.bytes in
     from_both c.process_blocks-processed.result _ _ _ (λ halted failed h.
-    stopped (g.F.Files.holds c.args.files.now) (string_bytes c.args.names.now.batch) g.F.Input.Source.failures g.F.Output.Sink.failures (HasRefused g.F.Files.refuses)
+    stopped (g.F.Files.holds c.args.files.now) (string_bytes c.args.names.now.batch) g.F.Input.Source.has_failed g.F.Output.Sink.has_failed (HasRefused g.F.Files.refuses)
     _ _ _ (g.F.Input.Source.is_known source) (g.F.Input.Source.remaining source) (g.F.Output.Sink.is_known sink) (g.F.Output.Sink.written sink)
-    (g.F.Output.Sink.written after) halted.fault (after ≡ sink) (g.F.Output.Sink.failures after ≡ g.F.Output.Sink.failures sink + 1)
+    (g.F.Output.Sink.written after) halted.fault (after ≡ sink) (IsTrue (g.F.Output.Sink.has_failed after))
     c.process_blocks-processed.new.source after
-    (rw (c.in_ok-blocks.ensures.failures, c.in_ok-replies.ensures.failures) at failed) (λ alone. rw c.in_ok-replies.ensures.failures at alone) opened h)
+    (rw (c.in_ok-blocks.ensures.fresh, c.in_ok-replies.ensures.fresh) at failed) (λ alone. alone) opened h)
     c.process_blocks-processed.ensures.failed c.process_blocks-processed.ensures.halted
 
 pub returns-in-Ok-processed-clause-fault : goal.returns-in-Ok-processed-clause-fault
 returns-in-Ok-processed-clause-fault g c =
     rw c.fault_of_closing.ensures (unclosed_blocks (g.F.Files.holds c.args.files.now) (string_bytes c.args.names.now.batch)
-    (HasFailed g.F.Input.Source.failures) (HasFailed g.F.Output.Sink.failures) (HasRefused g.F.Files.refuses) c.in-Err.fault
+    (HasFailed g.F.Input.Source.has_failed) (HasFailed g.F.Output.Sink.has_failed) (HasRefused g.F.Files.refuses) c.in-Err.fault
     (λ d. (_, _, c.in-Err.ensures.refused (rw d refl))))
 
 pub returns-clause-fault : goal.returns-clause-fault
@@ -75,9 +75,9 @@ returns-clause-fault g c =
     let opened = rw c.as_str.ensures.value at c.in_ok-blocks.ensures.bytes in
     let halted = c.in-Err-processed.halted in
     let failed = c.in-Err-processed.ensures.failed in
-    stopped (g.F.Files.holds c.args.files.now) (string_bytes c.args.names.now.batch) g.F.Input.Source.failures g.F.Output.Sink.failures (HasRefused g.F.Files.refuses)
+    stopped (g.F.Files.holds c.args.files.now) (string_bytes c.args.names.now.batch) g.F.Input.Source.has_failed g.F.Output.Sink.has_failed (HasRefused g.F.Files.refuses)
     _ _ _ (g.F.Input.Source.is_known source) (g.F.Input.Source.remaining source) (g.F.Output.Sink.is_known sink) (g.F.Output.Sink.written sink)
-    (g.F.Output.Sink.written after) halted.fault (after ≡ sink) (g.F.Output.Sink.failures after ≡ g.F.Output.Sink.failures sink + 1)
+    (g.F.Output.Sink.written after) halted.fault (after ≡ sink) (IsTrue (g.F.Output.Sink.has_failed after))
     c.process_blocks-processed.new.source after
-    (rw (c.in_ok-blocks.ensures.failures, c.in_ok-replies.ensures.failures) at failed) (λ alone. rw c.in_ok-replies.ensures.failures at alone) opened
+    (rw (c.in_ok-blocks.ensures.fresh, c.in_ok-replies.ensures.fresh) at failed) (λ alone. alone) opened
     c.in-Err-processed.ensures.halted

@@ -1,4 +1,4 @@
-use Rattle.std.proofs.Common.{inl, arith, refl}
+use Rattle.std.proofs.Common.{inl, refl}
 use Rattle.std.proofs.lemmas.Result.{err_from_is_err_and}
 use Rattle.app_jobs.proofs.TextFaults.{unclosed_batch, unmade_batch}
 use Rattle.app_jobs.proofs.packing.put_batch.Goals as goal
@@ -15,9 +15,9 @@ returns-in-Ok-Err-clause-fault g c =
 pub returns-in-Err-default-clause-fault : goal.returns-in-Err-default-clause-fault
 returns-in-Err-default-clause-fault g c =
     let fit = rw c.in-Err-default.is-0 at c.write_batch-written.ensures.fit in
-    let failures = rw (c.in-Err-default.is-0, c.in_ok-output.ensures.failures) at c.write_batch-written.ensures.failures in (
+    let failed = rw (c.in-Err-default.is-0, c.in_ok-output.ensures.fresh) at c.write_batch-written.ensures.device.failed in (
       fit c.requires,
       λ d.
-          let once = rw d at failures in
-          inl (c.write_batch-written.new.sink, omega (arith, once)),
+          let failing = rw d at failed in
+          inl (c.write_batch-written.new.sink, failing),
     )

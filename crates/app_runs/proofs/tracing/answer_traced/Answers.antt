@@ -9,12 +9,12 @@ returns-in-Err-clause-fault g c = (
       let opened = c.in_ok-batch.ensures.bytes bytes (rw c.as_str.ensures.value h) in
       rw (← opened.1) (c.in-Err.ensures.fault t opened.0)),
   (λ d.
-      let once = rw (d, c.in_ok-batch.ensures.failures, c.in_ok-replies.ensures.failures) at c.in-Err.ensures.failures in
-      elim (one_failed g.F.Input.Source.failures g.F.Output.Sink.failures c.trace_batch-traced.new.source c.trace_batch-traced.new.sink once) [ inl x ↦ inl x | inr y ↦ inr (inl y) ]),
+      let failing = rw d at c.in-Err.ensures.devices.failed in
+      one_failed g.F.Input.Source.has_failed g.F.Output.Sink.has_failed _ c.trace_batch-traced.new.source c.trace_batch-traced.new.sink failing),
 )
 
 pub returns-clause-fault : goal.returns-clause-fault
 returns-clause-fault g c =
     rw c.fault_of_closing.ensures (unclosed (g.F.Files.holds c.args.files.now) (string_bytes c.args.names.now.batch)
-    (HasFailed g.F.Input.Source.failures) (HasFailed g.F.Output.Sink.failures) (HasRefused g.F.Files.refuses) c.in-Err-closed.fault
+    (HasFailed g.F.Input.Source.has_failed) (HasFailed g.F.Output.Sink.has_failed) (HasRefused g.F.Files.refuses) c.in-Err-closed.fault
     (λ d. (_, _, c.in-Err-closed.ensures.refused (rw d refl))))

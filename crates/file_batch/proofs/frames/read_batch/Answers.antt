@@ -1,7 +1,16 @@
+use Rattle.std.proofs.Common.{◌≡◌, ℕ, List, ◌++◌, ap}
+use Rattle.file_batch_laws.specs.Reading.{batch_magic}
+use Rattle.file_batch.specs.Window.{ahead}
+use Rattle.file_batch.proofs.ReadBodies.{is_whole}
 use Rattle.file_batch.proofs.frames.read_batch.Goals as goal
 
-pub returns-in_err-window-clause-known : goal.returns-in_err-window-clause-known
-returns-in_err-window-clause-known g c = λ known. known
-
-pub returns-clause-known : goal.returns-clause-known
-returns-clause-known g c = c.read_file.ensures.known
+pub returns-clause-gives : goal.returns-clause-gives
+returns-clause-gives g c = λ known.
+    let bytes = g.R.Source.remaining c.args.source.now in
+    let whole : ahead c.in_ok-window.window bytes ≡ bytes = ap (λ (x : List ℕ). x ++ bytes) c.in_ok-window.ensures in
+    let behind = ahead c.read_head.new.self (g.R.Source.remaining c.read_head.new.source) in
+    let left = ahead c.read_frames.new.self (g.R.Source.remaining c.read_frames.new.source) in
+    let in_head = c.in_ok-count.ensures.device.known known in
+    let given = c.in_ok-frames.ensures.gives in_head in
+    let end = c.in_ok-read_end.ensures.gives (c.in_ok-frames.ensures.device.known in_head) in
+    (given.0, is_whole batch_magic bytes c.in_ok-count.count behind given.0 left (rw whole at (c.in_ok-count.ensures.gives known)) given.1 end, given.2)

@@ -1,38 +1,8 @@
 use Rattle.std.proofs.Common.{◌≡◌, ℕ, List, ◌++◌, ap}
-use Rattle.std.proofs.lemmas.Result.{err_from_is_err_and}
 use Rattle.file_batch_laws.specs.Reading.{batch_magic}
 use Rattle.file_batch.specs.Window.{ahead}
-use Rattle.file_batch.proofs.ReadBodies.{is_whole, head_fails, bodies_fail, end_fails}
+use Rattle.file_batch.proofs.ReadBodies.{is_whole}
 use Rattle.file_batch.proofs.in_order.decide_in_order.Goals as goal
-
-pub returns-in_err-count-clause-decides : goal.returns-in_err-count-clause-decides
-returns-in_err-count-clause-decides g c =
-    let p = err_from_is_err_and c.from_residual-in_err-count.result c.from_residual-in_err-count.ensures.1 in
-    let bytes = g.R.Source.remaining c.args.source.now in
-    let whole : ahead c.in_ok-window.window bytes ≡ bytes = ap (λ (x : List ℕ). x ++ bytes) c.in_ok-window.ensures in
-    rw (p.1, p.2) (λ known of_bytes. head_fails batch_magic bytes c.in_err-count.field-0.0 (rw whole at (c.in_err-count.ensures.gives known of_bytes)))
-
-pub returns-in_err-answered-clause-decides : goal.returns-in_err-answered-clause-decides
-returns-in_err-answered-clause-decides g c =
-    let p = err_from_is_err_and c.from_residual-in_err-answered.result c.from_residual-in_err-answered.ensures.1 in
-    let bytes = g.R.Source.remaining c.args.source.now in
-    let whole : ahead c.in_ok-window.window bytes ≡ bytes = ap (λ (x : List ℕ). x ++ bytes) c.in_ok-window.ensures in
-    let behind = ahead c.read_head.new.self (g.R.Source.remaining c.read_head.new.source) in
-    rw (p.1, p.2) (λ known of_bytes. bodies_fail batch_magic bytes c.in_ok-count.count behind c.in_err-answered.field-0.0
-    (rw whole at (c.in_ok-count.ensures.gives known)) (c.in_err-answered.ensures.decides (c.in_ok-count.ensures.known known) of_bytes))
-
-pub returns-in_err-read_end-clause-decides : goal.returns-in_err-read_end-clause-decides
-returns-in_err-read_end-clause-decides g c =
-    let p = err_from_is_err_and c.from_residual-in_err-read_end.result c.from_residual-in_err-read_end.ensures.1 in
-    let bytes = g.R.Source.remaining c.args.source.now in
-    let whole : ahead c.in_ok-window.window bytes ≡ bytes = ap (λ (x : List ℕ). x ++ bytes) c.in_ok-window.ensures in
-    let behind = ahead c.read_head.new.self (g.R.Source.remaining c.read_head.new.source) in
-    let left = ahead c.decide_bodies.new.window (g.R.Source.remaining c.decide_bodies.new.source) in
-    rw (p.1, p.2) (λ known of_bytes.
-    let in_head = c.in_ok-count.ensures.known known in
-    let given = c.in_ok-answered.ensures.decides.2 in_head in
-    end_fails batch_magic bytes c.in_ok-count.count behind given.0 left c.in_err-read_end.field-0.0
-    (rw whole at (c.in_ok-count.ensures.gives known)) given.1 (c.in_err-read_end.ensures.gives (c.in_ok-answered.ensures.known in_head) of_bytes))
 
 pub returns-clause-decides : goal.returns-clause-decides
 returns-clause-decides g c =
@@ -44,8 +14,8 @@ returns-clause-decides g c =
       decided.0,
       decided.1,
       λ known.
-          let in_head = c.in_ok-count.ensures.known known in
+          let in_head = c.in_ok-count.ensures.device.known known in
           let given = decided.2 in_head in
-          let end = c.in_ok-read_end.ensures.gives (c.in_ok-answered.ensures.known in_head) in
+          let end = c.in_ok-read_end.ensures.gives (c.in_ok-answered.ensures.device.known in_head) in
           (given.0, is_whole batch_magic bytes c.in_ok-count.count behind given.0 left (rw whole at (c.in_ok-count.ensures.gives known)) given.1 end, given.2),
     )

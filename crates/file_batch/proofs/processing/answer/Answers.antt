@@ -1,18 +1,17 @@
 use Rattle.std.proofs.Common.{◌≡◌, ◌≤◌, length, ap, ◌∙◌, inl, inr, refl}
 use Rattle.std.proofs.lemmas.Result.{err_from_is_err_and}
-use Rattle.file_batch.proofs.Folds.{as_many, no_fault}
+use Rattle.file_batch.proofs.Folds.{as_many}
 use Rattle.file_batch.proofs.processing.answer.Goals as goal
 
 pub returns-in_err-write_replies-clause-fault : goal.returns-in_err-write_replies-clause-fault
 returns-in_err-write_replies-clause-fault g c =
     let p = err_from_is_err_and c.from_residual-in_err-write_replies.result c.from_residual-in_err-write_replies.ensures.1 in
     let frames = c.args.frames.now in
-    let folded = c.requires.fold c.args.book c.args.frames _ c.in_ok-outcome.ensures in
+    let folded = c.requires.decider.fold c.args.book c.args.frames _ c.in_ok-outcome.ensures in
     let replies = c.in_ok-outcome.outcome.replies.items in
     let same : length replies ≡ length frames = ap length folded.0 ∙ as_many c.args.book.now frames in
     let few : length replies ≤ 65536 = rw same c.requires.count in
-    let fault = rw c.deref.ensures.value at c.in_err-write_replies.ensures.fault in
-    rw (p.1, p.2) (no_fault (length replies) c.in_err-write_replies.field-0.0 few fault)
+    rw (p.1, p.2) ((rw c.deref.ensures.value at c.in_err-write_replies.ensures.fit) few)
 
 pub returns-in_err-write_replies-clause-begun : goal.returns-in_err-write_replies-clause-begun
 returns-in_err-write_replies-clause-begun g c =
@@ -22,15 +21,6 @@ returns-in_err-write_replies-clause-begun g c =
       c.in_ok-outcome.ensures,
       λ known. rw c.deref.ensures.value at (c.in_err-write_replies.ensures.err known),
     ))
-
-pub returns-in_err-outcome-clause-known : goal.returns-in_err-outcome-clause-known
-returns-in_err-outcome-clause-known g c = λ known. known
-
-pub returns-in_err-write_replies-clause-known : goal.returns-in_err-write_replies-clause-known
-returns-in_err-write_replies-clause-known g c = c.write_replies.ensures.known
-
-pub returns-clause-known : goal.returns-clause-known
-returns-clause-known g c = c.write_replies.ensures.known
 
 pub returns-in_err-outcome-clause-begun : goal.returns-in_err-outcome-clause-begun
 returns-in_err-outcome-clause-begun g c =

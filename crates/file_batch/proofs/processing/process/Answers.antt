@@ -10,9 +10,3 @@ begun read post put frames is (inr decided) = inr (frames, decided.0, decided.1,
 
 pub returns-clause-begun : goal.returns-clause-begun
 returns-clause-begun g c = on_err_weaker c.answer.result (begun _ _ _ c.deref.result (rw c.deref.ensures.value c.in_ok-frames.ensures.gives)) c.answer.ensures.begun
-
-pub returns-in_err-frames-clause-known : goal.returns-in_err-frames-clause-known
-returns-in_err-frames-clause-known g c = λ known. known
-
-pub returns-clause-known : goal.returns-clause-known
-returns-clause-known g c = c.answer.ensures.known

@@ -3,15 +3,6 @@ use Rattle.std.proofs.lemmas.Result.{err_from_is_err_and}
 use Rattle.file_batch_laws.specs.Files.{replies_text}
 use Rattle.file_batch.proofs.replies.write_replies.Goals as goal
 
-pub returns-then-replies-gt65536-clause-known : goal.returns-then-replies-gt65536-clause-known
-returns-then-replies-gt65536-clause-known g c = λ known. known
-
-pub returns-in_err-out-clause-known : goal.returns-in_err-out-clause-known
-returns-in_err-out-clause-known g c = λ known. known
-
-pub returns-clause-known : goal.returns-clause-known
-returns-clause-known g c = c.put_replies.ensures.known
-
 pub returns-then-replies-gt65536-clause-err : goal.returns-then-replies-gt65536-clause-err
 returns-then-replies-gt65536-clause-err g c = λ known. nothing_put (g.W.Sink.written c.args.sink.now) (replies_text c.args.replies.now)
 

@@ -7,21 +7,14 @@ loop-rest-preserved g c =
     let so_far = c.loop-rest.invariant in
     let put = c.in-Ok.ensures in
     record {
-      kept = put.failed ∙ none_failed c.in-Ok.count (g.W.Sink.failures c.loop-rest.sink) c.in-Ok.count-test.1 ∙ so_far.kept;
-      known = λ known. put.known (so_far.known known);
+      device = record {
+        failed = put.failed ∙ none_failed c.in-Ok.count (g.W.Sink.has_failed c.loop-rest.sink) c.in-Ok.count-test.1 ∙ so_far.device.failed;
+        known = λ known. put.known (so_far.device.known known);
+      };
       bytes = λ known. puts_more (g.W.Sink.written c.args.sink.now) (g.W.Sink.written c.loop-rest.sink) (g.W.Sink.written c.put.new.self) c.args.bytes.now c.loop-rest.rest.now c.in-Ok.count
-          (so_far.bytes known) (put.bytes (so_far.known known));
+          (so_far.bytes known) (put.bytes (so_far.device.known known));
     }
 
 pub returns-clause-ok : goal.returns-clause-ok
 returns-clause-ok g c = λ known.
     all_put (g.W.Sink.written c.args.sink.now) (g.W.Sink.written c.loop-rest.sink) c.args.bytes.now c.loop-rest.rest.now (c.loop-rest.invariant.bytes known) c.loop-rest-test.ensures
-
-pub returns-in-Ok-eq0-clause-known : goal.returns-in-Ok-eq0-clause-known
-returns-in-Ok-eq0-clause-known g c = λ known. c.put.ensures.known (c.loop-rest.invariant.known known)
-
-pub returns-in-Err-clause-known : goal.returns-in-Err-clause-known
-returns-in-Err-clause-known g c = λ known. c.put.ensures.known (c.loop-rest.invariant.known known)
-
-pub returns-clause-known : goal.returns-clause-known
-returns-clause-known g c = c.loop-rest.invariant.known

@@ -1,11 +1,11 @@
 use Rattle.std.proofs.Common.{◌≡◌, ◌++◌, List, ℕ, length}
+use Rattle.file_batch.specs.Device.{KeepsDevice}
 use Rattle.file_batch.proofs.writing.put_all.Given as goal
 
 -- what was written, and the rest
 abbrev pub invariant-loop-rest : goal.invariant-loop-rest
 invariant-loop-rest g l = record {
-  kept : g.W.Sink.failures l.sink ≡ g.W.Sink.failures l.fn.sink;
-  known : g.W.Sink.is_known l.fn.sink → g.W.Sink.is_known l.sink;
+  device : KeepsDevice g.W.Sink.is_known g.W.Sink.has_failed l.fn.sink l.sink;
   bytes : g.W.Sink.is_known l.fn.sink → (front : List ℕ) × (g.W.Sink.written l.sink ≡ g.W.Sink.written l.fn.sink ++ front) × (l.bytes ≡ front ++ l.rest);
 }
 

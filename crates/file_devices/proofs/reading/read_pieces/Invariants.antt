@@ -4,7 +4,6 @@ use Rattle.file_devices.proofs.reading.read_pieces.Given as goal
 -- what was read, and what is still to come
 abbrev pub invariant-loop : goal.invariant-loop
 invariant-loop g l = record {
-  kept : g.S.Source.failures l.source ≡ g.S.Source.failures l.fn.source;
   some : 0 < length l.piece;
   known : g.S.Source.is_known l.fn.source → g.S.Source.is_known l.source;
   bytes : g.S.Source.is_known l.fn.source → l.fn.read.items ++ g.S.Source.remaining l.fn.source ≡ l.read.items ++ g.S.Source.remaining l.source;

@@ -1,24 +1,24 @@
 use Rattle.std.proofs.Common.{rules, ◌≡◌, ◌+◌, ◌-◌, ◌∷◌, ◌++◌, ℕ, [], length, refl, ◌∙◌, subst, arith}
 use Rattle.std.proofs.lemmas.Result.{err_from_is_err_and}
-use Rattle.file_batch_laws.specs.Reading.{bodies_at}
+use Rattle.file_batch_laws.specs.Frames.{IsFrameOf}
 use Rattle.rtrb.specs.Ring.{sent}
 use Rattle.file_batch.specs.Pieces.{frames_in}
 use Rattle.file_batch.specs.Window.{ahead}
 use Rattle.file_batch.specs.declared.piece.Piece.{Piece}
 use Rattle.file_batch.proofs.Handed.{count_of_one_more, frames_of_one_more, consumer_on, producer_on}
-use Rattle.file_batch.proofs.ReadBodies.{SoFar, starts, goes_on_by, ends_by, is_done}
+use Rattle.file_batch.proofs.ReadBodies.{ItemsAt, fails, fails_at, goes_on, starts}
 use Rattle.file_batch.proofs.reader.Reader.read_all.Goals as goal
 
 pub loop-left-init : goal.loop-left-init
 loop-left-init g c =
     let bytes = ahead c.args.window.now (g.R.Source.remaining c.args.source.now) in
     let none : length (frames_in (sent c.args.self.now.outbound)) ≡ 0 = rw c.requires.none refl in
+    let no_more : c.args.count - c.args.count ≡ 0 = omega arith in
     record {
       ends = search rules;
-      kept = refl;
-      known = λ known. known;
+      device = search rules;
       count = omega (arith, none);
-      so_far = λ known. starts c.args.count c.args.count (frames_in (sent c.args.self.now.outbound)) bytes (rw c.requires.none refl) refl;
+      so_far = λ known. rw (no_more, c.requires.none) (starts IsFrameOf bytes);
       told = λ head told. told;
     }
 
@@ -41,15 +41,16 @@ returns-in_err-read_into-clause-few g c = rw c.free_piece.ensures.ends.0 (omega 
 pub returns-in_err-read_into-clause-gives : goal.returns-in_err-read_into-clause-gives
 returns-in_err-read_into-clause-gives g c =
     let p = err_from_is_err_and c.from_residual-in_err-read_into.result c.from_residual-in_err-read_into.ensures.1 in
-    let frames = frames_in (sent c.loop-left.self.outbound) in
-    let bytes = ahead c.loop-left.window (g.R.Source.remaining c.loop-left.source) in
-    let total = bodies_at c.args.count (ahead c.args.window.now (g.R.Source.remaining c.args.source.now)) in
-    let k = c.min-size.result in
-    let rest = c.loop-left.left - c.min-size.result in
-    let both : c.loop-left.left ≡ k + rest = omega (arith, c.min-size.ensures) in
-    rw (p.1, p.2) (λ known. ends_by c.in_err-read_into.field-0.0 frames k rest bytes total
-    (c.in_err-read_into.ensures.gives (c.loop-left.invariant.known known))
-    (subst (λ (n : ℕ). SoFar frames n bytes total) both (c.loop-left.invariant.so_far known)))
+    let n = c.args.count in
+    let left = c.loop-left.left in
+    let size = c.min-size.result in
+    let mid = ahead c.loop-left.window (g.R.Source.remaining c.loop-left.source) in
+    let e = c.in_err-read_into.field-0.0 in
+    let all : n ≡ (n - left) + left = omega (arith, c.loop-left.invariant.count) in
+    let more : left ≡ size + (left - size) = omega (arith, c.min-size.ensures) in
+    rw (p.1, p.2) (λ known of_bytes. fails IsFrameOf (n - left) left n (ahead c.args.window.now (g.R.Source.remaining c.args.source.now)) mid
+    (frames_in (sent c.loop-left.self.outbound)) e all (c.loop-left.invariant.so_far known)
+    (fails_at size (left - size) left mid e more (c.in_err-read_into.ensures.gives (c.loop-left.invariant.device.known known) of_bytes)))
 
 pub hand_over-requires : goal.hand_over-requires
 hand_over-requires g c =
@@ -66,24 +67,20 @@ loop-left-preserved g c =
     let piece : Piece = record { frames = c.read_into.new.frames; replies = c.in_ok-piece.piece.replies } in
     let many : length c.read_into.new.frames.items ≡ c.min-size.result = search rules in
     let gone : sent c.hand_over.new.outbound ≡ outbound ++ piece ∷ [] = rw c.free_piece.ensures.ends.0 at c.hand_over.ensures.sent in
-    let bytes = ahead c.loop-left.window (g.R.Source.remaining c.loop-left.source) in
-    let total = bodies_at c.args.count (ahead c.args.window.now (g.R.Source.remaining c.args.source.now)) in
-    let k = c.min-size.result in
-    let rest = c.loop-left.left - c.min-size.result in
-    let both : c.loop-left.left ≡ k + rest = omega (arith, c.min-size.ensures) in
+    let n = c.args.count in
+    let left = c.loop-left.left in
+    let size = c.min-size.result in
+    let sum : n - (left - size) ≡ (n - left) + size = omega (arith, c.min-size.ensures, c.loop-left.invariant.count) in
     record {
       ends = (
         producer_on c.args.self.now.outbound c.loop-left.self.outbound c.hand_over.new.outbound ends.0 (rw c.free_piece.ensures.ends.0 at c.hand_over.ensures.ring),
         consumer_on c.args.self.now.inbound c.loop-left.self.inbound c.free_piece.new.self.inbound ends.1 c.free_piece.ensures.ends.1,
       );
-      kept = c.in_ok-read_into.ensures.failures ∙ c.loop-left.invariant.kept;
-      known = λ known. c.in_ok-read_into.ensures.known (c.loop-left.invariant.known known);
+      device = search rules;
       count = rw gone (omega (arith, count_of_one_more outbound piece (length frames) refl, many, c.loop-left.invariant.count, c.min-size.ensures));
-      so_far = λ known.
-          let given = c.in_ok-read_into.ensures.gives (c.loop-left.invariant.known known) in
-          rw (gone, frames_of_one_more outbound piece) (goes_on_by frames c.read_into.new.frames.items k rest bytes given.0
-          (ahead c.read_into.new.self (g.R.Source.remaining c.read_into.new.source)) total given.1 given.2
-          (subst (λ (n : ℕ). SoFar frames n bytes total) both (c.loop-left.invariant.so_far known)));
+      so_far = λ known. rw (gone, frames_of_one_more outbound piece) (goes_on IsFrameOf (n - left) size (n - (left - size)) _ _
+          (ahead c.read_into.new.self (g.R.Source.remaining c.read_into.new.source)) frames c.read_into.new.frames.items sum
+          (c.loop-left.invariant.so_far known) (c.in_ok-read_into.ensures.gives (c.loop-left.invariant.device.known known)));
       told = λ head told. c.in_ok-piece.ensures.told head (c.loop-left.invariant.told head told);
     }
 
@@ -94,12 +91,11 @@ pub returns-clause-read : goal.returns-clause-read
 returns-clause-read g c = omega (arith, c.loop-left.invariant.count, c.loop-left-test.false)
 
 pub returns-clause-gives : goal.returns-clause-gives
-returns-clause-gives g c =
-    let frames = frames_in (sent c.loop-left.self.outbound) in
-    let bytes = ahead c.loop-left.window (g.R.Source.remaining c.loop-left.source) in
-    let total = bodies_at c.args.count (ahead c.args.window.now (g.R.Source.remaining c.args.source.now)) in
-    let none : c.loop-left.left ≡ 0 = omega (arith, c.loop-left-test.false) in
-    λ known. is_done frames 0 0 bytes total (omega arith) (subst (λ (n : ℕ). SoFar frames n bytes total) none (c.loop-left.invariant.so_far known))
+returns-clause-gives g c = λ known.
+    let all : c.args.count - c.loop-left.left ≡ c.args.count = omega (arith, c.loop-left-test.false) in
+    subst (λ (n : ℕ). ItemsAt IsFrameOf n (ahead c.args.window.now (g.R.Source.remaining c.args.source.now))
+    (frames_in (sent c.loop-left.self.outbound)) (ahead c.loop-left.window (g.R.Source.remaining c.loop-left.source))) all
+    (c.loop-left.invariant.so_far known)
 
 pub returns-clause-told : goal.returns-clause-told
 returns-clause-told g c = c.loop-left.invariant.told

@@ -15,9 +15,3 @@ returns-in-Ok-clause-gives g c = λ known of_bytes.
     let some_there : 0 < length there = length_part after.piece.items after.start after.end some after.within in
     let some_left : 0 < length (there ++ left) = omega (arith, length-append there left, some_there) in
     ap ended (c.in-Ok.ensures.bytes known) ∙ ended_more (there ++ left) some_left
-
-pub returns-in-Ok-clause-known : goal.returns-in-Ok-clause-known
-returns-in-Ok-clause-known g c = c.make_ready.ensures.known
-
-pub returns-in-Err-Ended-clause-known : goal.returns-in-Err-Ended-clause-known
-returns-in-Err-Ended-clause-known g c = c.make_ready.ensures.known

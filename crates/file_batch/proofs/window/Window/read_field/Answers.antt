@@ -1,4 +1,4 @@
-use Rattle.std.proofs.Common.{◌∙◌, arith}
+use Rattle.std.proofs.Common.{rules, ◌∙◌, arith}
 use Rattle.file_batch.specs.Window.{part, ahead}
 use Rattle.file_batch.proofs.Parts.{moved_on, is_field}
 use Rattle.file_batch.proofs.window.Window.read_field.Goals as goal
@@ -14,11 +14,10 @@ loop-self-preserved g c =
     let rest = g.R.Source.remaining c.make_ready.new.source in
     record {
       within = grind arith;
-      kept = ready.failures ∙ so_far.kept;
-      known = λ known. ready.known (so_far.known known);
+      device = search rules;
       bytes = λ known. moved_on (ahead c.args.self.now (g.R.Source.remaining c.args.source.now)) before.field.items (part there.piece.items there.start there.end)
           after.field.items (part after.piece.items after.start after.end) (ahead before (g.R.Source.remaining c.loop-self.source)) rest
-          (so_far.bytes known) (ready.bytes (so_far.known known)) (rw ready.field at moved.bytes);
+          (so_far.bytes known) (ready.bytes (so_far.device.known known)) (rw ready.field at moved.bytes);
     }
 
 pub returns-clause-gives : goal.returns-clause-gives
@@ -26,12 +25,3 @@ returns-clause-gives g c = λ known.
     let self = c.loop-self.self in
     is_field c.args.size (ahead c.args.self.now (g.R.Source.remaining c.args.source.now)) self.field.items (ahead self (g.R.Source.remaining c.loop-self.source))
     (c.loop-self.invariant.bytes known) (omega (arith, c.loop-self.invariant.within, c.loop-self-test.false, c.len.ensures, self.field.ok.0))
-
-pub returns-in_err-make_ready-clause-known : goal.returns-in_err-make_ready-clause-known
-returns-in_err-make_ready-clause-known g c = λ known. c.make_ready.ensures.known (c.loop-self.invariant.known known)
-
-pub returns-in_err-move_on-clause-known : goal.returns-in_err-move_on-clause-known
-returns-in_err-move_on-clause-known g c = λ known. c.make_ready.ensures.known (c.loop-self.invariant.known known)
-
-pub returns-clause-known : goal.returns-clause-known
-returns-clause-known g c = c.loop-self.invariant.known

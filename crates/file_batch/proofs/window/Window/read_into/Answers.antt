@@ -1,55 +1,51 @@
-use Rattle.std.proofs.Common.{rules, ◌≡◌, ◌++◌, ◌∷◌, [], arith}
+use Rattle.std.proofs.Common.{rules, ◌≡◌, ℕ, ◌+◌, ◌-◌, ◌++◌, ◌∷◌, [], arith, refl, subst}
 use Rattle.std.proofs.lemmas.Result.{err_from_is_err_and}
-use Rattle.file_batch_laws.specs.Reading.{bodies_at}
+use Rattle.file_batch_laws.specs.Frames.{IsFrameOf}
 use Rattle.file_batch.specs.Window.{ahead}
-use Rattle.file_batch.proofs.ReadBodies.{starts, goes_on, ends, is_done}
+use Rattle.file_batch.proofs.ReadBodies.{ItemsAt, fails, fails_at, goes_on, one, one_fails, starts}
 use Rattle.file_batch.proofs.window.Window.read_into.Goals as goal
 
 pub loop-init : goal.loop-init
 loop-init g c = record {
-  kept = search rules;
-  known = λ known. known;
+  device = search rules;
   count = search rules;
-  frames = λ known. starts c.args.count _ c.clear.new.self.items _ c.clear.ensures.items (omega arith);
+  within = omega arith;
+  frames = λ known. rw c.clear.ensures.items (starts IsFrameOf _);
 }
 
 pub returns-in_err-read_body-clause-gives : goal.returns-in_err-read_body-clause-gives
 returns-in_err-read_body-clause-gives g c = λ known.
     let p = err_from_is_err_and c.from_residual.result c.from_residual.ensures.1 in
-    rw (p.1, p.2) (ends c.in_err-read_body.field-0.0 c.loop.frames.items c.args.count c.loop.counter
-    (ahead c.loop.self (g.R.Source.remaining c.loop.source))
-    (bodies_at c.args.count (ahead c.args.self.now (g.R.Source.remaining c.args.source.now)))
-    c.loop-test.true (c.in_err-read_body.ensures.gives (c.loop.invariant.known known)) (c.loop.invariant.frames known))
+    let i = c.loop.counter in
+    let n = c.args.count in
+    let mid = ahead c.loop.self (g.R.Source.remaining c.loop.source) in
+    let e = c.in_err-read_body.field-0.0 in
+    let all : n ≡ i + (n - i) = omega (arith, c.loop-test.true) in
+    let more : n - i ≡ 1 + (n - (i + 1)) = omega (arith, c.loop-test.true) in
+    rw (p.1, p.2) (λ of_bytes. fails IsFrameOf i (n - i) n (ahead c.args.self.now (g.R.Source.remaining c.args.source.now)) mid c.loop.frames.items e all
+    (c.loop.invariant.frames known)
+    (fails_at 1 (n - (i + 1)) (n - i) mid e more (one_fails mid e (c.in_err-read_body.ensures.gives (c.loop.invariant.device.known known) of_bytes))))
 
 pub loop-preserved : goal.loop-preserved
 loop-preserved g c =
     let after = c.read_body.new.self in
-    let added : c.push.new.self.items ≡ c.loop.frames.items ++ c.frame_of.result ∷ [] = c.in_ok-push.ensures.items in
+    let frame = c.frame_of.result in
+    let added : c.push.new.self.items ≡ c.loop.frames.items ++ frame ∷ [] = c.in_ok-push.ensures.items in
     record {
-      kept = search rules;
-      known = λ known. c.in_ok-read_body.ensures.known (c.loop.invariant.known known);
+      device = search rules;
       count = grind arith;
-      frames = λ known. rw added (goes_on c.loop.frames.items c.args.count c.loop.counter
-          (ahead c.loop.self (g.R.Source.remaining c.loop.source))
-          after.field.items
-          (ahead after (g.R.Source.remaining c.read_body.new.source))
-          c.frame_of.result
-          (bodies_at c.args.count (ahead c.args.self.now (g.R.Source.remaining c.args.source.now)))
-          c.loop-test.true (c.in_ok-read_body.ensures.gives (c.loop.invariant.known known)) (rw c.deref.ensures.value at c.frame_of.ensures) (c.loop.invariant.frames known));
+      within = omega (arith, c.loop-test.true);
+      frames = λ known.
+          let mid = ahead c.loop.self (g.R.Source.remaining c.loop.source) in
+          let left = ahead after (g.R.Source.remaining c.read_body.new.source) in
+          rw added (goes_on IsFrameOf c.loop.counter 1 (c.loop.counter + 1) _ mid left c.loop.frames.items (frame ∷ []) refl
+          (c.loop.invariant.frames known) (one IsFrameOf mid after.field.items left frame
+          (c.in_ok-read_body.ensures.gives (c.loop.invariant.device.known known)) (rw c.deref.ensures.value at c.frame_of.ensures)));
     }
 
 pub returns-clause-gives : goal.returns-clause-gives
 returns-clause-gives g c = λ known.
-    is_done c.loop.frames.items c.args.count c.loop.counter
-    (ahead c.loop.self (g.R.Source.remaining c.loop.source))
-    (bodies_at c.args.count (ahead c.args.self.now (g.R.Source.remaining c.args.source.now)))
-    c.loop-test.false (c.loop.invariant.frames known)
-
-pub returns-in_err-read_body-clause-known : goal.returns-in_err-read_body-clause-known
-returns-in_err-read_body-clause-known g c = λ known. c.read_body.ensures.known (c.loop.invariant.known known)
-
-pub returns-in_err-push-clause-known : goal.returns-in_err-push-clause-known
-returns-in_err-push-clause-known g c = λ known. c.read_body.ensures.known (c.loop.invariant.known known)
-
-pub returns-clause-known : goal.returns-clause-known
-returns-clause-known g c = c.loop.invariant.known
+    let same : c.loop.counter ≡ c.args.count = omega (arith, c.loop-test.false, c.loop.invariant.within) in
+    subst (λ (n : ℕ). ItemsAt IsFrameOf n (ahead c.args.self.now (g.R.Source.remaining c.args.source.now)) c.loop.frames.items
+    (ahead c.loop.self (g.R.Source.remaining c.loop.source))) same
+    (c.loop.invariant.frames known)

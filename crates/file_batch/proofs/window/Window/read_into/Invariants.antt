@@ -1,14 +1,15 @@
-use Rattle.std.proofs.Common.{◌≡◌, ◌-◌, length}
-use Rattle.file_batch_laws.specs.Reading.{bodies_at}
+use Rattle.std.proofs.Common.{◌≡◌, ◌≤◌, length}
+use Rattle.file_batch_laws.specs.Frames.{IsFrameOf}
 use Rattle.file_batch.specs.Window.{ahead}
-use Rattle.file_batch.proofs.ReadBodies.{SoFar}
+use Rattle.file_batch.proofs.ReadBodies.{ItemsAt}
+use Rattle.file_batch.specs.Device.{KeepsDevice}
 use Rattle.file_batch.proofs.window.Window.read_into.Given as goal
 
 abbrev pub invariant-loop : goal.invariant-loop
 invariant-loop g l = record {
-  kept : g.R.Source.failures l.source ≡ g.R.Source.failures l.fn.source;
-  known : g.R.Source.is_known l.fn.source → g.R.Source.is_known l.source;
+  device : KeepsDevice g.R.Source.is_known g.R.Source.has_failed l.fn.source l.source;
   count : length l.frames.items ≡ l.counter;
-  frames : g.R.Source.is_known l.fn.source → SoFar l.frames.items (l.count - l.counter)
-      (ahead l.self (g.R.Source.remaining l.source)) (bodies_at l.count (ahead l.fn.self (g.R.Source.remaining l.fn.source)));
+  within : l.counter ≤ l.count;
+  frames : g.R.Source.is_known l.fn.source → ItemsAt IsFrameOf l.counter (ahead l.fn.self (g.R.Source.remaining l.fn.source))
+      l.frames.items (ahead l.self (g.R.Source.remaining l.source));
 }

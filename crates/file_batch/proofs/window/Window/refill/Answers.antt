@@ -49,12 +49,3 @@ invariant_of-self-2 g c =
       within = rw (with_items_is piece c.take.new.buffer long) c.in-Ok.ensures.count;
       room = rw (with_items_is piece c.take.new.buffer long, long, piece.ok.0) c.args.self.now.room;
     }
-
-pub returns-in_default-clause-known : goal.returns-in_default-clause-known
-returns-in_default-clause-known g c = c.take.ensures.known
-
-pub returns-then-count-eq0-clause-known : goal.returns-then-count-eq0-clause-known
-returns-then-count-eq0-clause-known g c = c.take.ensures.known
-
-pub returns-clause-known : goal.returns-clause-known
-returns-clause-known g c = c.take.ensures.known

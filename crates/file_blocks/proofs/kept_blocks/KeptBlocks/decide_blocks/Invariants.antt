@@ -1,15 +1,14 @@
 use Rattle.std.proofs.Common.{◌≡◌, ◌≤◌, ◌*◌}
 use Rattle.file_blocks.specs.Blocks.{AreDecided}
+use Rattle.file_batch.specs.Device.{KeepsDevice}
 use Rattle.file_batch.specs.Window.{ahead}
 use Rattle.file_blocks.proofs.kept_blocks.KeptBlocks.decide_blocks.Given as goal
 
 -- the blocks so far were decided and answered
 abbrev pub invariant-loop : goal.invariant-loop
 invariant-loop g l = record {
-  sources : g.R.Source.failures l.source ≡ g.R.Source.failures l.fn.source;
-  sinks : g.W.Sink.failures l.sink ≡ g.W.Sink.failures l.fn.sink;
-  read_known : g.R.Source.is_known l.fn.source → g.R.Source.is_known l.source;
-  put_known : g.W.Sink.is_known l.fn.sink → g.W.Sink.is_known l.sink;
+  source : KeepsDevice g.R.Source.is_known g.R.Source.has_failed l.fn.source l.source;
+  sink : KeepsDevice g.W.Sink.is_known g.W.Sink.has_failed l.fn.sink l.sink;
   within : l.counter ≤ l.count;
   count : l.self.blocks ≡ l.counter;
   most : l.self.messages ≤ 65536 * l.counter;

@@ -1,4 +1,4 @@
-use Rattle.std.proofs.Common.{ℕ, ◌≡◌, ◌+◌, ◌++◌, refl, ap, ◌∙◌, inl, inr}
+use Rattle.std.proofs.Common.{◌≡◌, ◌++◌, refl, inl, inr, IsTrue}
 use Rattle.std.proofs.lemmas.Result.{err_from_is_err_and}
 use Rattle.file_batch_laws.specs.Blocks.{block_replies_magic}
 use Rattle.file_batch_laws.specs.Files.{head_text}
@@ -14,7 +14,7 @@ returns-in_err-write_head-clause-err g c =
     let behind = ahead c.read_block_head.new.window (g.R.Source.remaining c.read_block_head.new.source) in
     rw (p.1, p.2) (halts_in_head c.args.self.now.book c.args.self.now.blocks (g.R.Source.is_known source) (g.R.Source.remaining source) c.in_ok-count.count behind
     (g.W.Sink.is_known sink) (g.W.Sink.written sink) (g.W.Sink.written c.write_head.new.sink) c.in_err-write_head.field-0.0
-    (g.W.Sink.failures c.write_head.new.sink ≡ g.W.Sink.failures sink + 1) (c.write_head.new.sink ≡ sink)
+    (IsTrue (g.W.Sink.has_failed c.write_head.new.sink)) (c.write_head.new.sink ≡ sink)
     c.requires.none.0 (λ known. rw c.in_ok-window.ensures at (c.in_ok-count.ensures.gives known)) c.in_err-write_head.ensures.fault c.in_err-write_head.ensures.err)
 
 pub returns-in_err-decide_blocks-clause-err : goal.returns-in_err-decide_blocks-clause-err
@@ -24,16 +24,14 @@ returns-in_err-decide_blocks-clause-err g c =
     let sink = c.args.sink.now in
     let behind = ahead c.read_block_head.new.window (g.R.Source.remaining c.read_block_head.new.source) in
     let after = c.write_head.new.sink in
-    let same : g.W.Sink.failures after ≡ g.W.Sink.failures sink = c.in_ok-write_head.ensures.failures in
     rw (p.1, p.2) (inr (inr (
       c.in_ok-count.count,
       behind,
       λ known. rw c.in_ok-window.ensures at (c.in_ok-count.ensures.gives known),
       halts_moved c.in_ok-count.count c.args.self.now.book c.decide_blocks.new.self.book c.decide_blocks.new.self.blocks (g.R.Source.is_known source) (g.R.Source.is_known c.read_block_head.new.source) behind
           (g.W.Sink.is_known sink) (g.W.Sink.is_known after) (g.W.Sink.written sink ++ head_text block_replies_magic c.in_ok-count.count) (g.W.Sink.written after) (g.W.Sink.written c.decide_blocks.new.sink)
-          c.in_err-decide_blocks.field-0.0 (g.W.Sink.failures c.decide_blocks.new.sink ≡ g.W.Sink.failures sink + 1) (g.W.Sink.failures c.decide_blocks.new.sink ≡ g.W.Sink.failures after + 1)
-          c.in_err-decide_blocks.ensures.err (λ known. c.in_ok-count.ensures.known known) (λ known. c.in_ok-write_head.ensures.known known) (λ known. c.in_ok-write_head.ensures.ok known)
-          (λ failed. failed ∙ ap (λ (n : ℕ). n + 1) same),
+          c.in_err-decide_blocks.field-0.0 (IsTrue (g.W.Sink.has_failed c.decide_blocks.new.sink))
+          c.in_err-decide_blocks.ensures.err (λ known. c.in_ok-count.ensures.device.known known) (λ known. c.in_ok-write_head.ensures.device.known known) (λ known. c.in_ok-write_head.ensures.ok known),
     )))
 
 pub returns-in_err-read_end-clause-err : goal.returns-in_err-read_end-clause-err
@@ -46,7 +44,7 @@ returns-in_err-read_end-clause-err g c =
     let after = c.write_head.new.sink in
     let self = c.decide_blocks.new.self in
     let heading = g.W.Sink.written sink ++ head_text block_replies_magic c.in_ok-count.count in
-    let failed = g.W.Sink.failures c.decide_blocks.new.sink ≡ g.W.Sink.failures sink + 1 in
+    let failed = IsTrue (g.W.Sink.has_failed c.decide_blocks.new.sink) in
     rw (p.1, p.2) (inr (inr (
       c.in_ok-count.count,
       behind,
@@ -55,8 +53,8 @@ returns-in_err-read_end-clause-err g c =
           (g.W.Sink.is_known sink) heading (g.W.Sink.written c.decide_blocks.new.sink) c.in_err-read_end.field-0.0 failed
           (moved c.args.self.now.book self.book self.blocks self.messages (g.R.Source.is_known source) (g.R.Source.is_known c.read_block_head.new.source) behind left
           (g.W.Sink.is_known sink) (g.W.Sink.is_known after) heading (g.W.Sink.written after) (g.W.Sink.written c.decide_blocks.new.sink)
-          c.in_ok-decide_blocks.ensures.ok (λ known. c.in_ok-count.ensures.known known) (λ known. c.in_ok-write_head.ensures.known known) (λ known. c.in_ok-write_head.ensures.ok known))
-          c.in_ok-decide_blocks.ensures.all (λ known. c.in_ok-decide_blocks.ensures.read_known (c.in_ok-count.ensures.known known)) (λ known. c.in_err-read_end.ensures.gives known),
+          c.in_ok-decide_blocks.ensures.ok (λ known. c.in_ok-count.ensures.device.known known) (λ known. c.in_ok-write_head.ensures.device.known known) (λ known. c.in_ok-write_head.ensures.ok known))
+          c.in_ok-decide_blocks.ensures.all (λ known. c.in_ok-decide_blocks.ensures.devices.read_known (c.in_ok-count.ensures.device.known known)) (λ known. c.in_err-read_end.ensures.gives known),
     )))
 
 pub returns-clause-ok : goal.returns-clause-ok
@@ -72,27 +70,9 @@ returns-clause-ok g c =
     (g.W.Sink.is_known sink) (g.W.Sink.written sink) heading (g.W.Sink.written c.decide_blocks.new.sink)
     (moved c.args.self.now.book self.book self.blocks self.messages (g.R.Source.is_known source) (g.R.Source.is_known c.read_block_head.new.source) behind left
     (g.W.Sink.is_known sink) (g.W.Sink.is_known after) heading (g.W.Sink.written after) (g.W.Sink.written c.decide_blocks.new.sink)
-    c.in_ok-decide_blocks.ensures.ok (λ known. c.in_ok-count.ensures.known known) (λ known. c.in_ok-write_head.ensures.known known) (λ known. c.in_ok-write_head.ensures.ok known))
+    c.in_ok-decide_blocks.ensures.ok (λ known. c.in_ok-count.ensures.device.known known) (λ known. c.in_ok-write_head.ensures.device.known known) (λ known. c.in_ok-write_head.ensures.ok known))
     c.in_ok-decide_blocks.ensures.all (λ known. rw c.in_ok-window.ensures at (c.in_ok-count.ensures.gives known))
-    (λ known. c.in_ok-read_end.ensures.gives (c.in_ok-decide_blocks.ensures.read_known (c.in_ok-count.ensures.known known))) (λ known. refl)
-
-pub returns-in_err-window-clause-known : goal.returns-in_err-window-clause-known
-returns-in_err-window-clause-known g c = λ known. known
-
-pub returns-in_err-count-clause-known : goal.returns-in_err-count-clause-known
-returns-in_err-count-clause-known g c = λ known. known
-
-pub returns-in_err-write_head-clause-known : goal.returns-in_err-write_head-clause-known
-returns-in_err-write_head-clause-known g c = c.write_head.ensures.known
-
-pub returns-in_err-decide_blocks-clause-known : goal.returns-in_err-decide_blocks-clause-known
-returns-in_err-decide_blocks-clause-known g c = λ known. c.decide_blocks.ensures.put_known (c.write_head.ensures.known known)
-
-pub returns-in_err-read_end-clause-known : goal.returns-in_err-read_end-clause-known
-returns-in_err-read_end-clause-known g c = λ known. c.decide_blocks.ensures.put_known (c.write_head.ensures.known known)
-
-pub returns-clause-known : goal.returns-clause-known
-returns-clause-known g c = λ known. c.decide_blocks.ensures.put_known (c.write_head.ensures.known known)
+    (λ known. c.in_ok-read_end.ensures.gives (c.in_ok-decide_blocks.ensures.devices.read_known (c.in_ok-count.ensures.device.known known))) (λ known. refl)
 
 pub returns-in_err-window-clause-err : goal.returns-in_err-window-clause-err
 returns-in_err-window-clause-err g c =
