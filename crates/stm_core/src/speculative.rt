@@ -38,7 +38,6 @@ pub struct Core {
 }
 
 impl Model for Core {
-    ghost use Rattle.std.specs.Prelude.{◌<◌, ◌≤◌, ◌^◌, length};
     ghost use Rattle.std.specs.FinMap as finite;
     ghost use Rattle.stm_memory.specs.Memory.{held_code, place_code};
     ghost use Rattle.issuer_rows.specs.contracts.frame.Frame.{the_row as frame_row};
@@ -49,8 +48,8 @@ impl Model for Core {
     ghost use Rattle.stm_core_laws.specs.contracts.validation.Validation.{the_row as check_row};
     ghost use Rattle.stm_core_laws.specs.contracts.limits.Limits.{the_row as limits_row};
     ghost use Rattle.stm_core_laws.specs.Play.{Play, play_code};
-    ghost use Rattle.stm_core_laws.specs.Run.{IsReached};
     ghost use Rattle.stm_core_laws.specs.State.{state_code};
+    ghost use Rattle.stm_core.specs.Sound.{IsSoundCore};
     ghost use Rattle.stm_core.specs.contracts.execution_slot.ExecutionSlot.{the_row as slot_row};
 
     ghost Value = { Play };
@@ -59,7 +58,7 @@ impl Model for Core {
 
     ghost view = { λ c. record { state = record { opening = c.opening; frames = c.frames.items; entries = c.memory.entries; board = c.scheduler.board; slots = c.slots.items; limits = c.limits; validations = c.validations.items }; execution = c.scheduler.execution; validation = c.scheduler.validation } };
 
-    ghost invariant = { λ c. (length c.frames.items ≤ 65536) × IsReached (record { opening = c.opening; frames = c.frames.items; entries = c.memory.entries; board = c.scheduler.board; slots = c.slots.items; limits = c.limits; validations = c.validations.items }) × (c.limits.incarnation < 2 ^ 32) × (c.limits.epoch < 2 ^ 64) };
+    ghost invariant = { λ c. IsSoundCore (record { opening = c.opening; frames = c.frames.items; entries = c.memory.entries; board = c.scheduler.board; slots = c.slots.items; limits = c.limits; validations = c.validations.items }) };
 }
 
 impl Core {

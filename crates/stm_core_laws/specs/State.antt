@@ -98,12 +98,6 @@ start opening frames limits = record {
 abbrev pub IsAt : {X : Type 0} → List X → ℕ → X → Type 0
 IsAt xs i x = (i < length xs) × (x ≡ slice_index_or xs i x)
 
--- how a slot is stored
-abbrev pub slot_code : Coded ReplyBody → Coded RowKey → Coded Logged → Coded ExecutionSlot
-slot_code reply key logged =
-    code_by (Option ReplyBody × Log) (coded× (coded_option reply) (coded_list (coded× key logged)))
-    (λ s. (s.reply, s.log)) (λ p. record { reply = p.0; log = p.1 }) (λ _. refl)
-
 -- how a state is stored
 abbrev pub state_code : Coded Rows → Coded Frame → Coded Entries → Coded Board → Coded ExecutionSlot → Coded Limits → Coded Validation → Coded State
 state_code rows frame entries board kept limits validation =

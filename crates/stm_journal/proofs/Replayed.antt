@@ -28,7 +28,8 @@ exhausted_again p seat v x t step = (Refused Exhausted, refl, (x, step))
 pub not_finished : (p : Play) (seat : ℕ) (v : Version) → ¬ IsRunning p.state.board v → EntryStep p (record { seat = seat; event = Finish v }) p
 not_finished p seat v idle = (Refused NotRunning, refl, (idle, refl))
 
-asked_stands : (p : Play) (seat : ℕ) (event : Event) (answer : CoreAnswer) (t : Play) → IsNoFinish event → Answers p seat event answer t → answer ≢ Refused OutOfMemory → stands answer ≡ true
+-- an answer to such an event stands, unless memory ran out
+pub asked_stands : (p : Play) (seat : ℕ) (event : Event) (answer : CoreAnswer) (t : Play) → IsNoFinish event → Answers p seat event answer t → answer ≢ Refused OutOfMemory → stands answer ≡ true
 asked_stands p seat event (Refused OutOfMemory) t plain a room = absurd (room refl)
 asked_stands p seat (Finish v) (Refused OtherReads) t plain a room = absurd plain
 asked_stands p seat Claim (Refused OtherReads) t plain a room = absurd a

@@ -63,13 +63,6 @@ not_unequal xs ys r answer other same = false≢true (sym other ∙ (slice_eq-De
 
 -- keys
 
-pub key_marked : (text : List ℕ) (k : RowKey) → Lacks 58 text → text ≢ key_text k
-key_marked text (key.Card pan) lacks same = not_lacking 58 (codes "card") pan.0 (subst (Lacks 58) same lacks)
-key_marked text (key.Velocity pan day) lacks same = not_lacking 58 (codes "day") (pan.0 ++ 58 ∷ day) (subst (Lacks 58) same lacks)
-key_marked text (key.Budget prefix) lacks same = not_lacking 58 (codes "budget") prefix.0 (subst (Lacks 58) same lacks)
-key_marked text (key.Original i) lacks same = not_lacking 58 (codes "orig") (identity_text i) (subst (Lacks 58) same lacks)
-key_marked text (key.Account id) lacks same = not_lacking 58 (codes "acct") (encode_lower id.0) (subst (Lacks 58) same lacks)
-
 -- a text of another kind is no key
 pub of_no_kind : (text kind rest : List ℕ) (k : RowKey) → text ≡ kind ++ 58 ∷ rest → Lacks 58 kind → kind ≢ codes "card" → kind ≢ codes "day" → kind ≢ codes "budget"
     → kind ≢ codes "orig" → kind ≢ codes "acct" → text ≢ key_text k

@@ -138,17 +138,6 @@ taken_out old now new was list index place n written row so_far at is unwritten 
   done = λ k m r l there named. so_far.done k m r l (sym (before_removed list place k l) ∙ there) (sym (ap (λ (rs : List RowKey). slice_get rs m) rows) ∙ named);
 }
 
--- at the end of the list no row that isn't written has an entry of the index
-pub taken_out_all : (old now : Chains) (was list : List ℕ) (index place : ℕ) (written : RowKey → Option RowVal) → TakingOut old now was list index place written → length list ≤ place → (r : RowKey) → written r ≡ None → stands now r index ≡ None
-taken_out_all old now was list index place written so_far all r none =
-    elim (option_cases (stands now r index)) [
-      | inl empty ↦ empty
-      | inr some ↦
-          let there = so_far.listed.entries r some.0 some.1 in
-          let is = some_of (written r) (so_far.done there.0 there.1 r (let l = slice_get_within list there.0 there.1 there.2 in omega arith) there.2 there.3) in
-          absurd (none-some is.0 (sym none ∙ is.1))
-    ]
-
 -- ---- rows that are written
 
 -- the first writes stand, and nothing else changed; a row that had no entry was among them, or none was

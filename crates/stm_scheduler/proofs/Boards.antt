@@ -61,14 +61,6 @@ sound_with s firsts nexts heads links marks floors epoch execution validation h 
 pub settled_set : (s : Schedule) (firsts nexts : List (Option ℕ)) (i : ℕ) (m : MessageProgress) → IsSound s firsts nexts → s.board.committed ≤ i → (j : ℕ) → j < s.board.committed → (at (set s.board.marks i m) j).status ≡ status.Executed
 settled_set s firsts nexts i m h past j l = ap (λ (n : MessageProgress). n.status) (get_or-set_other s.board.marks i j m fresh_mark (λ e. omega arith)) ∙ h.settled j l
 
--- or one that stays executed
-pub settled_executed : (s : Schedule) (firsts nexts : List (Option ℕ)) (i : ℕ) (m : MessageProgress) → IsSound s firsts nexts → i < length s.board.marks → m.status ≡ status.Executed → (j : ℕ) → j < s.board.committed → (at (set s.board.marks i m) j).status ≡ status.Executed
-settled_executed s firsts nexts i m h l executed j k =
-    elim (cases_eq j i) [
-      | inl same ↦ ap (λ (n : ℕ). (at (set s.board.marks i m) n).status) same ∙ ap (λ (n : MessageProgress). n.status) (get_or-set_same s.board.marks i m fresh_mark l) ∙ executed
-      | inr ne ↦ ap (λ (n : MessageProgress). n.status) (get_or-set_other s.board.marks i j m fresh_mark ne) ∙ h.settled j k
-    ]
-
 -- and where those that wait are woken
 pub settled_woken : (marks new : List MessageProgress) (i committed : ℕ) → ((j : ℕ) → j < committed → (at marks j).status ≡ status.Executed) → new ≡ map (woken i) marks → (j : ℕ) → j < committed → (at new j).status ≡ status.Executed
 settled_woken marks new i committed settled is j l =
