@@ -3,24 +3,18 @@ use Rattle.std.proofs.Common.{◌≡◌, ℕ, List, ◌++◌, inl, inr, length, 
 use Rattle.issuer_fold.specs.declared.run_outcome.RunOutcome.{RunOutcome}
 use Rattle.stm_journal.specs.Finished.{IsFinished}
 use Rattle.stm_journal.specs.SomePlay.{IsSomePlay}
-use Rattle.issuer_rows.specs.Agreement.{Executed}
-use Rattle.issuer_rows.specs.Fold.{Rows, rows_after, replies_to}
-use Rattle.issuer_rows.specs.declared.frame.Frame.{Frame}
-use Rattle.issuer_rows.specs.declared.reply_body.ReplyBody.{ReplyBody}
-use Rattle.stm_journal_text.specs.Answers.{AnswersTo, FinishAnswersTo, entered}
-use Rattle.stm_journal_text.specs.Plays.{IsPlayed, Plays}
-use Rattle.stm_journal_text.specs.declared.core_answer.CoreAnswer.TheVariants.{Claimed, Refused}
+use Rattle.issuer_view.specs.Words.{Executed, Frame, ReplyBody, Rows, replies_to, rows_after}
+use Rattle.stm_core_laws.specs.Words.{IsReached, Play, State, bounded, opening_play}
+use Rattle.stm_journal_text.specs.Words.{AnswersTo, FinishAnswersTo, IsPlayed, Limits, Plays}
+use Rattle.stm_journal_text.specs.Words.{entered}
 use Rattle.stm_journal_text.specs.declared.entry.Entry.{Entry}
 use Rattle.stm_journal_text.specs.declared.event.Event.{Event}
+use Rattle.stm_journal_text.specs.declared.core_answer.CoreAnswer.TheVariants.{Claimed, Refused}
 use Rattle.stm_journal_text.specs.declared.event.Event.TheVariants.{Claim, Finish}
 use Rattle.stm_memory.specs.declared.version.Version.{Version}
 use Rattle.stm_scheduler.specs.declared.task.Task.TheVariants.{Done}
 use Rattle.stm_core_laws.proofs.Reached.{replies-reached, bounded_again}
-use Rattle.stm_core_laws.specs.Play.{Play, opening_play}
-use Rattle.stm_core_laws.specs.Run.{IsReached}
-use Rattle.stm_core_laws.specs.State.{State, bounded}
 use Rattle.stm_core_laws.specs.declared.core_fault.CoreFault.TheVariants.{Exhausted}
-use Rattle.stm_core_laws.specs.declared.limits.Limits.{Limits}
 use Rattle.issuer_fold.proofs.FoldLaws.{replies_of_both}
 use Rattle.engine_locked.specs.Journals.{IsCoreOf, IsJournalOf, AreCommitted, AreJournals, IsSomeEnd}
 

@@ -1,15 +1,11 @@
 -- What the journal of a run plays to.
 use Rattle.std.specs.Prelude.{◌≡◌, ℕ, List, ◌++◌}
-use Rattle.issuer_rows.specs.Fold.{Rows}
-use Rattle.issuer_rows.specs.declared.frame.Frame.{Frame}
-use Rattle.issuer_rows.specs.declared.reply_body.ReplyBody.{ReplyBody}
-use Rattle.stm_journal.specs.Finished.{IsFinished}
-use Rattle.stm_journal_text.specs.Plays.{IsPlayed, Plays}
+use Rattle.issuer_view.specs.Words.{Frame, ReplyBody, Rows}
+use Rattle.stm_core_laws.specs.Words.{Play, bounded}
+use Rattle.stm_journal_text.specs.Words.{IsPlayed, Limits, Plays}
 use Rattle.stm_journal_text.specs.declared.entry.Entry.{Entry}
-use Rattle.stm_core_laws.specs.Play.{Play}
+use Rattle.stm_journal.specs.Finished.{IsFinished}
 use Rattle.stm_core_laws.specs.Run.{committed_replies}
-use Rattle.stm_core_laws.specs.State.{bounded}
-use Rattle.stm_core_laws.specs.declared.limits.Limits.{Limits}
 
 -- The entries play, from this opening state, to a core that has committed so many messages, all of them unless no incarnation or epoch
 -- is left; and its committed replies begin the replies.

@@ -4,11 +4,8 @@ use Rattle.std.proofs.lemmas.List.{take_all, length-drop}
 use Rattle.std.proofs.Math.Seq.{drop-cons}
 use Rattle.std.proofs.lemmas.Option.{slice_get_within, get_or_from_slice_get}
 use Rattle.std.specs.FinMap as map
-use Rattle.issuer_rows.specs.Fold.{Rows, overlay, reply_of, rows_after_one, rows_after, replies_to}
-use Rattle.issuer_rows.specs.Plan.{Writes}
-use Rattle.issuer_rows.specs.declared.frame.Frame.{Frame}
-use Rattle.issuer_rows.specs.declared.row_key.RowKey.{RowKey}
-use Rattle.issuer_rows.specs.declared.row_val.RowVal.{RowVal}
+use Rattle.issuer_view.specs.Words.{Frame, RowKey, RowVal, Rows, Writes, overlay, replies_to}
+use Rattle.issuer_view.specs.Words.{reply_of, rows_after, rows_after_one}
 
 -- what is left begins with the item at this place
 pub left_at : {X : Type 0} (xs : List X) (i : ℕ) (x : X) → slice_get xs i ≡ Some x → drop i xs ≡ x ∷ drop (i + 1) xs

@@ -5,23 +5,13 @@ use Rattle.std.proofs.lemmas.List.Elements.{All-more}
 use Rattle.std.proofs.lemmas.Option.{get_or_from_slice_get, slice_get_within}
 use Rattle.std.specs.FinMap as finite
 use Rattle.issuer_rows.proofs.KeyLaws.{key_cmp_total, key_cmp_antisymmetric}
-use Rattle.issuer_rows.specs.Agreement.{Reads}
-use Rattle.issuer_rows.specs.Fold.{Rows}
-use Rattle.issuer_rows.specs.Plan.{Writes}
-use Rattle.issuer_rows.specs.declared.row_key.RowKey.{RowKey}
-use Rattle.issuer_rows.specs.declared.row_val.RowVal.{RowVal}
+use Rattle.issuer_view.specs.Words.{IsOnceEach, Reads, RowKey, RowVal, Rows, Writes}
+use Rattle.stm_memory.specs.Words.{Entries, IsLaidOver, IsNewLocation, Resolves, Shelf, held}
+use Rattle.stm_memory.specs.Words.{seen_by, seen_of}
+use Rattle.stm_core_laws.specs.Words.{AreLogged, Link, Log, ResolvesAs, Seen, Version, logged_in}
 use Rattle.stm_memory.proofs.ListLaws.{standing, valued, written_is}
-use Rattle.stm_memory.specs.Entries.{Entries, IsNewLocation, Shelf, held}
-use Rattle.stm_memory.specs.Resolves.{Resolves, IsLaidOver}
-use Rattle.issuer_view.specs.RowSets.{IsOnceEach}
-use Rattle.stm_memory.specs.Chains.{seen_by, seen_of}
-use Rattle.stm_memory.specs.declared.link.Link.{Link}
-use Rattle.stm_memory.specs.declared.seen.Seen.{Seen}
 use Rattle.stm_memory.specs.declared.seen.Seen.TheVariants.{Base, Value, Estimate}
-use Rattle.stm_memory.specs.declared.version.Version.{Version}
 use Rattle.stm_core_laws.proofs.Unique.{Resolves-some, Resolves-unique}
-use Rattle.stm_core_laws.specs.Log.{AreLogged, ResolvesAs, logged_in}
-use Rattle.stm_core_laws.specs.State.{Log}
 
 -- what is seen is what this execution wrote, or the opening book where it is none
 abbrev pub IsOrigin : Seen → Option Version → Type 0

@@ -6,17 +6,18 @@ use Rattle.std.proofs.lemmas.List.Elements.{filter_map-append}
 use Rattle.std.specs.FinMap as finite
 use Rattle.std.specs.List.{cons_option}
 use Rattle.std.proofs.lemmas.Option.{slice_get_within, get_or_from_slice_get, none-some}
-use Rattle.issuer_rows.specs.Agreement.{Executed, IsTrueExecution, Reads}
-use Rattle.issuer_rows.specs.Fold.{Rows}
-use Rattle.issuer_rows.specs.declared.frame.Frame.{Frame}
-use Rattle.issuer_rows.specs.declared.reply_body.ReplyBody.{ReplyBody}
-use Rattle.issuer_rows.specs.declared.row_key.RowKey.{RowKey}
-use Rattle.issuer_rows.specs.declared.row_val.RowVal.{RowVal}
-use Rattle.issuer_view.specs.RowSets.{value_in}
-use Rattle.stm_memory.specs.Entries.{Entries, AreReplaced, AreEstimated, IsNewLocation}
-use Rattle.stm_memory.specs.Resolves.{Resolves}
-use Rattle.stm_memory.specs.declared.seen.Seen.{Seen}
-use Rattle.stm_memory.specs.declared.version.Version.{Version}
+use Rattle.issuer_view.specs.Words.{Executed, Frame, IsTrueExecution, Reads, ReplyBody, RowKey}
+use Rattle.issuer_view.specs.Words.{RowVal, Rows, value_in}
+use Rattle.stm_memory.specs.Words.{AreEstimated, AreReplaced, Entries, IsNewLocation, Resolves}
+use Rattle.stm_core_laws.specs.Words.{AreLogged, Begin, Block, Call, ClaimStep, Commit, CommitStep}
+use Rattle.stm_core_laws.specs.Words.{End, ExecutionSlot, Finish, Holds, IsAt, IsOfVersion, Log}
+use Rattle.stm_core_laws.specs.Words.{Play, PlayStep, ReadStep, ResolvesAs, Seen, State}
+use Rattle.stm_core_laws.specs.Words.{ValidateOne, Version, beginning, empty_slot, failed_one}
+use Rattle.stm_core_laws.specs.Words.{is_at_end, logged_in, logged_of, passed_one, seats, shelf}
+use Rattle.stm_core_laws.specs.Words.{slot, start, validation_of, with_slot, with_validation}
+use Rattle.stm_core_laws.specs.declared.limits.Limits.{Limits}
+use Rattle.stm_core_laws.specs.declared.logged.Logged.{Logged}
+use Rattle.stm_core_laws.specs.declared.validation.Validation.{Validation}
 use Rattle.stm_scheduler.proofs.Choices.{Chooses-allowed}
 use Rattle.stm_scheduler.specs.Board.{Board, mark, aborted_as, finished, lowered, passed, aborted, committed_more, IsFresh, IsRunning, IsOpen, IsWaitedFor}
 use Rattle.stm_scheduler.specs.Cursors.{Schedule, Claims, IsLoweredToWaiting, open_schedule}
@@ -25,18 +26,10 @@ use Rattle.stm_scheduler.specs.declared.status.Status.TheVariants as status
 use Rattle.stm_scheduler.specs.declared.task.Task.{Task}
 use Rattle.stm_scheduler.specs.declared.task.Task.TheVariants.{Execute, Validate, Idle, Done}
 use Rattle.stm_core_laws.proofs.Changed.{in_batch, executed_not_ready}
-use Rattle.stm_core_laws.proofs.Validations.{next_read_there}
+use Rattle.stm_core_laws.proofs.Logs.{executed_cases}
+use Rattle.stm_core_laws.proofs.Validations.{at_its_end, next_read_there}
 use Rattle.stm_core_laws.proofs.Reached.{Holds-reached, IsReached-start, IsReached-Step, same-Step}
-use Rattle.stm_core_laws.specs.Holds.{Holds}
-use Rattle.stm_core_laws.specs.Log.{AreLogged, ResolvesAs, logged_in, logged_of}
-use Rattle.stm_core_laws.specs.Play.{Play, PlayStep}
-use Rattle.stm_core_laws.specs.Run.{Call, Block, Finish, Begin, ValidateOne, End, Commit}
-use Rattle.stm_core_laws.specs.State.{Log, State, ExecutionSlot, slot, empty_slot, shelf, validation_of, with_slot, with_validation, seats, start, IsAt}
-use Rattle.stm_core_laws.specs.Step.{ClaimStep, ReadStep, CommitStep, IsOfVersion, beginning, is_at_end, passed_one, failed_one}
-use Rattle.stm_core_laws.specs.declared.validation.Validation.{Validation}
 use Rattle.stm_core_laws.specs.declared.got.Got.TheVariants as got
-use Rattle.stm_core_laws.specs.declared.limits.Limits.{Limits}
-use Rattle.stm_core_laws.specs.declared.logged.Logged.{Logged}
 use Rattle.stm_core.specs.Origin.{IsFirstOf}
 use Rattle.stm_core.specs.Sound.{IsSoundCore}
 
@@ -112,13 +105,6 @@ commit_step s holds false after fresh otherwise =
 -- a core with these cursors
 abbrev pub play : State → ℕ → ℕ → Play
 play s e x = record { state = s; execution = e; validation = x }
-
--- executed or not
-executed_cases : (is : Status) → (is ≡ status.Executed) ⊎ (is ≢ status.Executed)
-executed_cases status.Ready = inr (λ e. cc)
-executed_cases status.Running = inr (λ e. cc)
-executed_cases status.Executed = inl refl
-executed_cases (status.Waiting on) = inr (λ e. cc)
 
 -- a message waits for another, or not
 waited_cases : (b : Board) (i on : ℕ) → IsWaitedFor b i on ⊎ ¬ IsWaitedFor b i on
@@ -265,11 +251,6 @@ fail_step s e x seat c entries new after l has ended opened fails left epoch est
 -- an open validation that is not at its end has a read that comes next
 pub next_there : (s : State) → Holds s → (seat : ℕ) (c : Validation) → validation_of s seat ≡ Some c → is_at_end c ≡ false → IsOpen s.board c.version → c.place < length (slot s c.version.index).log
 next_there s holds seat c has ended opened = next_read_there s holds seat c (has, ended) opened
-
--- what ends one way or the other
-at_its_end : (a b : Bool) → b ≡ true → (a || b) ≡ true
-at_its_end true b e = refl
-at_its_end false b e = e
 
 -- and its place is before the end
 pub before_end : (s : State) → Holds s → (seat : ℕ) (c : Validation) → validation_of s seat ≡ Some c → is_at_end c ≡ false → c.place < c.reads

@@ -1,8 +1,6 @@
 -- What holds of a core.
 use Rattle.std.specs.Prelude.{◌<◌, ◌≤◌, ◌^◌, length}
-use Rattle.stm_core_laws.specs.Holds.{Holds}
-use Rattle.stm_core_laws.specs.Run.{IsReached}
-use Rattle.stm_core_laws.specs.State.{State}
+use Rattle.stm_core_laws.specs.Words.{Holds, IsReached, State}
 
 -- a state of a run, and so all that holds of one; of at most 65,536 messages, and with limits that fit their numbers
 pub record IsSoundCore (s : State) : Type 0 where

@@ -4,10 +4,18 @@ use Rattle.std.proofs.lemmas.Bool.{cases_lt}
 use Rattle.std.proofs.lemmas.List.{length-map, get_or_past, get_or-replicate, length-replicate}
 use Rattle.std.proofs.lemmas.Option.{none-some}
 use Rattle.std.specs.FinMap as finite
-use Rattle.issuer_rows.specs.Agreement.{Executed, IsTrueExecution}
-use Rattle.issuer_rows.specs.Fold.{Rows}
-use Rattle.issuer_rows.specs.declared.frame.Frame.{Frame}
-use Rattle.issuer_rows.specs.declared.row_key.RowKey.{RowKey}
+use Rattle.issuer_view.specs.Words.{Executed, Frame, IsTrueExecution, RowKey, Rows}
+use Rattle.stm_memory.specs.Entries.{place_cmp, place_of}
+use Rattle.stm_scheduler.specs.Board.{floor, fresh_mark, mark, passed}
+use Rattle.stm_core_laws.specs.Holds.{Holds, IsKept}
+use Rattle.stm_core_laws.specs.State.{State, bounded, empty_slot, message_of, seats, slot, start}
+use Rattle.stm_core_laws.specs.Step.{BeginStep, BlockStep, ClaimStep, CommitStep, EndStep, FinishStep, ReadStep, ValidationStep, without_execution}
+use Rattle.stm_core_laws.specs.declared.core_fault.CoreFault.{CoreFault}
+use Rattle.stm_core_laws.specs.declared.got.Got.{Got}
+use Rattle.stm_core_laws.specs.declared.limits.Limits.{Limits}
+use Rattle.stm_core_laws.specs.declared.validation.Validation.{Validation}
+use Rattle.stm_memory.specs.declared.version.Version.{Version}
+use Rattle.stm_scheduler.specs.declared.task.Task.{Task}
 use Rattle.stm_core_laws.proofs.Changed.{Holds-validation, message_by, ready_not_executed, waiting_not_executed}
 use Rattle.stm_core_laws.proofs.Validations.{Holds-begun, Holds-validated, Holds-passed}
 use Rattle.stm_core_laws.proofs.Committed.{Holds-committed, Follows-settled, under_committed}
@@ -15,18 +23,7 @@ use Rattle.stm_core_laws.proofs.Finished.{Holds-finished, Holds-finished_new, Ho
 use Rattle.stm_core_laws.proofs.Logs.{Holds-claimed, Holds-read, Holds-blocked}
 use Rattle.stm_core_laws.proofs.Members.{Contains-nil}
 use Rattle.stm_core_laws.proofs.Overlay.{replies-Follows}
-use Rattle.stm_memory.specs.Entries.{place_of, place_cmp}
-use Rattle.stm_memory.specs.declared.version.Version.{Version}
-use Rattle.stm_scheduler.specs.Board.{mark, fresh_mark, passed, floor}
-use Rattle.stm_scheduler.specs.declared.task.Task.{Task}
-use Rattle.stm_core_laws.specs.Holds.{Holds, IsKept}
 use Rattle.stm_core_laws.specs.Run.{Call, Claim, Read, Block, Finish, Begin, ValidateOne, End, Commit, Step, Run, IsReached, RepliesAreTheFold, RowsAreTheFold}
-use Rattle.stm_core_laws.specs.State.{State, message_of, slot, empty_slot, seats, bounded, start}
-use Rattle.stm_core_laws.specs.Step.{ClaimStep, ReadStep, BlockStep, FinishStep, BeginStep, ValidationStep, EndStep, CommitStep, without_execution}
-use Rattle.stm_core_laws.specs.declared.validation.Validation.{Validation}
-use Rattle.stm_core_laws.specs.declared.core_fault.CoreFault.{CoreFault}
-use Rattle.stm_core_laws.specs.declared.got.Got.{Got}
-use Rattle.stm_core_laws.specs.declared.limits.Limits.{Limits}
 use Rattle.stm_core_laws.specs.declared.core_fault.CoreFault.TheVariants.{NotRunning, OtherReads, Outdated, OutOfMemory, Exhausted}
 use Rattle.stm_core_laws.specs.declared.got.Got.TheVariants as got
 use Rattle.stm_scheduler.specs.declared.status.Status.TheVariants as status

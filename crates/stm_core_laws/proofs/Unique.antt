@@ -4,25 +4,22 @@ use Rattle.std.proofs.lemmas.Bool.{cases_eq, cases_lt}
 use Rattle.std.proofs.lemmas.Option.{same_Some, none-some}
 use Rattle.std.specs.FinMap as finite
 use Rattle.stm_memory.proofs.Placed.{place_cmp_total, place_cmp_antisymmetric}
-use Rattle.issuer_rows.specs.Agreement.{Executed}
-use Rattle.issuer_rows.specs.Plan.{Writes}
-use Rattle.issuer_rows.specs.declared.row_key.RowKey.{RowKey}
-use Rattle.issuer_rows.specs.declared.row_val.RowVal.{RowVal}
-use Rattle.stm_core_laws.proofs.Validations.{one_at}
-use Rattle.stm_memory.specs.Entries.{Shelf, value_at, estimate_of, place_of, Entries, AreReplaced, AreEstimated, AreKeptBut, written, Held}
+use Rattle.issuer_view.specs.Words.{Executed, RowKey, RowVal, Writes}
 use Rattle.stm_memory.specs.Resolves.{Resolves}
-use Rattle.stm_memory.specs.declared.seen.Seen.{Seen}
-use Rattle.stm_memory.specs.declared.version.Version.{Version}
 use Rattle.stm_scheduler.specs.Board.{finished, lowered, passed}
-use Rattle.stm_scheduler.specs.declared.task.Task.{Task}
 use Rattle.stm_core_laws.specs.Log.{ResolvesAs, logged_of}
-use Rattle.stm_core_laws.specs.Run.{Call, Claim, Read, Block, Finish, Begin, ValidateOne, End, Commit, Step}
-use Rattle.stm_core_laws.specs.State.{State, shelf, validation_of, with_validation, seats, slot}
-use Rattle.stm_core_laws.specs.Step.{ClaimStep, ReadStep, BlockStep, FinishStep, BeginStep, ValidationStep, EndStep, CommitStep, Validated, with_read, with_execution, without_execution}
-use Rattle.stm_core_laws.specs.declared.validation.Validation.{Validation}
+use Rattle.stm_core_laws.specs.Run.{Begin, Block, Call, Claim, Commit, End, Finish, Read, Step, ValidateOne}
+use Rattle.stm_core_laws.specs.State.{State, seats, shelf, slot, validation_of, with_validation}
+use Rattle.stm_core_laws.specs.Step.{BeginStep, BlockStep, ClaimStep, CommitStep, EndStep, FinishStep, ReadStep, Validated, ValidationStep, with_execution, with_read, without_execution}
 use Rattle.stm_core_laws.specs.declared.core_fault.CoreFault.{CoreFault}
 use Rattle.stm_core_laws.specs.declared.got.Got.{Got}
 use Rattle.stm_core_laws.specs.declared.logged.Logged.{Logged}
+use Rattle.stm_core_laws.specs.declared.validation.Validation.{Validation}
+use Rattle.stm_memory.specs.declared.seen.Seen.{Seen}
+use Rattle.stm_memory.specs.declared.version.Version.{Version}
+use Rattle.stm_scheduler.specs.declared.task.Task.{Task}
+use Rattle.stm_core_laws.proofs.Validations.{one_at}
+use Rattle.stm_memory.specs.Entries.{Shelf, value_at, estimate_of, place_of, Entries, AreReplaced, AreEstimated, AreKeptBut, written, Held}
 use Rattle.stm_core_laws.specs.declared.core_fault.CoreFault.TheVariants.{NotRunning, OtherReads, Outdated, OutOfMemory, Exhausted}
 use Rattle.stm_core_laws.specs.declared.got.Got.TheVariants as got
 use Rattle.stm_memory.specs.declared.seen.Seen.TheVariants.{Base, Value, Estimate}

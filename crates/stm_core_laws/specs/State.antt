@@ -2,14 +2,11 @@
 use Rattle.std.specs.Prelude.{◌≡◌, ℕ, ◌<◌, max, List, [], length, map, replicate, slice_index_or, slice_set, Option, Some, None, refl}
 use Rattle.std.specs.Coded.{Coded, code_by, coded×, coded_list, coded_option}
 use Rattle.std.specs.FinMap as finite
-use Rattle.issuer_rows.specs.Fold.{Rows}
-use Rattle.issuer_rows.specs.declared.frame.Frame.{Frame}
-use Rattle.issuer_rows.specs.declared.reply_body.ReplyBody.{ReplyBody}
-use Rattle.issuer_rows.specs.declared.row_key.RowKey.{RowKey}
-use Rattle.stm_memory.specs.Entries.{Entries, Shelf, held}
-use Rattle.stm_scheduler.specs.Board.{Board, mark, open_board}
+use Rattle.issuer_view.specs.Words.{Frame, ReplyBody, RowKey, Rows}
 use Rattle.stm_scheduler.specs.declared.message_progress.MessageProgress.{MessageProgress}
 use Rattle.stm_scheduler.specs.declared.status.Status.{Status}
+use Rattle.stm_memory.specs.Entries.{Entries, Shelf, held}
+use Rattle.stm_scheduler.specs.Board.{Board, mark, open_board}
 use Rattle.stm_core_laws.specs.declared.validation.Validation.{Validation}
 use Rattle.stm_core_laws.specs.declared.limits.Limits.{Limits}
 use Rattle.stm_core_laws.specs.declared.logged.Logged.{Logged}

@@ -4,12 +4,8 @@ use Rattle.std.proofs.Math.Seq.{drop-cons}
 use Rattle.std.proofs.lemmas.List.{take_more}
 use Rattle.std.proofs.lemmas.Option.{slice_get_within, get_or_from_slice_get}
 use Rattle.std.specs.List.{AllByRecursion}
-use Rattle.issuer_rows.specs.Agreement.{Reads, keys_read}
-use Rattle.issuer_rows.specs.declared.row_key.RowKey.{RowKey}
-use Rattle.issuer_rows.specs.declared.row_val.RowVal.{RowVal}
-use Rattle.stm_core_laws.specs.Log.{logged_in}
-use Rattle.stm_core_laws.specs.State.{Log}
-pub use Rattle.stm_journal_text.proofs.Decided.{get_logged}
+use Rattle.issuer_view.specs.Words.{Reads, RowKey, RowVal, keys_read}
+use Rattle.stm_core_laws.specs.Words.{Log, logged_in}
 use Rattle.stm_journal_text.specs.Logged.{IsLogged}
 use Rattle.stm_drive.specs.Turns.{IsFirstUnlogged}
 

@@ -1,30 +1,24 @@
 -- A turn of a seat, by what it holds.
 use Rattle.std.proofs.Common.{◌≡◌, ◌≢◌, ℕ, ◌<◌, List, [], ◌∷◌, ◌++◌, length, refl, sym, ap, subst, true, false, Err, inl, inr}
 use Rattle.std.specs.List.{AllByRecursion}
-use Rattle.issuer_rows.specs.Agreement.{Executed, Agrees, keys_read}
-use Rattle.issuer_rows.specs.declared.frame.Frame.{Frame}
-use Rattle.issuer_rows.specs.declared.row_key.RowKey.{RowKey}
+use Rattle.issuer_view.specs.Words.{Agrees, Executed, Frame, RowKey, keys_read}
+use Rattle.stm_core_laws.specs.Words.{FinishStep, IsAt, IsReached, Play, State, slot}
+use Rattle.stm_journal_text.specs.Words.{Answers, EntryStep, FinishAnswers, FinishAnswersTo}
+use Rattle.stm_journal_text.specs.Words.{IsLogged, IsNoFinish, entered, log_rows, stands}
+use Rattle.stm_journal_text.specs.declared.core_answer.CoreAnswer.{CoreAnswer}
+use Rattle.stm_journal_text.specs.declared.entry.Entry.{Entry}
+use Rattle.stm_journal_text.specs.declared.event.Event.{Event}
 use Rattle.stm_memory.specs.declared.version.Version.{Version}
 use Rattle.stm_scheduler.specs.declared.task.Task.TheVariants as task
 use Rattle.stm_core_laws.proofs.Validations.{one_at}
 use Rattle.stm_core_laws.proofs.Reached.{Holds-reached}
-use Rattle.stm_core_laws.specs.Play.{Play}
-use Rattle.stm_core_laws.specs.Run.{IsReached}
-use Rattle.stm_core_laws.specs.State.{State, slot, IsAt}
-use Rattle.stm_core_laws.specs.Step.{FinishStep}
 use Rattle.stm_core_laws.specs.declared.core_fault.CoreFault.TheVariants.{NotRunning, OtherReads, Outdated, OutOfMemory, Exhausted}
 use Rattle.stm_core_laws.specs.declared.got.Got.TheVariants as got
-use Rattle.stm_journal_text.specs.declared.entry.Entry.{Entry}
-use Rattle.stm_journal_text.specs.declared.event.Event.{Event}
 use Rattle.stm_journal_text.specs.declared.event.Event.TheVariants.{Claim, Read, Finish}
 use Rattle.stm_journal_text.proofs.Decided.{undecided}
 use Rattle.stm_journal_text.proofs.OneCall.{same_still}
 use Rattle.stm_journal_text.proofs.OneEntry.{reached_play}
 use Rattle.stm_journal_text.proofs.Playing.{EntryStep-frames}
-use Rattle.stm_journal_text.specs.Answers.{Answers, FinishAnswers, FinishAnswersTo, IsNoFinish, stands, entered}
-use Rattle.stm_journal_text.specs.Logged.{log_rows, IsLogged}
-use Rattle.stm_journal_text.specs.Plays.{EntryStep}
-use Rattle.stm_journal_text.specs.declared.core_answer.CoreAnswer.{CoreAnswer}
 use Rattle.stm_journal_text.specs.declared.core_answer.CoreAnswer.TheVariants.{Claimed, Got, Finished, Validating, Ended, Committed, Refused}
 use Rattle.stm_journal.proofs.Replayed.{asked_stands}
 use Rattle.stm_journal.specs.Journaled.{Journaled, IsJournalStep}

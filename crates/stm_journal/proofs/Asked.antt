@@ -1,21 +1,18 @@
 -- A call of the core is what its event asks, and which answers are entered.
 use Rattle.std.proofs.Common.{◌≡◌, ℕ, Bool, true, false, List, ◌∷◌, [], ◌++◌, Option, Result, Ok, Err, inr, refl, sym, ap, ◌∙◌, subst}
 use Rattle.stm_journal_text.proofs.Playing.{IsPlayed-push, stands_where_entered, same_where_not_entered}
-use Rattle.stm_journal_text.specs.Answers.{Answers, enters}
-use Rattle.stm_journal_text.specs.Plays.{IsPlayed}
+use Rattle.issuer_view.specs.Words.{RowKey, RowVal}
+use Rattle.stm_core_laws.specs.Play.{Play, PlayStep}
+use Rattle.stm_journal_text.specs.Words.{Answers, CoreFault, IsPlayed, enters}
 use Rattle.stm_journal_text.specs.declared.core_answer.CoreAnswer.{CoreAnswer}
 use Rattle.stm_journal_text.specs.declared.entry.Entry.{Entry}
 use Rattle.stm_journal_text.specs.declared.event.Event.{Event}
 use Rattle.stm_journal_text.specs.declared.event.Event.TheVariants.{Read, BeginValidation, ValidateOne, EndValidation}
 use Rattle.stm_memory.specs.declared.version.Version.{Version}
-use Rattle.issuer_rows.specs.declared.row_key.RowKey.{RowKey}
-use Rattle.issuer_rows.specs.declared.row_val.RowVal.{RowVal}
 use Rattle.stm_core.specs.Unread.{got_of}
 use Rattle.stm_core.specs.declared.unread.Unread.{Unread}
 use Rattle.stm_core.specs.declared.unread.Unread.TheVariants as unread
-use Rattle.stm_core_laws.specs.Play.{Play, PlayStep}
 use Rattle.stm_core_laws.specs.Run as call
-use Rattle.stm_core_laws.specs.declared.core_fault.CoreFault.{CoreFault}
 use Rattle.stm_core_laws.specs.declared.core_fault.CoreFault.TheVariants.{NotRunning, OtherReads, Outdated, OutOfMemory, Exhausted}
 use Rattle.stm_journal.specs.Answered.{was_read, validated, ended}
 use Rattle.stm_journal.specs.Finished.{IsFinished}

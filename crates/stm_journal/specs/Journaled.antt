@@ -1,8 +1,7 @@
 -- A core with its journal.
 use Rattle.std.specs.Prelude.{◌≡◌, ℕ, Bool, List, ◌++◌, refl}
 use Rattle.std.specs.Coded.{Coded, code_by, coded×, coded_list, coded_bool}
-use Rattle.stm_journal_text.specs.Answers.{AnswersTo, entered}
-use Rattle.stm_journal_text.specs.Plays.{IsPlayed}
+use Rattle.stm_journal_text.specs.Words.{AnswersTo, IsPlayed, entered}
 use Rattle.stm_journal_text.specs.declared.core_answer.CoreAnswer.{CoreAnswer}
 use Rattle.stm_journal_text.specs.declared.entry.Entry.{Entry}
 use Rattle.stm_journal_text.specs.declared.event.Event.{Event}

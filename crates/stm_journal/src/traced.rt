@@ -3,9 +3,8 @@ ghost use Rattle.stm_journal.specs.Answered.{claimed, was_read, validated, ended
 ghost use Rattle.stm_journal.specs.Finished.{IsFinished};
 ghost use Rattle.issuer_rows.specs.RowVal.{IsOfKind};
 ghost use Rattle.stm_journal.specs.Journaled.{IsJournalStep};
-ghost use Rattle.stm_journal_text.specs.Answers.{FinishAnswersTo, IsNoFinish, IsAnswerOfKind};
-ghost use Rattle.stm_journal_text.specs.Logged.{greatest};
-ghost use Rattle.stm_journal_text.specs.Plays.{IsPlayed};
+ghost use Rattle.stm_journal_text.specs.Words.{FinishAnswersTo, IsAnswerOfKind, IsNoFinish};
+ghost use Rattle.stm_journal_text.specs.Words.{IsPlayed, greatest};
 ghost use Rattle.stm_core_laws.specs.Play.{opening_play};
 
 use crate::asking::{

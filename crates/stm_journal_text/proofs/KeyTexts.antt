@@ -14,8 +14,7 @@ use Rattle.iso8583.specs.Padded.{HasDigits, HasPrintable}
 use Rattle.iso8583.specs.declared.identity.Identity.{Identity}
 use Rattle.issuer_rows.specs.declared.row_key.RowKey.{RowKey}
 use Rattle.issuer_rows.specs.declared.row_key.RowKey.TheVariants as key
-use Rattle.stm_journal_text.specs.Marks.{Lacks}
-use Rattle.stm_journal_text.specs.Texts.{identity_text, key_text, IsIdentity, IsKey}
+use Rattle.stm_journal_text.specs.Words.{IsIdentity, IsKey, Lacks, identity_text, key_text}
 use Rattle.stm_journal_text.proofs.Back.{key_back, key_back_is, printable_bytes}
 use Rattle.stm_journal_text.proofs.Marks.{before, after, before_parts, after_parts, parted, not_lacking, digits_lack, other_lacks}
 

@@ -2,27 +2,22 @@
 use Rattle.std.proofs.Common.{◌≡◌, ◌≢◌, ℕ, inl, inr, refl, sym, ap, ◌∙◌, subst, Option, Some, None, Result, Ok, Err, Bool, true, false}
 use Rattle.std.proofs.lemmas.Bool.{false≢true}
 use Rattle.std.proofs.lemmas.Option.{none-some, same_Some}
-use Rattle.stm_memory.specs.declared.seen.Seen.{Seen}
+use Rattle.issuer_view.specs.Words.{RowKey, RowVal}
+use Rattle.stm_scheduler.specs.Words.{Claims, IsOpen}
+use Rattle.stm_core_laws.specs.Words.{BeginStep, BlockStep, CanAbort, CommitStep, EndStep}
+use Rattle.stm_core_laws.specs.Words.{HasValidation, Play, ReadStep, Seen, State, Task, Validated}
+use Rattle.stm_core_laws.specs.Words.{ValidationStep, Version, is_at_end, logged_of, schedule}
+use Rattle.stm_core_laws.specs.Words.{shelf}
+use Rattle.stm_core_laws.specs.declared.core_fault.CoreFault.{CoreFault}
+use Rattle.stm_core_laws.specs.declared.got.Got.{Got}
+use Rattle.stm_core_laws.specs.declared.logged.Logged.{Logged}
+use Rattle.stm_core_laws.specs.declared.validation.Validation.{Validation}
 use Rattle.stm_memory.specs.declared.seen.Seen.TheVariants as seen
-use Rattle.stm_memory.specs.declared.version.Version.{Version}
-use Rattle.issuer_rows.specs.declared.row_key.RowKey.{RowKey}
-use Rattle.issuer_rows.specs.declared.row_val.RowVal.{RowVal}
 use Rattle.stm_scheduler.proofs.Choices.{choice-unique}
-use Rattle.stm_scheduler.specs.Board.{IsOpen}
-use Rattle.stm_scheduler.specs.Cursors.{Claims}
-use Rattle.stm_scheduler.specs.declared.task.Task.{Task}
 use Rattle.stm_scheduler.specs.declared.task.Task.TheVariants.{Execute, Validate, Idle, Done}
 use Rattle.stm_core_laws.proofs.Unique.{Resolves-unique, Validated-unique, one_validation}
-use Rattle.stm_core_laws.specs.Log.{logged_of}
-use Rattle.stm_core_laws.specs.Play.{Play, schedule}
-use Rattle.stm_core_laws.specs.State.{State, shelf}
-use Rattle.stm_core_laws.specs.Step.{ReadStep, BlockStep, BeginStep, ValidationStep, EndStep, CommitStep, Validated, HasValidation, CanAbort, is_at_end}
-use Rattle.stm_core_laws.specs.declared.validation.Validation.{Validation}
-use Rattle.stm_core_laws.specs.declared.core_fault.CoreFault.{CoreFault}
 use Rattle.stm_core_laws.specs.declared.core_fault.CoreFault.TheVariants.{NotRunning, OtherReads, Outdated, OutOfMemory, Exhausted}
-use Rattle.stm_core_laws.specs.declared.got.Got.{Got}
 use Rattle.stm_core_laws.specs.declared.got.Got.TheVariants as got
-use Rattle.stm_core_laws.specs.declared.logged.Logged.{Logged}
 
 -- one task is chosen
 pub one_task : (old : Play) (a b : Task) (t w : Play) → Claims (schedule old) a (schedule t) → Claims (schedule old) b (schedule w) → a ≡ b

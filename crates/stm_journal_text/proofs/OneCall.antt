@@ -1,15 +1,13 @@
 -- A call with its answer leads a core to one core.
 use Rattle.std.proofs.Common.{◌≡◌, ℕ, ◌+◌, ◌≤◌, min, List, inl, inr, sym, ap, ◌∙◌, subst, Bool, true, false, Ok, Err, arith}
 use Rattle.stm_scheduler.proofs.Choices.{choice-unique}
-use Rattle.stm_scheduler.specs.Cursors.{Schedule, Claims, IsLoweredToWaiting}
-use Rattle.stm_scheduler.specs.declared.message_progress.MessageProgress.{MessageProgress}
-use Rattle.stm_scheduler.specs.declared.task.Task.{Task}
+use Rattle.stm_scheduler.specs.Cursors.{Claims, IsLoweredToWaiting, Schedule}
+use Rattle.stm_core_laws.specs.Words.{Begin, Block, Call, Claim, Commit, End, Finish}
+use Rattle.stm_core_laws.specs.Words.{MessageProgress, Read, State, Step, Task, ValidateOne}
+use Rattle.stm_core_laws.specs.declared.validation.Validation.{Validation}
 use Rattle.stm_scheduler.specs.declared.task.Task.TheVariants.{Execute, Validate, Idle, Done}
 use Rattle.stm_core_laws.proofs.Unique.{unique-Step, one_validation}
 use Rattle.stm_core_laws.specs.Play.{Play, PlayStep, MoveCursors, StandStill, schedule}
-use Rattle.stm_core_laws.specs.Run.{Call, Claim, Read, Block, Finish, Begin, ValidateOne, End, Commit, Step}
-use Rattle.stm_core_laws.specs.State.{State}
-use Rattle.stm_core_laws.specs.declared.validation.Validation.{Validation}
 
 -- a core is its state, and where its cursors stand
 pub same_play : (a b : Play) → a.state ≡ b.state → a.execution ≡ b.execution → a.validation ≡ b.validation → a ≡ b

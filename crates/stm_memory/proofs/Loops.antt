@@ -4,14 +4,11 @@ use Rattle.std.proofs.lemmas.Bool.{cases_lt, false≢true}
 use Rattle.std.proofs.lemmas.List.{length-map}
 use Rattle.std.proofs.lemmas.Option.{none-some, same_Some, slice_get_within}
 use Rattle.std.specs.List.{remove}
-use Rattle.issuer_rows.specs.declared.row_key.RowKey.{RowKey}
-use Rattle.issuer_rows.specs.declared.row_val.RowVal.{RowVal}
-use Rattle.issuer_view.specs.RowSets.{value_in, IsOnceEach}
+use Rattle.issuer_view.specs.Words.{IsOnceEach, RowKey, RowVal, value_in}
+use Rattle.stm_memory.specs.Words.{AreListed, Chains, Held, IsChangedAt, estimate_of, room_of}
+use Rattle.stm_memory.specs.Words.{row_at, rows_of, stands, value_at}
 use Rattle.stm_memory.proofs.ListLaws.{apart, valued, before_removed, was_there, still_there, pushed_before, pushed_last, pushed_cases}
 use Rattle.stm_memory.proofs.RowLaws.{rows_cases}
-use Rattle.stm_memory.specs.Chains.{Chains, stands, rows_of, row_at, room_of, IsChangedAt}
-use Rattle.stm_memory.specs.Entries.{Held, estimate_of, value_at}
-use Rattle.stm_memory.specs.Memory.{AreListed}
 
 -- as many rows have chains as before
 pub same_length : (old new : Chains) → rows_of new ≡ rows_of old → length new ≡ length old

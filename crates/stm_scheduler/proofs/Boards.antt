@@ -6,12 +6,12 @@ use Rattle.std.proofs.Math.ListN.{length-replicate}
 use Rattle.stm_scheduler.proofs.Lists.{at, at-woken, lists_changed}
 use Rattle.stm_memory.specs.declared.version.Version.{Version}
 use Rattle.stm_scheduler.proofs.Choices.{Chooses-allowed}
+use Rattle.stm_scheduler.specs.Board.{Board, IsReady, floor, fresh_mark, mark, woken, woken_status}
+use Rattle.stm_scheduler.specs.Cursors.{Chooses, IsLoweredToWaiting, Schedule, open_schedule}
+use Rattle.stm_scheduler.specs.Sound.{AreWaitLists, IsHighest, IsSound}
+use Rattle.stm_scheduler.specs.declared.message_progress.MessageProgress.{MessageProgress}
 use Rattle.stm_scheduler.specs.declared.task.Task.{Task}
 use Rattle.stm_scheduler.specs.declared.task.Task.TheVariants as task
-use Rattle.stm_scheduler.specs.Board.{Board, IsReady, mark, fresh_mark, floor, woken, woken_status}
-use Rattle.stm_scheduler.specs.Cursors.{Schedule, Chooses, IsLoweredToWaiting, open_schedule}
-use Rattle.stm_scheduler.specs.Sound.{IsSound, IsHighest, AreWaitLists}
-use Rattle.stm_scheduler.specs.declared.message_progress.MessageProgress.{MessageProgress}
 use Rattle.stm_scheduler.specs.declared.status.Status.TheVariants as status
 
 running_executed : status.Running ≡ status.Executed → ⊥

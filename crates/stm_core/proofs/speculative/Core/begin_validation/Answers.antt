@@ -1,6 +1,5 @@
 use Rattle.std.proofs.Common.{◌<◌, ℕ, false, set, ap₂, Some, Ok}
-use Rattle.stm_core_laws.specs.Play.{Play, PlayStep}
-use Rattle.stm_core_laws.specs.Run.{Begin}
+use Rattle.stm_core_laws.specs.Words.{Begin, Play, PlayStep}
 use Rattle.stm_core_laws.specs.declared.validation.Validation.{Validation}
 use Rattle.stm_core.proofs.Steps.{as_called, at_slot, begin_step, play, sound_kept}
 use Rattle.stm_core.specs.contracts.speculative.Core.{the_view}

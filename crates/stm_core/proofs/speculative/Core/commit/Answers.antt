@@ -1,7 +1,5 @@
 use Rattle.std.proofs.Common.{subst}
-use Rattle.stm_core_laws.specs.Play.{Play, PlayStep}
-use Rattle.stm_core_laws.specs.Run.{Commit}
-use Rattle.stm_core_laws.specs.State.{State}
+use Rattle.stm_core_laws.specs.Words.{Commit, Play, PlayStep, State}
 use Rattle.stm_core.proofs.Steps.{commit_play, play, sound_kept}
 use Rattle.stm_core.specs.contracts.speculative.Core.{the_view}
 use Rattle.stm_core.proofs.speculative.Core.commit.Goals as goal

@@ -1,9 +1,6 @@
 use Rattle.std.proofs.Common.{◌≡◌, true, false, set, refl, sym, ◌∙◌, Some, None, Ok, Err, arith}
 use Rattle.std.proofs.lemmas.Bool.{false≢true}
-use Rattle.stm_core_laws.specs.Play.{Play, PlayStep}
-use Rattle.stm_core_laws.specs.Run.{End}
-use Rattle.stm_core_laws.specs.State.{validation_of}
-use Rattle.stm_core_laws.specs.Step.{CanAbort}
+use Rattle.stm_core_laws.specs.Words.{CanAbort, End, Play, PlayStep, validation_of}
 use Rattle.stm_core_laws.specs.declared.core_fault.CoreFault.TheVariants.{Outdated, Exhausted}
 use Rattle.stm_core.proofs.Steps.{as_called, at_seat, fail_step, pass_step, play, refused_as_called, sound_kept}
 use Rattle.stm_core.specs.contracts.speculative.Core.{the_view}

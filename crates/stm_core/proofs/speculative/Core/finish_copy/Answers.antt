@@ -3,10 +3,7 @@ use Rattle.std.proofs.lemmas.Bool.{false≢true}
 use Rattle.std.proofs.lemmas.Result.{err_from_is_err_and}
 use Rattle.issuer_rows.specs.Plan.{Writes}
 use Rattle.stm_memory.specs.Entries.{Entries, AreReplaced, IsNewLocation}
-use Rattle.stm_core_laws.specs.Play.{Play, PlayStep}
-use Rattle.stm_core_laws.specs.Run.{Finish}
-use Rattle.stm_core_laws.specs.State.{State, slot}
-use Rattle.stm_core_laws.specs.Step.{IsOfVersion}
+use Rattle.stm_core_laws.specs.Words.{Finish, IsOfVersion, Play, PlayStep, State, slot}
 use Rattle.stm_core_laws.specs.declared.core_fault.CoreFault.{CoreFault}
 use Rattle.stm_core_laws.specs.declared.core_fault.CoreFault.TheVariants.{OtherReads, OutOfMemory, Exhausted}
 use Rattle.stm_core.proofs.Steps.{at_slot, finish_step, not_of_version, of_version, play, sound_kept}

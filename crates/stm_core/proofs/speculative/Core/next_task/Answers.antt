@@ -1,7 +1,5 @@
 use Rattle.std.proofs.Common.{subst}
-use Rattle.stm_core_laws.specs.Play.{Play, PlayStep}
-use Rattle.stm_core_laws.specs.Run.{Claim}
-use Rattle.stm_core_laws.specs.State.{State}
+use Rattle.stm_core_laws.specs.Words.{Claim, Play, PlayStep, State}
 use Rattle.stm_core.proofs.Steps.{claim_step, play, sound_kept}
 use Rattle.stm_core.specs.contracts.speculative.Core.{the_view}
 use Rattle.stm_core.proofs.speculative.Core.next_task.Goals as goal

@@ -2,8 +2,7 @@ use Rattle.std.proofs.Common.{◌≡◌, ℕ, take, filter_map, subst, ap, ◌�
 use Rattle.stm_memory.specs.Resolves.{IsLaidOver}
 use Rattle.issuer_rows.specs.Fold.{rows_after, replies_to}
 use Rattle.stm_core_laws.proofs.Reached.{replies-reached, rows-reached}
-use Rattle.stm_core_laws.specs.Play.{Play}
-use Rattle.stm_core_laws.specs.State.{ExecutionSlot, State, shelf}
+use Rattle.stm_core_laws.specs.Words.{ExecutionSlot, Play, State, shelf}
 use Rattle.stm_core.proofs.Resolving.{one_laid}
 use Rattle.stm_core.specs.contracts.speculative.Core.{the_view}
 use Rattle.stm_core.proofs.speculative.Core.prefix.Goals as goal

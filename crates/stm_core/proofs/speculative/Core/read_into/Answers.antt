@@ -2,10 +2,7 @@ use Rattle.std.proofs.Common.{◌≡◌, set, inl, refl, sym, ap, ◌∙◌, sub
 use Rattle.std.proofs.lemmas.Result.{err_from_is_err_and}
 use Rattle.std.specs.Option.{option_copied}
 use Rattle.stm_memory.specs.Chains.{seen_of}
-use Rattle.stm_core_laws.specs.Log.{logged_in}
-use Rattle.stm_core_laws.specs.Play.{Play, PlayStep}
-use Rattle.stm_core_laws.specs.Run.{Read}
-use Rattle.stm_core_laws.specs.State.{State, ExecutionSlot, slot}
+use Rattle.stm_core_laws.specs.Words.{ExecutionSlot, Play, PlayStep, Read, State, logged_in, slot}
 use Rattle.stm_core_laws.specs.declared.core_fault.CoreFault.TheVariants.{OutOfMemory}
 use Rattle.stm_core_laws.specs.declared.got.Got.TheVariants as got
 use Rattle.stm_core.proofs.Steps.{at_slot, slot_back, not_in, read_step, play, sound_kept, unlogged}

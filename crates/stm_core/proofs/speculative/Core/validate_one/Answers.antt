@@ -1,8 +1,7 @@
 use Rattle.std.proofs.Common.{◌≡◌, ◌<◌, set, refl, sym, ◌∙◌, subst, Some, Ok, Err, length}
 use Rattle.std.proofs.lemmas.Bool.{false≢true}
-use Rattle.stm_core_laws.specs.Play.{Play, PlayStep}
-use Rattle.stm_core_laws.specs.Run.{ValidateOne}
-use Rattle.stm_core_laws.specs.State.{ExecutionSlot, slot, validation_of}
+use Rattle.stm_core_laws.specs.Words.{ExecutionSlot, Play, PlayStep, ValidateOne, slot}
+use Rattle.stm_core_laws.specs.Words.{validation_of}
 use Rattle.stm_core_laws.specs.declared.core_fault.CoreFault.TheVariants.{Outdated}
 use Rattle.stm_core.proofs.Steps.{as_called, at_seat, at_slot, before_end, validation_step, next_there, play, refused_as_called, sound_kept}
 use Rattle.stm_core.specs.contracts.speculative.Core.{the_view}
