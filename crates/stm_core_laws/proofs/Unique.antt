@@ -125,9 +125,7 @@ unique-ReadStep old v row (Ok (got.Row value)) a b x y =
 unique-ReadStep old v row (Ok (got.Estimate at)) a b x y = both a b _ x.2 y.2
 unique-ReadStep old v row (Err NotRunning) a b x y = both a b _ x.1 y.1
 unique-ReadStep old v row (Err OutOfMemory) a b x y = both a b _ x.2 y.2
-unique-ReadStep old v row (Err OtherReads) a b x y = absurd x
-unique-ReadStep old v row (Err Outdated) a b x y = absurd x
-unique-ReadStep old v row (Err Exhausted) a b x y = absurd x
+unique-ReadStep old v row answer a b x y = absurd x
 
 unique-BlockStep : (old : State) (v : Version) (on : ℕ) (answer : Result (Unit {0}) CoreFault) (a b : State) → BlockStep old v on answer a → BlockStep old v on answer b → a ≡ b
 unique-BlockStep old v on (Ok u) a b x y =
@@ -137,9 +135,7 @@ unique-BlockStep old v on (Ok u) a b x y =
     ]
 unique-BlockStep old v on (Err NotRunning) a b x y = both a b _ x.1 y.1
 unique-BlockStep old v on (Err Exhausted) a b x y = both a b _ x.2 y.2
-unique-BlockStep old v on (Err OtherReads) a b x y = absurd x
-unique-BlockStep old v on (Err Outdated) a b x y = absurd x
-unique-BlockStep old v on (Err OutOfMemory) a b x y = absurd x
+unique-BlockStep old v on answer a b x y = absurd x
 
 unique-FinishStep : (old : State) (v : Version) (x : Executed) (answer : Result Bool CoreFault) (a b : State) → FinishStep old v x answer a → FinishStep old v x answer b → a ≡ b
 unique-FinishStep old v x (Ok handed) a b p q =
@@ -163,10 +159,7 @@ unique-FinishStep old v x (Err Outdated) a b p q = absurd p
 unique-BeginStep : (old : State) (seat : ℕ) (v : Version) (answer : Result Bool CoreFault) (a b : State) → BeginStep old seat v answer a → BeginStep old seat v answer b → a ≡ b
 unique-BeginStep old seat v (Ok ended) a b x y = both a b _ x.2 y.2
 unique-BeginStep old seat v (Err Outdated) a b x y = both a b _ x.1 y.1
-unique-BeginStep old seat v (Err NotRunning) a b x y = absurd x
-unique-BeginStep old seat v (Err OtherReads) a b x y = absurd x
-unique-BeginStep old seat v (Err OutOfMemory) a b x y = absurd x
-unique-BeginStep old seat v (Err Exhausted) a b x y = absurd x
+unique-BeginStep old seat v answer a b x y = absurd x
 
 -- the validation after its next read is one
 pub Validated-unique : (s : State) (c m n : Validation) → Validated s c m → Validated s c n → m ≡ n
@@ -189,9 +182,7 @@ unique-ValidationStep old seat (Ok ended) a b x y =
     x.6 ∙ ap (λ (c : Validation). with_validation old seat (Some c)) next ∙ sym y.6
 unique-ValidationStep old seat (Err NotRunning) a b x y = both a b _ x.1 y.1
 unique-ValidationStep old seat (Err Outdated) a b x y = both a b _ x.1 y.1
-unique-ValidationStep old seat (Err OtherReads) a b x y = absurd x
-unique-ValidationStep old seat (Err OutOfMemory) a b x y = absurd x
-unique-ValidationStep old seat (Err Exhausted) a b x y = absurd x
+unique-ValidationStep old seat answer a b x y = absurd x
 
 unique-EndStep : (old : State) (seat : ℕ) (answer : Result Bool CoreFault) (a b : State) → EndStep old seat answer a → EndStep old seat answer b → a ≡ b
 unique-EndStep old seat (Ok true) a b x y =
@@ -204,8 +195,7 @@ unique-EndStep old seat (Ok false) a b x y =
 unique-EndStep old seat (Err NotRunning) a b x y = both a b _ x.1 y.1
 unique-EndStep old seat (Err Outdated) a b x y = both a b _ x.1 y.1
 unique-EndStep old seat (Err Exhausted) a b x y = both a b _ x.1 y.1
-unique-EndStep old seat (Err OtherReads) a b x y = absurd x
-unique-EndStep old seat (Err OutOfMemory) a b x y = absurd x
+unique-EndStep old seat answer a b x y = absurd x
 
 unique-CommitStep : (old : State) (answer : Bool) (a b : State) → CommitStep old answer a → CommitStep old answer b → a ≡ b
 unique-CommitStep old true a b x y = both a b _ x.2 y.2

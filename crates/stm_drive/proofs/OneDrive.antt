@@ -94,19 +94,7 @@ same_answer p seat EndValidation (Refused a) (Ended b) t w f g x y = ap ended (o
 same_answer p seat EndValidation (Refused a) (Refused b) t w f g x y = ap ended (one_end p.state seat (Err a) (Err b) t.state w.state x.0.1 y.0.1)
 same_answer p seat Commit (Committed a) (Committed b) t w f g x y = ap (λ (done : Bool). Committed done) (one_commit p.state a b t.state w.state x.0 y.0)
 -- one of the two is no answer to this event
-same_answer p seat Claim (Claimed a) other t w f g x y = absurd y
-same_answer p seat (Read v row) (Got a) other t w f g x y = absurd y
-same_answer p seat (Read v row) (Refused a) other t w f g x y = absurd y
-same_answer p seat (Block v on) Blocked other t w f g x y = absurd y
-same_answer p seat (Block v on) (Refused a) other t w f g x y = absurd y
-same_answer p seat (BeginValidation v) (Validating a) other t w f g x y = absurd y
-same_answer p seat (BeginValidation v) (Refused a) other t w f g x y = absurd y
-same_answer p seat ValidateOne (Validating a) other t w f g x y = absurd y
-same_answer p seat ValidateOne (Refused a) other t w f g x y = absurd y
-same_answer p seat EndValidation (Ended a) other t w f g x y = absurd y
-same_answer p seat EndValidation (Refused a) other t w f g x y = absurd y
-same_answer p seat Commit (Committed a) other t w f g x y = absurd y
-same_answer p seat event answer other t w f g x y = absurd x
+same_answer p seat event answer other t w f g x y = absurd assumption
 
 same_head : (x y : RowKey) (xs ys : List RowKey) → x ∷ xs ≡ y ∷ ys → x ≡ y
 same_head x y xs ys e = cc
@@ -157,16 +145,8 @@ one_event s (holds.Validation v) (BeginValidation u) (BeginValidation w) a b = a
 one_event s holds.Reads ValidateOne ValidateOne a b = refl
 one_event s holds.Verdict EndValidation EndValidation a b = refl
 one_event s holds.Commits Commit Commit a b = refl
--- it doesn't make the other one
-one_event s holds.Nothing Claim other a b = absurd b
-one_event s (holds.Execution v) (Read u row) other a b = absurd b
-one_event s (holds.Execution v) (Finish u) other a b = absurd b
-one_event s (holds.Estimate v on) (Block u at) other a b = absurd b
-one_event s (holds.Validation v) (BeginValidation u) other a b = absurd b
-one_event s holds.Reads ValidateOne other a b = absurd b
-one_event s holds.Verdict EndValidation other a b = absurd b
-one_event s holds.Commits Commit other a b = absurd b
-one_event s holding event other a b = absurd a
+-- it doesn't make one of the two
+one_event s holding event other a b = absurd assumption
 
 -- a seat that ended makes none
 ended_makes : (s : State) (event : Event) → Makes s holds.Ended event → ⊥

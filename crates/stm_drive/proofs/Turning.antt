@@ -59,19 +59,14 @@ own_reads s v x t at keys agrees logged step =
 finish_answered : (old : Play) (seat : ℕ) (v : Version) (x : Executed) (answer : CoreAnswer) (new : Play) → FinishAnswers old v x answer new → Answers old seat (Finish v) answer new
 finish_answered old seat v x (Finished handed) new step = (x, step)
 finish_answered old seat v x (Refused NotRunning) new step = (step.0.1.0, same_still old new step.0.1.1 step.1)
-finish_answered old seat v x (Refused OtherReads) new step = (x, step)
-finish_answered old seat v x (Refused Outdated) new step = (x, step)
-finish_answered old seat v x (Refused OutOfMemory) new step = (x, step)
-finish_answered old seat v x (Refused Exhausted) new step = (x, step)
+finish_answered old seat v x (Refused fault) new step = (x, step)
 finish_answered old seat v x answer new step = absurd step
 
 stood_finish : (old : Play) (v : Version) (x : Executed) (answer : CoreAnswer) (new : Play) → FinishAnswers old v x answer new → ¬ FinishStep old.state v x (Err OtherReads) new.state → answer ≢ Refused OutOfMemory → stands answer ≡ true
 stood_finish old v x (Finished handed) new step own room = refl
-stood_finish old v x (Refused NotRunning) new step own room = refl
 stood_finish old v x (Refused OtherReads) new step own room = absurd (own step.0.1)
-stood_finish old v x (Refused Outdated) new step own room = refl
 stood_finish old v x (Refused OutOfMemory) new step own room = absurd (room refl)
-stood_finish old v x (Refused Exhausted) new step own room = refl
+stood_finish old v x (Refused fault) new step own room = refl
 stood_finish old v x answer new step own room = absurd step
 
 -- a seat that hands its execution in

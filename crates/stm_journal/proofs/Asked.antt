@@ -69,12 +69,11 @@ begin_asked old seat v (Ok is_ended) new step = step
 begin_asked old seat v (Err fault) new step = step
 
 pub begin_entered : (old : Play) (seat : ℕ) (v : Version) (answer : Result Bool CoreFault) (new : Play) → PlayStep old (call.Begin seat v answer) new → enters (validated answer) ≡ true
-begin_entered old seat v (Ok is_ended) new step = refl
 begin_entered old seat v (Err NotRunning) new step = absurd step.0.1
 begin_entered old seat v (Err OtherReads) new step = absurd step.0.1
-begin_entered old seat v (Err Outdated) new step = refl
 begin_entered old seat v (Err OutOfMemory) new step = absurd step.0.1
 begin_entered old seat v (Err Exhausted) new step = absurd step.0.1
+begin_entered old seat v answer new step = refl
 
 -- a validation that goes on
 pub validation_asked : (old : Play) (seat : ℕ) (answer : Result Bool CoreFault) (new : Play) → PlayStep old (call.ValidateOne seat answer) new → Answers old seat ValidateOne (validated answer) new
@@ -82,12 +81,10 @@ validation_asked old seat (Ok is_ended) new step = step
 validation_asked old seat (Err fault) new step = step
 
 pub validation_entered : (old : Play) (seat : ℕ) (answer : Result Bool CoreFault) (new : Play) → PlayStep old (call.ValidateOne seat answer) new → enters (validated answer) ≡ true
-validation_entered old seat (Ok is_ended) new step = refl
-validation_entered old seat (Err NotRunning) new step = refl
 validation_entered old seat (Err OtherReads) new step = absurd step.0.1
-validation_entered old seat (Err Outdated) new step = refl
 validation_entered old seat (Err OutOfMemory) new step = absurd step.0.1
 validation_entered old seat (Err Exhausted) new step = absurd step.0.1
+validation_entered old seat answer new step = refl
 
 -- the end of a validation
 pub end_asked : (old : Play) (seat : ℕ) (answer : Result Bool CoreFault) (new : Play) → PlayStep old (call.End seat answer) new → Answers old seat EndValidation (ended answer) new
@@ -95,9 +92,6 @@ end_asked old seat (Ok has_passed) new step = step
 end_asked old seat (Err fault) new step = step
 
 pub end_entered : (old : Play) (seat : ℕ) (answer : Result Bool CoreFault) (new : Play) → PlayStep old (call.End seat answer) new → enters (ended answer) ≡ true
-end_entered old seat (Ok has_passed) new step = refl
-end_entered old seat (Err NotRunning) new step = refl
 end_entered old seat (Err OtherReads) new step = absurd step.0.1
-end_entered old seat (Err Outdated) new step = refl
 end_entered old seat (Err OutOfMemory) new step = absurd step.0.1
-end_entered old seat (Err Exhausted) new step = refl
+end_entered old seat answer new step = refl

@@ -36,16 +36,7 @@ asked_stands p seat (BeginValidation v) (Refused OtherReads) t plain a room = ab
 asked_stands p seat ValidateOne (Refused OtherReads) t plain a room = absurd a.0.1
 asked_stands p seat EndValidation (Refused OtherReads) t plain a room = absurd a.0.1
 asked_stands p seat Commit (Refused OtherReads) t plain a room = absurd a
-asked_stands p seat event (Refused NotRunning) t plain a room = refl
-asked_stands p seat event (Refused Outdated) t plain a room = refl
-asked_stands p seat event (Refused Exhausted) t plain a room = refl
-asked_stands p seat event (Claimed task) t plain a room = refl
-asked_stands p seat event (Got got) t plain a room = refl
-asked_stands p seat event Blocked t plain a room = refl
-asked_stands p seat event (Finished handed) t plain a room = refl
-asked_stands p seat event (Validating ended) t plain a room = refl
-asked_stands p seat event (Ended passed) t plain a room = refl
-asked_stands p seat event (Committed done) t plain a room = refl
+asked_stands p seat event answer t plain a room = refl
 
 -- an event that hands no execution in stands, unless there was no room
 pub asked_again : (p : Play) (entry : Entry) (answer : CoreAnswer) (t : Play) → IsNoFinish entry.event → Answers p entry.seat entry.event answer t → answer ≢ Refused OutOfMemory → EntryStep p entry t

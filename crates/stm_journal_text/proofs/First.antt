@@ -26,13 +26,7 @@ stuck p seat (Finish v) (Refused OutOfMemory) t un stand a = false≢true stand
 stuck p seat (Finish v) (Refused OtherReads) t un stand a = false≢true stand
 stuck p seat (Finish v) (Refused Outdated) t un stand a = a.1.0.1
 stuck p seat (Finish v) answer t un stand a = a
-stuck p seat Claim answer t un stand a = un
-stuck p seat (Read v row) answer t un stand a = un
-stuck p seat (Block v on) answer t un stand a = un
-stuck p seat (BeginValidation v) answer t un stand a = un
-stuck p seat ValidateOne answer t un stand a = un
-stuck p seat EndValidation answer t un stand a = un
-stuck p seat Commit answer t un stand a = un
+stuck p seat event answer t un stand a = un
 
 -- a play of two lists goes through the core between
 Plays-split : (start : Play) (before after : List Entry) (t : Play) → Plays start (before ++ after) t → (mid : Play) × Plays start before mid × Plays mid after t

@@ -107,19 +107,7 @@ one_answer p seat EndValidation (Refused a) (Ended b) t w f g x y = after_end p 
 one_answer p seat EndValidation (Refused a) (Refused b) t w f g x y = after_end p seat (Err a) (Err b) t w x y
 one_answer p seat Commit (Committed a) (Committed b) t w f g x y = after_commit p a b t w x y
 -- one of the two is no answer to this event
-one_answer p seat Claim (Claimed a) other t w f g x y = absurd y
-one_answer p seat (Read v row) (Got a) other t w f g x y = absurd y
-one_answer p seat (Read v row) (Refused a) other t w f g x y = absurd y
-one_answer p seat (Block v on) Blocked other t w f g x y = absurd y
-one_answer p seat (Block v on) (Refused a) other t w f g x y = absurd y
-one_answer p seat (BeginValidation v) (Validating a) other t w f g x y = absurd y
-one_answer p seat (BeginValidation v) (Refused a) other t w f g x y = absurd y
-one_answer p seat ValidateOne (Validating a) other t w f g x y = absurd y
-one_answer p seat ValidateOne (Refused a) other t w f g x y = absurd y
-one_answer p seat EndValidation (Ended a) other t w f g x y = absurd y
-one_answer p seat EndValidation (Refused a) other t w f g x y = absurd y
-one_answer p seat Commit (Committed a) other t w f g x y = absurd y
-one_answer p seat event answer other t w f g x y = absurd x
+one_answer p seat event answer other t w f g x y = absurd assumption
 
 -- a journal plays to one core
 pub one_play : (start : Play) (entries : List Entry) (t w : Play) → Plays start entries t → Plays start entries w → t ≡ w
