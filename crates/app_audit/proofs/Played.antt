@@ -1,12 +1,10 @@
 -- What a journal plays to is of its book and its bodies.
 use Rattle.std.proofs.Common.{◌≡◌, List, [], ◌∷◌, length, take, ap, ◌∙◌}
 use Rattle.std.proofs.Math.Seq.{take-length}
-use Rattle.issuer_rows.specs.Fold.{Rows, rows_after, replies_to}
-use Rattle.issuer_rows.specs.declared.frame.Frame.{Frame}
+use Rattle.issuer_view.specs.Words.{Frame, Rows, replies_to, rows_after}
+use Rattle.stm_journal_text.specs.Words.{Plays, greatest}
 use Rattle.stm_journal_text.specs.declared.entry.Entry.{Entry}
 use Rattle.stm_journal_text.proofs.Playing.{same_answers}
-use Rattle.stm_journal_text.specs.Logged.{greatest}
-use Rattle.stm_journal_text.specs.Plays.{Plays}
 use Rattle.stm_core_laws.specs.Play.{Play, opening_play}
 
 -- opening book and bodies stay

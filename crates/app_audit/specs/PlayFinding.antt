@@ -1,10 +1,7 @@
 -- What an audit against a journal finds.
 use Rattle.std.specs.Prelude.{◌≡◌, ◌≢◌, List, length}
-use Rattle.issuer_rows.specs.Fold.{Rows, rows_after, replies_to}
-use Rattle.issuer_rows.specs.declared.frame.Frame.{Frame}
-use Rattle.issuer_rows.specs.declared.reply_body.ReplyBody.{ReplyBody}
-use Rattle.stm_journal_text.specs.Logged.{greatest}
-use Rattle.stm_journal_text.specs.Plays.{Plays}
+use Rattle.issuer_view.specs.Words.{Frame, ReplyBody, Rows, replies_to, rows_after}
+use Rattle.stm_journal_text.specs.Words.{Plays, greatest}
 use Rattle.stm_journal_text.specs.declared.entry.Entry.{Entry}
 use Rattle.stm_core_laws.specs.Play.{Play, opening_play}
 use Rattle.app_audit.specs.Finding.{Finds}

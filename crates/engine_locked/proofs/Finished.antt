@@ -3,26 +3,20 @@ use Rattle.std.proofs.Common.{◌≡◌, ℕ, List, ◌++◌, inl, inr, length, 
 use Rattle.issuer_fold.specs.declared.run_outcome.RunOutcome.{RunOutcome}
 use Rattle.stm_journal.specs.Finished.{IsFinished}
 use Rattle.stm_journal.specs.SomePlay.{IsSomePlay}
-use Rattle.issuer_rows.specs.Agreement.{Executed}
-use Rattle.issuer_rows.specs.Fold.{Rows, rows_after, replies_to}
-use Rattle.issuer_rows.specs.declared.frame.Frame.{Frame}
-use Rattle.issuer_rows.specs.declared.reply_body.ReplyBody.{ReplyBody}
-use Rattle.stm_journal_text.specs.Answers.{AnswersTo, FinishAnswersTo, entered}
-use Rattle.stm_journal_text.specs.Plays.{IsPlayed, Plays}
-use Rattle.stm_journal_text.specs.declared.core_answer.CoreAnswer.TheVariants.{Claimed, Refused}
+use Rattle.issuer_view.specs.Words.{Executed, Frame, ReplyBody, Rows, replies_to, rows_after}
+use Rattle.stm_core_laws.specs.Words.{IsReached, Play, State, bounded, opening_play}
+use Rattle.stm_journal_text.specs.Words.{AnswersTo, FinishAnswersTo, IsPlayed, Limits, Plays}
+use Rattle.stm_journal_text.specs.Words.{entered}
 use Rattle.stm_journal_text.specs.declared.entry.Entry.{Entry}
 use Rattle.stm_journal_text.specs.declared.event.Event.{Event}
+use Rattle.stm_journal_text.specs.declared.core_answer.CoreAnswer.TheVariants.{Claimed, Refused}
 use Rattle.stm_journal_text.specs.declared.event.Event.TheVariants.{Claim, Finish}
 use Rattle.stm_memory.specs.declared.version.Version.{Version}
 use Rattle.stm_scheduler.specs.declared.task.Task.TheVariants.{Done}
 use Rattle.stm_core_laws.proofs.Reached.{replies-reached, bounded_again}
-use Rattle.stm_core_laws.specs.Play.{Play, opening_play}
-use Rattle.stm_core_laws.specs.Run.{IsReached}
-use Rattle.stm_core_laws.specs.State.{State, bounded}
 use Rattle.stm_core_laws.specs.declared.core_fault.CoreFault.TheVariants.{Exhausted}
-use Rattle.stm_core_laws.specs.declared.limits.Limits.{Limits}
-use Rattle.engine_locked.proofs.Rest.{replies_of_both}
-use Rattle.engine_locked.specs.Journals.{IsJournalOf, AreCommitted, AreJournals, IsSomeEnd}
+use Rattle.issuer_fold.proofs.FoldLaws.{replies_of_both}
+use Rattle.engine_locked.specs.Journals.{IsCoreOf, IsJournalOf, AreCommitted, AreJournals, IsSomeEnd}
 
 -- where nothing is to be done any more, all is committed
 pub done_finished : (old new : Play) (seat : ℕ) (entries : List Entry) → AnswersTo old seat Claim (Claimed Done) new → IsFinished new entries
@@ -66,14 +60,14 @@ opened_bounded opening frames limits =
 
 -- what a run hands out is a journal of it
 pub journal_of : (core : Play) (entries : List Entry) (opening : Rows) (frames : List Frame) (limits : Limits) (committed : ℕ) (replies : List ReplyBody) → IsPlayed core entries → IsReached core.state
-    → core.state.opening ≡ opening → core.state.frames ≡ frames → core.state.limits ≡ bounded limits → core.state.board.committed ≡ committed → replies ≡ replies_to opening frames → IsFinished core entries
+    → IsCoreOf opening frames limits core → core.state.board.committed ≡ committed → replies ≡ replies_to opening frames → IsFinished core entries
     → IsJournalOf (opening_play opening frames limits) entries committed replies
 unfolding IsPlayed
-journal_of core entries opening frames limits committed replies played reached book bodies bounds count are finished =
+journal_of core entries opening frames limits committed replies played reached of count are finished =
     let s : State = core.state in
-    let by_limits : Plays (opening_play s.opening s.frames (bounded limits)) entries core = subst (λ (l : Limits). Plays (opening_play s.opening s.frames l) entries core) bounds played in
-    let by_frames : Plays (opening_play s.opening frames (bounded limits)) entries core = subst (λ (fs : List Frame). Plays (opening_play s.opening fs (bounded limits)) entries core) bodies by_limits in
-    let by_book : Plays (opening_play opening frames (bounded limits)) entries core = subst (λ (rows : Rows). Plays (opening_play rows frames (bounded limits)) entries core) book by_frames in
+    let by_limits : Plays (opening_play s.opening s.frames (bounded limits)) entries core = subst (λ (l : Limits). Plays (opening_play s.opening s.frames l) entries core) of.within played in
+    let by_frames : Plays (opening_play s.opening frames (bounded limits)) entries core = subst (λ (fs : List Frame). Plays (opening_play s.opening fs (bounded limits)) entries core) of.frames by_limits in
+    let by_book : Plays (opening_play opening frames (bounded limits)) entries core = subst (λ (rows : Rows). Plays (opening_play rows frames (bounded limits)) entries core) of.opened by_frames in
     record {
       core = core;
       plays = subst (λ (p : Play). Plays p entries core) (opened_bounded opening frames limits) by_book;
@@ -82,7 +76,7 @@ journal_of core entries opening frames limits committed replies played reached b
       begins =
           ap (λ (rs : List ReplyBody). rs ++ replies_to (rows_after s.opening (take s.board.committed s.frames)) (drop s.board.committed s.frames)) (replies-reached s reached)
           ∙ replies_of_both s.opening s.frames s.board.committed
-          ∙ ap (λ (rows : Rows). replies_to rows s.frames) book ∙ ap (replies_to opening) bodies ∙ sym are;
+          ∙ ap (λ (rows : Rows). replies_to rows s.frames) of.opened ∙ ap (replies_to opening) of.frames ∙ sym are;
       finished = finished;
     }
 

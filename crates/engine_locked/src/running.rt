@@ -1,11 +1,9 @@
-ghost use Rattle.std.specs.Prelude.{◌≡◌, ◌≤◌, length, IfOk, IsTrue};
-ghost use Rattle.issuer_rows.specs.Fold.{replies_to, rows_after};
-ghost use Rattle.engine_locked.specs.Journals.{IsJournalOf, AreCommitted, AreJournals, IsSomeEnd};
-ghost use Rattle.engine_workers.specs.Started.{IsStarted};
+ghost use Rattle.std.specs.Prelude.{◌≡◌, ℕ, ◌≤◌, length, IfOk, IsTrue};
+ghost use Rattle.engine_locked.specs.Journals.{IsCoreOf, IsJournalOf, AreCommitted, AreJournals, IsSomeEnd};
+ghost use Rattle.issuer_fold.specs.Run.{IsRun, IsStarted};
 ghost use Rattle.stm_journal.specs.Finished.{IsFinished};
 ghost use Rattle.stm_journal_text.specs.Logged.{greatest};
 ghost use Rattle.stm_core_laws.specs.Play.{opening_play};
-ghost use Rattle.stm_core_laws.specs.State.{bounded};
 
 use crate::alone::played_alone;
 use crate::turns::LockedWorker;
@@ -36,10 +34,7 @@ pub fn run<R: Threads + Wait + Sync, F: Decide + Sync, G: Hook>(
     hook: &G,
 ) -> Result<RunOutcome, AllocError>
     requires { length frames.now ≤ 65536 }
-    ensures replies { IfOk result (λ outcome. outcome.replies.items ≡ replies_to book.now frames.now) }
-    ensures book { IfOk result (λ outcome. outcome.book ≡ rows_after book.now frames.now) }
-    ensures started { IfOk result (λ outcome. IsStarted outcome.started workers) }
-    ensures committed { IfOk result (λ outcome. outcome.committed ≤ length frames.now) }
+    ensures run { IfOk result (IsRun book.now frames.now workers) }
     ensures journal { IfOk result (λ outcome. AreCommitted (opening_play book.now frames.now greatest) outcome.committed outcome.replies.items) }
 {
     let limits = Limits {
@@ -62,10 +57,7 @@ pub fn run_with_limits<R: Threads + Wait + Sync, F: Decide + Sync, G: Hook>(
     hook: &G,
 ) -> Result<RunOutcome, AllocError>
     requires { length frames.now ≤ 65536 }
-    ensures replies { IfOk result (λ outcome. outcome.replies.items ≡ replies_to book.now frames.now) }
-    ensures book { IfOk result (λ outcome. outcome.book ≡ rows_after book.now frames.now) }
-    ensures started { IfOk result (λ outcome. IsStarted outcome.started workers) }
-    ensures committed { IfOk result (λ outcome. outcome.committed ≤ length frames.now) }
+    ensures run { IfOk result (IsRun book.now frames.now workers) }
     ensures journal { IfOk result (λ outcome. AreCommitted (opening_play book.now frames.now limits) outcome.committed outcome.replies.items) }
 {
     let shared = Mutex::new(Untraced::with_limits(alloc, book, frames, limits)?);
@@ -86,10 +78,7 @@ pub fn run_traced<R: Threads + Wait + Sync, F: Decide + Sync, G: Hook>(
     hook: &G,
 ) -> Result<(RunOutcome, Vec<Entry>), AllocError>
     requires { length frames.now ≤ 65536 }
-    ensures replies { IfOk result (λ run. run.0.replies.items ≡ replies_to book.now frames.now) }
-    ensures book { IfOk result (λ run. run.0.book ≡ rows_after book.now frames.now) }
-    ensures started { IfOk result (λ run. IsStarted run.0.started workers) }
-    ensures committed { IfOk result (λ run. run.0.committed ≤ length frames.now) }
+    ensures run { IfOk result (λ run. IsRun book.now frames.now workers run.0) }
     ensures journal { IfOk result (λ run. IsJournalOf (opening_play book.now frames.now greatest) run.1.items run.0.committed run.0.replies.items) }
 {
     let limits = Limits {
@@ -115,9 +104,7 @@ fn finished_core<R: Wait>(
     shared: Untraced,
 ) -> Result<Core, AllocError>
     requires { length frames.now ≤ 65536 }
-    ensures opening { IfOk result (λ core. core.state.opening ≡ book.now) }
-    ensures frames { IfOk result (λ core. core.state.frames ≡ frames.now) }
-    ensures limits { IfOk result (λ core. core.state.limits ≡ bounded limits) }
+    ensures of_run { IfOk result (IsCoreOf book.now frames.now limits) }
     ensures finished { IfOk result IsSomeEnd }
 {
     if has_committed_all(shared.core(), book, frames, limits) {
@@ -135,9 +122,7 @@ fn core_anew<R: Wait>(
     limits: Limits,
 ) -> Result<Core, AllocError>
     requires { length frames.now ≤ 65536 }
-    ensures opening { IfOk result (λ core. core.state.opening ≡ book.now) }
-    ensures frames { IfOk result (λ core. core.state.frames ≡ frames.now) }
-    ensures limits { IfOk result (λ core. core.state.limits ≡ bounded limits) }
+    ensures of_run { IfOk result (IsCoreOf book.now frames.now limits) }
     ensures finished { IfOk result IsSomeEnd }
 {
     match played_anew(rt, alloc, book, frames, limits) {
@@ -160,9 +145,7 @@ fn finished<R: Wait>(
     shared: Traced,
 ) -> Result<Traced, AllocError>
     requires { length frames.now ≤ 65536 }
-    ensures opening { IfOk result (λ traced. traced.core.state.opening ≡ book.now) }
-    ensures frames { IfOk result (λ traced. traced.core.state.frames ≡ frames.now) }
-    ensures limits { IfOk result (λ traced. traced.core.state.limits ≡ bounded limits) }
+    ensures of_run { IfOk result (λ traced. IsCoreOf book.now frames.now limits traced.core) }
     ensures finished { IfOk result (λ traced. IsFinished traced.core traced.entries) }
 {
     if has_committed_all(shared.core(), book, frames, limits) {
@@ -180,9 +163,7 @@ fn played_anew<R: Wait>(
     limits: Limits,
 ) -> Result<Traced, AllocError>
     requires { length frames.now ≤ 65536 }
-    ensures opening { IfOk result (λ traced. traced.core.state.opening ≡ book.now) }
-    ensures frames { IfOk result (λ traced. traced.core.state.frames ≡ frames.now) }
-    ensures limits { IfOk result (λ traced. traced.core.state.limits ≡ bounded limits) }
+    ensures of_run { IfOk result (λ traced. IsCoreOf book.now frames.now limits traced.core) }
     ensures finished { IfOk result (λ traced. IsFinished traced.core traced.entries) }
 {
     for _ in rt.forever() {
@@ -196,9 +177,7 @@ fn played_anew<R: Wait>(
 
 // Whether the core is of this book, these bodies and these limits, and has committed all.
 fn has_committed_all(core: &Core, book: &Book, frames: &[Frame], limits: Limits) -> bool
-    ensures opening { IsTrue result → core.now.state.opening ≡ book.now }
-    ensures frames { IsTrue result → core.now.state.frames ≡ frames.now }
-    ensures limits { IsTrue result → core.now.state.limits ≡ bounded limits }
+    ensures of_run { IsTrue result → IsCoreOf book.now frames.now limits core.now }
     ensures all { IsTrue result → core.now.state.board.committed ≡ length core.now.state.frames }
 {
     is_of_run(core, book, frames, limits) && core.committed() as usize == frames.len()
@@ -206,9 +185,7 @@ fn has_committed_all(core: &Core, book: &Book, frames: &[Frame], limits: Limits)
 
 // Whether the core is of this book, these bodies and these limits.
 fn is_of_run(core: &Core, book: &Book, frames: &[Frame], limits: Limits) -> bool
-    ensures opening { IsTrue result → core.now.state.opening ≡ book.now }
-    ensures frames { IsTrue result → core.now.state.frames ≡ frames.now }
-    ensures limits { IsTrue result → core.now.state.limits ≡ bounded limits }
+    ensures { IsTrue result → IsCoreOf book.now frames.now limits core.now }
 {
     let bounded = Limits {
         incarnation: limits.incarnation,
@@ -218,7 +195,7 @@ fn is_of_run(core: &Core, book: &Book, frames: &[Frame], limits: Limits) -> bool
 }
 
 // What the core committed, then what it left, decided one after another.
-#[tactic(auto, using(crate::proofs::Rest::rows_of_both, crate::proofs::Rest::replies_of_both))]
+#[tactic(auto, using(issuer_fold::proofs::FoldLaws::rows_of_both, issuer_fold::proofs::FoldLaws::replies_of_both))]
 fn outcome_of(
     alloc: Global,
     core: Core,
@@ -228,13 +205,8 @@ fn outcome_of(
     started: u32,
 ) -> Result<RunOutcome, AllocError>
     requires few { length frames.now ≤ 65536 }
-    requires opening { core.state.opening ≡ book.now }
-    requires frames { core.state.frames ≡ frames.now }
-    requires limits { core.state.limits ≡ bounded limits }
-    ensures replies { IfOk result (λ outcome. outcome.replies.items ≡ replies_to book.now frames.now) }
-    ensures book { IfOk result (λ outcome. outcome.book ≡ rows_after book.now frames.now) }
-    ensures started { IfOk result (λ outcome. outcome.started ≡ started) }
-    ensures committed { IfOk result (λ outcome. outcome.committed ≤ length frames.now) }
+    requires of_run { IsCoreOf book.now frames.now limits core }
+    ensures run { (workers : ℕ) → IsStarted started workers → IfOk result (IsRun book.now frames.now workers) }
     ensures journal { IfOk result (λ outcome. AreJournals (opening_play book.now frames.now limits) core outcome.committed outcome.replies.items) }
 {
     let committed = core.committed();

@@ -1,6 +1,5 @@
 ghost use Rattle.std.specs.Prelude.{◌≡◌, ◌≤◌, length, IfOk};
-ghost use Rattle.issuer_rows.specs.Fold.{replies_to, rows_after};
-ghost use Rattle.engine_workers.specs.Started.{IsStarted};
+ghost use Rattle.issuer_fold.specs.Run.{IsRun};
 
 use crate::cost_probe::CostProbe;
 use crate::together::{decide_together, outcome_of};
@@ -27,10 +26,7 @@ pub(crate) fn decide_alone<R: Clock + Threads + Wait + Sync, F: Decide + Sync, G
     hook: &G,
 ) -> Result<RunOutcome, AllocError>
     requires { length frames.now ≤ 65536 }
-    ensures replies { IfOk result (λ outcome. outcome.replies.items ≡ replies_to book.now frames.now) }
-    ensures book { IfOk result (λ outcome. outcome.book ≡ rows_after book.now frames.now) }
-    ensures started { IfOk result (λ outcome. IsStarted outcome.started workers) }
-    ensures committed { IfOk result (λ outcome. outcome.committed ≤ length frames.now) }
+    ensures { IfOk result (IsRun book.now frames.now workers) }
 {
     let mut watch = CostProbe::new(workers);
     let mut ledger = Ledger::new(alloc, book, frames)?;

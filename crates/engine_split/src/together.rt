@@ -1,7 +1,6 @@
-ghost use Rattle.std.specs.Prelude.{◌≡◌, ◌≤◌, [], length, IfOk};
-ghost use Rattle.issuer_rows.specs.Fold.{replies_to, rows_after};
+ghost use Rattle.std.specs.Prelude.{◌≡◌, ℕ, ◌≤◌, [], length, IfOk};
 ghost use Rattle.split_ledger.specs.CursorRule.{publisher};
-ghost use Rattle.engine_workers.specs.Started.{IsStarted};
+ghost use Rattle.issuer_fold.specs.Run.{IsRun, IsStarted};
 
 use crate::board::{Board, Storage};
 use crate::leader::Leader;
@@ -35,10 +34,7 @@ pub(crate) fn decide_together<R: Threads + Wait + Sync, F: Decide + Sync, G: Hoo
 ) -> Result<RunOutcome, AllocError>
     requires few { length frames.now ≤ 65536 }
     requires frames { ledger.frames ≡ frames.now }
-    ensures replies { IfOk result (λ outcome. outcome.replies.items ≡ replies_to ledger.entry.opening frames.now) }
-    ensures book { IfOk result (λ outcome. outcome.book ≡ rows_after ledger.entry.opening frames.now) }
-    ensures started { IfOk result (λ outcome. IsStarted outcome.started workers) }
-    ensures committed { IfOk result (λ outcome. outcome.committed ≤ length frames.now) }
+    ensures { IfOk result (IsRun ledger.entry.opening frames.now workers) }
 {
     let first = ledger.count();
     let storage = Storage::new(alloc, frames, first as usize)?;
@@ -124,7 +120,7 @@ fn work_together<
 }
 
 /// What the ledger has, which the workers committed, then what they left, decided one after another by the shipped decision.
-#[tactic(auto, using(crate::proofs::Rest::rows_of_both, crate::proofs::Rest::replies_of_both))]
+#[tactic(auto, using(issuer_fold::proofs::FoldLaws::rows_of_both, issuer_fold::proofs::FoldLaws::replies_of_both))]
 pub(crate) fn outcome_of(
     alloc: Global,
     ledger: Ledger<'_>,
@@ -133,11 +129,8 @@ pub(crate) fn outcome_of(
 ) -> Result<RunOutcome, AllocError>
     requires few { length frames.now ≤ 65536 }
     requires frames { ledger.frames ≡ frames.now }
-    ensures replies { IfOk result (λ outcome. outcome.replies.items ≡ replies_to ledger.entry.opening frames.now) }
-    ensures book { IfOk result (λ outcome. outcome.book ≡ rows_after ledger.entry.opening frames.now) }
-    ensures started { IfOk result (λ outcome. outcome.started ≡ started) }
+    ensures run { (workers : ℕ) → IsStarted started workers → IfOk result (IsRun ledger.entry.opening frames.now workers) }
     ensures kept { IfOk result (λ outcome. outcome.committed ≡ ledger.entry.count) }
-    ensures committed { IfOk result (λ outcome. outcome.committed ≤ length frames.now) }
 {
     let prefix = ledger.into_prefix();
     let committed = prefix.count;

@@ -4,11 +4,8 @@ use Rattle.std.proofs.lemmas.List.{take_all, length-drop}
 use Rattle.std.proofs.Math.Seq.{drop-cons}
 use Rattle.std.proofs.lemmas.Option.{slice_get_within, get_or_from_slice_get}
 use Rattle.std.specs.FinMap as map
-use Rattle.issuer_rows.specs.Fold.{Rows, overlay, reply_of, rows_after_one, rows_after, replies_to}
-use Rattle.issuer_rows.specs.Plan.{Writes}
-use Rattle.issuer_rows.specs.declared.frame.Frame.{Frame}
-use Rattle.issuer_rows.specs.declared.row_key.RowKey.{RowKey}
-use Rattle.issuer_rows.specs.declared.row_val.RowVal.{RowVal}
+use Rattle.issuer_view.specs.Words.{Frame, RowKey, RowVal, Rows, Writes, overlay, replies_to}
+use Rattle.issuer_view.specs.Words.{reply_of, rows_after, rows_after_one}
 
 -- what is left begins with the item at this place
 pub left_at : {X : Type 0} (xs : List X) (i : ℕ) (x : X) → slice_get xs i ≡ Some x → drop i xs ≡ x ∷ drop (i + 1) xs
@@ -37,12 +34,12 @@ replies_to-append rows [] back = refl
 replies_to-append rows (frame ∷ front) back = ap (λ replies. reply_of rows frame ∷ replies) (replies_to-append (rows_after_one rows frame) front back)
 
 -- the first bodies, and then the rest
-pub rows_after-split : (rows : Rows) (frames : List Frame) (k : ℕ) → rows_after (rows_after rows (take k frames)) (drop k frames) ≡ rows_after rows frames
-rows_after-split rows frames k = sym (rows_after-append rows (take k frames) (drop k frames)) ∙ ap (rows_after rows) (take-append-drop k frames)
+pub rows_of_both : (rows : Rows) (frames : List Frame) (k : ℕ) → rows_after (rows_after rows (take k frames)) (drop k frames) ≡ rows_after rows frames
+rows_of_both rows frames k = sym (rows_after-append rows (take k frames) (drop k frames)) ∙ ap (rows_after rows) (take-append-drop k frames)
 
-pub replies_to-split : (rows : Rows) (frames : List Frame) (k : ℕ)
+pub replies_of_both : (rows : Rows) (frames : List Frame) (k : ℕ)
     → replies_to rows (take k frames) ++ replies_to (rows_after rows (take k frames)) (drop k frames) ≡ replies_to rows frames
-replies_to-split rows frames k = sym (replies_to-append rows (take k frames) (drop k frames)) ∙ ap (replies_to rows) (take-append-drop k frames)
+replies_of_both rows frames k = sym (replies_to-append rows (take k frames) (drop k frames)) ∙ ap (replies_to rows) (take-append-drop k frames)
 
 -- one reply for each body
 pub length-replies_to : (rows : Rows) (frames : List Frame) → length (replies_to rows frames) ≡ length frames

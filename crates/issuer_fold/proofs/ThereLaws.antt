@@ -4,11 +4,7 @@ use Rattle.std.proofs.lemmas.Option.{none-some}
 use Rattle.std.specs.FinMap as map
 use Rattle.std.specs.Ordering.{eq_by_cmp}
 use Rattle.issuer_rows.proofs.KeyLaws.{key_cmp_total}
-use Rattle.issuer_rows.specs.Fold.{Rows}
-use Rattle.issuer_rows.specs.Plan.{Writes}
-use Rattle.issuer_rows.specs.RowKey.{key_cmp}
-use Rattle.issuer_rows.specs.declared.row_key.RowKey.{RowKey}
-use Rattle.issuer_rows.specs.declared.row_val.RowVal.{RowVal}
+use Rattle.issuer_view.specs.Words.{RowKey, RowVal, Rows, Writes, key_cmp}
 use Rattle.issuer_fold.proofs.FoldLaws.{left_at}
 use Rattle.issuer_fold.specs.There.{AreThere}
 

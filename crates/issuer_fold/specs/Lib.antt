@@ -1,2 +1,3 @@
 pub mod Former
+pub mod Run
 pub mod There

@@ -2,8 +2,7 @@
 use Rattle.std.specs.Prelude.{◌≢◌, None}
 use Rattle.std.specs.FinMap as map
 use Rattle.std.specs.List.{AllByRecursion}
-use Rattle.issuer_rows.specs.Fold.{Rows}
-use Rattle.issuer_rows.specs.Plan.{Writes}
+use Rattle.issuer_view.specs.Words.{Rows, Writes}
 
 -- under each of these keys there is a row
 abbrev pub AreThere : Rows → Writes → Type 0

@@ -1,12 +1,14 @@
 //! Bodies decided one after another, in the order of their arrival.
 #![tactic(auto)]
 
+mod frames;
 mod plain_rows;
 mod prefix;
 mod putting;
 mod run_outcome;
 mod serial;
 
+pub use frames::are_same_frames;
 pub use plain_rows::PlainRows;
 pub use prefix::{Prefix, put_all};
 pub use run_outcome::RunOutcome;

@@ -1,7 +1,6 @@
 ghost use Rattle.std.specs.Prelude.{◌≡◌, ◌+◌, ◌<◌, ◌^◌, [], ◌∷◌, ◌++◌, vec_len, vec_capacity, Some, IfOk, IfErr, OnOk, OnErr};
 ghost use Rattle.issuer_rows.specs.Agreement.{IsLocal};
-ghost use Rattle.issuer_rows.specs.Fold.{overlay, reply_of, rows_after_one};
-ghost use Rattle.issuer_view.specs.Recording.{AgreesWithBook};
+ghost use Rattle.issuer_view.specs.Words.{AgreesWithBook, overlay, reply_of, rows_after_one};
 
 use crate::putting::put_all_or_none;
 use issuer_rows::{Book, CardPlaces, Frame, Places, ReplyBody};

@@ -2,8 +2,7 @@ ghost use Rattle.std.specs.Prelude.{◌≡◌, ◌≢◌, ◌+◌, ◌<◌, ◌�
 ghost use Rattle.std.specs.FinMap as map;
 ghost use Rattle.issuer_fold.specs.Former.{with_former};
 ghost use Rattle.issuer_fold.specs.There.{AreThere};
-ghost use Rattle.issuer_rows.specs.Fold.{overlay};
-ghost use Rattle.issuer_rows.specs.RowVal.{IsOfKind};
+ghost use Rattle.issuer_view.specs.Words.{IsOfKind, overlay};
 
 use issuer_rows::{Book, Places, RowKey, RowVal};
 use issuer_view::WriteSet;

@@ -4,11 +4,7 @@ use Rattle.std.proofs.lemmas.Option.{none-some, same_Some}
 use Rattle.std.specs.List.{AllByRecursion}
 use Rattle.indexmap.specs.IndexMap.{insert_entry}
 use Rattle.issuer_rows.proofs.KeyLaws.{key_eq_decides}
-use Rattle.issuer_rows.specs.RowKey.{key_eq}
-use Rattle.issuer_rows.specs.Plan.{Writes}
-use Rattle.issuer_rows.specs.RowVal.{IsOfKind}
-use Rattle.issuer_rows.specs.declared.row_key.RowKey.{RowKey}
-use Rattle.issuer_rows.specs.declared.row_val.RowVal.{RowVal}
+use Rattle.issuer_view.specs.Words.{IsOfKind, RowKey, RowVal, Writes, key_eq}
 use Rattle.issuer_view.proofs.ListLaws.{inserted_once}
 use Rattle.issuer_view.specs.RowSets.{value_in, AreWritesOfKind, IsOnceEach}
 

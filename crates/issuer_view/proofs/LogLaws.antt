@@ -5,10 +5,7 @@ use Rattle.std.proofs.lemmas.Option.{same_Some}
 use Rattle.std.specs.Vec.{with_items}
 use Rattle.indexmap.specs.IndexMap.{IndexMap, insert_entry}
 use Rattle.indexmap.proofs.CallerLemmas.{insert_entry-new}
-use Rattle.issuer_rows.specs.Agreement.{Reads}
-use Rattle.issuer_rows.specs.RowKey.{key_eq}
-use Rattle.issuer_rows.specs.declared.row_key.RowKey.{RowKey}
-use Rattle.issuer_rows.specs.declared.row_val.RowVal.{RowVal}
+use Rattle.issuer_view.specs.Words.{Reads, RowKey, RowVal, key_eq}
 use Rattle.issuer_view.specs.RowSets.{value_in, latest, latest_after, logged}
 
 module _ {S : Type 0} (room : IndexMap RowKey (Option RowVal) S) (reads entries : Reads) (key : RowKey) (row : Option RowVal) where

@@ -1,2 +1,3 @@
 pub mod Recording
 pub mod RowSets
+pub mod Words

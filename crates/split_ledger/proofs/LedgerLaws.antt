@@ -4,10 +4,8 @@ use Rattle.std.proofs.lemmas.List.{take_more}
 use Rattle.std.proofs.lemmas.Option.{slice_get_within, get_or_from_slice_get}
 use Rattle.std.specs.FinMap as map
 use Rattle.issuer_fold.proofs.FoldLaws.{rows_after-append, replies_to-append}
-use Rattle.issuer_rows.specs.Agreement.{Executed, IsTrueExecution}
-use Rattle.issuer_rows.specs.Fold.{Rows, overlay, reply_of, rows_after, rows_after_one, replies_to}
-use Rattle.issuer_rows.specs.declared.frame.Frame.{Frame}
-use Rattle.issuer_rows.specs.declared.reply_body.ReplyBody.{ReplyBody}
+use Rattle.issuer_view.specs.Words.{Executed, Frame, IsTrueExecution, ReplyBody, Rows, overlay}
+use Rattle.issuer_view.specs.Words.{replies_to, reply_of, rows_after, rows_after_one}
 use Rattle.split_ledger.specs.Progress.{Progress, further, IsNext, IsFold, book_of, replies_of}
 
 -- the messages that are committed, and the next one

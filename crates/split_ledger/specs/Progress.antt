@@ -2,10 +2,8 @@
 use Rattle.std.specs.Prelude.{◌≡◌, ℕ, ◌+◌, ◌≤◌, List, Some, length, slice_get, take, refl}
 use Rattle.std.specs.Coded.{Coded, code_by, coded×, coded_list, coded_ℕ}
 use Rattle.std.specs.FinMap as map
-use Rattle.issuer_rows.specs.Agreement.{Agrees, Executed}
-use Rattle.issuer_rows.specs.Fold.{Rows, rows_after, replies_to}
-use Rattle.issuer_rows.specs.declared.frame.Frame.{Frame}
-use Rattle.issuer_rows.specs.declared.reply_body.ReplyBody.{ReplyBody}
+use Rattle.issuer_view.specs.Words.{Agrees, Executed, Frame, ReplyBody, Rows, replies_to}
+use Rattle.issuer_view.specs.Words.{rows_after}
 
 -- the opening book, the bodies, and how many of them are committed
 pub record Progress : Type 0 where

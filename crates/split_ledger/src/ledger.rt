@@ -5,8 +5,8 @@ ghost use Rattle.split_ledger.specs.declared.commit_outcome.CommitOutcome.TheVar
 use crate::agreement::agrees;
 use crate::commit_outcome::CommitOutcome;
 use crate::deciding::decide_on;
-use crate::frames::{are_same, is_at};
-use issuer_fold::Prefix;
+use crate::frames::is_at;
+use issuer_fold::{Prefix, are_same_frames};
 use issuer_rows::{Book, Frame, Places};
 use issuer_view::{Decide, Execution, ReadSet, WriteSet};
 use std::alloc::{AllocError, Global};
@@ -82,7 +82,7 @@ impl<'a> Ledger<'a> {
     pub fn opened_with(&self, opening: &Book, frames: &[Frame]) -> bool
         ensures { IsTrue result ↔ ((self.now.opening ≡ opening.now) × (self.now.frames ≡ frames.now)) }
     {
-        self.opening.is_same(opening) && are_same(self.frames, frames)
+        self.opening.is_same(opening) && are_same_frames(self.frames, frames)
     }
 
     /// Commits the execution, where it is that of the next message and the book after those before it has each row as it was read.

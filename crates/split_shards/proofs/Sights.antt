@@ -1,12 +1,9 @@
 -- What is seen of a row by the entry that was found for it.
 use Rattle.std.proofs.Common.{◌≡◌, ℕ, Option, Some, None, IfSome, refl, subst}
-use Rattle.stm_memory.specs.Chains.{seen_by, seen_of}
-use Rattle.stm_memory.specs.Resolves.{IsSeenOfKind}
+use Rattle.issuer_view.specs.Words.{IsOfKind, RowKey, RowVal}
+use Rattle.stm_memory.specs.Words.{IsSeenOfKind, seen_by, seen_of}
 use Rattle.stm_memory.specs.declared.link.Link.{Link}
 use Rattle.stm_memory.specs.declared.version.Version.{Version}
-use Rattle.issuer_rows.specs.RowVal.{IsOfKind}
-use Rattle.issuer_rows.specs.declared.row_key.RowKey.{RowKey}
-use Rattle.issuer_rows.specs.declared.row_val.RowVal.{RowVal}
 use Rattle.split_shards.specs.declared.sight.Sight.{Sight}
 use Rattle.split_shards.specs.declared.sight.Sight.TheVariants.{Put}
 use Rattle.split_shards.specs.Sighted.{IsSeenSo, entry_sight, over, row_over, sight_of}

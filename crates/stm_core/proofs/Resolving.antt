@@ -1,27 +1,17 @@
 -- What is seen determines whether a logged read stands, and whether there is an entry.
-use Rattle.std.proofs.Common.{◌≡◌, ℕ, ◌+◌, inl, inr, refl, sym, ap, ◌∙◌, subst, slice_get, take, Option, Some, None, IsSome, arith}
-use Rattle.std.proofs.lemmas.Bool.{cases_eq, false≢true}
+use Rattle.std.proofs.Common.{◌≡◌, ℕ, ◌+◌, refl, sym, ◌∙◌, subst, slice_get, take, Option, Some, None, IsSome}
+use Rattle.std.proofs.lemmas.Bool.{false≢true}
 use Rattle.std.proofs.lemmas.List.Elements.{All-more}
-use Rattle.std.proofs.lemmas.Option.{none-some, same_Some, get_or_from_slice_get, slice_get_within}
+use Rattle.std.proofs.lemmas.Option.{get_or_from_slice_get, slice_get_within}
 use Rattle.std.specs.FinMap as finite
 use Rattle.issuer_rows.proofs.KeyLaws.{key_cmp_total, key_cmp_antisymmetric}
-use Rattle.issuer_rows.specs.Agreement.{Reads}
-use Rattle.issuer_rows.specs.Fold.{Rows}
-use Rattle.issuer_rows.specs.Plan.{Writes}
-use Rattle.issuer_rows.specs.declared.row_key.RowKey.{RowKey}
-use Rattle.issuer_rows.specs.declared.row_val.RowVal.{RowVal}
+use Rattle.issuer_view.specs.Words.{IsOnceEach, Reads, RowKey, RowVal, Rows, Writes}
+use Rattle.stm_memory.specs.Words.{Entries, IsLaidOver, IsNewLocation, Resolves, Shelf, held}
+use Rattle.stm_memory.specs.Words.{seen_by, seen_of}
+use Rattle.stm_core_laws.specs.Words.{AreLogged, Link, Log, ResolvesAs, Seen, Version, logged_in}
 use Rattle.stm_memory.proofs.ListLaws.{standing, valued, written_is}
-use Rattle.stm_memory.specs.Entries.{Entries, IsNewLocation, Shelf, held}
-use Rattle.stm_memory.specs.Resolves.{Resolves, IsLaidOver}
-use Rattle.issuer_view.specs.RowSets.{IsOnceEach}
-use Rattle.stm_memory.specs.Chains.{seen_by, seen_of}
-use Rattle.stm_memory.specs.declared.link.Link.{Link}
-use Rattle.stm_memory.specs.declared.seen.Seen.{Seen}
 use Rattle.stm_memory.specs.declared.seen.Seen.TheVariants.{Base, Value, Estimate}
-use Rattle.stm_memory.specs.declared.version.Version.{Version}
 use Rattle.stm_core_laws.proofs.Unique.{Resolves-some, Resolves-unique}
-use Rattle.stm_core_laws.specs.Log.{AreLogged, ResolvesAs, logged_in}
-use Rattle.stm_core_laws.specs.State.{Log}
 
 -- what is seen is what this execution wrote, or the opening book where it is none
 abbrev pub IsOrigin : Seen → Option Version → Type 0
@@ -31,13 +21,6 @@ IsOrigin (Value v value) None = ⊥
 IsOrigin (Value v value) (Some w) = v ≡ w
 IsOrigin (Estimate at) origin = ⊥
 
-pub origin_there : (shelf : Shelf) (row : RowKey) (j : ℕ) (seen : Seen) (origin : Option Version) → Resolves shelf row j seen → IsOrigin seen origin → ResolvesAs shelf row j origin
-origin_there shelf row j Base None r u = r
-origin_there shelf row j Base (Some w) r u = absurd u
-origin_there shelf row j (Value v value) None r u = absurd u
-origin_there shelf row j (Value v value) (Some w) r e = (value, subst (λ (z : Version). Resolves shelf row j (Value z value)) e r)
-origin_there shelf row j (Estimate at) origin r u = absurd u
-
 pub origin_only : (shelf : Shelf) (row : RowKey) (j : ℕ) (seen : Seen) (origin : Option Version) → Resolves shelf row j seen → ResolvesAs shelf row j origin → IsOrigin seen origin
 origin_only shelf row j seen None r is = subst (λ (s : Seen). IsOrigin s None) (Resolves-unique shelf row j Base seen is r) tt
 origin_only shelf row j seen (Some w) r is = subst (λ (s : Seen). IsOrigin s (Some w)) (Resolves-unique shelf row j (Value w is.0) seen is.1 r) refl
@@ -46,49 +29,8 @@ origin_only shelf row j seen (Some w) r is = subst (λ (s : Seen). IsOrigin s (S
 pub link_not_base : (link : Link) → IsOrigin (seen_of (Some link)) None → ⊥
 link_not_base link is = elim link.value as (λ v. IsOrigin (seen_by link.index link.incarnation v) None → ⊥) [ None ↦ λ u. u | Some value ↦ λ u. u ] is
 
--- whose value is seen
-seen_version : Seen → Option Version
-seen_version Base = None
-seen_version (Value version value) = Some version
-seen_version (Estimate at) = None
-
--- a link with a value is seen as its version's
-pub value_seen : (link : Link) (version : Version) (value : RowVal) → link.value ≡ Some value → ((record { index = link.index; incarnation = link.incarnation } ≡ version) → (x : RowVal) × (seen_of (Some link) ≡ Value version x)) × (((x : RowVal) × (seen_of (Some link) ≡ Value version x)) → record { index = link.index; incarnation = link.incarnation } ≡ version)
-unfolding seen_version
-value_seen link version value is =
-    let seen : seen_of (Some link) ≡ Value (record { index = link.index; incarnation = link.incarnation }) value = ap (seen_by link.index link.incarnation) is in (
-      λ same. (value, seen ∙ ap (λ (v : Version). Value v value) same),
-      λ some. same_Some (record { index = link.index; incarnation = link.incarnation }) version (ap seen_version (sym seen ∙ some.1)),
-    )
-
--- an ESTIMATE is no value
-pub estimate_seen : (link : Link) (version : Version) → link.value ≡ None → ((x : RowVal) × (seen_of (Some link) ≡ Value version x)) → ⊥
-unfolding seen_version
-estimate_seen link version none some = none-some version (ap seen_version (sym (ap (seen_by link.index link.incarnation) none) ∙ some.1))
-
--- what is seen from the next index stands at this one
-abbrev pub IsEntryAt : Seen → ℕ → Type 0
-IsEntryAt Base i = ⊥
-IsEntryAt (Value v value) i = v.index ≡ i
-IsEntryAt (Estimate at) i = at ≡ i
-
-some_there : {X : Type 0} (o : Option X) (x : X) → o ≡ Some x → IsSome o
-some_there o x e = subst IsSome (sym e) refl
-
-pub entry_there : (shelf : Shelf) (row : RowKey) (i : ℕ) (seen : Seen) → Resolves shelf row (i + 1) seen → IsEntryAt seen i → IsSome (shelf row i)
-entry_there shelf row i Base r e = absurd e
-entry_there shelf row i (Value v value) r e = some_there (shelf row i) _ (sym (ap (shelf row) e) ∙ r.1)
-entry_there shelf row i (Estimate at) r e = some_there (shelf row i) _ (sym (ap (shelf row) e) ∙ r.1.1)
-
 not_none : {X : Type 0} (o : Option X) → IsSome o → o ≡ None → ⊥
 not_none o some none = false≢true (subst IsSome none some)
-
-pub entry_only : (shelf : Shelf) (row : RowKey) (i : ℕ) (seen : Seen) → Resolves shelf row (i + 1) seen → IsSome (shelf row i) → IsEntryAt seen i
-entry_only shelf row i Base r some = absurd (not_none (shelf row i) some (r i (omega arith)))
-entry_only shelf row i (Value v value) r some =
-    elim (cases_eq v.index i) [ inl same ↦ same | inr ne ↦ let l = r.0 in absurd (not_none (shelf row i) some (r.2 i (omega arith) (omega arith))) ]
-entry_only shelf row i (Estimate at) r some =
-    elim (cases_eq at i) [ inl same ↦ same | inr ne ↦ let l = r.0 in absurd (not_none (shelf row i) some (r.2 i (omega arith) (omega arith))) ]
 
 -- there is one book in which each row is as a message sees it
 pub one_laid : (shelf : Shelf) (index : ℕ) (rows a b : Rows) → IsLaidOver shelf index rows a → IsLaidOver shelf index rows b → a ≡ b

@@ -1,22 +1,23 @@
 -- Each call of the core is a step.
-use Rattle.std.proofs.Common.{◌≡◌, ◌≢◌, ℕ, ◌<◌, ◌+◌, min, Bool, true, false, not, ◌&&◌, ◌||◌, nat_lt, nat_eq, if◌then◌else◌, List, [], ◌∷◌, ◌++◌, ◌⊎◌, inl, inr, length, map, max, replicate, take, filter_map, option_to_list, set, get_or, slice_get, option_map, refl, sym, ap, ap₂, ◌∙◌, subst, Option, Some, None, Ok, IsTrue, IsFalse, arith, eq-eqb}
+use Rattle.std.proofs.Common.{◌≡◌, ◌≢◌, ℕ, ◌<◌, ◌≤◌, ◌+◌, ◌^◌, min, Bool, true, false, not, ◌&&◌, ◌||◌, nat_lt, nat_eq, if◌then◌else◌, List, [], ◌∷◌, ◌++◌, ◌⊎◌, inl, inr, length, map, max, replicate, take, filter_map, option_to_list, set, get_or, slice_get, option_map, refl, sym, ap, ap₂, ◌∙◌, subst, Option, Some, None, Ok, IsTrue, IsFalse, arith, eq-eqb}
 use Rattle.std.proofs.lemmas.Bool.{cases_lt, cases_eq, false≢true}
 use Rattle.std.proofs.lemmas.List.{get_or_read, set-get_or, take_more}
 use Rattle.std.proofs.lemmas.List.Elements.{filter_map-append}
 use Rattle.std.specs.FinMap as finite
 use Rattle.std.specs.List.{cons_option}
 use Rattle.std.proofs.lemmas.Option.{slice_get_within, get_or_from_slice_get, none-some}
-use Rattle.issuer_rows.specs.Agreement.{Executed, IsTrueExecution, Reads}
-use Rattle.issuer_rows.specs.Fold.{Rows}
-use Rattle.issuer_rows.specs.declared.frame.Frame.{Frame}
-use Rattle.issuer_rows.specs.declared.reply_body.ReplyBody.{ReplyBody}
-use Rattle.issuer_rows.specs.declared.row_key.RowKey.{RowKey}
-use Rattle.issuer_rows.specs.declared.row_val.RowVal.{RowVal}
-use Rattle.issuer_view.specs.RowSets.{value_in}
-use Rattle.stm_memory.specs.Entries.{Entries, AreReplaced, AreEstimated, IsNewLocation}
-use Rattle.stm_memory.specs.Resolves.{Resolves}
-use Rattle.stm_memory.specs.declared.seen.Seen.{Seen}
-use Rattle.stm_memory.specs.declared.version.Version.{Version}
+use Rattle.issuer_view.specs.Words.{Executed, Frame, IsTrueExecution, Reads, ReplyBody, RowKey}
+use Rattle.issuer_view.specs.Words.{RowVal, Rows, value_in}
+use Rattle.stm_memory.specs.Words.{AreEstimated, AreReplaced, Entries, IsNewLocation, Resolves}
+use Rattle.stm_core_laws.specs.Words.{AreLogged, Begin, Block, Call, ClaimStep, Commit, CommitStep}
+use Rattle.stm_core_laws.specs.Words.{End, ExecutionSlot, Finish, Holds, IsAt, IsOfVersion, Log}
+use Rattle.stm_core_laws.specs.Words.{Play, PlayStep, ReadStep, ResolvesAs, Seen, State}
+use Rattle.stm_core_laws.specs.Words.{ValidateOne, Version, beginning, empty_slot, failed_one}
+use Rattle.stm_core_laws.specs.Words.{is_at_end, logged_in, logged_of, passed_one, seats, shelf}
+use Rattle.stm_core_laws.specs.Words.{slot, start, validation_of, with_slot, with_validation}
+use Rattle.stm_core_laws.specs.declared.limits.Limits.{Limits}
+use Rattle.stm_core_laws.specs.declared.logged.Logged.{Logged}
+use Rattle.stm_core_laws.specs.declared.validation.Validation.{Validation}
 use Rattle.stm_scheduler.proofs.Choices.{Chooses-allowed}
 use Rattle.stm_scheduler.specs.Board.{Board, mark, aborted_as, finished, lowered, passed, aborted, committed_more, IsFresh, IsRunning, IsOpen, IsWaitedFor}
 use Rattle.stm_scheduler.specs.Cursors.{Schedule, Claims, IsLoweredToWaiting, open_schedule}
@@ -25,52 +26,60 @@ use Rattle.stm_scheduler.specs.declared.status.Status.TheVariants as status
 use Rattle.stm_scheduler.specs.declared.task.Task.{Task}
 use Rattle.stm_scheduler.specs.declared.task.Task.TheVariants.{Execute, Validate, Idle, Done}
 use Rattle.stm_core_laws.proofs.Changed.{in_batch, executed_not_ready}
-use Rattle.stm_core_laws.proofs.Validations.{next_read_there}
-use Rattle.stm_core_laws.proofs.Reached.{Holds-reached, IsReached-Step}
-use Rattle.stm_core_laws.specs.Holds.{Holds}
-use Rattle.stm_core_laws.specs.Log.{AreLogged, ResolvesAs, logged_in, logged_of}
-use Rattle.stm_core_laws.specs.Play.{Play, PlayStep}
-use Rattle.stm_core_laws.specs.Run.{Call, Block, Finish, Begin, ValidateOne, End, Commit, IsReached}
-use Rattle.stm_core_laws.specs.State.{Log, State, ExecutionSlot, slot, empty_slot, shelf, validation_of, with_slot, with_validation, seats, start, IsAt}
-use Rattle.stm_core_laws.specs.Step.{ClaimStep, ReadStep, CommitStep, IsOfVersion, beginning, is_at_end, passed_one, failed_one}
-use Rattle.stm_core_laws.specs.declared.validation.Validation.{Validation}
+use Rattle.stm_core_laws.proofs.Logs.{executed_cases}
+use Rattle.stm_core_laws.proofs.Validations.{at_its_end, next_read_there}
+use Rattle.stm_core_laws.proofs.Reached.{Holds-reached, IsReached-start, IsReached-Step, same-Step}
 use Rattle.stm_core_laws.specs.declared.got.Got.TheVariants as got
-use Rattle.stm_core_laws.specs.declared.limits.Limits.{Limits}
-use Rattle.stm_core_laws.specs.declared.logged.Logged.{Logged}
 use Rattle.stm_core.specs.Origin.{IsFirstOf}
+use Rattle.stm_core.specs.Sound.{IsSoundCore}
 
--- the state after a step of a core is reached
-pub play_kept : (old : Play) (call : Call) (new : Play) → IsReached old.state → PlayStep old call new → IsReached new.state
-play_kept old call new reached step = IsReached-Step old.state call new.state reached step.0
+-- a step of a core keeps what holds of it
+pub sound_kept : (old : Play) (call : Call) (new : Play) → IsSoundCore old.state → PlayStep old call new → IsSoundCore new.state
+sound_kept old call new sound step =
+    let same = same-Step old.state call new.state step.0 in
+    let reached = IsReached-Step old.state call new.state sound.reached step.0 in
+    record {
+      reached = reached;
+      holds = Holds-reached new.state reached;
+      few = subst (λ (frames : List Frame). length frames ≤ 65536) (sym same.1) sound.few;
+      incarnation = subst (λ (limits : Limits). limits.incarnation < 2 ^ 32) (sym same.2) sound.incarnation;
+      epoch = subst (λ (limits : Limits). limits.epoch < 2 ^ 64) (sym same.2) sound.epoch;
+    }
 
--- what is kept of a message, as it was read
-pub at_slot : (s : State) (i : ℕ) (kept : ExecutionSlot) → i < length s.slots → kept ≡ get_or s.slots i kept → kept ≡ slot s i
-at_slot s i kept l is = get_or_read s.slots i kept l is empty_slot
+-- as it is called: on this core, at this seat
+pub as_called : (was old new : Play) (call : ℕ → Call) (n seat : ℕ) → was ≡ old → n ≡ seat → PlayStep was (call n) new → PlayStep old (call seat) new
+as_called was old new call n seat view number step =
+    subst (λ (p : Play). PlayStep p (call seat) new) view (subst (λ (m : ℕ). PlayStep was (call m) new) number step)
 
--- a message of the board has a slot
-pub slot_there : (s : State) → IsReached s → (i : ℕ) → i < length s.board.marks → i < length s.slots
-slot_there s reached i l = let h = Holds-reached s reached in let paired = h.paired in let slotted = h.slotted in omega arith
+-- a call that is refused, which changes nothing
+pub refused_as_called : (was old : Play) (call : ℕ → Call) (n seat : ℕ) → was ≡ old → n ≡ seat → PlayStep was (call n) was → PlayStep old (call seat) old
+refused_as_called was old call n seat view number step =
+    subst (λ (p : Play). PlayStep p (call seat) p) view (subst (λ (m : ℕ). PlayStep was (call m) was) number step)
+
+-- what is kept of a message of the board, as it was read
+pub at_slot : (s : State) → Holds s → (i : ℕ) (kept : ExecutionSlot) → i < length s.board.marks → kept ≡ get_or s.slots i kept → kept ≡ slot s i
+at_slot s holds i kept l is = let paired = holds.paired in let slotted = holds.slotted in get_or_read s.slots i kept (omega arith) is empty_slot
 
 -- what the scheduler hands out may be handed out
-pub claim_step : (s : State) → IsReached s → (e v : ℕ) (answer : Task) (after : Schedule) → Claims (record { board = s.board; execution = e; validation = v }) answer after → ClaimStep s answer (record s { board = after.board })
-claim_step s reached e v Done after claims =
-    let paired = (Holds-reached s reached).paired in
+pub claim_step : (s : State) → Holds s → (e v : ℕ) (answer : Task) (after : Schedule) → Claims (record { board = s.board; execution = e; validation = v }) answer after → ClaimStep s answer (record s { board = after.board })
+claim_step s holds e v Done after claims =
+    let paired = holds.paired in
     (claims.0 ∙ paired, ap (λ (c : Schedule). record s { board = c.board }) claims.1)
-claim_step s reached e v (Execute w) after claims =
-    let paired = (Holds-reached s reached).paired in
+claim_step s holds e v (Execute w) after claims =
+    let paired = holds.paired in
     let allowed = Chooses-allowed s.board e v (Execute w) after.execution after.validation claims.1 in
     (λ all. claims.0 (all ∙ sym paired), allowed.0, allowed.1, ap (λ (b : Board). record s { board = b }) claims.2)
-claim_step s reached e v (Validate w) after claims =
-    let paired = (Holds-reached s reached).paired in
+claim_step s holds e v (Validate w) after claims =
+    let paired = holds.paired in
     (λ all. claims.0 (all ∙ sym paired), Chooses-allowed s.board e v (Validate w) after.execution after.validation claims.1, ap (λ (b : Board). record s { board = b }) claims.2)
-claim_step s reached e v Idle after claims =
-    let paired = (Holds-reached s reached).paired in
+claim_step s holds e v Idle after claims =
+    let paired = holds.paired in
     (λ all. claims.0 (all ∙ sym paired), ap (λ (c : Schedule). record s { board = c.board }) claims.2)
 
 -- a row that wasn't logged is logged as it is seen
-pub read_step : (s : State) → IsReached s → (v : Version) (row : RowKey) (seen : Seen) (logged : Logged) (kept after : ExecutionSlot) → IsRunning s.board v → v.index < length s.board.marks → kept ≡ get_or s.slots v.index kept → logged_in kept.log row ≡ None → Resolves (shelf s) row v.index seen → logged_of s.opening row seen ≡ Some logged → after ≡ record kept { log = kept.log ++ (row, logged) ∷ [] } → ReadStep s v row (Ok (got.Row logged.value)) (record s { slots = set s.slots v.index after })
-read_step s reached v row seen logged kept after running l is none resolves gives change =
-    let here : kept ≡ slot s v.index = at_slot s v.index kept (slot_there s reached v.index l) is in (
+pub read_step : (s : State) → Holds s → (v : Version) (row : RowKey) (seen : Seen) (logged : Logged) (kept after : ExecutionSlot) → IsRunning s.board v → v.index < length s.board.marks → kept ≡ get_or s.slots v.index kept → logged_in kept.log row ≡ None → Resolves (shelf s) row v.index seen → logged_of s.opening row seen ≡ Some logged → after ≡ record kept { log = kept.log ++ (row, logged) ∷ [] } → ReadStep s v row (Ok (got.Row logged.value)) (record s { slots = set s.slots v.index after })
+read_step s holds v row seen logged kept after running l is none resolves gives change =
+    let here : kept ≡ slot s v.index = at_slot s holds v.index kept l is in (
       running,
       inr (
         seen,
@@ -83,27 +92,19 @@ read_step s reached v row seen logged kept after running l is none resolves give
     )
 
 -- what the scheduler answers to a commit is a step
-pub commit_step : (s : State) → IsReached s → (answer : Bool) (after : Board) → (IsTrue answer → IsFresh s.board s.board.committed × (after ≡ committed_more s.board)) → (IsFalse answer → ¬ IsFresh s.board s.board.committed × (after ≡ s.board)) → CommitStep s answer (record s { board = after })
-commit_step s reached true after fresh otherwise =
-    let h : Holds s = Holds-reached s reached in
+pub commit_step : (s : State) → Holds s → (answer : Bool) (after : Board) → (IsTrue answer → IsFresh s.board s.board.committed × (after ≡ committed_more s.board)) → (IsFalse answer → ¬ IsFresh s.board s.board.committed × (after ≡ s.board)) → CommitStep s answer (record s { board = after })
+commit_step s holds true after fresh otherwise =
     let f = fresh refl in
     let l = in_batch s.board s.board.committed (λ ready. executed_not_ready (sym f.0.0 ∙ ready)) in
-    let paired = h.paired in
+    let paired = holds.paired in
     (omega arith, f.0, ap (λ (b : Board). record s { board = b }) f.1)
-commit_step s reached false after fresh otherwise =
+commit_step s holds false after fresh otherwise =
     let o = otherwise refl in
     (λ h. o.0 h.1, ap (λ (b : Board). record s { board = b }) o.1)
 
 -- a core with these cursors
 abbrev pub play : State → ℕ → ℕ → Play
 play s e x = record { state = s; execution = e; validation = x }
-
--- executed or not
-executed_cases : (is : Status) → (is ≡ status.Executed) ⊎ (is ≢ status.Executed)
-executed_cases status.Ready = inr (λ e. cc)
-executed_cases status.Running = inr (λ e. cc)
-executed_cases status.Executed = inl refl
-executed_cases (status.Waiting on) = inr (λ e. cc)
 
 -- a message waits for another, or not
 waited_cases : (b : Board) (i on : ℕ) → IsWaitedFor b i on ⊎ ¬ IsWaitedFor b i on
@@ -248,34 +249,29 @@ fail_step s e x seat c entries new after l has ended opened fails left epoch est
 )
 
 -- an open validation that is not at its end has a read that comes next
-pub next_there : (s : State) → IsReached s → (seat : ℕ) (c : Validation) → validation_of s seat ≡ Some c → is_at_end c ≡ false → IsOpen s.board c.version → c.place < length (slot s c.version.index).log
-next_there s reached seat c has ended opened = next_read_there s (Holds-reached s reached) seat c (has, ended) opened
-
--- what ends one way or the other
-at_its_end : (a b : Bool) → b ≡ true → (a || b) ≡ true
-at_its_end true b e = refl
-at_its_end false b e = e
+pub next_there : (s : State) → Holds s → (seat : ℕ) (c : Validation) → validation_of s seat ≡ Some c → is_at_end c ≡ false → IsOpen s.board c.version → c.place < length (slot s c.version.index).log
+next_there s holds seat c has ended opened = next_read_there s holds seat c (has, ended) opened
 
 -- and its place is before the end
-pub before_end : (s : State) → IsReached s → (seat : ℕ) (c : Validation) → validation_of s seat ≡ Some c → is_at_end c ≡ false → c.place < c.reads
-before_end s reached seat c has ended =
-    let within = ((Holds-reached s reached).validations seat c has).within in
+pub before_end : (s : State) → Holds s → (seat : ℕ) (c : Validation) → validation_of s seat ≡ Some c → is_at_end c ≡ false → c.place < c.reads
+before_end s holds seat c has ended =
+    let within = (holds.validations seat c has).within in
     elim (cases_eq c.place c.reads) [
       | inl same ↦ absurd (false≢true (sym ended ∙ at_its_end c.failed (nat_eq c.place c.reads) (eq-eqb c.place c.reads same)))
       | inr ne ↦ omega arith
     ]
 
 -- what the scheduler answers to a commit is a step, which moves no cursor
-pub commit_play : (s : State) → IsReached s → (e x : ℕ) (answer : Bool) (new : Schedule)
+pub commit_play : (s : State) → Holds s → (e x : ℕ) (answer : Bool) (new : Schedule)
     → (IsTrue answer → IsFresh s.board s.board.committed × (new ≡ record { board = committed_more s.board; execution = e; validation = x }))
     → (IsFalse answer → ¬ IsFresh s.board s.board.committed × (new ≡ record { board = s.board; execution = e; validation = x }))
     → PlayStep (play s e x) (Commit answer) (play (record s { board = new.board }) new.execution new.validation)
-commit_play s reached e x true new fresh otherwise =
+commit_play s holds e x true new fresh otherwise =
     let f = fresh refl in
-    (commit_step s reached true new.board (λ _. (f.0, ap (λ (n : Schedule). n.board) f.1)) (λ wrong. absurd (false≢true (sym wrong))), (ap (λ (n : Schedule). n.execution) f.1, ap (λ (n : Schedule). n.validation) f.1))
-commit_play s reached e x false new fresh otherwise =
+    (commit_step s holds true new.board (λ _. (f.0, ap (λ (n : Schedule). n.board) f.1)) (λ wrong. absurd (false≢true (sym wrong))), (ap (λ (n : Schedule). n.execution) f.1, ap (λ (n : Schedule). n.validation) f.1))
+commit_play s holds e x false new fresh otherwise =
     let o = otherwise refl in
-    (commit_step s reached false new.board (λ wrong. absurd (false≢true wrong)) (λ _. (o.0, ap (λ (n : Schedule). n.board) o.1)), (ap (λ (n : Schedule). n.execution) o.1, ap (λ (n : Schedule). n.validation) o.1))
+    (commit_step s holds false new.board (λ wrong. absurd (false≢true wrong)) (λ _. (o.0, ap (λ (n : Schedule). n.board) o.1)), (ap (λ (n : Schedule). n.execution) o.1, ap (λ (n : Schedule). n.validation) o.1))
 
 -- a slot that is kept as it was changes nothing
 pub slot_back : (s : State) (i : ℕ) (kept after : ExecutionSlot) → kept ≡ get_or s.slots i kept → after ≡ kept → record s { slots = set s.slots i after } ≡ s
@@ -283,9 +279,9 @@ slot_back s i kept after is same =
     ap (λ (slots : List ExecutionSlot). record s { slots = slots }) (ap (set s.slots i) (same ∙ is) ∙ set-get_or s.slots i kept)
 
 -- what was not found in the log of a version is not logged by it
-pub unlogged : (s : State) → IsReached s → (v : Version) (row : RowKey) (kept : ExecutionSlot) (found : Option (Option RowVal)) → v.index < length s.board.marks → kept ≡ get_or s.slots v.index kept → found ≡ logged_in kept.log row → found ≡ None → logged_in (slot s v.index).log row ≡ None
-unlogged s reached v row kept found l is gives none =
-    ap (λ (k : ExecutionSlot). logged_in k.log row) (sym (at_slot s v.index kept (slot_there s reached v.index l) is)) ∙ sym gives ∙ none
+pub unlogged : (s : State) → Holds s → (v : Version) (row : RowKey) (kept : ExecutionSlot) (found : Option (Option RowVal)) → v.index < length s.board.marks → kept ≡ get_or s.slots v.index kept → found ≡ logged_in kept.log row → found ≡ None → logged_in (slot s v.index).log row ≡ None
+unlogged s holds v row kept found l is gives none =
+    ap (λ (k : ExecutionSlot). logged_in k.log row) (sym (at_slot s holds v.index kept l is)) ∙ sym gives ∙ none
 
 -- nor does it stand there
 pub not_in : (log : Log) (row : RowKey) → logged_in log row ≡ None → value_in log row ≡ None
@@ -307,13 +303,9 @@ pub not_of_version : (s : State) (v : Version) (x : Executed) (kept : ExecutionS
 not_of_version s v x kept reads here same_reads unanswered of =
     unanswered (subst (λ (k : ExecutionSlot). AreLogged k.log reads) (sym here) (subst (AreLogged (slot s v.index).log) (sym same_reads) of.1))
 
--- there is a place for the validation of each seat
-pub seat_there : (s : State) → IsReached s → (seat : ℕ) → seat < seats → seat < length s.validations
-seat_there s reached seat l = let seated = (Holds-reached s reached).seated in omega arith
-
 -- what was read at a seat is its validation
-pub at_seat : (s : State) (seat : ℕ) (found : Option Validation) (c : Validation) → seat < length s.validations → found ≡ get_or s.validations seat found → found ≡ Some c → validation_of s seat ≡ Some c
-at_seat s seat found c l is some = sym (get_or_read s.validations seat found l is None) ∙ some
+pub at_seat : (s : State) → Holds s → (seat : ℕ) (found : Option Validation) (c : Validation) → seat < seats → found ≡ get_or s.validations seat found → found ≡ Some c → validation_of s seat ≡ Some c
+at_seat s holds seat found c l is some = let seated = holds.seated in sym (get_or_read s.validations seat found (omega arith) is None) ∙ some
 
 -- a core over copies, in which nothing was done, is in its opening state
 pub opened_state : (book : Rows) (frames : List Frame) (limits : Limits) (opening : Rows) (copies : List Frame) (entries : Entries) (new : Schedule) (slots : List ExecutionSlot) (epoch : ℕ) (validations : List (Option Validation))
@@ -321,6 +313,12 @@ pub opened_state : (book : Rows) (frames : List Frame) (limits : Limits) (openin
     → record { opening = opening; frames = copies; entries = entries; board = new.board; slots = slots; limits = record { incarnation = limits.incarnation; epoch = epoch }; validations = validations } ≡ start book frames limits
 opened_state book frames limits opening copies entries new slots epoch validations a b c d e f g =
     λ i. record { opening = a i; frames = b i; entries = c i; board = (d i).board; slots = e i; limits = record { incarnation = limits.incarnation; epoch = f i }; validations = g i }
+
+-- and what holds of a core holds of it
+pub sound_at_start : (book : Rows) (frames : List Frame) (limits : Limits) (s : State) → s ≡ start book frames limits → length frames ≤ 65536 → limits.incarnation < 2 ^ 32 → max 1 limits.epoch < 2 ^ 64 → IsSoundCore s
+sound_at_start book frames limits s is few incarnation epoch =
+    let reached = IsReached-start book frames limits in
+    subst IsSoundCore (sym is) (record { reached = reached; holds = Holds-reached (start book frames limits) reached; few = few; incarnation = incarnation; epoch = epoch })
 
 -- a list of one reply, or of none
 as_list : (o : Option ReplyBody) → option_to_list o ≡ cons_option o []

@@ -1,2 +1,3 @@
 pub mod Origin
+pub mod Sound
 pub mod Unread

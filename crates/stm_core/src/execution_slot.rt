@@ -1,9 +1,7 @@
 ghost use Rattle.std.specs.Prelude.{◌≡◌, ◌↔◌, ◌<◌, ◌++◌, [], ◌∷◌, Some, None, length, slice_get, IsTrue, IfSome, OnOk, OnErr};
 ghost use Rattle.std.specs.Option.{option_copied};
-ghost use Rattle.issuer_rows.specs.RowVal.{IsOfKind};
-ghost use Rattle.issuer_view.specs.RowSets.{value_in};
-ghost use Rattle.stm_core_laws.specs.Log.{logged_in, AreLogged};
-ghost use Rattle.stm_core_laws.specs.State.{empty_slot};
+ghost use Rattle.issuer_view.specs.Words.{IsOfKind, value_in};
+ghost use Rattle.stm_core_laws.specs.Words.{AreLogged, empty_slot, logged_in};
 ghost use Rattle.stm_core.specs.Origin.{IsFirstOf};
 
 use crate::log::{FEW, Log};

@@ -1,6 +1,5 @@
 ghost use Rattle.std.specs.Prelude.{◌≡◌, ◌≢◌, ◌<◌, ◌≤◌, ◌↔◌, Some, None, length, take, IsTrue, IfOk, IfSome, OnOk};
-ghost use Rattle.issuer_rows.specs.Fold.{rows_after, replies_to};
-ghost use Rattle.issuer_rows.specs.RowVal.{IsOfKind};
+ghost use Rattle.issuer_view.specs.Words.{IsOfKind, replies_to, rows_after};
 ghost use Rattle.stm_scheduler.specs.Board.{floor, mark, IsRunning};
 ghost use Rattle.stm_core_laws.specs.Play.{PlayStep, opening_play};
 ghost use Rattle.stm_core_laws.specs.Run.{IsReached, Claim, Read, Block, Finish, Begin, ValidateOne, End, Commit};
@@ -8,13 +7,13 @@ ghost use Rattle.stm_core_laws.specs.Step.{IsGotOfKind, logged_by};
 ghost use Rattle.stm_core.specs.Unread.{got_of};
 
 use crate::execution_slot::ExecutionSlot;
-use crate::frames::{are_same, is_at};
+use crate::frames::is_at;
 use crate::logging::{puts_new_location, resolves_as, seen_into};
 use crate::slots::{fresh_slots, replies_in};
 use crate::standing::{is_open, is_running};
 use crate::unread::Unread;
 use crate::validations::{after_read, is_at_end, no_validations};
-use issuer_fold::Prefix;
+use issuer_fold::{Prefix, are_same_frames};
 use issuer_rows::{Book, Frame, RowKey, RowVal};
 use issuer_view::Execution;
 use std::alloc::{AllocError, Global};
@@ -38,7 +37,6 @@ pub struct Core {
 }
 
 impl Model for Core {
-    ghost use Rattle.std.specs.Prelude.{◌<◌, ◌≤◌, ◌^◌, length};
     ghost use Rattle.std.specs.FinMap as finite;
     ghost use Rattle.stm_memory.specs.Memory.{held_code, place_code};
     ghost use Rattle.issuer_rows.specs.contracts.frame.Frame.{the_row as frame_row};
@@ -49,8 +47,8 @@ impl Model for Core {
     ghost use Rattle.stm_core_laws.specs.contracts.validation.Validation.{the_row as check_row};
     ghost use Rattle.stm_core_laws.specs.contracts.limits.Limits.{the_row as limits_row};
     ghost use Rattle.stm_core_laws.specs.Play.{Play, play_code};
-    ghost use Rattle.stm_core_laws.specs.Run.{IsReached};
     ghost use Rattle.stm_core_laws.specs.State.{state_code};
+    ghost use Rattle.stm_core.specs.Sound.{IsSoundCore};
     ghost use Rattle.stm_core.specs.contracts.execution_slot.ExecutionSlot.{the_row as slot_row};
 
     ghost Value = { Play };
@@ -59,7 +57,7 @@ impl Model for Core {
 
     ghost view = { λ c. record { state = record { opening = c.opening; frames = c.frames.items; entries = c.memory.entries; board = c.scheduler.board; slots = c.slots.items; limits = c.limits; validations = c.validations.items }; execution = c.scheduler.execution; validation = c.scheduler.validation } };
 
-    ghost invariant = { λ c. (length c.frames.items ≤ 65536) × IsReached (record { opening = c.opening; frames = c.frames.items; entries = c.memory.entries; board = c.scheduler.board; slots = c.slots.items; limits = c.limits; validations = c.validations.items }) × (c.limits.incarnation < 2 ^ 32) × (c.limits.epoch < 2 ^ 64) };
+    ghost invariant = { λ c. IsSoundCore (record { opening = c.opening; frames = c.frames.items; entries = c.memory.entries; board = c.scheduler.board; slots = c.slots.items; limits = c.limits; validations = c.validations.items }) };
 }
 
 impl Core {
@@ -400,7 +398,7 @@ impl Core {
     pub fn opened_with(&self, book: &Book, frames: &[Frame]) -> bool
         ensures { IsTrue result ↔ ((self.now.state.opening ≡ book.now) × (self.now.state.frames ≡ frames.now)) }
     {
-        self.opening.is_same(book) && are_same(&self.frames, frames)
+        self.opening.is_same(book) && are_same_frames(&self.frames, frames)
     }
 
     /// The committed messages: the book and the replies after them are those of deciding them one after another on the opening book. It

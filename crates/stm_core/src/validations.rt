@@ -1,6 +1,5 @@
 ghost use Rattle.std.specs.Prelude.{◌≡◌, ◌<◌, if◌then◌else◌, None, replicate, IfOk};
-ghost use Rattle.stm_core_laws.specs.State.{seats};
-ghost use Rattle.stm_core_laws.specs.Step.{is_at_end, passed_one, failed_one};
+ghost use Rattle.stm_core_laws.specs.Words.{failed_one, is_at_end, passed_one, seats};
 
 use std::alloc::{AllocError, Global};
 use stm_core_laws::Validation;

@@ -1,22 +1,17 @@
 -- What a change of a core carries over: sound reads, validations, and what is kept of each message that it leaves alone.
 use Rattle.std.proofs.Common.{◌≡◌, ◌≢◌, ℕ, ◌≤◌, ◌+◌, Bool, true, false, if◌then◌else◌, nat_eq, List, inl, inr, length, Contains, refl, sym, ap, ◌∙◌, subst, Some, option_map, arith}
 use Rattle.std.specs.FinMap as finite
-use Rattle.issuer_rows.specs.Agreement.{Executed}
-use Rattle.issuer_rows.specs.Fold.{Rows}
-use Rattle.issuer_rows.specs.declared.frame.Frame.{Frame}
-use Rattle.issuer_rows.specs.declared.row_key.RowKey.{RowKey}
-use Rattle.issuer_rows.specs.declared.row_val.RowVal.{RowVal}
-use Rattle.stm_core_laws.proofs.Shelves.{Keeps, Keeps-same, Resolve-kept}
-use Rattle.stm_memory.specs.Entries.{Shelf, value_at, place_of, Entries, written}
-use Rattle.stm_memory.specs.declared.version.Version.{Version}
-use Rattle.stm_scheduler.specs.Board.{woken_status, IsFloored}
-use Rattle.stm_scheduler.specs.declared.status.Status.{Status}
-use Rattle.stm_core_laws.specs.Holds.{WasFinished, IsExecutedIn, IsSoundRead, IsExecutedBy, IsKept, IsKeptValidation}
-use Rattle.stm_core_laws.specs.Log.{Resolve}
-use Rattle.stm_core_laws.specs.State.{IsAt, State, MessageState, message, shelf, Log}
-use Rattle.stm_core_laws.specs.declared.validation.Validation.{Validation}
+use Rattle.issuer_view.specs.Words.{Executed, Frame, RowKey, RowVal, Rows}
+use Rattle.stm_memory.specs.Entries.{Entries, Shelf, place_of, value_at, written}
+use Rattle.stm_scheduler.specs.Board.{IsFloored, woken_status}
+use Rattle.stm_core_laws.specs.Words.{IsAt, Log, MessageState, Resolve, State, message, shelf}
 use Rattle.stm_core_laws.specs.declared.limits.Limits.{Limits}
 use Rattle.stm_core_laws.specs.declared.logged.Logged.{Logged}
+use Rattle.stm_core_laws.specs.declared.validation.Validation.{Validation}
+use Rattle.stm_memory.specs.declared.version.Version.{Version}
+use Rattle.stm_scheduler.specs.declared.status.Status.{Status}
+use Rattle.stm_core_laws.proofs.Shelves.{Keeps, Keeps-same, Resolve-kept}
+use Rattle.stm_core_laws.specs.Holds.{WasFinished, IsExecutedIn, IsSoundRead, IsExecutedBy, IsKept, IsKeptValidation}
 use Rattle.stm_scheduler.specs.declared.status.Status.TheVariants as status
 
 -- What finished stays finished; and an incarnation that finished and is the present one is the one that was executed before.

@@ -2,14 +2,12 @@
 use Rattle.std.proofs.Common.{◌≡◌, ◌≢◌, ℕ, ◌<◌, ◌≤◌, List, ◌⊎◌, inl, inr, length, set, refl, sym, ap, ◌∙◌, subst, Option, Some, None, arith, length-set, get_or-set_same, get_or-set_other}
 use Rattle.std.proofs.lemmas.Bool.{cases_eq, cases_lt}
 use Rattle.std.proofs.lemmas.List.{get_or_past}
-use Rattle.issuer_rows.specs.Fold.{Rows}
-use Rattle.stm_memory.specs.Entries.{Shelf}
-use Rattle.issuer_rows.specs.declared.frame.Frame.{Frame}
-use Rattle.issuer_rows.specs.declared.row_key.RowKey.{RowKey}
-use Rattle.stm_core_laws.proofs.Carries.{Carries, Carries-quiet, Moves, Moves-IsLike, IsLike, IsLike-refl, IsLike-same, kept-carried, validation-carried}
-use Rattle.stm_scheduler.specs.Board.{Board, mark, fresh_mark, with_mark, floor}
+use Rattle.issuer_view.specs.Words.{Frame, RowKey, Rows}
+use Rattle.stm_scheduler.specs.Board.{Board, floor, fresh_mark, mark, with_mark}
 use Rattle.stm_scheduler.specs.declared.message_progress.MessageProgress.{MessageProgress}
 use Rattle.stm_scheduler.specs.declared.status.Status.{Status}
+use Rattle.stm_memory.specs.Entries.{Shelf}
+use Rattle.stm_core_laws.proofs.Carries.{Carries, Carries-quiet, Moves, Moves-IsLike, IsLike, IsLike-refl, IsLike-same, kept-carried, validation-carried}
 use Rattle.stm_core_laws.specs.Holds.{Holds, IsKept, IsKeptValidation, IsDecidedOn}
 use Rattle.stm_core_laws.specs.State.{State, MessageState, ExecutionSlot, slot, empty_slot, message, message_of, shelf, validation_of, with_slot, with_validation, seats}
 use Rattle.stm_core_laws.specs.declared.validation.Validation.{Validation}

@@ -6,27 +6,20 @@ use Rattle.std.proofs.lemmas.List.Elements.{recursion_from_All}
 use Rattle.std.proofs.lemmas.Option.{same_Some, none-some}
 use Rattle.std.specs.FinMap as finite
 use Rattle.issuer_rows.proofs.KeyLaws.{key_eq_decides}
-use Rattle.issuer_rows.specs.Agreement.{Executed, Agrees, Reads}
-use Rattle.issuer_rows.specs.Fold.{Rows, rows_after, rows_after_one, writes_of, reply_of}
-use Rattle.issuer_rows.specs.RowKey.{key_eq}
-use Rattle.issuer_rows.specs.declared.frame.Frame.{Frame}
-use Rattle.issuer_rows.specs.declared.reply_body.ReplyBody.{ReplyBody}
-use Rattle.issuer_rows.specs.declared.row_key.RowKey.{RowKey}
-use Rattle.issuer_rows.specs.declared.row_val.RowVal.{RowVal}
-use Rattle.stm_memory.specs.Entries.{value_at, written}
-use Rattle.stm_memory.specs.Resolves.{Resolves, row_under}
+use Rattle.issuer_view.specs.Words.{Agrees, Executed, Frame, Reads, ReplyBody, RowKey, RowVal, Rows}
+use Rattle.issuer_view.specs.Words.{key_eq, reply_of, rows_after, rows_after_one, writes_of}
+use Rattle.stm_memory.specs.Words.{Resolves, row_under, value_at, written}
+use Rattle.stm_core_laws.specs.Words.{AreLogged, ExecutionSlot, Follows, Holds, IsDecidedOn}
+use Rattle.stm_core_laws.specs.Words.{IsSoundRead, Log, ResolvesAs, State, empty_slot, logged_in}
+use Rattle.stm_core_laws.specs.Words.{message, shelf, slot}
+use Rattle.stm_core_laws.specs.declared.logged.Logged.{Logged}
 use Rattle.stm_memory.specs.declared.seen.Seen.{Seen}
-use Rattle.stm_memory.specs.declared.seen.Seen.TheVariants.{Base, Value, Estimate}
 use Rattle.stm_memory.specs.declared.version.Version.{Version}
+use Rattle.stm_memory.specs.declared.seen.Seen.TheVariants.{Base, Value, Estimate}
 use Rattle.stm_scheduler.specs.Board.{committed_more, IsFresh}
 use Rattle.stm_core_laws.proofs.Carries.{Carries, Carries-quiet, Moves-IsLike, IsLike-refl, kept-carried, validation-carried}
 use Rattle.stm_core_laws.proofs.Members.{Contains-head, Contains-tail}
 use Rattle.stm_core_laws.proofs.Overlay.{Follows-push, rows_after-push, under_more}
-use Rattle.stm_core_laws.specs.Follows.{Follows}
-use Rattle.stm_core_laws.specs.Holds.{Holds, IsSoundRead, IsDecidedOn}
-use Rattle.stm_core_laws.specs.Log.{AreLogged, ResolvesAs, logged_in}
-use Rattle.stm_core_laws.specs.State.{Log, State, ExecutionSlot, message, slot, empty_slot, shelf}
-use Rattle.stm_core_laws.specs.declared.logged.Logged.{Logged}
 
 -- the frames up to a committed one
 frames_more : (s : State) → Holds s → (k : ℕ) → (d : IsDecidedOn s.opening s.frames (shelf s) k (message s k)) → take (k + 1) s.frames ≡ take k s.frames ++ d.frame ∷ []

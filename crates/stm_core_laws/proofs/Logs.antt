@@ -2,29 +2,27 @@
 use Rattle.std.proofs.Common.{◌≡◌, ◌≢◌, ℕ, ◌<◌, ◌≤◌, ◌+◌, [], ◌∷◌, ◌++◌, ◌⊎◌, inl, inr, length, Contains, refl, sym, ◌∙◌, subst, Some, arith}
 use Rattle.std.proofs.lemmas.List.Elements.{Contains-push_cases}
 use Rattle.std.proofs.lemmas.Option.{same_Some, none-some}
-use Rattle.issuer_rows.specs.declared.row_key.RowKey.{RowKey}
-use Rattle.issuer_rows.specs.declared.row_val.RowVal.{RowVal}
+use Rattle.issuer_view.specs.Words.{RowKey, RowVal}
+use Rattle.stm_memory.specs.Words.{Resolves, value_at}
+use Rattle.stm_scheduler.specs.Board.{Board, IsRunning, claimed, mark, unstamped}
+use Rattle.stm_core_laws.specs.Holds.{Holds, IsExecutedIn, IsKept, IsSoundRead}
+use Rattle.stm_core_laws.specs.Log.{logged_of}
+use Rattle.stm_core_laws.specs.State.{ExecutionSlot, MessageState, State, empty_slot, message, message_of, shelf, slot}
+use Rattle.stm_core_laws.specs.declared.logged.Logged.{Logged}
+use Rattle.stm_memory.specs.declared.seen.Seen.{Seen}
+use Rattle.stm_memory.specs.declared.version.Version.{Version}
+use Rattle.stm_scheduler.specs.declared.message_progress.MessageProgress.{MessageProgress}
+use Rattle.stm_scheduler.specs.declared.status.Status.{Status}
 use Rattle.stm_core_laws.proofs.Carries.{Moves-unfinished}
 use Rattle.stm_core_laws.proofs.Changed.{Holds-mark, Holds-slot, Holds-both, of_other, in_batch, past_committed, ready_not_executed, running_not_executed, running_not_ready}
 use Rattle.stm_core_laws.proofs.Members.{Contains-nil}
 use Rattle.stm_core_laws.proofs.Shelves.{incarnation_of_value, value_put, value_not_estimate}
-use Rattle.stm_memory.specs.Entries.{value_at}
-use Rattle.stm_memory.specs.Resolves.{Resolves}
-use Rattle.stm_memory.specs.declared.seen.Seen.{Seen}
-use Rattle.stm_memory.specs.declared.version.Version.{Version}
-use Rattle.stm_scheduler.specs.Board.{Board, mark, unstamped, claimed, IsRunning}
-use Rattle.stm_scheduler.specs.declared.message_progress.MessageProgress.{MessageProgress}
-use Rattle.stm_scheduler.specs.declared.status.Status.{Status}
-use Rattle.stm_core_laws.specs.Holds.{Holds, IsKept, IsSoundRead, IsExecutedIn}
-use Rattle.stm_core_laws.specs.Log.{logged_of}
-use Rattle.stm_core_laws.specs.State.{State, MessageState, ExecutionSlot, message, message_of, slot, empty_slot, shelf}
 use Rattle.stm_core_laws.specs.Step.{with_read, blocked}
-use Rattle.stm_core_laws.specs.declared.logged.Logged.{Logged}
 use Rattle.stm_memory.specs.declared.seen.Seen.TheVariants.{Base, Value, Estimate}
 use Rattle.stm_scheduler.specs.declared.status.Status.TheVariants as status
 
 -- executed or not
-executed_cases : (is : Status) → (is ≡ status.Executed) ⊎ (is ≢ status.Executed)
+pub executed_cases : (is : Status) → (is ≡ status.Executed) ⊎ (is ≢ status.Executed)
 executed_cases status.Ready = inr (λ e. cc)
 executed_cases status.Running = inr (λ e. cc)
 executed_cases status.Executed = inl refl

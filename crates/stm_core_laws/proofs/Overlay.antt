@@ -6,20 +6,14 @@ use Rattle.std.specs.FinMap as finite
 use Rattle.std.specs.List.{cons_option}
 use Rattle.std.specs.Ordering.{eq_by_cmp}
 use Rattle.issuer_rows.proofs.KeyLaws.{key_cmp_total}
-use Rattle.issuer_rows.specs.Fold.{Rows, overlay, reply_of, writes_of, rows_after_one, rows_after, replies_to}
-use Rattle.issuer_rows.specs.Plan.{Writes}
-use Rattle.issuer_rows.specs.RowKey.{key_cmp}
-use Rattle.issuer_rows.specs.declared.frame.Frame.{Frame}
-use Rattle.issuer_rows.specs.declared.reply_body.ReplyBody.{ReplyBody}
-use Rattle.issuer_rows.specs.declared.row_key.RowKey.{RowKey}
-use Rattle.issuer_rows.specs.declared.row_val.RowVal.{RowVal}
-use Rattle.stm_memory.specs.Entries.{Held, Shelf, value_at, written}
-use Rattle.stm_memory.specs.Resolves.{Resolves, row_under}
+use Rattle.issuer_view.specs.Words.{Frame, ReplyBody, RowKey, RowVal, Rows, Writes, key_cmp}
+use Rattle.issuer_view.specs.Words.{overlay, replies_to, reply_of, rows_after, rows_after_one}
+use Rattle.issuer_view.specs.Words.{writes_of}
+use Rattle.stm_memory.specs.Words.{Held, Resolves, Shelf, row_under, value_at, written}
+use Rattle.stm_core_laws.specs.Words.{ExecutionSlot, Follows}
 use Rattle.stm_memory.specs.declared.seen.Seen.{Seen}
 use Rattle.stm_memory.specs.declared.seen.Seen.TheVariants.{Base, Value, Estimate}
 use Rattle.stm_core_laws.proofs.Shelves.{option_cases}
-use Rattle.stm_core_laws.specs.Follows.{Follows}
-use Rattle.stm_core_laws.specs.State.{ExecutionSlot}
 
 -- the first, or where there is none the second
 abbrev pub or_else : {X : Type 0} → Option X → Option X → Option X

@@ -4,10 +4,18 @@ use Rattle.std.proofs.lemmas.Bool.{cases_lt}
 use Rattle.std.proofs.lemmas.List.{length-map, get_or_past, get_or-replicate, length-replicate}
 use Rattle.std.proofs.lemmas.Option.{none-some}
 use Rattle.std.specs.FinMap as finite
-use Rattle.issuer_rows.specs.Agreement.{Executed, IsTrueExecution}
-use Rattle.issuer_rows.specs.Fold.{Rows}
-use Rattle.issuer_rows.specs.declared.frame.Frame.{Frame}
-use Rattle.issuer_rows.specs.declared.row_key.RowKey.{RowKey}
+use Rattle.issuer_view.specs.Words.{Executed, Frame, IsTrueExecution, RowKey, Rows}
+use Rattle.stm_memory.specs.Entries.{place_cmp, place_of}
+use Rattle.stm_scheduler.specs.Board.{floor, fresh_mark, mark, passed}
+use Rattle.stm_core_laws.specs.Holds.{Holds, IsKept}
+use Rattle.stm_core_laws.specs.State.{State, bounded, empty_slot, message_of, seats, slot, start}
+use Rattle.stm_core_laws.specs.Step.{BeginStep, BlockStep, ClaimStep, CommitStep, EndStep, FinishStep, ReadStep, ValidationStep, without_execution}
+use Rattle.stm_core_laws.specs.declared.core_fault.CoreFault.{CoreFault}
+use Rattle.stm_core_laws.specs.declared.got.Got.{Got}
+use Rattle.stm_core_laws.specs.declared.limits.Limits.{Limits}
+use Rattle.stm_core_laws.specs.declared.validation.Validation.{Validation}
+use Rattle.stm_memory.specs.declared.version.Version.{Version}
+use Rattle.stm_scheduler.specs.declared.task.Task.{Task}
 use Rattle.stm_core_laws.proofs.Changed.{Holds-validation, message_by, ready_not_executed, waiting_not_executed}
 use Rattle.stm_core_laws.proofs.Validations.{Holds-begun, Holds-validated, Holds-passed}
 use Rattle.stm_core_laws.proofs.Committed.{Holds-committed, Follows-settled, under_committed}
@@ -15,18 +23,7 @@ use Rattle.stm_core_laws.proofs.Finished.{Holds-finished, Holds-finished_new, Ho
 use Rattle.stm_core_laws.proofs.Logs.{Holds-claimed, Holds-read, Holds-blocked}
 use Rattle.stm_core_laws.proofs.Members.{Contains-nil}
 use Rattle.stm_core_laws.proofs.Overlay.{replies-Follows}
-use Rattle.stm_memory.specs.Entries.{place_of, place_cmp}
-use Rattle.stm_memory.specs.declared.version.Version.{Version}
-use Rattle.stm_scheduler.specs.Board.{mark, fresh_mark, passed, floor}
-use Rattle.stm_scheduler.specs.declared.task.Task.{Task}
-use Rattle.stm_core_laws.specs.Holds.{Holds, IsKept}
 use Rattle.stm_core_laws.specs.Run.{Call, Claim, Read, Block, Finish, Begin, ValidateOne, End, Commit, Step, Run, IsReached, RepliesAreTheFold, RowsAreTheFold}
-use Rattle.stm_core_laws.specs.State.{State, message_of, slot, empty_slot, seats, bounded, start}
-use Rattle.stm_core_laws.specs.Step.{ClaimStep, ReadStep, BlockStep, FinishStep, BeginStep, ValidationStep, EndStep, CommitStep, without_execution}
-use Rattle.stm_core_laws.specs.declared.validation.Validation.{Validation}
-use Rattle.stm_core_laws.specs.declared.core_fault.CoreFault.{CoreFault}
-use Rattle.stm_core_laws.specs.declared.got.Got.{Got}
-use Rattle.stm_core_laws.specs.declared.limits.Limits.{Limits}
 use Rattle.stm_core_laws.specs.declared.core_fault.CoreFault.TheVariants.{NotRunning, OtherReads, Outdated, OutOfMemory, Exhausted}
 use Rattle.stm_core_laws.specs.declared.got.Got.TheVariants as got
 use Rattle.stm_scheduler.specs.declared.status.Status.TheVariants as status
@@ -49,9 +46,7 @@ Holds-ReadStep old v row (Ok (got.Row value)) new step h =
 Holds-ReadStep old v row (Ok (got.Estimate at)) new step h = subst Holds (sym step.2) h
 Holds-ReadStep old v row (Err NotRunning) new step h = subst Holds (sym step.1) h
 Holds-ReadStep old v row (Err OutOfMemory) new step h = subst Holds (sym step.2) h
-Holds-ReadStep old v row (Err OtherReads) new step h = absurd step
-Holds-ReadStep old v row (Err Outdated) new step h = absurd step
-Holds-ReadStep old v row (Err Exhausted) new step h = absurd step
+Holds-ReadStep old v row answer new step h = absurd step
 
 -- every answer to a block
 Holds-BlockStep : (old : State) (v : Version) (on : ℕ) (answer : Result (Unit {0}) CoreFault) (new : State) → BlockStep old v on answer new → Holds old → Holds new
@@ -62,9 +57,7 @@ Holds-BlockStep old v on (Ok u) new step h =
     ]
 Holds-BlockStep old v on (Err NotRunning) new step h = subst Holds (sym step.1) h
 Holds-BlockStep old v on (Err Exhausted) new step h = subst Holds (sym step.2) h
-Holds-BlockStep old v on (Err OtherReads) new step h = absurd step
-Holds-BlockStep old v on (Err Outdated) new step h = absurd step
-Holds-BlockStep old v on (Err OutOfMemory) new step h = absurd step
+Holds-BlockStep old v on answer new step h = absurd step
 
 -- every answer to handing in an execution
 Holds-FinishStep : (old : State) (v : Version) (x : Executed) (answer : Result Bool CoreFault) (new : State) → IsTrueExecution x → FinishStep old v x answer new → Holds old → Holds new
@@ -84,19 +77,14 @@ Holds-FinishStep old v x (Err Outdated) new true_one step h = absurd step
 Holds-BeginStep : (old : State) (seat : ℕ) (v : Version) (answer : Result Bool CoreFault) (new : State) → seat < seats → BeginStep old seat v answer new → Holds old → Holds new
 Holds-BeginStep old seat v (Ok ended) new l step h = subst Holds (sym step.2) (Holds-begun old h seat v l step.0)
 Holds-BeginStep old seat v (Err Outdated) new l step h = subst Holds (sym step.1) h
-Holds-BeginStep old seat v (Err NotRunning) new l step h = absurd step
-Holds-BeginStep old seat v (Err OtherReads) new l step h = absurd step
-Holds-BeginStep old seat v (Err OutOfMemory) new l step h = absurd step
-Holds-BeginStep old seat v (Err Exhausted) new l step h = absurd step
+Holds-BeginStep old seat v answer new l step h = absurd step
 
 -- every answer to one read of a validation
 Holds-ValidationStep : (old : State) (seat : ℕ) (answer : Result Bool CoreFault) (new : State) → seat < seats → ValidationStep old seat answer new → Holds old → Holds new
 Holds-ValidationStep old seat (Ok ended) new l step h = subst Holds (sym step.6) (Holds-validated old h seat step.0 step.1 l step.2 step.3 step.4)
 Holds-ValidationStep old seat (Err NotRunning) new l step h = subst Holds (sym step.1) h
 Holds-ValidationStep old seat (Err Outdated) new l step h = subst Holds (sym step.1) h
-Holds-ValidationStep old seat (Err OtherReads) new l step h = absurd step
-Holds-ValidationStep old seat (Err OutOfMemory) new l step h = absurd step
-Holds-ValidationStep old seat (Err Exhausted) new l step h = absurd step
+Holds-ValidationStep old seat answer new l step h = absurd step
 
 -- every answer to the end of a validation
 Holds-EndStep : (old : State) (seat : ℕ) (answer : Result Bool CoreFault) (new : State) → seat < seats → EndStep old seat answer new → Holds old → Holds new
@@ -112,8 +100,7 @@ Holds-EndStep old seat (Ok false) new l step h =
 Holds-EndStep old seat (Err NotRunning) new l step h = subst Holds (sym step.1) h
 Holds-EndStep old seat (Err Outdated) new l step h = subst Holds (sym step.1) h
 Holds-EndStep old seat (Err Exhausted) new l step h = subst Holds (sym step.1) h
-Holds-EndStep old seat (Err OtherReads) new l step h = absurd step
-Holds-EndStep old seat (Err OutOfMemory) new l step h = absurd step
+Holds-EndStep old seat answer new l step h = absurd step
 
 -- every answer to a commit
 Holds-CommitStep : (old : State) (answer : Bool) (new : State) → CommitStep old answer new → Holds old → Holds new
@@ -197,18 +184,14 @@ same-ReadStep old v row (Ok (got.Row value)) new step =
 same-ReadStep old v row (Ok (got.Estimate at)) new step = stays old new step.2
 same-ReadStep old v row (Err NotRunning) new step = stays old new step.1
 same-ReadStep old v row (Err OutOfMemory) new step = stays old new step.2
-same-ReadStep old v row (Err OtherReads) new step = absurd step
-same-ReadStep old v row (Err Outdated) new step = absurd step
-same-ReadStep old v row (Err Exhausted) new step = absurd step
+same-ReadStep old v row answer new step = absurd step
 
 same-BlockStep : (old : State) (v : Version) (on : ℕ) (answer : Result (Unit {0}) CoreFault) (new : State) → BlockStep old v on answer new → IsOfSame old new
 same-BlockStep old v on (Ok u) new step =
     elim step.2 [ inl waits ↦ same_from old new _ waits.1 (refl, refl, refl) | inr goes ↦ same_from old new _ goes.1 (refl, refl, refl) ]
 same-BlockStep old v on (Err NotRunning) new step = stays old new step.1
 same-BlockStep old v on (Err Exhausted) new step = stays old new step.2
-same-BlockStep old v on (Err OtherReads) new step = absurd step
-same-BlockStep old v on (Err Outdated) new step = absurd step
-same-BlockStep old v on (Err OutOfMemory) new step = absurd step
+same-BlockStep old v on answer new step = absurd step
 
 same-FinishStep : (old : State) (v : Version) (x : Executed) (answer : Result Bool CoreFault) (new : State) → FinishStep old v x answer new → IsOfSame old new
 same-FinishStep old v x (Ok handed) new step =
@@ -222,18 +205,13 @@ same-FinishStep old v x (Err Outdated) new step = absurd step
 same-BeginStep : (old : State) (seat : ℕ) (v : Version) (answer : Result Bool CoreFault) (new : State) → BeginStep old seat v answer new → IsOfSame old new
 same-BeginStep old seat v (Ok ended) new step = same_from old new _ step.2 (refl, refl, refl)
 same-BeginStep old seat v (Err Outdated) new step = stays old new step.1
-same-BeginStep old seat v (Err NotRunning) new step = absurd step
-same-BeginStep old seat v (Err OtherReads) new step = absurd step
-same-BeginStep old seat v (Err OutOfMemory) new step = absurd step
-same-BeginStep old seat v (Err Exhausted) new step = absurd step
+same-BeginStep old seat v answer new step = absurd step
 
 same-ValidationStep : (old : State) (seat : ℕ) (answer : Result Bool CoreFault) (new : State) → ValidationStep old seat answer new → IsOfSame old new
 same-ValidationStep old seat (Ok ended) new step = same_from old new _ step.6 (refl, refl, refl)
 same-ValidationStep old seat (Err NotRunning) new step = stays old new step.1
 same-ValidationStep old seat (Err Outdated) new step = stays old new step.1
-same-ValidationStep old seat (Err OtherReads) new step = absurd step
-same-ValidationStep old seat (Err OutOfMemory) new step = absurd step
-same-ValidationStep old seat (Err Exhausted) new step = absurd step
+same-ValidationStep old seat answer new step = absurd step
 
 same-EndStep : (old : State) (seat : ℕ) (answer : Result Bool CoreFault) (new : State) → EndStep old seat answer new → IsOfSame old new
 same-EndStep old seat (Ok true) new step = same_from old new _ step.4 (refl, refl, refl)
@@ -241,8 +219,7 @@ same-EndStep old seat (Ok false) new step = same_from old new _ step.5.2 (refl, 
 same-EndStep old seat (Err NotRunning) new step = stays old new step.1
 same-EndStep old seat (Err Outdated) new step = stays old new step.1
 same-EndStep old seat (Err Exhausted) new step = stays old new step.1
-same-EndStep old seat (Err OtherReads) new step = absurd step
-same-EndStep old seat (Err OutOfMemory) new step = absurd step
+same-EndStep old seat answer new step = absurd step
 
 same-CommitStep : (old : State) (answer : Bool) (new : State) → CommitStep old answer new → IsOfSame old new
 same-CommitStep old true new step = same_from old new _ step.2 (refl, refl, refl)

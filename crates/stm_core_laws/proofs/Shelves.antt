@@ -1,13 +1,11 @@
 -- What a message sees of a row stays, where below it values stay and empty places stay empty.
 use Rattle.std.proofs.Common.{◌≡◌, ◌≢◌, ℕ, ◌<◌, List, ◌⊎◌, inl, inr, refl, sym, ap, ◌∙◌, Option, Some, None, option_map}
 use Rattle.std.proofs.lemmas.Option.{same_Some, none-some}
-use Rattle.issuer_rows.specs.declared.row_key.RowKey.{RowKey}
-use Rattle.issuer_rows.specs.declared.row_val.RowVal.{RowVal}
-use Rattle.stm_memory.specs.Entries.{Shelf, value_at, estimate_of, Held}
-use Rattle.stm_memory.specs.declared.version.Version.{Version}
-use Rattle.stm_core_laws.specs.Log.{ResolvesAs, Resolve}
-use Rattle.stm_core_laws.specs.State.{Log}
+use Rattle.issuer_view.specs.Words.{RowKey, RowVal}
+use Rattle.stm_memory.specs.Entries.{Held, Shelf, estimate_of, value_at}
+use Rattle.stm_core_laws.specs.Words.{Log, Resolve, ResolvesAs}
 use Rattle.stm_core_laws.specs.declared.logged.Logged.{Logged}
+use Rattle.stm_memory.specs.declared.version.Version.{Version}
 
 -- below j, empty places stay empty, and values stay
 abbrev pub Keeps : Shelf → Shelf → ℕ → Type 0

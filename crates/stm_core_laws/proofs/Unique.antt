@@ -4,25 +4,22 @@ use Rattle.std.proofs.lemmas.Bool.{cases_eq, cases_lt}
 use Rattle.std.proofs.lemmas.Option.{same_Some, none-some}
 use Rattle.std.specs.FinMap as finite
 use Rattle.stm_memory.proofs.Placed.{place_cmp_total, place_cmp_antisymmetric}
-use Rattle.issuer_rows.specs.Agreement.{Executed}
-use Rattle.issuer_rows.specs.Plan.{Writes}
-use Rattle.issuer_rows.specs.declared.row_key.RowKey.{RowKey}
-use Rattle.issuer_rows.specs.declared.row_val.RowVal.{RowVal}
-use Rattle.stm_core_laws.proofs.Validations.{one_at}
-use Rattle.stm_memory.specs.Entries.{Shelf, value_at, estimate_of, place_of, Entries, AreReplaced, AreEstimated, AreKeptBut, written, Held}
+use Rattle.issuer_view.specs.Words.{Executed, RowKey, RowVal, Writes}
 use Rattle.stm_memory.specs.Resolves.{Resolves}
-use Rattle.stm_memory.specs.declared.seen.Seen.{Seen}
-use Rattle.stm_memory.specs.declared.version.Version.{Version}
 use Rattle.stm_scheduler.specs.Board.{finished, lowered, passed}
-use Rattle.stm_scheduler.specs.declared.task.Task.{Task}
 use Rattle.stm_core_laws.specs.Log.{ResolvesAs, logged_of}
-use Rattle.stm_core_laws.specs.Run.{Call, Claim, Read, Block, Finish, Begin, ValidateOne, End, Commit, Step}
-use Rattle.stm_core_laws.specs.State.{State, shelf, validation_of, with_validation, seats, slot}
-use Rattle.stm_core_laws.specs.Step.{ClaimStep, ReadStep, BlockStep, FinishStep, BeginStep, ValidationStep, EndStep, CommitStep, Validated, with_read, with_execution, without_execution}
-use Rattle.stm_core_laws.specs.declared.validation.Validation.{Validation}
+use Rattle.stm_core_laws.specs.Run.{Begin, Block, Call, Claim, Commit, End, Finish, Read, Step, ValidateOne}
+use Rattle.stm_core_laws.specs.State.{State, seats, shelf, slot, validation_of, with_validation}
+use Rattle.stm_core_laws.specs.Step.{BeginStep, BlockStep, ClaimStep, CommitStep, EndStep, FinishStep, ReadStep, Validated, ValidationStep, with_execution, with_read, without_execution}
 use Rattle.stm_core_laws.specs.declared.core_fault.CoreFault.{CoreFault}
 use Rattle.stm_core_laws.specs.declared.got.Got.{Got}
 use Rattle.stm_core_laws.specs.declared.logged.Logged.{Logged}
+use Rattle.stm_core_laws.specs.declared.validation.Validation.{Validation}
+use Rattle.stm_memory.specs.declared.seen.Seen.{Seen}
+use Rattle.stm_memory.specs.declared.version.Version.{Version}
+use Rattle.stm_scheduler.specs.declared.task.Task.{Task}
+use Rattle.stm_core_laws.proofs.Validations.{one_at}
+use Rattle.stm_memory.specs.Entries.{Shelf, value_at, estimate_of, place_of, Entries, AreReplaced, AreEstimated, AreKeptBut, written, Held}
 use Rattle.stm_core_laws.specs.declared.core_fault.CoreFault.TheVariants.{NotRunning, OtherReads, Outdated, OutOfMemory, Exhausted}
 use Rattle.stm_core_laws.specs.declared.got.Got.TheVariants as got
 use Rattle.stm_memory.specs.declared.seen.Seen.TheVariants.{Base, Value, Estimate}
@@ -128,9 +125,7 @@ unique-ReadStep old v row (Ok (got.Row value)) a b x y =
 unique-ReadStep old v row (Ok (got.Estimate at)) a b x y = both a b _ x.2 y.2
 unique-ReadStep old v row (Err NotRunning) a b x y = both a b _ x.1 y.1
 unique-ReadStep old v row (Err OutOfMemory) a b x y = both a b _ x.2 y.2
-unique-ReadStep old v row (Err OtherReads) a b x y = absurd x
-unique-ReadStep old v row (Err Outdated) a b x y = absurd x
-unique-ReadStep old v row (Err Exhausted) a b x y = absurd x
+unique-ReadStep old v row answer a b x y = absurd x
 
 unique-BlockStep : (old : State) (v : Version) (on : ℕ) (answer : Result (Unit {0}) CoreFault) (a b : State) → BlockStep old v on answer a → BlockStep old v on answer b → a ≡ b
 unique-BlockStep old v on (Ok u) a b x y =
@@ -140,9 +135,7 @@ unique-BlockStep old v on (Ok u) a b x y =
     ]
 unique-BlockStep old v on (Err NotRunning) a b x y = both a b _ x.1 y.1
 unique-BlockStep old v on (Err Exhausted) a b x y = both a b _ x.2 y.2
-unique-BlockStep old v on (Err OtherReads) a b x y = absurd x
-unique-BlockStep old v on (Err Outdated) a b x y = absurd x
-unique-BlockStep old v on (Err OutOfMemory) a b x y = absurd x
+unique-BlockStep old v on answer a b x y = absurd x
 
 unique-FinishStep : (old : State) (v : Version) (x : Executed) (answer : Result Bool CoreFault) (a b : State) → FinishStep old v x answer a → FinishStep old v x answer b → a ≡ b
 unique-FinishStep old v x (Ok handed) a b p q =
@@ -166,10 +159,7 @@ unique-FinishStep old v x (Err Outdated) a b p q = absurd p
 unique-BeginStep : (old : State) (seat : ℕ) (v : Version) (answer : Result Bool CoreFault) (a b : State) → BeginStep old seat v answer a → BeginStep old seat v answer b → a ≡ b
 unique-BeginStep old seat v (Ok ended) a b x y = both a b _ x.2 y.2
 unique-BeginStep old seat v (Err Outdated) a b x y = both a b _ x.1 y.1
-unique-BeginStep old seat v (Err NotRunning) a b x y = absurd x
-unique-BeginStep old seat v (Err OtherReads) a b x y = absurd x
-unique-BeginStep old seat v (Err OutOfMemory) a b x y = absurd x
-unique-BeginStep old seat v (Err Exhausted) a b x y = absurd x
+unique-BeginStep old seat v answer a b x y = absurd x
 
 -- the validation after its next read is one
 pub Validated-unique : (s : State) (c m n : Validation) → Validated s c m → Validated s c n → m ≡ n
@@ -192,9 +182,7 @@ unique-ValidationStep old seat (Ok ended) a b x y =
     x.6 ∙ ap (λ (c : Validation). with_validation old seat (Some c)) next ∙ sym y.6
 unique-ValidationStep old seat (Err NotRunning) a b x y = both a b _ x.1 y.1
 unique-ValidationStep old seat (Err Outdated) a b x y = both a b _ x.1 y.1
-unique-ValidationStep old seat (Err OtherReads) a b x y = absurd x
-unique-ValidationStep old seat (Err OutOfMemory) a b x y = absurd x
-unique-ValidationStep old seat (Err Exhausted) a b x y = absurd x
+unique-ValidationStep old seat answer a b x y = absurd x
 
 unique-EndStep : (old : State) (seat : ℕ) (answer : Result Bool CoreFault) (a b : State) → EndStep old seat answer a → EndStep old seat answer b → a ≡ b
 unique-EndStep old seat (Ok true) a b x y =
@@ -207,8 +195,7 @@ unique-EndStep old seat (Ok false) a b x y =
 unique-EndStep old seat (Err NotRunning) a b x y = both a b _ x.1 y.1
 unique-EndStep old seat (Err Outdated) a b x y = both a b _ x.1 y.1
 unique-EndStep old seat (Err Exhausted) a b x y = both a b _ x.1 y.1
-unique-EndStep old seat (Err OtherReads) a b x y = absurd x
-unique-EndStep old seat (Err OutOfMemory) a b x y = absurd x
+unique-EndStep old seat answer a b x y = absurd x
 
 unique-CommitStep : (old : State) (answer : Bool) (a b : State) → CommitStep old answer a → CommitStep old answer b → a ≡ b
 unique-CommitStep old true a b x y = both a b _ x.2 y.2

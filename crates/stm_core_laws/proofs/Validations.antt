@@ -11,10 +11,10 @@ use Rattle.stm_scheduler.specs.Board.{mark, passed, stamped, IsOpen, IsFloored}
 use Rattle.stm_scheduler.specs.declared.message_progress.MessageProgress.{MessageProgress}
 use Rattle.stm_core_laws.specs.Holds.{Holds, IsKept, IsKeptValidation}
 use Rattle.stm_core_laws.specs.Log.{Resolve, ResolvesAs}
-use Rattle.stm_core_laws.specs.State.{State, MessageState, message, message_of, slot, shelf, with_validation, seats, IsAt, Log}
+use Rattle.stm_core_laws.specs.State.{IsAt, Log, MessageState, State, message, message_of, seats, shelf, slot, with_validation}
 use Rattle.stm_core_laws.specs.Step.{HasValidation, Validated, beginning, is_at_end}
-use Rattle.stm_core_laws.specs.declared.validation.Validation.{Validation}
 use Rattle.stm_core_laws.specs.declared.logged.Logged.{Logged}
+use Rattle.stm_core_laws.specs.declared.validation.Validation.{Validation}
 use Rattle.stm_scheduler.specs.declared.status.Status.TheVariants as status
 
 -- one thing stands at a place
@@ -103,9 +103,9 @@ Holds-passed s h c validation ended passes opened =
     })
 
 -- what ends one way or the other
-ended : (a b : Bool) → b ≡ true → (a || b) ≡ true
-ended true b e = refl
-ended false b e = e
+pub at_its_end : (a b : Bool) → b ≡ true → (a || b) ≡ true
+at_its_end true b e = refl
+at_its_end false b e = e
 
 -- the next read of an open validation that is not at its end is there
 pub next_read_there : (s : State) → Holds s → (seat : ℕ) (c : Validation) → HasValidation s seat c false → IsOpen s.board c.version → c.place < length (slot s c.version.index).log
@@ -114,6 +114,6 @@ next_read_there s h seat c has opened =
     let all = kept.reads opened.0 in
     let within = kept.within in
     elim (cases_eq c.place c.reads) [
-      | inl same ↦ absurd (false≢true (sym has.1 ∙ ended c.failed (nat_eq c.place c.reads) (eq-eqb c.place c.reads same)))
+      | inl same ↦ absurd (false≢true (sym has.1 ∙ at_its_end c.failed (nat_eq c.place c.reads) (eq-eqb c.place c.reads same)))
       | inr ne ↦ omega arith
     ]

@@ -1,11 +1,8 @@
 -- What holds of every state of a run.
 use Rattle.std.specs.Prelude.{◌≡◌, ◌≢◌, ℕ, ◌+◌, ◌<◌, ◌≤◌, length, take, List, Some, None, option_map, Contains, ◌⊎◌}
 use Rattle.std.specs.FinMap as finite
-use Rattle.issuer_rows.specs.Agreement.{Executed, IsTrueExecution}
-use Rattle.issuer_rows.specs.Fold.{Rows, reply_of, writes_of, rows_after}
-use Rattle.issuer_rows.specs.declared.frame.Frame.{Frame}
-use Rattle.issuer_rows.specs.declared.row_key.RowKey.{RowKey}
-use Rattle.issuer_rows.specs.declared.row_val.RowVal.{RowVal}
+use Rattle.issuer_view.specs.Words.{Executed, Frame, IsTrueExecution, RowKey, RowVal, Rows}
+use Rattle.issuer_view.specs.Words.{reply_of, rows_after, writes_of}
 use Rattle.stm_memory.specs.Entries.{Held, Shelf, value_at, written}
 use Rattle.stm_memory.specs.declared.version.Version.{Version}
 use Rattle.stm_scheduler.specs.Board.{floor, IsFloored}

@@ -5,3 +5,4 @@ pub mod Play
 pub mod Run
 pub mod State
 pub mod Step
+pub mod Words

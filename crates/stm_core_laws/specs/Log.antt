@@ -1,16 +1,11 @@
 -- What a version was answered, and whether it would be answered so again.
 use Rattle.std.specs.Prelude.{◌≡◌, ℕ, ◌<◌, All, Option, Some, None, option_map}
 use Rattle.std.specs.FinMap as finite
-use Rattle.issuer_rows.specs.Agreement.{Reads}
-use Rattle.issuer_rows.specs.Fold.{Rows}
-use Rattle.issuer_rows.specs.declared.row_key.RowKey.{RowKey}
-use Rattle.issuer_rows.specs.declared.row_val.RowVal.{RowVal}
-use Rattle.issuer_view.specs.RowSets.{value_in}
-use Rattle.stm_memory.specs.Entries.{Shelf}
-use Rattle.stm_memory.specs.Resolves.{Resolves}
+use Rattle.issuer_view.specs.Words.{Reads, RowKey, RowVal, Rows, value_in}
+use Rattle.stm_memory.specs.Words.{Resolves, Shelf}
 use Rattle.stm_memory.specs.declared.seen.Seen.{Seen}
-use Rattle.stm_memory.specs.declared.seen.Seen.TheVariants.{Base, Value, Estimate}
 use Rattle.stm_memory.specs.declared.version.Version.{Version}
+use Rattle.stm_memory.specs.declared.seen.Seen.TheVariants.{Base, Value, Estimate}
 use Rattle.stm_core_laws.specs.State.{Log, IsAt}
 use Rattle.stm_core_laws.specs.declared.logged.Logged.{Logged}
 

@@ -1,10 +1,7 @@
 -- Whole lists of calls, in any order, and what is committed after them.
 use Rattle.std.specs.Prelude.{◌≡◌, ℕ, ◌<◌, List, [], ◌∷◌, take, filter_map, Bool, Result}
-use Rattle.issuer_rows.specs.Agreement.{Executed, IsTrueExecution}
-use Rattle.issuer_rows.specs.Fold.{Rows, rows_after, replies_to}
-use Rattle.issuer_rows.specs.declared.frame.Frame.{Frame}
-use Rattle.issuer_rows.specs.declared.reply_body.ReplyBody.{ReplyBody}
-use Rattle.issuer_rows.specs.declared.row_key.RowKey.{RowKey}
+use Rattle.issuer_view.specs.Words.{Executed, Frame, IsTrueExecution, ReplyBody, RowKey, Rows}
+use Rattle.issuer_view.specs.Words.{replies_to, rows_after}
 use Rattle.stm_memory.specs.Resolves.{IsLaidOver}
 use Rattle.stm_memory.specs.declared.version.Version.{Version}
 use Rattle.stm_scheduler.specs.declared.task.Task.{Task}

@@ -2,14 +2,11 @@
 use Rattle.std.specs.Prelude.{◌≡◌, ℕ, ◌<◌, max, List, [], length, map, replicate, slice_index_or, slice_set, Option, Some, None, refl}
 use Rattle.std.specs.Coded.{Coded, code_by, coded×, coded_list, coded_option}
 use Rattle.std.specs.FinMap as finite
-use Rattle.issuer_rows.specs.Fold.{Rows}
-use Rattle.issuer_rows.specs.declared.frame.Frame.{Frame}
-use Rattle.issuer_rows.specs.declared.reply_body.ReplyBody.{ReplyBody}
-use Rattle.issuer_rows.specs.declared.row_key.RowKey.{RowKey}
-use Rattle.stm_memory.specs.Entries.{Entries, Shelf, held}
-use Rattle.stm_scheduler.specs.Board.{Board, mark, open_board}
+use Rattle.issuer_view.specs.Words.{Frame, ReplyBody, RowKey, Rows}
 use Rattle.stm_scheduler.specs.declared.message_progress.MessageProgress.{MessageProgress}
 use Rattle.stm_scheduler.specs.declared.status.Status.{Status}
+use Rattle.stm_memory.specs.Entries.{Entries, Shelf, held}
+use Rattle.stm_scheduler.specs.Board.{Board, mark, open_board}
 use Rattle.stm_core_laws.specs.declared.validation.Validation.{Validation}
 use Rattle.stm_core_laws.specs.declared.limits.Limits.{Limits}
 use Rattle.stm_core_laws.specs.declared.logged.Logged.{Logged}
@@ -97,12 +94,6 @@ start opening frames limits = record {
 -- x stands at i
 abbrev pub IsAt : {X : Type 0} → List X → ℕ → X → Type 0
 IsAt xs i x = (i < length xs) × (x ≡ slice_index_or xs i x)
-
--- how a slot is stored
-abbrev pub slot_code : Coded ReplyBody → Coded RowKey → Coded Logged → Coded ExecutionSlot
-slot_code reply key logged =
-    code_by (Option ReplyBody × Log) (coded× (coded_option reply) (coded_list (coded× key logged)))
-    (λ s. (s.reply, s.log)) (λ p. record { reply = p.0; log = p.1 }) (λ _. refl)
 
 -- how a state is stored
 abbrev pub state_code : Coded Rows → Coded Frame → Coded Entries → Coded Board → Coded ExecutionSlot → Coded Limits → Coded Validation → Coded State

@@ -1,14 +1,10 @@
 -- Which answer a core may give to a call, and the state after it. A refusal leaves the state as it was.
 use Rattle.std.specs.Prelude.{◌≡◌, ◌≢◌, ℕ, ◌+◌, ◌<◌, Bool, true, false, ◌||◌, nat_eq, [], ◌∷◌, ◌++◌, length, Option, Some, None, IfSome, Result, Ok, Err, ◌⊎◌}
-use Rattle.issuer_rows.specs.Agreement.{Executed}
-use Rattle.issuer_rows.specs.RowVal.{IsOfKind}
-use Rattle.issuer_rows.specs.declared.row_key.RowKey.{RowKey}
-use Rattle.issuer_rows.specs.declared.row_val.RowVal.{RowVal}
-use Rattle.stm_memory.specs.Entries.{Entries, AreReplaced, AreEstimated, IsNewLocation}
-use Rattle.stm_memory.specs.Resolves.{Resolves}
+use Rattle.issuer_view.specs.Words.{Executed, IsOfKind, RowKey, RowVal}
+use Rattle.stm_memory.specs.Words.{AreEstimated, AreReplaced, Entries, IsNewLocation, Resolves}
 use Rattle.stm_memory.specs.declared.seen.Seen.{Seen}
-use Rattle.stm_memory.specs.declared.seen.Seen.TheVariants as seen
 use Rattle.stm_memory.specs.declared.version.Version.{Version}
+use Rattle.stm_memory.specs.declared.seen.Seen.TheVariants as seen
 use Rattle.stm_scheduler.specs.Board.{Board, mark, claimed, aborted_as, finished, lowered, passed, aborted, committed_more, IsReady, IsRunning, IsOpen, IsFresh, IsWaitedFor}
 use Rattle.stm_scheduler.specs.declared.status.Status.{Status}
 use Rattle.stm_scheduler.specs.declared.status.Status.TheVariants as status

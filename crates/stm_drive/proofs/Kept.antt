@@ -1,15 +1,11 @@
 -- The rows that were logged, and the first that wasn't.
-use Rattle.std.proofs.Common.{◌≡◌, ℕ, suc, ◌+◌, ◌≤◌, List, [], ◌∷◌, ◌++◌, length, take, drop, get_or, slice_get, Option, Some, None, refl, sym, ap, ◌∙◌, subst, add-one, take-append-drop}
+use Rattle.std.proofs.Common.{◌≡◌, ℕ, suc, ◌+◌, List, [], ◌∷◌, ◌++◌, take, drop, get_or, slice_get, Option, Some, None, refl, sym, ap, ◌∙◌, subst, add-one, take-append-drop}
 use Rattle.std.proofs.Math.Seq.{drop-cons}
-use Rattle.std.proofs.lemmas.List.{take_more, take_all}
+use Rattle.std.proofs.lemmas.List.{take_more}
 use Rattle.std.proofs.lemmas.Option.{slice_get_within, get_or_from_slice_get}
 use Rattle.std.specs.List.{AllByRecursion}
-use Rattle.issuer_rows.specs.Agreement.{Reads, keys_read}
-use Rattle.issuer_rows.specs.declared.row_key.RowKey.{RowKey}
-use Rattle.issuer_rows.specs.declared.row_val.RowVal.{RowVal}
-use Rattle.stm_core_laws.specs.Log.{logged_in}
-use Rattle.stm_core_laws.specs.State.{Log}
-pub use Rattle.stm_journal_text.proofs.Decided.{get_logged}
+use Rattle.issuer_view.specs.Words.{Reads, RowKey, RowVal, keys_read}
+use Rattle.stm_core_laws.specs.Words.{Log, logged_in}
 use Rattle.stm_journal_text.specs.Logged.{IsLogged}
 use Rattle.stm_drive.specs.Turns.{IsFirstUnlogged}
 
@@ -47,7 +43,3 @@ first_at log reads i read at logged none =
       logged,
       λ some. some none,
     )
-
--- all were logged, where those up to the end were
-pub all_logged : (log : Log) (reads : Reads) (i : ℕ) → length reads ≤ i → AllByRecursion (IsLogged log) (keys_read (take i reads)) → AllByRecursion (IsLogged log) (keys_read reads)
-all_logged log reads i past logged = subst (λ (rs : Reads). AllByRecursion (IsLogged log) (keys_read rs)) (take_all i reads past) logged

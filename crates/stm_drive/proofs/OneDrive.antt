@@ -3,30 +3,22 @@ use Rattle.std.proofs.Common.{◌≡◌, ◌≢◌, ℕ, List, [], ◌∷◌, �
 use Rattle.std.proofs.lemmas.Bool.{false≢true}
 use Rattle.std.specs.List.{AllByRecursion}
 use Rattle.std.specs.Prelude.{slice_set}
-use Rattle.issuer_rows.specs.Agreement.{Executed}
-use Rattle.issuer_rows.specs.Decision.{decision}
-use Rattle.issuer_rows.specs.declared.frame.Frame.{Frame}
-use Rattle.issuer_rows.specs.declared.row_key.RowKey.{RowKey}
-use Rattle.issuer_rows.specs.Plan.{Writes}
+use Rattle.issuer_view.specs.Words.{Executed, Frame, RowKey, Writes, decision}
 use Rattle.stm_memory.specs.Entries.{IsNewLocation}
-use Rattle.stm_memory.specs.declared.version.Version.{Version}
-use Rattle.stm_scheduler.specs.declared.task.Task.{Task}
-use Rattle.stm_core_laws.proofs.Validations.{one_at}
-use Rattle.stm_core_laws.specs.Play.{Play, PlayStep}
-use Rattle.stm_core_laws.specs.Run as call
-use Rattle.stm_core_laws.specs.State.{State, Log, slot, IsAt}
-use Rattle.stm_core_laws.specs.declared.core_fault.CoreFault.{CoreFault}
-use Rattle.stm_core_laws.specs.declared.core_fault.CoreFault.TheVariants.{NotRunning, OtherReads, Outdated, OutOfMemory, Exhausted}
-use Rattle.stm_core_laws.specs.declared.got.Got as core_got
+use Rattle.stm_core_laws.specs.Words.{IsAt, Log, Play, PlayStep, State, Version, slot}
+use Rattle.stm_journal_text.specs.Words.{Answers, CoreFault, IsLogged, entered, log_rows, stands}
+use Rattle.stm_journal_text.specs.declared.core_answer.CoreAnswer.{CoreAnswer}
 use Rattle.stm_journal_text.specs.declared.entry.Entry.{Entry}
 use Rattle.stm_journal_text.specs.declared.event.Event.{Event}
+use Rattle.stm_scheduler.specs.declared.task.Task.{Task}
+use Rattle.stm_core_laws.proofs.Validations.{one_at}
+use Rattle.stm_core_laws.specs.Run as call
+use Rattle.stm_core_laws.specs.declared.core_fault.CoreFault.TheVariants.{NotRunning, OtherReads, Outdated, OutOfMemory, Exhausted}
+use Rattle.stm_core_laws.specs.declared.got.Got as core_got
 use Rattle.stm_journal_text.specs.declared.event.Event.TheVariants.{Claim, Read, Block, Finish, BeginValidation, ValidateOne, EndValidation, Commit}
 use Rattle.stm_journal_text.proofs.Decided.{finish_or_exhausted, table_gives}
 use Rattle.stm_journal_text.proofs.OneAnswer.{one_task, one_read, one_block, one_begin, one_validated, one_end, one_commit}
-use Rattle.stm_journal_text.proofs.OneEntry.{one_play}
-use Rattle.stm_journal_text.specs.Answers.{Answers, stands, entered}
-use Rattle.stm_journal_text.specs.Logged.{log_rows, IsLogged}
-use Rattle.stm_journal_text.specs.declared.core_answer.CoreAnswer.{CoreAnswer}
+use Rattle.stm_journal_text.proofs.OneEntry.{had_room, one_play, room}
 use Rattle.stm_journal_text.specs.declared.core_answer.CoreAnswer.TheVariants.{Claimed, Got, Blocked, Finished, Validating, Ended, Committed, Refused}
 use Rattle.stm_journal.specs.Answered.{validated, ended}
 use Rattle.stm_drive.specs.Drives.{Hands, IsDriven, hand}
@@ -42,17 +34,6 @@ got_answer (Err fault) = Refused fault
 abbrev block_answer : Result (Unit {0}) CoreFault → CoreAnswer
 block_answer (Ok u) = Blocked
 block_answer (Err fault) = Refused fault
-
--- out of memory doesn't stand
-room : (fault : CoreFault) (e : Result core_got.Got CoreFault) → e ≡ Err fault → stands (Refused fault) ≡ true → e ≢ Err OutOfMemory
-room OutOfMemory e is stand out = false≢true stand
-room OtherReads e is stand out = false≢true stand
-room NotRunning e is stand out = cc
-room Outdated e is stand out = cc
-room Exhausted e is stand out = cc
-
-had_room : (got : core_got.Got) (e : Result core_got.Got CoreFault) → e ≡ Ok got → e ≢ Err OutOfMemory
-had_room got e is out = cc
 
 -- a version is handed out, or not, whichever execution of it finished
 one_handed : (p : Play) (v : Version) (x y : Executed) (handed also : Bool) (t w : Play) → PlayStep p (call.Finish v x (Ok handed)) t → PlayStep p (call.Finish v y (Ok also)) w → handed ≡ also
@@ -113,19 +94,7 @@ same_answer p seat EndValidation (Refused a) (Ended b) t w f g x y = ap ended (o
 same_answer p seat EndValidation (Refused a) (Refused b) t w f g x y = ap ended (one_end p.state seat (Err a) (Err b) t.state w.state x.0.1 y.0.1)
 same_answer p seat Commit (Committed a) (Committed b) t w f g x y = ap (λ (done : Bool). Committed done) (one_commit p.state a b t.state w.state x.0 y.0)
 -- one of the two is no answer to this event
-same_answer p seat Claim (Claimed a) other t w f g x y = absurd y
-same_answer p seat (Read v row) (Got a) other t w f g x y = absurd y
-same_answer p seat (Read v row) (Refused a) other t w f g x y = absurd y
-same_answer p seat (Block v on) Blocked other t w f g x y = absurd y
-same_answer p seat (Block v on) (Refused a) other t w f g x y = absurd y
-same_answer p seat (BeginValidation v) (Validating a) other t w f g x y = absurd y
-same_answer p seat (BeginValidation v) (Refused a) other t w f g x y = absurd y
-same_answer p seat ValidateOne (Validating a) other t w f g x y = absurd y
-same_answer p seat ValidateOne (Refused a) other t w f g x y = absurd y
-same_answer p seat EndValidation (Ended a) other t w f g x y = absurd y
-same_answer p seat EndValidation (Refused a) other t w f g x y = absurd y
-same_answer p seat Commit (Committed a) other t w f g x y = absurd y
-same_answer p seat event answer other t w f g x y = absurd x
+same_answer p seat event answer other t w f g x y = absurd assumption
 
 same_head : (x y : RowKey) (xs ys : List RowKey) → x ∷ xs ≡ y ∷ ys → x ≡ y
 same_head x y xs ys e = cc
@@ -176,16 +145,8 @@ one_event s (holds.Validation v) (BeginValidation u) (BeginValidation w) a b = a
 one_event s holds.Reads ValidateOne ValidateOne a b = refl
 one_event s holds.Verdict EndValidation EndValidation a b = refl
 one_event s holds.Commits Commit Commit a b = refl
--- it doesn't make the other one
-one_event s holds.Nothing Claim other a b = absurd b
-one_event s (holds.Execution v) (Read u row) other a b = absurd b
-one_event s (holds.Execution v) (Finish u) other a b = absurd b
-one_event s (holds.Estimate v on) (Block u at) other a b = absurd b
-one_event s (holds.Validation v) (BeginValidation u) other a b = absurd b
-one_event s holds.Reads ValidateOne other a b = absurd b
-one_event s holds.Verdict EndValidation other a b = absurd b
-one_event s holds.Commits Commit other a b = absurd b
-one_event s holding event other a b = absurd a
+-- it doesn't make one of the two
+one_event s holding event other a b = absurd assumption
 
 -- a seat that ended makes none
 ended_makes : (s : State) (event : Event) → Makes s holds.Ended event → ⊥

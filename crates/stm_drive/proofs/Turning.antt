@@ -1,73 +1,45 @@
 -- A turn of a seat, by what it holds.
 use Rattle.std.proofs.Common.{◌≡◌, ◌≢◌, ℕ, ◌<◌, List, [], ◌∷◌, ◌++◌, length, refl, sym, ap, subst, true, false, Err, inl, inr}
-use Rattle.std.proofs.lemmas.List.{append-nil}
 use Rattle.std.specs.List.{AllByRecursion}
-use Rattle.issuer_rows.specs.Agreement.{Executed, Agrees, keys_read}
-use Rattle.issuer_rows.specs.declared.frame.Frame.{Frame}
-use Rattle.issuer_rows.specs.declared.row_key.RowKey.{RowKey}
+use Rattle.issuer_view.specs.Words.{Agrees, Executed, Frame, RowKey, keys_read}
+use Rattle.stm_core_laws.specs.Words.{FinishStep, IsAt, IsReached, Play, State, slot}
+use Rattle.stm_journal_text.specs.Words.{Answers, EntryStep, FinishAnswers, FinishAnswersTo}
+use Rattle.stm_journal_text.specs.Words.{IsLogged, IsNoFinish, entered, log_rows, stands}
+use Rattle.stm_journal_text.specs.declared.core_answer.CoreAnswer.{CoreAnswer}
+use Rattle.stm_journal_text.specs.declared.entry.Entry.{Entry}
+use Rattle.stm_journal_text.specs.declared.event.Event.{Event}
 use Rattle.stm_memory.specs.declared.version.Version.{Version}
 use Rattle.stm_scheduler.specs.declared.task.Task.TheVariants as task
 use Rattle.stm_core_laws.proofs.Validations.{one_at}
 use Rattle.stm_core_laws.proofs.Reached.{Holds-reached}
-use Rattle.stm_core_laws.specs.Play.{Play}
-use Rattle.stm_core_laws.specs.Run.{IsReached}
-use Rattle.stm_core_laws.specs.State.{State, slot, IsAt}
-use Rattle.stm_core_laws.specs.Step.{FinishStep}
 use Rattle.stm_core_laws.specs.declared.core_fault.CoreFault.TheVariants.{NotRunning, OtherReads, Outdated, OutOfMemory, Exhausted}
 use Rattle.stm_core_laws.specs.declared.got.Got.TheVariants as got
-use Rattle.stm_journal_text.specs.declared.entry.Entry.{Entry}
-use Rattle.stm_journal_text.specs.declared.event.Event.{Event}
-use Rattle.stm_journal_text.specs.declared.event.Event.TheVariants.{Claim, Read, Block, Finish, BeginValidation, ValidateOne, EndValidation, Commit}
+use Rattle.stm_journal_text.specs.declared.event.Event.TheVariants.{Claim, Read, Finish}
 use Rattle.stm_journal_text.proofs.Decided.{undecided}
 use Rattle.stm_journal_text.proofs.OneCall.{same_still}
 use Rattle.stm_journal_text.proofs.OneEntry.{reached_play}
 use Rattle.stm_journal_text.proofs.Playing.{EntryStep-frames}
-use Rattle.stm_journal_text.specs.Answers.{Answers, AnswersTo, FinishAnswers, FinishAnswersTo, IsNoFinish, stands, entered}
-use Rattle.stm_journal_text.specs.Logged.{log_rows, IsLogged}
-use Rattle.stm_journal_text.specs.Plays.{EntryStep}
-use Rattle.stm_journal_text.specs.declared.core_answer.CoreAnswer.{CoreAnswer}
-use Rattle.stm_journal_text.specs.declared.core_answer.CoreAnswer.TheVariants.{Claimed, Got, Blocked, Finished, Validating, Ended, Committed, Refused}
-use Rattle.stm_journal.specs.Journaled.{Journaled}
+use Rattle.stm_journal_text.specs.declared.core_answer.CoreAnswer.TheVariants.{Claimed, Got, Finished, Validating, Ended, Committed, Refused}
+use Rattle.stm_journal.proofs.Replayed.{asked_stands}
+use Rattle.stm_journal.specs.Journaled.{Journaled, IsJournalStep}
 use Rattle.stm_drive.specs.Turns.{Makes, then_holds, Acts, IsTurn, HasTurned, IsOfMessage, IsFirstUnlogged, needs_on}
 use Rattle.stm_drive.specs.declared.holding.Holding.{Holding}
 use Rattle.stm_drive.specs.declared.holding.Holding.TheVariants as holds
 
--- an event that hands nothing in is answered, unless there was no room
-stood_plain : (p : Play) (seat : ℕ) (event : Event) (answer : CoreAnswer) (t : Play) → IsNoFinish event → Answers p seat event answer t → answer ≢ Refused OutOfMemory → stands answer ≡ true
-stood_plain p seat event (Refused OutOfMemory) t plain a room = absurd (room refl)
-stood_plain p seat (Finish v) (Refused OtherReads) t plain a room = absurd plain
-stood_plain p seat Claim (Refused OtherReads) t plain a room = absurd a
-stood_plain p seat (Read v row) (Refused OtherReads) t plain a room = absurd a.0
-stood_plain p seat (Block v on) (Refused OtherReads) t plain a room = absurd a.0
-stood_plain p seat (BeginValidation v) (Refused OtherReads) t plain a room = absurd a.0.1
-stood_plain p seat ValidateOne (Refused OtherReads) t plain a room = absurd a.0.1
-stood_plain p seat EndValidation (Refused OtherReads) t plain a room = absurd a.0.1
-stood_plain p seat Commit (Refused OtherReads) t plain a room = absurd a
-stood_plain p seat event (Refused NotRunning) t plain a room = refl
-stood_plain p seat event (Refused Outdated) t plain a room = refl
-stood_plain p seat event (Refused Exhausted) t plain a room = refl
-stood_plain p seat event (Claimed given) t plain a room = refl
-stood_plain p seat event (Got seen) t plain a room = refl
-stood_plain p seat event Blocked t plain a room = refl
-stood_plain p seat event (Finished handed) t plain a room = refl
-stood_plain p seat event (Validating ended) t plain a room = refl
-stood_plain p seat event (Ended passed) t plain a room = refl
-stood_plain p seat event (Committed done) t plain a room = refl
-
 -- a seat that makes an event that hands nothing in
-pub asked_turn : (old new : Journaled) (seat : ℕ) (holding : Holding) (event : Event) (answer : CoreAnswer) → IsNoFinish event → Makes old.core.state holding event → AnswersTo old.core seat event answer new.core
-    → new.entries ≡ old.entries ++ entered seat event answer → answer ≢ Refused OutOfMemory → HasTurned old seat holding (then_holds holding answer) new
-asked_turn old new seat holding event answer plain makes step are room =
-    elim step [
+pub asked_turn : (old new : Journaled) (seat : ℕ) (holding : Holding) (event : Event) (answer : CoreAnswer) → IsNoFinish event → Makes old.core.state holding event → IsJournalStep old new seat event answer
+    → answer ≢ Refused OutOfMemory → HasTurned old seat holding (then_holds holding answer) new
+asked_turn old new seat holding event answer plain makes step room =
+    elim step.answers [
       | inl a ↦ (
         entered seat event answer,
-        are,
+        step.entries,
         inr
             (record {
               event = event;
               answer = answer;
               makes = makes;
-              stood = stood_plain old.core seat event answer new.core plain a room;
+              stood = asked_stands old.core seat event answer new.core plain a room;
               answered = a;
               enters = refl;
               held = refl;
@@ -87,19 +59,14 @@ own_reads s v x t at keys agrees logged step =
 finish_answered : (old : Play) (seat : ℕ) (v : Version) (x : Executed) (answer : CoreAnswer) (new : Play) → FinishAnswers old v x answer new → Answers old seat (Finish v) answer new
 finish_answered old seat v x (Finished handed) new step = (x, step)
 finish_answered old seat v x (Refused NotRunning) new step = (step.0.1.0, same_still old new step.0.1.1 step.1)
-finish_answered old seat v x (Refused OtherReads) new step = (x, step)
-finish_answered old seat v x (Refused Outdated) new step = (x, step)
-finish_answered old seat v x (Refused OutOfMemory) new step = (x, step)
-finish_answered old seat v x (Refused Exhausted) new step = (x, step)
+finish_answered old seat v x (Refused fault) new step = (x, step)
 finish_answered old seat v x answer new step = absurd step
 
 stood_finish : (old : Play) (v : Version) (x : Executed) (answer : CoreAnswer) (new : Play) → FinishAnswers old v x answer new → ¬ FinishStep old.state v x (Err OtherReads) new.state → answer ≢ Refused OutOfMemory → stands answer ≡ true
 stood_finish old v x (Finished handed) new step own room = refl
-stood_finish old v x (Refused NotRunning) new step own room = refl
 stood_finish old v x (Refused OtherReads) new step own room = absurd (own step.0.1)
-stood_finish old v x (Refused Outdated) new step own room = refl
 stood_finish old v x (Refused OutOfMemory) new step own room = absurd (room refl)
-stood_finish old v x (Refused Exhausted) new step own room = refl
+stood_finish old v x (Refused fault) new step own room = refl
 stood_finish old v x answer new step own room = absurd step
 
 -- a seat that hands its execution in
@@ -131,10 +98,6 @@ finish_turn old new seat v x answer at keys agrees logged step are room =
 -- a version reads the first row that wasn't logged
 pub makes_read : (s : State) (v : Version) (frame : Frame) (keys : List RowKey) (row : RowKey) → IsAt s.frames v.index frame → keys ≡ needs_on (slot s v.index).log frame → IsFirstUnlogged (slot s v.index).log keys row → Makes s (holds.Execution v) (Read v row)
 makes_read s v frame keys row at are first = (refl, (frame, at, subst (λ (rows : List RowKey). IsFirstUnlogged (slot s v.index).log rows row) are first))
-
--- a seat that ended
-pub ended_turn : (old : Journaled) (seat : ℕ) → HasTurned old seat holds.Ended holds.Ended old
-ended_turn old seat = ([], sym (append-nil old.entries), inl (refl, refl, refl, refl))
 
 -- a turn that enters its event is a step of the play
 acted : (old : Play) (seat : ℕ) (holding : Holding) (made : List Entry) (next : Holding) (new : Play) (acts : Acts old seat holding made next new) → EntryStep old (record { seat = seat; event = acts.event }) new

@@ -1,11 +1,9 @@
 -- Turns of workers, one after another, in an order that is given.
 use Rattle.std.specs.Prelude.{◌≡◌, ℕ, List, [], ◌∷◌, ◌++◌, replicate, slice_index_or, slice_set}
-use Rattle.issuer_rows.specs.Fold.{Rows}
-use Rattle.issuer_rows.specs.declared.frame.Frame.{Frame}
-use Rattle.stm_core_laws.specs.Play.{Play, opening_play}
-use Rattle.stm_core_laws.specs.State.{seats}
-use Rattle.stm_journal_text.specs.declared.entry.Entry.{Entry}
+use Rattle.issuer_view.specs.Words.{Frame, Rows}
+use Rattle.stm_core_laws.specs.Words.{Play, opening_play, seats}
 use Rattle.stm_journal_text.specs.Logged.{greatest}
+use Rattle.stm_journal_text.specs.declared.entry.Entry.{Entry}
 use Rattle.stm_drive.specs.declared.holding.Holding.{Holding}
 use Rattle.stm_drive.specs.declared.holding.Holding.TheVariants as holds
 use Rattle.stm_drive.specs.Turns.{IsTurn}

@@ -1,19 +1,15 @@
 -- What a worker does in its turn, by what its seat holds (Block-STM).
 use Rattle.std.specs.Prelude.{◌≡◌, ◌⊎◌, ℕ, ◌<◌, true, false, List, [], ◌∷◌, ◌++◌}
 use Rattle.std.specs.List.{AllByRecursion}
-use Rattle.issuer_rows.specs.Decision.{decision}
-use Rattle.issuer_rows.specs.declared.frame.Frame.{Frame}
-use Rattle.issuer_rows.specs.declared.row_key.RowKey.{RowKey}
-use Rattle.stm_scheduler.specs.declared.task.Task.TheVariants as task
-use Rattle.stm_core_laws.specs.Play.{Play}
-use Rattle.stm_core_laws.specs.State.{State, Log, slot, IsAt}
-use Rattle.stm_core_laws.specs.declared.got.Got.TheVariants as got
+use Rattle.issuer_view.specs.Words.{Frame, RowKey, decision}
+use Rattle.stm_core_laws.specs.Words.{IsAt, Log, Play, State, slot}
+use Rattle.stm_journal_text.specs.Words.{Answers, IsLogged, entered, log_rows, stands}
+use Rattle.stm_journal_text.specs.declared.core_answer.CoreAnswer.{CoreAnswer}
 use Rattle.stm_journal_text.specs.declared.entry.Entry.{Entry}
 use Rattle.stm_journal_text.specs.declared.event.Event.{Event}
+use Rattle.stm_scheduler.specs.declared.task.Task.TheVariants as task
+use Rattle.stm_core_laws.specs.declared.got.Got.TheVariants as got
 use Rattle.stm_journal_text.specs.declared.event.Event.TheVariants.{Claim, Read, Block, Finish, BeginValidation, ValidateOne, EndValidation, Commit}
-use Rattle.stm_journal_text.specs.Answers.{Answers, stands, entered}
-use Rattle.stm_journal_text.specs.Logged.{log_rows, IsLogged}
-use Rattle.stm_journal_text.specs.declared.core_answer.CoreAnswer.{CoreAnswer}
 use Rattle.stm_journal_text.specs.declared.core_answer.CoreAnswer.TheVariants.{Claimed, Got, Finished, Validating, Ended, Committed}
 use Rattle.stm_journal.specs.Journaled.{Journaled}
 use Rattle.stm_drive.specs.declared.holding.Holding.{Holding}

@@ -5,7 +5,6 @@ mod deciding;
 mod driving;
 mod hands;
 mod holding;
-mod kept_rows;
 mod laws;
 mod turns;
 

@@ -1,18 +1,17 @@
 ghost use Rattle.std.specs.Prelude.{◌≡◌, ◌≢◌, ◌<◌, IfOk, OnOk, length};
 ghost use Rattle.std.specs.List.{AllByRecursion};
 ghost use Rattle.stm_drive.specs.Turns.{HasTurned, IsOfMessage, Makes, needs_on};
-ghost use Rattle.stm_journal_text.specs.Answers.{IsNoFinish};
-ghost use Rattle.stm_journal_text.specs.Logged.{IsLogged, log_rows};
+ghost use Rattle.stm_journal_text.specs.Words.{IsLogged, IsNoFinish, log_rows};
 ghost use Rattle.issuer_rows.specs.Agreement.{Agrees, keys_read};
 ghost use Rattle.stm_core_laws.specs.State.{IsAt, slot};
 
-use crate::deciding::{decide_on_log, first_unlogged};
+use crate::deciding::{first_unlogged, present_version};
 use crate::holding::{Holding, then_holds};
 use issuer_rows::Frame;
 use issuer_view::Execution;
 use std::alloc::{AllocError, Global};
 use stm_core_laws::{CoreFault, Seat};
-use stm_journal::{CoreAnswer, Event, Traced};
+use stm_journal::{CoreAnswer, Event, Traced, decide_on_log};
 use stm_memory::Version;
 
 /// One turn of a seat that holds this. Returns what it holds then.
@@ -59,7 +58,8 @@ fn execute(
     ensures { IfOk result (λ next. HasTurned traced.old seat (Holding.Execution version) next traced.new) }
 {
     let frame = &frames[version.index as usize];
-    let execution = decide_on_log(alloc, traced.core(), version.index, frame)?;
+    let present = present_version(traced.core(), version.index);
+    let execution = decide_on_log(alloc, traced.core(), present, frame)?;
     match first_unlogged(traced.core(), version.index, execution.reads()) {
         Some(row) => {
             let event = Event::Read(version, row);

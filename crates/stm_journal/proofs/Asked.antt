@@ -1,21 +1,18 @@
 -- A call of the core is what its event asks, and which answers are entered.
 use Rattle.std.proofs.Common.{◌≡◌, ℕ, Bool, true, false, List, ◌∷◌, [], ◌++◌, Option, Result, Ok, Err, inr, refl, sym, ap, ◌∙◌, subst}
 use Rattle.stm_journal_text.proofs.Playing.{IsPlayed-push, stands_where_entered, same_where_not_entered}
-use Rattle.stm_journal_text.specs.Answers.{Answers, enters}
-use Rattle.stm_journal_text.specs.Plays.{IsPlayed}
+use Rattle.issuer_view.specs.Words.{RowKey, RowVal}
+use Rattle.stm_core_laws.specs.Play.{Play, PlayStep}
+use Rattle.stm_journal_text.specs.Words.{Answers, CoreFault, IsPlayed, enters}
 use Rattle.stm_journal_text.specs.declared.core_answer.CoreAnswer.{CoreAnswer}
 use Rattle.stm_journal_text.specs.declared.entry.Entry.{Entry}
 use Rattle.stm_journal_text.specs.declared.event.Event.{Event}
 use Rattle.stm_journal_text.specs.declared.event.Event.TheVariants.{Read, BeginValidation, ValidateOne, EndValidation}
 use Rattle.stm_memory.specs.declared.version.Version.{Version}
-use Rattle.issuer_rows.specs.declared.row_key.RowKey.{RowKey}
-use Rattle.issuer_rows.specs.declared.row_val.RowVal.{RowVal}
 use Rattle.stm_core.specs.Unread.{got_of}
 use Rattle.stm_core.specs.declared.unread.Unread.{Unread}
 use Rattle.stm_core.specs.declared.unread.Unread.TheVariants as unread
-use Rattle.stm_core_laws.specs.Play.{Play, PlayStep}
 use Rattle.stm_core_laws.specs.Run as call
-use Rattle.stm_core_laws.specs.declared.core_fault.CoreFault.{CoreFault}
 use Rattle.stm_core_laws.specs.declared.core_fault.CoreFault.TheVariants.{NotRunning, OtherReads, Outdated, OutOfMemory, Exhausted}
 use Rattle.stm_journal.specs.Answered.{was_read, validated, ended}
 use Rattle.stm_journal.specs.Finished.{IsFinished}
@@ -72,12 +69,11 @@ begin_asked old seat v (Ok is_ended) new step = step
 begin_asked old seat v (Err fault) new step = step
 
 pub begin_entered : (old : Play) (seat : ℕ) (v : Version) (answer : Result Bool CoreFault) (new : Play) → PlayStep old (call.Begin seat v answer) new → enters (validated answer) ≡ true
-begin_entered old seat v (Ok is_ended) new step = refl
 begin_entered old seat v (Err NotRunning) new step = absurd step.0.1
 begin_entered old seat v (Err OtherReads) new step = absurd step.0.1
-begin_entered old seat v (Err Outdated) new step = refl
 begin_entered old seat v (Err OutOfMemory) new step = absurd step.0.1
 begin_entered old seat v (Err Exhausted) new step = absurd step.0.1
+begin_entered old seat v answer new step = refl
 
 -- a validation that goes on
 pub validation_asked : (old : Play) (seat : ℕ) (answer : Result Bool CoreFault) (new : Play) → PlayStep old (call.ValidateOne seat answer) new → Answers old seat ValidateOne (validated answer) new
@@ -85,12 +81,10 @@ validation_asked old seat (Ok is_ended) new step = step
 validation_asked old seat (Err fault) new step = step
 
 pub validation_entered : (old : Play) (seat : ℕ) (answer : Result Bool CoreFault) (new : Play) → PlayStep old (call.ValidateOne seat answer) new → enters (validated answer) ≡ true
-validation_entered old seat (Ok is_ended) new step = refl
-validation_entered old seat (Err NotRunning) new step = refl
 validation_entered old seat (Err OtherReads) new step = absurd step.0.1
-validation_entered old seat (Err Outdated) new step = refl
 validation_entered old seat (Err OutOfMemory) new step = absurd step.0.1
 validation_entered old seat (Err Exhausted) new step = absurd step.0.1
+validation_entered old seat answer new step = refl
 
 -- the end of a validation
 pub end_asked : (old : Play) (seat : ℕ) (answer : Result Bool CoreFault) (new : Play) → PlayStep old (call.End seat answer) new → Answers old seat EndValidation (ended answer) new
@@ -98,9 +92,6 @@ end_asked old seat (Ok has_passed) new step = step
 end_asked old seat (Err fault) new step = step
 
 pub end_entered : (old : Play) (seat : ℕ) (answer : Result Bool CoreFault) (new : Play) → PlayStep old (call.End seat answer) new → enters (ended answer) ≡ true
-end_entered old seat (Ok has_passed) new step = refl
-end_entered old seat (Err NotRunning) new step = refl
 end_entered old seat (Err OtherReads) new step = absurd step.0.1
-end_entered old seat (Err Outdated) new step = refl
 end_entered old seat (Err OutOfMemory) new step = absurd step.0.1
-end_entered old seat (Err Exhausted) new step = refl
+end_entered old seat answer new step = refl

@@ -1,21 +1,18 @@
 -- What a replay does to the core, as steps of a play.
 use Rattle.std.proofs.Common.{◌≡◌, ◌≢◌, ℕ, List, refl, sym, ◌∙◌, subst, Ok, Err, true, Bool, ◌<◌, length, get_or}
 use Rattle.std.proofs.lemmas.List.{get_or_read}
-use Rattle.issuer_rows.specs.Agreement.{Executed}
-use Rattle.issuer_rows.specs.declared.frame.Frame.{Frame}
+use Rattle.issuer_view.specs.Words.{Executed, Frame}
+use Rattle.stm_core_laws.specs.Words.{IsAt, Play, PlayStep}
+use Rattle.stm_journal_text.specs.Words.{Answers, EntryStep, IsNoFinish, stands}
+use Rattle.stm_journal_text.specs.declared.core_answer.CoreAnswer.{CoreAnswer}
 use Rattle.stm_journal_text.specs.declared.entry.Entry.{Entry}
 use Rattle.stm_journal_text.specs.declared.event.Event.{Event}
 use Rattle.stm_journal_text.specs.declared.event.Event.TheVariants.{Claim, Read, Block, Finish, BeginValidation, ValidateOne, EndValidation, Commit}
 use Rattle.stm_memory.specs.declared.version.Version.{Version}
 use Rattle.stm_scheduler.specs.Board.{IsRunning}
-use Rattle.stm_core_laws.specs.Play.{Play, PlayStep}
 use Rattle.stm_core_laws.specs.Run as call
-use Rattle.stm_core_laws.specs.State.{IsAt}
 use Rattle.stm_core_laws.specs.declared.core_fault.CoreFault.TheVariants.{NotRunning, OtherReads, Outdated, OutOfMemory, Exhausted}
 pub use Rattle.stm_journal_text.proofs.Decided.{get_logged}
-use Rattle.stm_journal_text.specs.Answers.{Answers, IsNoFinish, stands}
-use Rattle.stm_journal_text.specs.Plays.{EntryStep}
-use Rattle.stm_journal_text.specs.declared.core_answer.CoreAnswer.{CoreAnswer}
 use Rattle.stm_journal_text.specs.declared.core_answer.CoreAnswer.TheVariants.{Claimed, Got, Blocked, Finished, Validating, Ended, Committed, Refused}
 
 -- a finish that is played again
@@ -28,7 +25,8 @@ exhausted_again p seat v x t step = (Refused Exhausted, refl, (x, step))
 pub not_finished : (p : Play) (seat : ℕ) (v : Version) → ¬ IsRunning p.state.board v → EntryStep p (record { seat = seat; event = Finish v }) p
 not_finished p seat v idle = (Refused NotRunning, refl, (idle, refl))
 
-asked_stands : (p : Play) (seat : ℕ) (event : Event) (answer : CoreAnswer) (t : Play) → IsNoFinish event → Answers p seat event answer t → answer ≢ Refused OutOfMemory → stands answer ≡ true
+-- an answer to such an event stands, unless memory ran out
+pub asked_stands : (p : Play) (seat : ℕ) (event : Event) (answer : CoreAnswer) (t : Play) → IsNoFinish event → Answers p seat event answer t → answer ≢ Refused OutOfMemory → stands answer ≡ true
 asked_stands p seat event (Refused OutOfMemory) t plain a room = absurd (room refl)
 asked_stands p seat (Finish v) (Refused OtherReads) t plain a room = absurd plain
 asked_stands p seat Claim (Refused OtherReads) t plain a room = absurd a
@@ -38,16 +36,7 @@ asked_stands p seat (BeginValidation v) (Refused OtherReads) t plain a room = ab
 asked_stands p seat ValidateOne (Refused OtherReads) t plain a room = absurd a.0.1
 asked_stands p seat EndValidation (Refused OtherReads) t plain a room = absurd a.0.1
 asked_stands p seat Commit (Refused OtherReads) t plain a room = absurd a
-asked_stands p seat event (Refused NotRunning) t plain a room = refl
-asked_stands p seat event (Refused Outdated) t plain a room = refl
-asked_stands p seat event (Refused Exhausted) t plain a room = refl
-asked_stands p seat event (Claimed task) t plain a room = refl
-asked_stands p seat event (Got got) t plain a room = refl
-asked_stands p seat event Blocked t plain a room = refl
-asked_stands p seat event (Finished handed) t plain a room = refl
-asked_stands p seat event (Validating ended) t plain a room = refl
-asked_stands p seat event (Ended passed) t plain a room = refl
-asked_stands p seat event (Committed done) t plain a room = refl
+asked_stands p seat event answer t plain a room = refl
 
 -- an event that hands no execution in stands, unless there was no room
 pub asked_again : (p : Play) (entry : Entry) (answer : CoreAnswer) (t : Play) → IsNoFinish entry.event → Answers p entry.seat entry.event answer t → answer ≢ Refused OutOfMemory → EntryStep p entry t

@@ -1,9 +1,8 @@
 -- When a journal is at its end.
 use Rattle.std.specs.Prelude.{◌≡◌, List, [], ◌∷◌, ◌++◌, ◌⊎◌, length}
-use Rattle.stm_journal_text.specs.Answers.{Answers}
-use Rattle.stm_journal_text.specs.Plays.{IsPlayed}
-use Rattle.stm_journal_text.specs.declared.core_answer.CoreAnswer.TheVariants.{Refused}
+use Rattle.stm_journal_text.specs.Words.{Answers, IsPlayed}
 use Rattle.stm_journal_text.specs.declared.entry.Entry.{Entry}
+use Rattle.stm_journal_text.specs.declared.core_answer.CoreAnswer.TheVariants.{Refused}
 use Rattle.stm_core_laws.specs.Play.{Play}
 use Rattle.stm_core_laws.specs.declared.core_fault.CoreFault.TheVariants.{Exhausted}
 

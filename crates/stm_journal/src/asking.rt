@@ -1,6 +1,5 @@
 ghost use Rattle.std.specs.Prelude.{◌≡◌, true, Option, IfSome, OnOk};
-ghost use Rattle.issuer_rows.specs.RowVal.{IsOfKind};
-ghost use Rattle.issuer_rows.specs.declared.row_val.RowVal.{RowVal};
+ghost use Rattle.issuer_view.specs.Words.{IsOfKind, RowVal};
 ghost use Rattle.stm_journal_text.specs.Answers.{Answers, FinishAnswers, IsNoFinish, IsAnswerOfKind, enters};
 ghost use Rattle.stm_journal.specs.Answered.{was_read, validated, ended};
 

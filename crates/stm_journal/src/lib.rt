@@ -9,7 +9,7 @@ mod shared_core;
 mod traced;
 mod untraced;
 
-pub use replaying::replay;
+pub use replaying::{decide_on_log, replay};
 pub use shared_core::SharedCore;
 pub use stm_journal_text::{
     CoreAnswer, Entry, Event, ReplayFault, no_two_journals_have_one_text,

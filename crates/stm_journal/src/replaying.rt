@@ -1,11 +1,9 @@
 ghost use Rattle.std.specs.Prelude.{◌≡◌, ◌≤◌, ◌⊎◌, Err, ℕ, length, IfOk, OnOk, IsTrue, IsFalse};
-ghost use Rattle.issuer_rows.specs.Agreement.{Agrees, keys_read};
-ghost use Rattle.issuer_rows.specs.Decision.{decision};
+ghost use Rattle.issuer_view.specs.Words.{Agrees, decision, keys_read};
+ghost use Rattle.stm_core_laws.specs.Words.{opening_play, slot};
 ghost use Rattle.stm_journal_text.specs.Logged.{log_rows, IsUnlogged, IsUnloggedEvent, IsFirstUnlogged, greatest};
 ghost use Rattle.stm_journal_text.specs.Plays.{EntryStep, Plays};
-ghost use Rattle.stm_scheduler.specs.Board.{IsRunning};
-ghost use Rattle.stm_core_laws.specs.Play.{opening_play};
-ghost use Rattle.stm_core_laws.specs.State.{slot};
+ghost use Rattle.stm_scheduler.specs.Board.{mark};
 
 use crate::asking::ask;
 use crate::logged_rows::LoggedRows;
@@ -111,14 +109,14 @@ fn finish_again(
     }
 }
 
-// What the decision table gives the body on the rows that the version logged.
-fn decide_on_log(
+/// What the decision table gives the body on the rows that this version logged, which is the present one of its message.
+pub fn decide_on_log(
     alloc: Global,
     core: &Core,
     version: Version,
     frame: &Frame,
 ) -> Result<Execution, AllocError>
-    requires { IsRunning core.now.state.board version }
+    requires { (mark core.now.state.board version.index).incarnation ≡ version.incarnation }
     ensures frame { IfOk result (λ x. x.frame ≡ frame.now) }
     ensures agrees { IfOk result (λ x. Agrees x.reads (log_rows (slot core.now.state version.index).log)) }
     ensures keys { IfOk result (λ x. keys_read x.reads ≡ (decision (log_rows (slot core.now.state version.index).log) frame.now).needs) }

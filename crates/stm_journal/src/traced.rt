@@ -1,10 +1,10 @@
-ghost use Rattle.std.specs.Prelude.{◌≡◌, ◌++◌, ◌≤◌, [], true, false, length, Err, IfOk, IfSome, OnOk};
+ghost use Rattle.std.specs.Prelude.{◌≡◌, ◌≤◌, [], true, false, length, Err, IfOk, IfSome, OnOk};
 ghost use Rattle.stm_journal.specs.Answered.{claimed, was_read, validated, ended, committed};
 ghost use Rattle.stm_journal.specs.Finished.{IsFinished};
 ghost use Rattle.issuer_rows.specs.RowVal.{IsOfKind};
-ghost use Rattle.stm_journal_text.specs.Answers.{AnswersTo, FinishAnswersTo, IsNoFinish, IsAnswerOfKind, entered};
-ghost use Rattle.stm_journal_text.specs.Logged.{greatest};
-ghost use Rattle.stm_journal_text.specs.Plays.{IsPlayed};
+ghost use Rattle.stm_journal.specs.Journaled.{IsJournalStep};
+ghost use Rattle.stm_journal_text.specs.Words.{FinishAnswersTo, IsAnswerOfKind, IsNoFinish};
+ghost use Rattle.stm_journal_text.specs.Words.{IsPlayed, greatest};
 ghost use Rattle.stm_core_laws.specs.Play.{opening_play};
 
 use crate::asking::{
@@ -117,11 +117,8 @@ impl Traced {
     #[tactic(auto, using(crate::proofs::Asked::played_on, crate::proofs::Asked::played_still))]
     pub fn step(&mut self, seat: Seat, event: Event) -> CoreAnswer
         requires { IsNoFinish event }
-        ensures played { IsPlayed self.old.core self.old.entries }
-        ensures answer { AnswersTo self.old.core seat event result self.new.core }
-        ensures entries { self.new.entries ≡ self.old.entries ++ entered seat event result }
+        ensures step { IsJournalStep self.old self.new seat event result }
         ensures kind { IsAnswerOfKind event result }
-        ensures stopped { self.new.stopped ≡ self.old.stopped }
     {
         if self.entries.reserve(1).is_err() {
             return CoreAnswer::Refused(CoreFault::OutOfMemory);
@@ -142,10 +139,8 @@ impl Traced {
         version: Version,
         execution: Execution,
     ) -> CoreAnswer
-        ensures played { IsPlayed self.old.core self.old.entries }
+        ensures step { IsJournalStep self.old self.new seat (Event.Finish version) result }
         ensures answer { FinishAnswersTo self.old.core version execution result self.new.core }
-        ensures entries { self.new.entries ≡ self.old.entries ++ entered seat (Event.Finish version) result }
-        ensures stopped { self.new.stopped ≡ self.old.stopped }
     {
         self.finish_copy(alloc, seat, version, &execution)
     }
@@ -186,20 +181,14 @@ impl SharedCore for Traced {
     }
 
     fn block(&mut self, seat: Seat, version: Version, on: u32) -> CoreAnswer
-        ensures played { IsPlayed self.old.core self.old.entries }
-        ensures answer { AnswersTo self.old.core seat (Event.Block version on) result self.new.core }
-        ensures entries { self.new.entries ≡ self.old.entries ++ entered seat (Event.Block version on) result }
-        ensures stopped { self.new.stopped ≡ self.old.stopped }
+        ensures step { IsJournalStep self.old self.new seat (Event.Block version on) result }
     {
         self.step(seat, Event::Block(version, on))
     }
 
     #[tactic(auto, using(crate::proofs::Asked::played_still))]
     fn claim(&mut self, seat: Seat) -> Result<Task, CoreFault>
-        ensures played { IsPlayed self.old.core self.old.entries }
-        ensures answer { AnswersTo self.old.core seat Event.Claim (claimed result) self.new.core }
-        ensures entries { self.new.entries ≡ self.old.entries ++ entered seat Event.Claim (claimed result) }
-        ensures stopped { self.new.stopped ≡ self.old.stopped }
+        ensures step { IsJournalStep self.old self.new seat Event.Claim (claimed result) }
     {
         self.entries.reserve(1)?;
         let task = claim(&mut self.core, seat);
@@ -223,11 +212,8 @@ impl SharedCore for Traced {
         row: &RowKey,
         value: &mut Option<RowVal>,
     ) -> Result<(), Unread>
-        ensures played { IsPlayed self.old.core self.old.entries }
-        ensures answer { AnswersTo self.old.core seat (Event.Read version row.now) (was_read result value.new) self.new.core }
-        ensures entries { self.new.entries ≡ self.old.entries ++ entered seat (Event.Read version row.now) (was_read result value.new) }
+        ensures step { IsJournalStep self.old self.new seat (Event.Read version row.now) (was_read result value.new) }
         ensures kind { OnOk result (IfSome value.new (IsOfKind row.now)) }
-        ensures stopped { self.new.stopped ≡ self.old.stopped }
     {
         self.entries.reserve(1)?;
         let answer = read_into(&mut self.core, seat, version, row, value);
@@ -244,10 +230,7 @@ impl SharedCore for Traced {
     }
 
     fn begin_validation(&mut self, seat: Seat, version: Version) -> Result<bool, CoreFault>
-        ensures played { IsPlayed self.old.core self.old.entries }
-        ensures answer { AnswersTo self.old.core seat (Event.BeginValidation version) (validated result) self.new.core }
-        ensures entries { self.new.entries ≡ self.old.entries ++ entered seat (Event.BeginValidation version) (validated result) }
-        ensures stopped { self.new.stopped ≡ self.old.stopped }
+        ensures step { IsJournalStep self.old self.new seat (Event.BeginValidation version) (validated result) }
     {
         self.entries.reserve(1)?;
         let answer = begin_validation(&mut self.core, seat, version);
@@ -262,10 +245,7 @@ impl SharedCore for Traced {
     }
 
     fn validate_one(&mut self, seat: Seat) -> Result<bool, CoreFault>
-        ensures played { IsPlayed self.old.core self.old.entries }
-        ensures answer { AnswersTo self.old.core seat Event.ValidateOne (validated result) self.new.core }
-        ensures entries { self.new.entries ≡ self.old.entries ++ entered seat Event.ValidateOne (validated result) }
-        ensures stopped { self.new.stopped ≡ self.old.stopped }
+        ensures step { IsJournalStep self.old self.new seat Event.ValidateOne (validated result) }
     {
         self.entries.reserve(1)?;
         let answer = validate_one(&mut self.core, seat);
@@ -280,11 +260,8 @@ impl SharedCore for Traced {
     }
 
     fn end_validation(&mut self, seat: Seat) -> Result<bool, CoreFault>
-        ensures played { IsPlayed self.old.core self.old.entries }
-        ensures answer { AnswersTo self.old.core seat Event.EndValidation (ended result) self.new.core }
-        ensures entries { self.new.entries ≡ self.old.entries ++ entered seat Event.EndValidation (ended result) }
+        ensures step { IsJournalStep self.old self.new seat Event.EndValidation (ended result) }
         ensures exhausted { result ≡ Err CoreFault.Exhausted → IsFinished self.new.core self.new.entries }
-        ensures stopped { self.new.stopped ≡ self.old.stopped }
     {
         self.entries.reserve(1)?;
         let answer = end_validation(&mut self.core, seat);
@@ -299,10 +276,7 @@ impl SharedCore for Traced {
     }
 
     fn commit(&mut self, seat: Seat) -> Result<bool, CoreFault>
-        ensures played { IsPlayed self.old.core self.old.entries }
-        ensures answer { AnswersTo self.old.core seat Event.Commit (committed result) self.new.core }
-        ensures entries { self.new.entries ≡ self.old.entries ++ entered seat Event.Commit (committed result) }
-        ensures stopped { self.new.stopped ≡ self.old.stopped }
+        ensures step { IsJournalStep self.old self.new seat Event.Commit (committed result) }
     {
         self.entries.reserve(1)?;
         let is_committed = commit(&mut self.core, seat);
@@ -323,10 +297,8 @@ impl SharedCore for Traced {
         version: Version,
         execution: &Execution,
     ) -> CoreAnswer
-        ensures played { IsPlayed self.old.core self.old.entries }
+        ensures step { IsJournalStep self.old self.new seat (Event.Finish version) result }
         ensures answer { FinishAnswersTo self.old.core version execution.now result self.new.core }
-        ensures entries { self.new.entries ≡ self.old.entries ++ entered seat (Event.Finish version) result }
-        ensures stopped { self.new.stopped ≡ self.old.stopped }
     {
         if self.entries.reserve(1).is_err() {
             return CoreAnswer::Refused(CoreFault::OutOfMemory);

@@ -1,7 +1,8 @@
 ghost use Rattle.std.specs.Prelude.{◌≡◌, ◌≤◌, true, false, length, IfOk, IfSome, OnOk};
 ghost use Rattle.stm_journal.specs.Answered.{claimed, was_read, validated, ended, committed};
 ghost use Rattle.stm_journal.specs.SomePlay.{IsSomePlay};
-ghost use Rattle.stm_journal_text.specs.Answers.{Answers, FinishAnswers};
+ghost use Rattle.stm_journal.specs.Marked.{IsMarkedStep};
+ghost use Rattle.stm_journal_text.specs.Answers.{FinishAnswers};
 ghost use Rattle.issuer_rows.specs.RowVal.{IsOfKind};
 ghost use Rattle.stm_core_laws.specs.Play.{opening_play};
 
@@ -94,8 +95,7 @@ impl SharedCore for Untraced {
     }
 
     fn claim(&mut self, seat: Seat) -> Result<Task, CoreFault>
-        ensures answer { Answers self.old.core seat Event.Claim (claimed result) self.new.core }
-        ensures stopped { self.new.stopped ≡ self.old.stopped }
+        ensures step { IsMarkedStep self.old self.new seat Event.Claim (claimed result) }
     {
         Ok(claim(&mut self.core, seat))
     }
@@ -107,16 +107,14 @@ impl SharedCore for Untraced {
         row: &RowKey,
         value: &mut Option<RowVal>,
     ) -> Result<(), Unread>
-        ensures answer { Answers self.old.core seat (Event.Read version row.now) (was_read result value.new) self.new.core }
-        ensures stopped { self.new.stopped ≡ self.old.stopped }
+        ensures step { IsMarkedStep self.old self.new seat (Event.Read version row.now) (was_read result value.new) }
         ensures kind { OnOk result (IfSome value.new (IsOfKind row.now)) }
     {
         read_into(&mut self.core, seat, version, row, value)
     }
 
     fn block(&mut self, seat: Seat, version: Version, on: u32) -> CoreAnswer
-        ensures answer { Answers self.old.core seat (Event.Block version on) result self.new.core }
-        ensures stopped { self.new.stopped ≡ self.old.stopped }
+        ensures step { IsMarkedStep self.old self.new seat (Event.Block version on) result }
     {
         block(&mut self.core, seat, version, on)
     }
@@ -128,36 +126,32 @@ impl SharedCore for Untraced {
         version: Version,
         execution: &Execution,
     ) -> CoreAnswer
+        ensures step { IsMarkedStep self.old self.new seat (Event.Finish version) result }
         ensures answer { FinishAnswers self.old.core version execution.now result self.new.core }
-        ensures stopped { self.new.stopped ≡ self.old.stopped }
     {
         hand_in(&mut self.core, alloc, seat, version, execution)
     }
 
     fn begin_validation(&mut self, seat: Seat, version: Version) -> Result<bool, CoreFault>
-        ensures answer { Answers self.old.core seat (Event.BeginValidation version) (validated result) self.new.core }
-        ensures stopped { self.new.stopped ≡ self.old.stopped }
+        ensures step { IsMarkedStep self.old self.new seat (Event.BeginValidation version) (validated result) }
     {
         begin_validation(&mut self.core, seat, version)
     }
 
     fn validate_one(&mut self, seat: Seat) -> Result<bool, CoreFault>
-        ensures answer { Answers self.old.core seat Event.ValidateOne (validated result) self.new.core }
-        ensures stopped { self.new.stopped ≡ self.old.stopped }
+        ensures step { IsMarkedStep self.old self.new seat Event.ValidateOne (validated result) }
     {
         validate_one(&mut self.core, seat)
     }
 
     fn end_validation(&mut self, seat: Seat) -> Result<bool, CoreFault>
-        ensures answer { Answers self.old.core seat Event.EndValidation (ended result) self.new.core }
-        ensures stopped { self.new.stopped ≡ self.old.stopped }
+        ensures step { IsMarkedStep self.old self.new seat Event.EndValidation (ended result) }
     {
         end_validation(&mut self.core, seat)
     }
 
     fn commit(&mut self, seat: Seat) -> Result<bool, CoreFault>
-        ensures answer { Answers self.old.core seat Event.Commit (committed result) self.new.core }
-        ensures stopped { self.new.stopped ≡ self.old.stopped }
+        ensures step { IsMarkedStep self.old self.new seat Event.Commit (committed result) }
     {
         Ok(commit(&mut self.core, seat))
     }

@@ -12,11 +12,11 @@ use Rattle.iso8583.specs.Class.{IsPrintable}
 use Rattle.stm_memory.specs.declared.version.Version.{Version}
 use Rattle.issuer_rows.specs.declared.row_key.RowKey.{RowKey}
 use Rattle.issuer_rows.specs.declared.row_key.RowKey.TheVariants as key
-use Rattle.stm_journal_text.specs.Texts.{version_text, key_text, event_text, IsVersion, IsKey, IsEvent}
+use Rattle.stm_journal_text.specs.Marks.{Lacks}
+use Rattle.stm_journal_text.specs.Texts.{IsEvent, IsKey, IsVersion, event_text, key_text, version_text}
 use Rattle.stm_journal_text.specs.declared.event.Event.{Event}
 use Rattle.stm_journal_text.specs.declared.event.Event.TheVariants as event
 use Rattle.std.specs.Char.{is_ascii_digit}
-use Rattle.stm_journal_text.specs.Marks.{Lacks}
 use Rattle.stm_journal_text.proofs.Marks.{before, after, before_parts, after_parts, digits_lack, decimal_lacks, lacks_parts}
 
 -- numbers and versions

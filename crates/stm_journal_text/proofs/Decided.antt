@@ -7,29 +7,19 @@ use Rattle.std.specs.FinMap as finite
 use Rattle.std.specs.List.{AllByRecursion}
 use Rattle.std.specs.Option.{option_flatten}
 use Rattle.std.specs.Ordering.{eq_by_cmp}
-use Rattle.stm_memory.specs.declared.version.Version.{Version}
+use Rattle.issuer_view.specs.Words.{Frame, ReplyBody, RowKey, RowVal, Rows, Writes, decision}
+use Rattle.issuer_view.specs.Words.{key_cmp, key_eq, value_in}
+use Rattle.stm_memory.specs.Entries.{IsNewLocation}
+use Rattle.stm_core_laws.specs.Words.{AreLogged, FinishStep, IsAt, IsOfVersion, Log, Play, PlayStep}
+use Rattle.stm_core_laws.specs.Words.{State, Version, logged_in, slot}
+use Rattle.stm_core_laws.specs.declared.logged.Logged.{Logged}
 use Rattle.issuer_rows.proofs.KeyLaws.{key_cmp_total, same_test}
 use Rattle.issuer_rows.specs.Agreement.{Executed, IsTrueExecution, Reads, Agrees, AreRead, ComesTo, keys_read}
-use Rattle.issuer_rows.specs.Decision.{decision}
-use Rattle.issuer_rows.specs.Fold.{Rows}
-use Rattle.issuer_rows.specs.Plan.{Writes}
-use Rattle.issuer_rows.specs.RowKey.{key_cmp, key_eq}
-use Rattle.issuer_rows.specs.declared.frame.Frame.{Frame}
-use Rattle.issuer_rows.specs.declared.reply_body.ReplyBody.{ReplyBody}
-use Rattle.issuer_rows.specs.declared.row_key.RowKey.{RowKey}
-use Rattle.issuer_rows.specs.declared.row_val.RowVal.{RowVal}
-use Rattle.stm_memory.specs.Entries.{IsNewLocation}
 use Rattle.stm_scheduler.specs.Board.{IsRunning}
 use Rattle.stm_core_laws.proofs.Validations.{one_at}
 use Rattle.stm_core_laws.proofs.Members.{Contains-nil}
-use Rattle.stm_core_laws.specs.Log.{logged_in, AreLogged}
-use Rattle.stm_core_laws.specs.Play.{Play, PlayStep}
 use Rattle.stm_core_laws.specs.Run as call
-use Rattle.stm_core_laws.specs.State.{State, Log, slot, IsAt}
-use Rattle.stm_core_laws.specs.Step.{FinishStep, IsOfVersion}
 use Rattle.stm_core_laws.specs.declared.core_fault.CoreFault.TheVariants.{NotRunning, OtherReads, Exhausted}
-use Rattle.stm_core_laws.specs.declared.logged.Logged.{Logged}
-use Rattle.issuer_view.specs.RowSets.{value_in}
 use Rattle.stm_journal_text.specs.Logged.{log_rows, logged_book, IsLogged, IsUndecided, IsUnlogged}
 use Rattle.stm_journal_text.proofs.OneCall.{same_play, one_call}
 

@@ -5,7 +5,7 @@ use Rattle.std.specs.Fmt.{decimal}
 use Rattle.stm_memory.specs.declared.version.Version.{Version}
 use Rattle.issuer_rows.specs.declared.row_key.RowKey.{RowKey}
 use Rattle.stm_journal_text.specs.Marks.{Lacks}
-use Rattle.stm_journal_text.specs.Texts.{version_text, key_text, event_text, IsVersion, IsKey, IsEvent}
+use Rattle.stm_journal_text.specs.Texts.{IsEvent, IsKey, IsVersion, event_text, key_text, version_text}
 use Rattle.stm_journal_text.specs.declared.event.Event.{Event}
 use Rattle.stm_journal_text.specs.declared.event.Event.TheVariants as event
 use Rattle.stm_journal_text.proofs.Back.{number_back, version_back, key_back, event_back, event_back_is, version_lacks}

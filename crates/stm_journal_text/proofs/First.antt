@@ -2,17 +2,15 @@
 use Rattle.std.proofs.Common.{◌≡◌, ℕ, ◌<◌, List, [], ◌∷◌, ◌++◌, inl, inr, length, refl, sym, ap, ◌∙◌, subst, true, arith}
 use Rattle.std.proofs.lemmas.Bool.{cases_lt, false≢true}
 use Rattle.issuer_rows.specs.declared.frame.Frame.{Frame}
+use Rattle.stm_core_laws.specs.Words.{Play, State, slot}
+use Rattle.stm_journal_text.specs.Words.{Answers, EntryStep, IsFirstUnlogged, IsUndecided}
+use Rattle.stm_journal_text.specs.Words.{IsUnloggedEvent, Plays, stands}
+use Rattle.stm_journal_text.specs.declared.core_answer.CoreAnswer.{CoreAnswer}
 use Rattle.stm_journal_text.specs.declared.entry.Entry.{Entry}
 use Rattle.stm_journal_text.specs.declared.event.Event.{Event}
 use Rattle.stm_journal_text.specs.declared.event.Event.TheVariants.{Claim, Read, Block, Finish, BeginValidation, ValidateOne, EndValidation, Commit}
 use Rattle.stm_core_laws.proofs.Validations.{one_at}
-use Rattle.stm_core_laws.specs.Play.{Play}
-use Rattle.stm_core_laws.specs.State.{State, slot}
 use Rattle.stm_core_laws.specs.declared.core_fault.CoreFault.TheVariants.{NotRunning, OtherReads, Outdated, OutOfMemory, Exhausted}
-use Rattle.stm_journal_text.specs.Answers.{Answers, stands}
-use Rattle.stm_journal_text.specs.Logged.{IsUndecided, IsUnloggedEvent, IsFirstUnlogged}
-use Rattle.stm_journal_text.specs.Plays.{EntryStep, Plays}
-use Rattle.stm_journal_text.specs.declared.core_answer.CoreAnswer.{CoreAnswer}
 use Rattle.stm_journal_text.specs.declared.core_answer.CoreAnswer.TheVariants.{Finished, Refused}
 use Rattle.stm_journal_text.proofs.Decided.{decided_there}
 use Rattle.stm_journal_text.proofs.OneEntry.{one_play}
@@ -28,13 +26,7 @@ stuck p seat (Finish v) (Refused OutOfMemory) t un stand a = false≢true stand
 stuck p seat (Finish v) (Refused OtherReads) t un stand a = false≢true stand
 stuck p seat (Finish v) (Refused Outdated) t un stand a = a.1.0.1
 stuck p seat (Finish v) answer t un stand a = a
-stuck p seat Claim answer t un stand a = un
-stuck p seat (Read v row) answer t un stand a = un
-stuck p seat (Block v on) answer t un stand a = un
-stuck p seat (BeginValidation v) answer t un stand a = un
-stuck p seat ValidateOne answer t un stand a = un
-stuck p seat EndValidation answer t un stand a = un
-stuck p seat Commit answer t un stand a = un
+stuck p seat event answer t un stand a = un
 
 -- a play of two lists goes through the core between
 Plays-split : (start : Play) (before after : List Entry) (t : Play) → Plays start (before ++ after) t → (mid : Play) × Plays start before mid × Plays mid after t

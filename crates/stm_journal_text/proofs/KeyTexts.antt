@@ -14,8 +14,7 @@ use Rattle.iso8583.specs.Padded.{HasDigits, HasPrintable}
 use Rattle.iso8583.specs.declared.identity.Identity.{Identity}
 use Rattle.issuer_rows.specs.declared.row_key.RowKey.{RowKey}
 use Rattle.issuer_rows.specs.declared.row_key.RowKey.TheVariants as key
-use Rattle.stm_journal_text.specs.Marks.{Lacks}
-use Rattle.stm_journal_text.specs.Texts.{identity_text, key_text, IsIdentity, IsKey}
+use Rattle.stm_journal_text.specs.Words.{IsIdentity, IsKey, Lacks, identity_text, key_text}
 use Rattle.stm_journal_text.proofs.Back.{key_back, key_back_is, printable_bytes}
 use Rattle.stm_journal_text.proofs.Marks.{before, after, before_parts, after_parts, parted, not_lacking, digits_lack, other_lacks}
 
@@ -62,13 +61,6 @@ pub not_unequal : (xs ys : List ℕ) (r : Bool) → r ≡ pointwise ◌==◌ xs 
 not_unequal xs ys r answer other same = false≢true (sym other ∙ (slice_eq-Decides Decides-eqb xs ys r answer).1 same)
 
 -- keys
-
-pub key_marked : (text : List ℕ) (k : RowKey) → Lacks 58 text → text ≢ key_text k
-key_marked text (key.Card pan) lacks same = not_lacking 58 (codes "card") pan.0 (subst (Lacks 58) same lacks)
-key_marked text (key.Velocity pan day) lacks same = not_lacking 58 (codes "day") (pan.0 ++ 58 ∷ day) (subst (Lacks 58) same lacks)
-key_marked text (key.Budget prefix) lacks same = not_lacking 58 (codes "budget") prefix.0 (subst (Lacks 58) same lacks)
-key_marked text (key.Original i) lacks same = not_lacking 58 (codes "orig") (identity_text i) (subst (Lacks 58) same lacks)
-key_marked text (key.Account id) lacks same = not_lacking 58 (codes "acct") (encode_lower id.0) (subst (Lacks 58) same lacks)
 
 -- a text of another kind is no key
 pub of_no_kind : (text kind rest : List ℕ) (k : RowKey) → text ≡ kind ++ 58 ∷ rest → Lacks 58 kind → kind ≢ codes "card" → kind ≢ codes "day" → kind ≢ codes "budget"

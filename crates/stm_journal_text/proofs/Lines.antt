@@ -11,7 +11,7 @@ use Rattle.issuer_rows.specs.declared.row_key.RowKey.{RowKey}
 use Rattle.issuer_rows.specs.declared.row_key.RowKey.TheVariants as key
 use Rattle.stm_journal_text.specs.Journal.{entry_text, line_of, journal_text, IsEntry, AreEntries, BeginsWithNoLine, IsFirstWrongLine}
 use Rattle.stm_journal_text.specs.Marks.{Lacks}
-use Rattle.stm_journal_text.specs.Texts.{version_text, identity_text, key_text, event_text, IsIdentity, IsKey, IsEvent}
+use Rattle.stm_journal_text.specs.Texts.{IsEvent, IsIdentity, IsKey, event_text, identity_text, key_text, version_text}
 use Rattle.stm_journal_text.specs.declared.entry.Entry.{Entry}
 use Rattle.stm_journal_text.specs.declared.event.Event.{Event}
 use Rattle.stm_journal_text.specs.declared.event.Event.TheVariants as event

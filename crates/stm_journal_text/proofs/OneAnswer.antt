@@ -1,38 +1,27 @@
 -- A call of a core has one answer, but where memory ran out.
-use Rattle.std.proofs.Common.{◌≡◌, ◌≢◌, ℕ, inl, inr, refl, sym, ap, ◌∙◌, subst, Option, Some, None, Result, Ok, Err, Bool, true, false}
+use Rattle.std.proofs.Common.{◌≡◌, ◌≢◌, ℕ, inl, inr, refl, sym, ap, ◌∙◌, subst, Option, Some, None, Result, Ok, Err, Bool, true, false, rules}
 use Rattle.std.proofs.lemmas.Bool.{false≢true}
 use Rattle.std.proofs.lemmas.Option.{none-some, same_Some}
-use Rattle.stm_memory.specs.declared.seen.Seen.{Seen}
+use Rattle.issuer_view.specs.Words.{RowKey, RowVal}
+use Rattle.stm_scheduler.specs.Words.{Claims, IsOpen}
+use Rattle.stm_core_laws.specs.Words.{BeginStep, BlockStep, CanAbort, CommitStep, EndStep}
+use Rattle.stm_core_laws.specs.Words.{HasValidation, Play, ReadStep, Seen, State, Task, Validated}
+use Rattle.stm_core_laws.specs.Words.{ValidationStep, Version, is_at_end, logged_of, schedule}
+use Rattle.stm_core_laws.specs.Words.{shelf}
+use Rattle.stm_core_laws.specs.declared.core_fault.CoreFault.{CoreFault}
+use Rattle.stm_core_laws.specs.declared.got.Got.{Got}
+use Rattle.stm_core_laws.specs.declared.logged.Logged.{Logged}
+use Rattle.stm_core_laws.specs.declared.validation.Validation.{Validation}
 use Rattle.stm_memory.specs.declared.seen.Seen.TheVariants as seen
-use Rattle.stm_memory.specs.declared.version.Version.{Version}
-use Rattle.issuer_rows.specs.declared.row_key.RowKey.{RowKey}
-use Rattle.issuer_rows.specs.declared.row_val.RowVal.{RowVal}
 use Rattle.stm_scheduler.proofs.Choices.{choice-unique}
-use Rattle.stm_scheduler.specs.Board.{IsOpen}
-use Rattle.stm_scheduler.specs.Cursors.{Claims}
-use Rattle.stm_scheduler.specs.declared.task.Task.{Task}
 use Rattle.stm_scheduler.specs.declared.task.Task.TheVariants.{Execute, Validate, Idle, Done}
 use Rattle.stm_core_laws.proofs.Unique.{Resolves-unique, Validated-unique, one_validation}
-use Rattle.stm_core_laws.specs.Log.{logged_of}
-use Rattle.stm_core_laws.specs.Play.{Play, schedule}
-use Rattle.stm_core_laws.specs.State.{State, shelf}
-use Rattle.stm_core_laws.specs.Step.{ReadStep, BlockStep, BeginStep, ValidationStep, EndStep, CommitStep, Validated, HasValidation, CanAbort, is_at_end}
-use Rattle.stm_core_laws.specs.declared.validation.Validation.{Validation}
-use Rattle.stm_core_laws.specs.declared.core_fault.CoreFault.{CoreFault}
 use Rattle.stm_core_laws.specs.declared.core_fault.CoreFault.TheVariants.{NotRunning, OtherReads, Outdated, OutOfMemory, Exhausted}
-use Rattle.stm_core_laws.specs.declared.got.Got.{Got}
 use Rattle.stm_core_laws.specs.declared.got.Got.TheVariants as got
-use Rattle.stm_core_laws.specs.declared.logged.Logged.{Logged}
 
 -- one task is chosen
 pub one_task : (old : Play) (a b : Task) (t w : Play) → Claims (schedule old) a (schedule t) → Claims (schedule old) b (schedule w) → a ≡ b
 one_task old Done Done t w x y = refl
-one_task old Done (Execute v) t w x y = absurd (y.0 x.0)
-one_task old Done (Validate v) t w x y = absurd (y.0 x.0)
-one_task old Done Idle t w x y = absurd (y.0 x.0)
-one_task old (Execute v) Done t w x y = absurd (x.0 y.0)
-one_task old (Validate v) Done t w x y = absurd (x.0 y.0)
-one_task old Idle Done t w x y = absurd (x.0 y.0)
 one_task old (Execute v) (Execute u) t w x y =
     (choice-unique old.state.board old.execution old.validation (Execute v) t.execution t.validation x.1 (Execute u) w.execution w.validation y.1).0
 one_task old (Execute v) (Validate u) t w x y =
@@ -50,6 +39,7 @@ one_task old Idle (Execute u) t w x y =
 one_task old Idle (Validate u) t w x y =
     (choice-unique old.state.board old.execution old.validation Idle x.1.0 x.1.1 x.1.2 (Validate u) w.execution w.validation y.1).0
 one_task old Idle Idle t w x y = refl
+one_task old a b t w x y = absurd (search rules)
 
 -- a value that is logged of a row is not of one that is seen as an ESTIMATE
 no_estimate : (s : State) (row : RowKey) (logged : Logged) (is : Seen) (at : ℕ) → logged_of s.opening row is ≡ Some logged → is ≡ seen.Estimate at → ⊥
@@ -87,56 +77,25 @@ one_estimate s v row at also t w x y =
 
 -- a read has one answer
 pub one_read : (s : State) (v : Version) (row : RowKey) (a b : Result Got CoreFault) (t w : State) → a ≢ Err OutOfMemory → b ≢ Err OutOfMemory → ReadStep s v row a t → ReadStep s v row b w → a ≡ b
-one_read s v row (Err OutOfMemory) b t w f g x y = absurd (f refl)
-one_read s v row (Err OtherReads) b t w f g x y = absurd x
-one_read s v row (Err Outdated) b t w f g x y = absurd x
-one_read s v row (Err Exhausted) b t w f g x y = absurd x
-one_read s v row a (Err OutOfMemory) t w f g x y = absurd (g refl)
-one_read s v row a (Err OtherReads) t w f g x y = absurd y
-one_read s v row a (Err Outdated) t w f g x y = absurd y
-one_read s v row a (Err Exhausted) t w f g x y = absurd y
 one_read s v row (Err NotRunning) (Err NotRunning) t w f g x y = refl
-one_read s v row (Err NotRunning) (Ok (got.Row also)) t w f g x y = absurd (x.0 y.0)
-one_read s v row (Err NotRunning) (Ok (got.Estimate also)) t w f g x y = absurd (x.0 y.0)
-one_read s v row (Ok (got.Row value)) (Err NotRunning) t w f g x y = absurd (y.0 x.0)
-one_read s v row (Ok (got.Estimate at)) (Err NotRunning) t w f g x y = absurd (y.0 x.0)
 one_read s v row (Ok (got.Row value)) (Ok (got.Row also)) t w f g x y = ap (λ (z : Option RowVal). Ok (got.Row z)) (one_row s v row value also t w x y)
 one_read s v row (Ok (got.Row value)) (Ok (got.Estimate also)) t w f g x y = absurd (row_or_estimate s v row value also t w x y)
 one_read s v row (Ok (got.Estimate at)) (Ok (got.Row also)) t w f g x y = absurd (row_or_estimate s v row also at w t y x)
 one_read s v row (Ok (got.Estimate at)) (Ok (got.Estimate also)) t w f g x y = ap (λ (n : ℕ). Ok (got.Estimate n)) (one_estimate s v row at also t w x y)
+one_read s v row a b t w f g x y = absurd (first_of (assumption, search rules))
 
 -- a block has one answer
 pub one_block : (s : State) (v : Version) (on : ℕ) (a b : Result (Unit {0}) CoreFault) (t w : State) → BlockStep s v on a t → BlockStep s v on b w → a ≡ b
-one_block s v on (Err OutOfMemory) b t w x y = absurd x
-one_block s v on (Err OtherReads) b t w x y = absurd x
-one_block s v on (Err Outdated) b t w x y = absurd x
-one_block s v on a (Err OutOfMemory) t w x y = absurd y
-one_block s v on a (Err OtherReads) t w x y = absurd y
-one_block s v on a (Err Outdated) t w x y = absurd y
 one_block s v on (Ok u) (Ok z) t w x y = refl
-one_block s v on (Ok u) (Err NotRunning) t w x y = absurd (y.0 x.0)
-one_block s v on (Ok u) (Err Exhausted) t w x y = absurd (x.1 y.1)
-one_block s v on (Err NotRunning) (Ok u) t w x y = absurd (x.0 y.0)
-one_block s v on (Err Exhausted) (Ok u) t w x y = absurd (y.1 x.1)
 one_block s v on (Err NotRunning) (Err NotRunning) t w x y = refl
-one_block s v on (Err NotRunning) (Err Exhausted) t w x y = absurd (x.0 y.0)
-one_block s v on (Err Exhausted) (Err NotRunning) t w x y = absurd (y.0 x.0)
 one_block s v on (Err Exhausted) (Err Exhausted) t w x y = refl
+one_block s v on a b t w x y = absurd (first_of (assumption, search rules))
 
 -- a validation that begins has one answer
 pub one_begin : (s : State) (seat : ℕ) (v : Version) (a b : Result Bool CoreFault) (t w : State) → BeginStep s seat v a t → BeginStep s seat v b w → a ≡ b
-one_begin s seat v (Err NotRunning) b t w x y = absurd x
-one_begin s seat v (Err OtherReads) b t w x y = absurd x
-one_begin s seat v (Err OutOfMemory) b t w x y = absurd x
-one_begin s seat v (Err Exhausted) b t w x y = absurd x
-one_begin s seat v a (Err NotRunning) t w x y = absurd y
-one_begin s seat v a (Err OtherReads) t w x y = absurd y
-one_begin s seat v a (Err OutOfMemory) t w x y = absurd y
-one_begin s seat v a (Err Exhausted) t w x y = absurd y
 one_begin s seat v (Ok e) (Ok f) t w x y = ap (λ (z : Bool). Ok z) (x.1 ∙ sym y.1)
-one_begin s seat v (Ok e) (Err Outdated) t w x y = absurd (y.0 x.0)
-one_begin s seat v (Err Outdated) (Ok f) t w x y = absurd (x.0 y.0)
 one_begin s seat v (Err Outdated) (Err Outdated) t w x y = refl
+one_begin s seat v a b t w x y = absurd (first_of (assumption, search rules))
 
 -- a seat has one validation, which is open or not
 open_or_not : (s : State) (seat : ℕ) (c d : Validation) (e : Bool) → HasValidation s seat c e → IsOpen s.board c.version → HasValidation s seat d e → ¬ IsOpen s.board d.version → ⊥
@@ -144,24 +103,15 @@ open_or_not s seat c d e has is_open also shut = shut (subst (λ (z : Validation
 
 -- a validation that goes on has one answer
 pub one_validated : (s : State) (seat : ℕ) (a b : Result Bool CoreFault) (t w : State) → ValidationStep s seat a t → ValidationStep s seat b w → a ≡ b
-one_validated s seat (Err OtherReads) b t w x y = absurd x
-one_validated s seat (Err OutOfMemory) b t w x y = absurd x
-one_validated s seat (Err Exhausted) b t w x y = absurd x
-one_validated s seat a (Err OtherReads) t w x y = absurd y
-one_validated s seat a (Err OutOfMemory) t w x y = absurd y
-one_validated s seat a (Err Exhausted) t w x y = absurd y
 one_validated s seat (Ok e) (Ok f) t w x y =
     let validations : x.0 ≡ y.0 = one_validation s seat x.0 y.0 x.2.0 y.2.0 in
     let next : x.1 ≡ y.1 = Validated-unique s x.0 x.1 y.1 x.4 (subst (λ (c : Validation). Validated s c y.1) (sym validations) y.4) in
     ap (λ (z : Bool). Ok z) (x.5 ∙ ap is_at_end next ∙ sym y.5)
-one_validated s seat (Ok e) (Err NotRunning) t w x y = absurd (y.0 x.0 x.2)
 one_validated s seat (Ok e) (Err Outdated) t w x y = absurd (open_or_not s seat x.0 y.0.0 false x.2 x.3 y.0.1 y.0.2)
-one_validated s seat (Err NotRunning) (Ok f) t w x y = absurd (x.0 y.0 y.2)
 one_validated s seat (Err Outdated) (Ok f) t w x y = absurd (open_or_not s seat y.0 x.0.0 false y.2 y.3 x.0.1 x.0.2)
 one_validated s seat (Err NotRunning) (Err NotRunning) t w x y = refl
-one_validated s seat (Err NotRunning) (Err Outdated) t w x y = absurd (x.0 y.0.0 y.0.1)
-one_validated s seat (Err Outdated) (Err NotRunning) t w x y = absurd (y.0 x.0.0 x.0.1)
 one_validated s seat (Err Outdated) (Err Outdated) t w x y = refl
+one_validated s seat a b t w x y = absurd (first_of (assumption, search rules))
 
 passed_or_failed : (s : State) (seat : ℕ) (c d : Validation) → HasValidation s seat c true → c.failed ≡ false → HasValidation s seat d true → d.failed ≡ true → ⊥
 passed_or_failed s seat c d has passed also failed = false≢true (sym passed ∙ ap (λ (z : Validation). z.failed) (one_validation s seat c d has.0 also.0) ∙ failed)
@@ -171,35 +121,24 @@ abort_or_not s seat c d has can also not = not (subst (λ (z : Validation). CanA
 
 -- the end of a validation has one answer
 pub one_end : (s : State) (seat : ℕ) (a b : Result Bool CoreFault) (t w : State) → EndStep s seat a t → EndStep s seat b w → a ≡ b
-one_end s seat (Err OtherReads) b t w x y = absurd x
-one_end s seat (Err OutOfMemory) b t w x y = absurd x
-one_end s seat a (Err OtherReads) t w x y = absurd y
-one_end s seat a (Err OutOfMemory) t w x y = absurd y
 one_end s seat (Ok true) (Ok true) t w x y = refl
 one_end s seat (Ok true) (Ok false) t w x y = absurd (passed_or_failed s seat x.0 y.0 x.1 x.3 y.1 y.3)
-one_end s seat (Ok true) (Err NotRunning) t w x y = absurd (y.0 x.0 x.1)
 one_end s seat (Ok true) (Err Outdated) t w x y = absurd (open_or_not s seat x.0 y.0.0 true x.1 x.2 y.0.1 y.0.2)
 one_end s seat (Ok true) (Err Exhausted) t w x y = absurd (passed_or_failed s seat x.0 y.0.0 x.1 x.3 y.0.1 y.0.3)
 one_end s seat (Ok false) (Ok true) t w x y = absurd (passed_or_failed s seat y.0 x.0 y.1 y.3 x.1 x.3)
 one_end s seat (Ok false) (Ok false) t w x y = refl
-one_end s seat (Ok false) (Err NotRunning) t w x y = absurd (y.0 x.0 x.1)
 one_end s seat (Ok false) (Err Outdated) t w x y = absurd (open_or_not s seat x.0 y.0.0 true x.1 x.2 y.0.1 y.0.2)
 one_end s seat (Ok false) (Err Exhausted) t w x y = absurd (abort_or_not s seat x.0 y.0.0 x.1 x.4 y.0.1 y.0.4)
-one_end s seat (Err NotRunning) (Ok true) t w x y = absurd (x.0 y.0 y.1)
-one_end s seat (Err NotRunning) (Ok false) t w x y = absurd (x.0 y.0 y.1)
 one_end s seat (Err NotRunning) (Err NotRunning) t w x y = refl
-one_end s seat (Err NotRunning) (Err Outdated) t w x y = absurd (x.0 y.0.0 y.0.1)
-one_end s seat (Err NotRunning) (Err Exhausted) t w x y = absurd (x.0 y.0.0 y.0.1)
 one_end s seat (Err Outdated) (Ok true) t w x y = absurd (open_or_not s seat y.0 x.0.0 true y.1 y.2 x.0.1 x.0.2)
 one_end s seat (Err Outdated) (Ok false) t w x y = absurd (open_or_not s seat y.0 x.0.0 true y.1 y.2 x.0.1 x.0.2)
-one_end s seat (Err Outdated) (Err NotRunning) t w x y = absurd (y.0 x.0.0 x.0.1)
 one_end s seat (Err Outdated) (Err Outdated) t w x y = refl
 one_end s seat (Err Outdated) (Err Exhausted) t w x y = absurd (open_or_not s seat y.0.0 x.0.0 true y.0.1 y.0.2 x.0.1 x.0.2)
 one_end s seat (Err Exhausted) (Ok true) t w x y = absurd (passed_or_failed s seat y.0 x.0.0 y.1 y.3 x.0.1 x.0.3)
 one_end s seat (Err Exhausted) (Ok false) t w x y = absurd (abort_or_not s seat y.0 x.0.0 y.1 y.4 x.0.1 x.0.4)
-one_end s seat (Err Exhausted) (Err NotRunning) t w x y = absurd (y.0 x.0.0 x.0.1)
 one_end s seat (Err Exhausted) (Err Outdated) t w x y = absurd (open_or_not s seat x.0.0 y.0.0 true x.0.1 x.0.2 y.0.1 y.0.2)
 one_end s seat (Err Exhausted) (Err Exhausted) t w x y = refl
+one_end s seat a b t w x y = absurd (first_of (assumption, search rules))
 
 -- a commit has one answer
 pub one_commit : (s : State) (a b : Bool) (t w : State) → CommitStep s a t → CommitStep s b w → a ≡ b

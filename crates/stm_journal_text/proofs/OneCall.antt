@@ -1,15 +1,13 @@
 -- A call with its answer leads a core to one core.
 use Rattle.std.proofs.Common.{◌≡◌, ℕ, ◌+◌, ◌≤◌, min, List, inl, inr, sym, ap, ◌∙◌, subst, Bool, true, false, Ok, Err, arith}
 use Rattle.stm_scheduler.proofs.Choices.{choice-unique}
-use Rattle.stm_scheduler.specs.Cursors.{Schedule, Claims, IsLoweredToWaiting}
-use Rattle.stm_scheduler.specs.declared.message_progress.MessageProgress.{MessageProgress}
-use Rattle.stm_scheduler.specs.declared.task.Task.{Task}
+use Rattle.stm_scheduler.specs.Cursors.{Claims, IsLoweredToWaiting, Schedule}
+use Rattle.stm_core_laws.specs.Words.{Begin, Block, Call, Claim, Commit, End, Finish}
+use Rattle.stm_core_laws.specs.Words.{MessageProgress, Read, State, Step, Task, ValidateOne}
+use Rattle.stm_core_laws.specs.declared.validation.Validation.{Validation}
 use Rattle.stm_scheduler.specs.declared.task.Task.TheVariants.{Execute, Validate, Idle, Done}
 use Rattle.stm_core_laws.proofs.Unique.{unique-Step, one_validation}
 use Rattle.stm_core_laws.specs.Play.{Play, PlayStep, MoveCursors, StandStill, schedule}
-use Rattle.stm_core_laws.specs.Run.{Call, Claim, Read, Block, Finish, Begin, ValidateOne, End, Commit, Step}
-use Rattle.stm_core_laws.specs.State.{State}
-use Rattle.stm_core_laws.specs.declared.validation.Validation.{Validation}
 
 -- a core is its state, and where its cursors stand
 pub same_play : (a b : Play) → a.state ≡ b.state → a.execution ≡ b.execution → a.validation ≡ b.validation → a ≡ b
@@ -48,30 +46,23 @@ lowered_alike marks i before a b x y =
 
 moved_alike : (old : Play) (call : Call) (a b : Play) → Step old.state call a.state → MoveCursors old call a → MoveCursors old call b → SameCursors a b
 moved_alike old (Claim task) a b step x y = claimed_alike old task a b x y
-moved_alike old (Read v row answer) a b step x y = both_still old a b x y
 moved_alike old (Block v on (Ok u)) a b step x y =
     elim step.2 [
       | inl waits ↦ (x.0 waits.0 ∙ sym (y.0 waits.0), x.2 ∙ sym y.2)
       | inr goes ↦ (x.1 goes.0 ∙ sym (y.1 goes.0), x.2 ∙ sym y.2)
     ]
-moved_alike old (Block v on (Err fault)) a b step x y = both_still old a b x y
 moved_alike old (Finish v e (Ok handed)) a b step x y =
     let execution = lowered_alike old.state.board.marks v.index old.execution a.execution b.execution x.0 y.0 in
     elim step.1.2.2 [
       | inl located ↦ (execution, (x.1 located.0).1 ∙ sym (y.1 located.0).1)
       | inr without ↦ (execution, (x.2 without.0).1 ∙ sym (y.2 without.0).1)
     ]
-moved_alike old (Finish v e (Err fault)) a b step x y = both_still old a b x y
-moved_alike old (Begin seat v answer) a b step x y = both_still old a b x y
-moved_alike old (ValidateOne seat answer) a b step x y = both_still old a b x y
-moved_alike old (End seat (Ok true)) a b step x y = both_still old a b x y
 moved_alike old (End seat (Ok false)) a b step x y =
     let validations : x.0 ≡ y.0 = one_validation old.state seat x.0 y.0 x.1 y.1 in (
       x.2 ∙ ap (λ (c : Validation). min old.execution c.version.index) validations ∙ sym y.2,
       x.3 ∙ ap (λ (c : Validation). min old.validation (c.version.index + 1)) validations ∙ sym y.3,
     )
-moved_alike old (End seat (Err fault)) a b step x y = both_still old a b x y
-moved_alike old (Commit done) a b step x y = both_still old a b x y
+moved_alike old call a b step x y = both_still old a b x y
 
 -- a call with its answer leads to one core
 pub one_call : (old : Play) (call : Call) (a b : Play) → PlayStep old call a → PlayStep old call b → a ≡ b

@@ -1,6 +1,10 @@
 -- An entry leads to one core, and so do the entries of a journal.
 use Rattle.std.proofs.Common.{◌≡◌, ◌≢◌, ℕ, List, [], ◌∷◌, refl, sym, ◌∙◌, subst, Result, Ok, Err, Bool, true}
 use Rattle.std.proofs.lemmas.Bool.{false≢true}
+use Rattle.stm_core_laws.specs.Words.{IsReached, Play, PlayStep, State}
+use Rattle.stm_journal_text.specs.Words.{Answers, EntryStep, Plays, stands}
+use Rattle.stm_core_laws.specs.declared.core_fault.CoreFault.{CoreFault}
+use Rattle.stm_journal_text.specs.declared.core_answer.CoreAnswer.{CoreAnswer}
 use Rattle.stm_journal_text.specs.declared.entry.Entry.{Entry}
 use Rattle.stm_journal_text.specs.declared.event.Event.{Event}
 use Rattle.stm_journal_text.specs.declared.event.Event.TheVariants.{Claim, Read, Block, Finish, BeginValidation, ValidateOne, EndValidation, Commit}
@@ -8,16 +12,9 @@ use Rattle.stm_memory.specs.declared.version.Version.{Version}
 use Rattle.issuer_rows.specs.declared.row_key.RowKey.{RowKey}
 use Rattle.stm_scheduler.specs.declared.task.Task.{Task}
 use Rattle.stm_core_laws.proofs.Reached.{IsReached-Step}
-use Rattle.stm_core_laws.specs.Play.{Play, PlayStep}
 use Rattle.stm_core_laws.specs.Run as call
-use Rattle.stm_core_laws.specs.Run.{IsReached}
-use Rattle.stm_core_laws.specs.State.{State}
-use Rattle.stm_core_laws.specs.declared.core_fault.CoreFault.{CoreFault}
 use Rattle.stm_core_laws.specs.declared.core_fault.CoreFault.TheVariants.{NotRunning, OtherReads, Outdated, OutOfMemory, Exhausted}
 use Rattle.stm_core_laws.specs.declared.got.Got as core_got
-use Rattle.stm_journal_text.specs.Answers.{Answers, stands}
-use Rattle.stm_journal_text.specs.Plays.{EntryStep, Plays}
-use Rattle.stm_journal_text.specs.declared.core_answer.CoreAnswer.{CoreAnswer}
 use Rattle.stm_journal_text.specs.declared.core_answer.CoreAnswer.TheVariants.{Claimed, Got, Blocked, Finished, Validating, Ended, Committed, Refused}
 use Rattle.stm_journal_text.proofs.Decided.{one_finish, finish_or_exhausted}
 use Rattle.stm_journal_text.proofs.OneAnswer.{one_task, one_read, one_block, one_begin, one_validated, one_end, one_commit}
@@ -52,14 +49,14 @@ after_commit p a b t w x y =
     one_call p (call.Commit a) t w x (subst (λ (z : Bool). PlayStep p (call.Commit z) w) (sym (one_commit p.state a b t.state w.state x.0 y.0)) y)
 
 -- an answer that stands is no out of memory
-room : (fault : CoreFault) (e : Result core_got.Got CoreFault) → e ≡ Err fault → stands (Refused fault) ≡ true → e ≢ Err OutOfMemory
+pub room : (fault : CoreFault) (e : Result core_got.Got CoreFault) → e ≡ Err fault → stands (Refused fault) ≡ true → e ≢ Err OutOfMemory
 room OutOfMemory e is stand out = false≢true stand
 room OtherReads e is stand out = false≢true stand
 room NotRunning e is stand out = cc
 room Outdated e is stand out = cc
 room Exhausted e is stand out = cc
 
-had_room : (got : core_got.Got) (e : Result core_got.Got CoreFault) → e ≡ Ok got → e ≢ Err OutOfMemory
+pub had_room : (got : core_got.Got) (e : Result core_got.Got CoreFault) → e ≡ Ok got → e ≢ Err OutOfMemory
 had_room got e is out = cc
 
 -- a finish with its answer
@@ -110,19 +107,7 @@ one_answer p seat EndValidation (Refused a) (Ended b) t w f g x y = after_end p 
 one_answer p seat EndValidation (Refused a) (Refused b) t w f g x y = after_end p seat (Err a) (Err b) t w x y
 one_answer p seat Commit (Committed a) (Committed b) t w f g x y = after_commit p a b t w x y
 -- one of the two is no answer to this event
-one_answer p seat Claim (Claimed a) other t w f g x y = absurd y
-one_answer p seat (Read v row) (Got a) other t w f g x y = absurd y
-one_answer p seat (Read v row) (Refused a) other t w f g x y = absurd y
-one_answer p seat (Block v on) Blocked other t w f g x y = absurd y
-one_answer p seat (Block v on) (Refused a) other t w f g x y = absurd y
-one_answer p seat (BeginValidation v) (Validating a) other t w f g x y = absurd y
-one_answer p seat (BeginValidation v) (Refused a) other t w f g x y = absurd y
-one_answer p seat ValidateOne (Validating a) other t w f g x y = absurd y
-one_answer p seat ValidateOne (Refused a) other t w f g x y = absurd y
-one_answer p seat EndValidation (Ended a) other t w f g x y = absurd y
-one_answer p seat EndValidation (Refused a) other t w f g x y = absurd y
-one_answer p seat Commit (Committed a) other t w f g x y = absurd y
-one_answer p seat event answer other t w f g x y = absurd x
+one_answer p seat event answer other t w f g x y = absurd assumption
 
 -- a journal plays to one core
 pub one_play : (start : Play) (entries : List Entry) (t w : Play) → Plays start entries t → Plays start entries w → t ≡ w

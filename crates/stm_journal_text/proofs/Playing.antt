@@ -1,24 +1,20 @@
 -- A play goes on by the entry of each answer.
 use Rattle.std.proofs.Common.{◌≡◌, ℕ, List, [], ◌∷◌, ◌++◌, refl, sym, ap, ◌∙◌, subst, ◌<◌, ◌+◌, length, take, drop, get_or, arith, true, false, Ok, Err, inl, inr}
 use Rattle.std.proofs.lemmas.List.{take_more, at_drop_more, take-append-drop, length-take-le}
-use Rattle.issuer_rows.specs.Fold.{Rows}
-use Rattle.issuer_rows.specs.declared.frame.Frame.{Frame}
+use Rattle.issuer_view.specs.Words.{Frame, Rows}
+use Rattle.stm_core_laws.specs.Words.{Call, Play, PlayStep, State, opening_play}
+use Rattle.stm_journal_text.specs.Words.{Answers, EntryStep, IsFirstUnlogged, IsPlayed}
+use Rattle.stm_journal_text.specs.Words.{IsUnloggedEvent, Plays, enters, stands}
+use Rattle.stm_core_laws.specs.declared.core_fault.CoreFault.{CoreFault}
+use Rattle.stm_core_laws.specs.declared.limits.Limits.{Limits}
+use Rattle.stm_journal_text.specs.declared.core_answer.CoreAnswer.{CoreAnswer}
 use Rattle.stm_journal_text.specs.declared.entry.Entry.{Entry}
 use Rattle.stm_journal_text.specs.declared.event.Event.{Event}
 use Rattle.stm_journal_text.specs.declared.event.Event.TheVariants.{Claim, Read, Block, Finish, BeginValidation, ValidateOne, EndValidation, Commit}
 use Rattle.stm_scheduler.specs.declared.task.Task.TheVariants.{Execute, Validate, Idle, Done}
 use Rattle.stm_core_laws.proofs.Reached.{IsOfSame, same-Step, bounded_again}
-use Rattle.stm_core_laws.specs.Play.{Play, PlayStep, opening_play}
 use Rattle.stm_core_laws.specs.Run as call
-use Rattle.stm_core_laws.specs.Run.{Call}
-use Rattle.stm_core_laws.specs.State.{State}
-use Rattle.stm_core_laws.specs.declared.core_fault.CoreFault.{CoreFault}
 use Rattle.stm_core_laws.specs.declared.core_fault.CoreFault.TheVariants.{NotRunning, OtherReads, Outdated, OutOfMemory, Exhausted}
-use Rattle.stm_core_laws.specs.declared.limits.Limits.{Limits}
-use Rattle.stm_journal_text.specs.Answers.{Answers, stands, enters}
-use Rattle.stm_journal_text.specs.Logged.{IsUnloggedEvent, IsFirstUnlogged}
-use Rattle.stm_journal_text.specs.Plays.{EntryStep, Plays, IsPlayed}
-use Rattle.stm_journal_text.specs.declared.core_answer.CoreAnswer.{CoreAnswer}
 use Rattle.stm_journal_text.specs.declared.core_answer.CoreAnswer.TheVariants.{Claimed, Got, Blocked, Finished, Validating, Ended, Committed, Refused}
 use Rattle.stm_journal_text.proofs.OneCall.{same_still}
 
@@ -73,16 +69,8 @@ IsPlayed-push old entries seat event answer new played a good =
 -- what is entered stands
 pub stands_where_entered : (answer : CoreAnswer) → enters answer ≡ true → stands answer ≡ true
 stands_where_entered (Claimed Idle) e = absurd (cc e)
-stands_where_entered (Claimed (Execute v)) e = refl
-stands_where_entered (Claimed (Validate v)) e = refl
-stands_where_entered (Claimed Done) e = refl
-stands_where_entered (Got got) e = refl
-stands_where_entered Blocked e = refl
-stands_where_entered (Finished handed) e = refl
-stands_where_entered (Validating ended) e = refl
-stands_where_entered (Ended passed) e = refl
-stands_where_entered (Committed done) e = refl
 stands_where_entered (Refused fault) e = e
+stands_where_entered answer e = refl
 
 -- a claim that nothing is handed out for changes nothing
 idle_same : (old new : Play) → PlayStep old (call.Claim Idle) new → new ≡ old
@@ -91,32 +79,12 @@ idle_same old new step = same_still old new step.0.1 (ap (λ (s : _). s.executio
 -- what is not entered changes nothing
 pub same_where_not_entered : (old : Play) (seat : ℕ) (event : Event) (answer : CoreAnswer) (new : Play) → Answers old seat event answer new → enters answer ≡ false → new ≡ old
 same_where_not_entered old seat Claim (Claimed Idle) new a e = idle_same old new a
-same_where_not_entered old seat Claim (Claimed (Execute v)) new a e = absurd (cc e)
-same_where_not_entered old seat Claim (Claimed (Validate v)) new a e = absurd (cc e)
-same_where_not_entered old seat Claim (Claimed Done) new a e = absurd (cc e)
-same_where_not_entered old seat (Read v row) (Got got) new a e = absurd (cc e)
-same_where_not_entered old seat (Block v on) Blocked new a e = absurd (cc e)
-same_where_not_entered old seat (Finish v) (Finished handed) new a e = absurd (cc e)
-same_where_not_entered old seat (BeginValidation v) (Validating ended) new a e = absurd (cc e)
-same_where_not_entered old seat ValidateOne (Validating ended) new a e = absurd (cc e)
-same_where_not_entered old seat EndValidation (Ended passed) new a e = absurd (cc e)
-same_where_not_entered old seat Commit (Committed done) new a e = absurd (cc e)
-same_where_not_entered old seat event (Refused NotRunning) new a e = absurd (cc e)
-same_where_not_entered old seat event (Refused Outdated) new a e = absurd (cc e)
-same_where_not_entered old seat event (Refused Exhausted) new a e = absurd (cc e)
 same_where_not_entered old seat (Read v row) (Refused OutOfMemory) new a e = same_still old new a.0.2 a.1
-same_where_not_entered old seat (Read v row) (Refused OtherReads) new a e = absurd a.0
-same_where_not_entered old seat (Block v on) (Refused OutOfMemory) new a e = absurd a.0
-same_where_not_entered old seat (Block v on) (Refused OtherReads) new a e = absurd a.0
 same_where_not_entered old seat (Finish v) (Refused OutOfMemory) new a e = same_still old new a.1.0.1.3 a.1.1
 same_where_not_entered old seat (Finish v) (Refused OtherReads) new a e = same_still old new a.1.0.1.2 a.1.1
-same_where_not_entered old seat (BeginValidation v) (Refused OutOfMemory) new a e = absurd a.0.1
-same_where_not_entered old seat (BeginValidation v) (Refused OtherReads) new a e = absurd a.0.1
-same_where_not_entered old seat ValidateOne (Refused OutOfMemory) new a e = absurd a.0.1
-same_where_not_entered old seat ValidateOne (Refused OtherReads) new a e = absurd a.0.1
-same_where_not_entered old seat EndValidation (Refused OutOfMemory) new a e = absurd a.0.1
-same_where_not_entered old seat EndValidation (Refused OtherReads) new a e = absurd a.0.1
-same_where_not_entered old seat event answer new a e = absurd a
+same_where_not_entered old seat event (Refused NotRunning) new a e = absurd (cc e)
+-- any other is entered, or no answer
+same_where_not_entered old seat event answer new a e = absurd (first_of (cc, assumption))
 
 -- a step keeps the bodies
 pub EntryStep-frames : (old : Play) (entry : Entry) (new : Play) → EntryStep old entry new → new.state.frames ≡ old.state.frames

@@ -7,9 +7,8 @@ use Rattle.stm_journal_text.specs.declared.event.Event.TheVariants.{Claim, Read,
 use Rattle.stm_memory.specs.declared.version.Version.{Version}
 use Rattle.stm_scheduler.specs.Board.{IsRunning}
 use Rattle.stm_scheduler.specs.declared.task.Task.TheVariants.{Idle}
-use Rattle.stm_core_laws.specs.Play.{Play, PlayStep}
+use Rattle.stm_core_laws.specs.Words.{IsGotOfKind, Play, PlayStep}
 use Rattle.stm_core_laws.specs.Run as call
-use Rattle.stm_core_laws.specs.Step.{IsGotOfKind}
 use Rattle.stm_core_laws.specs.declared.core_fault.CoreFault.TheVariants.{NotRunning, OtherReads, OutOfMemory}
 use Rattle.stm_journal_text.specs.declared.core_answer.CoreAnswer.{CoreAnswer}
 use Rattle.stm_journal_text.specs.declared.core_answer.CoreAnswer.TheVariants.{Claimed, Got, Blocked, Finished, Validating, Ended, Committed, Refused}

@@ -5,3 +5,4 @@ pub mod Marks
 pub mod Plays
 pub mod ReplayFault
 pub mod Texts
+pub mod Words

@@ -3,20 +3,14 @@ use Rattle.std.specs.Prelude.{◌≡◌, ◌≢◌, ℕ, ◌+◌, List, [], ◌�
 use Rattle.std.specs.FinMap as finite
 use Rattle.std.specs.List.{AllByRecursion}
 use Rattle.std.specs.Option.{option_flatten}
-use Rattle.issuer_rows.specs.Decision.{decision}
-use Rattle.issuer_rows.specs.Fold.{Rows}
-use Rattle.issuer_rows.specs.Plan.{Lookup}
-use Rattle.issuer_rows.specs.declared.frame.Frame.{Frame}
-use Rattle.issuer_rows.specs.declared.row_key.RowKey.{RowKey}
+use Rattle.issuer_view.specs.Words.{Frame, Lookup, RowKey, Rows, decision}
+use Rattle.stm_core_laws.specs.Words.{IsAt, Log, Play, State, logged_in, slot}
+use Rattle.stm_core_laws.specs.declared.limits.Limits.{Limits}
 use Rattle.stm_memory.specs.declared.version.Version.{Version}
 use Rattle.stm_journal_text.specs.declared.entry.Entry.{Entry}
 use Rattle.stm_journal_text.specs.declared.event.Event.{Event}
 use Rattle.stm_journal_text.specs.declared.event.Event.TheVariants.{Finish}
 use Rattle.stm_scheduler.specs.Board.{IsRunning}
-use Rattle.stm_core_laws.specs.Log.{logged_in}
-use Rattle.stm_core_laws.specs.Play.{Play}
-use Rattle.stm_core_laws.specs.State.{State, Log, slot, IsAt}
-use Rattle.stm_core_laws.specs.declared.limits.Limits.{Limits}
 use Rattle.stm_journal_text.specs.Plays.{Plays}
 
 -- the rows that were logged; any other is absent

@@ -1,10 +1,8 @@
 ghost use Rattle.std.specs.Prelude.{◌≡◌, ℕ, List};
-ghost use Rattle.issuer_rows.specs.Fold.{Rows};
-ghost use Rattle.issuer_rows.specs.declared.frame.Frame.{Frame};
-ghost use Rattle.stm_journal_text.specs.declared.entry.Entry.{Entry};
-ghost use Rattle.stm_core_laws.specs.Play.{Play, opening_play};
-ghost use Rattle.stm_core_laws.specs.Run.{IsReached};
+ghost use Rattle.issuer_view.specs.Words.{Frame, Rows};
+ghost use Rattle.stm_core_laws.specs.Words.{IsReached, Play, opening_play};
 ghost use Rattle.stm_core_laws.specs.declared.limits.Limits.{Limits};
+ghost use Rattle.stm_journal_text.specs.declared.entry.Entry.{Entry};
 ghost use Rattle.stm_journal_text.specs.Logged.{IsFirstUnlogged};
 ghost use Rattle.stm_journal_text.specs.Plays.{Plays};
 

@@ -6,8 +6,7 @@ use Rattle.smallvec.proofs.SmallVecLemmas.{items-with_items}
 use Rattle.std.proofs.lemmas.List.Edits.{length-insert, get_or-insert_below, get_or-insert_at, get_or-insert_above, length-remove, get_or-remove_below, get_or-remove_above}
 use Rattle.std.specs.Bool.{Decides}
 use Rattle.std.specs.List.{insert, refill, remove}
-use Rattle.stm_memory.specs.Chains.{found, held_of, AreInOrder, StandsAt, FitsAt}
-use Rattle.stm_memory.specs.Entries.{Held, estimate_of}
+use Rattle.stm_memory.specs.Words.{AreInOrder, FitsAt, Held, StandsAt, estimate_of, found, held_of}
 use Rattle.stm_memory.specs.declared.link.Link.{Link}
 
 pub same_decides : (a b : ℕ) → Decides (a == b) (a ≡ b)

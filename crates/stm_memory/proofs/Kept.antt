@@ -3,12 +3,9 @@ use Rattle.std.proofs.Common.{◌≡◌, ◌≢◌, ℕ, zero, suc, ◌<◌, ◌
 use Rattle.std.proofs.lemmas.Bool.{cases_eq}
 use Rattle.std.proofs.lemmas.Option.{none-some, same_Some}
 use Rattle.std.specs.List.{IsDistinct}
-use Rattle.issuer_rows.specs.RowKey.{key_eq}
-use Rattle.issuer_rows.specs.declared.row_key.RowKey.{RowKey}
-use Rattle.issuer_view.specs.RowSets.{value_in, IsOnceEach}
+use Rattle.issuer_view.specs.Words.{IsOnceEach, RowKey, key_eq, value_in}
+use Rattle.stm_memory.specs.Words.{Chain, Chains, Held, room_in, room_of, row_at, rows_of, stands}
 use Rattle.stm_memory.proofs.Loops.{same_length, same_row}
-use Rattle.stm_memory.specs.Chains.{Chain, Chains, stands, rows_of, row_at, room_in, room_of}
-use Rattle.stm_memory.specs.Entries.{Held}
 use Rattle.stm_memory.specs.Memory.{WrittenRows, AreListed, AreKept, HasRoomOf, list_at}
 
 -- of an index whose entries stay where they were, the list stays right

@@ -5,21 +5,15 @@ use Rattle.std.proofs.lemmas.Option.{none-some, same_Some, slice_get_within}
 use Rattle.std.specs.FinMap as finite
 use Rattle.std.specs.Ordering.{eq_by_cmp}
 use Rattle.issuer_rows.proofs.KeyLaws.{key_cmp_total}
-use Rattle.issuer_rows.specs.Fold.{Rows}
-use Rattle.issuer_rows.specs.RowKey.{key_cmp}
-use Rattle.issuer_rows.specs.declared.row_key.RowKey.{RowKey}
-use Rattle.issuer_rows.specs.declared.row_val.RowVal.{RowVal}
-use Rattle.issuer_view.specs.RowSets.{value_in, IsOnceEach}
+use Rattle.issuer_view.specs.Words.{IsOnceEach, RowKey, RowVal, Rows, key_cmp, value_in}
+use Rattle.stm_memory.specs.Words.{Chain, Chains, Entries, IsLaidOver, Resolves, found, held}
+use Rattle.stm_memory.specs.Words.{links_in, placed, row_at, row_under, stands}
+use Rattle.stm_memory.specs.declared.seen.Seen.{Seen}
+use Rattle.stm_memory.specs.declared.version.Version.{Version}
 use Rattle.stm_memory.proofs.ListLaws.{standing, same_tied, other_tied}
 use Rattle.stm_memory.proofs.Placed.{held_placed}
-use Rattle.stm_memory.proofs.RowLaws.{rows_cases}
+use Rattle.stm_memory.proofs.RowLaws.{row_here, rows_cases}
 use Rattle.stm_memory.proofs.SeenLaws.{same_under, seen_alike}
-use Rattle.stm_memory.specs.Chains.{Chain, Chains, found, links_in, row_at, stands}
-use Rattle.stm_memory.specs.Entries.{Entries, held}
-use Rattle.stm_memory.specs.Memory.{placed}
-use Rattle.stm_memory.specs.Resolves.{Resolves, IsLaidOver, row_under}
-use Rattle.stm_memory.specs.declared.version.Version.{Version}
-use Rattle.stm_memory.specs.declared.seen.Seen.{Seen}
 use Rattle.stm_memory.specs.declared.seen.Seen.TheVariants.{Base, Value, Estimate}
 
 -- the row is as it was, or the value that is seen of it
@@ -74,11 +68,6 @@ nothing_seen chains r index Base was none is = refl
 nothing_seen chains r index (Value version value) was none is = absurd (none-some _ (sym (ap (λ (o : Option Chain). found (links_in o) version.index) none) ∙ is.1))
 nothing_seen chains r index (Estimate at) was none is = refl
 
-rows_there : (es : Chains) (k : ℕ) (e : RowKey × Chain) → slice_get es k ≡ Some e → row_at es k ≡ Some e.0
-rows_there [] k e at = absurd (none-some e at)
-rows_there (x ∷ es) zero e at = ap Some (ap (λ (y : RowKey × Chain). y.0) (same_Some x e at))
-rows_there (x ∷ es) (suc k) e at = rows_there es k e at
-
 -- all rows are done
 pub laid_all : (chains : Chains) (index : ℕ) (book laid : Rows) (number : ℕ) → Laying chains index book laid number → length chains ≤ number → IsLaidOver (stands chains) index book laid
 laid_all chains index book laid number so_far all row seen is =
@@ -88,7 +77,7 @@ laid_all chains index book laid number so_far all row seen is =
         | None ↦ λ none. kept ∙ sym (nothing_seen chains row index seen (finite.get book row) none is)
         | Some chain ↦ λ some.
             let there = standing chains row chain some in
-            so_far.done there.0 row (let l = slice_get_within chains there.0 (row, chain) there.1 in omega arith) (rows_there chains there.0 (row, chain) there.1) seen is
+            so_far.done there.0 row (let l = slice_get_within chains there.0 (row, chain) there.1 in omega arith) (row_here chains there.0 (row, chain) there.1) seen is
       ] refl
     ]
 

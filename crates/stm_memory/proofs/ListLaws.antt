@@ -7,11 +7,8 @@ use Rattle.std.specs.FinMap as finite
 use Rattle.std.specs.List.{IsDistinct, remove}
 use Rattle.std.specs.Ordering.{eq_by_cmp, is_eq}
 use Rattle.issuer_rows.proofs.KeyLaws.{key_eq_decides, key_cmp_total, key_cmp_antisymmetric}
-use Rattle.issuer_rows.specs.Fold.{Rows, overlay}
-use Rattle.issuer_rows.specs.RowKey.{key_cmp, key_eq}
-use Rattle.issuer_rows.specs.declared.row_key.RowKey.{RowKey}
-use Rattle.issuer_rows.specs.declared.row_val.RowVal.{RowVal}
-use Rattle.issuer_view.specs.RowSets.{value_in, IsOnceEach}
+use Rattle.issuer_view.specs.Words.{IsOnceEach, RowKey, RowVal, Rows, key_cmp, key_eq, overlay}
+use Rattle.issuer_view.specs.Words.{value_in}
 use Rattle.stm_memory.specs.Entries.{written}
 use Rattle.stm_memory.proofs.RowLaws.{rows_cases, all_at, key_other}
 
@@ -69,7 +66,7 @@ first_of (Some x) other = Some x
 pub same_tied : (a b : RowKey) → a ≡ b → eq_by_cmp key_cmp a b ≡ true
 same_tied a b e = ap (λ (k : RowKey). eq_by_cmp key_cmp k b) e ∙ ap is_eq (tied_itself key_cmp_total b)
 
-tied : (o : Ordering) → is_eq o ≡ true → o ≡ Equal
+pub tied : (o : Ordering) → is_eq o ≡ true → o ≡ Equal
 tied Less e = absurd (false≢true e)
 tied Equal e = refl
 tied Greater e = absurd (false≢true e)

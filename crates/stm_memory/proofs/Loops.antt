@@ -4,14 +4,11 @@ use Rattle.std.proofs.lemmas.Bool.{cases_lt, false≢true}
 use Rattle.std.proofs.lemmas.List.{length-map}
 use Rattle.std.proofs.lemmas.Option.{none-some, same_Some, slice_get_within}
 use Rattle.std.specs.List.{remove}
-use Rattle.issuer_rows.specs.declared.row_key.RowKey.{RowKey}
-use Rattle.issuer_rows.specs.declared.row_val.RowVal.{RowVal}
-use Rattle.issuer_view.specs.RowSets.{value_in, IsOnceEach}
+use Rattle.issuer_view.specs.Words.{IsOnceEach, RowKey, RowVal, value_in}
+use Rattle.stm_memory.specs.Words.{AreListed, Chains, Held, IsChangedAt, estimate_of, room_of}
+use Rattle.stm_memory.specs.Words.{row_at, rows_of, stands, value_at}
 use Rattle.stm_memory.proofs.ListLaws.{apart, valued, before_removed, was_there, still_there, pushed_before, pushed_last, pushed_cases}
 use Rattle.stm_memory.proofs.RowLaws.{rows_cases}
-use Rattle.stm_memory.specs.Chains.{Chains, stands, rows_of, row_at, room_of, IsChangedAt}
-use Rattle.stm_memory.specs.Entries.{Held, estimate_of, value_at}
-use Rattle.stm_memory.specs.Memory.{AreListed}
 
 -- as many rows have chains as before
 pub same_length : (old new : Chains) → rows_of new ≡ rows_of old → length new ≡ length old
@@ -137,17 +134,6 @@ taken_out old now new was list index place n written row so_far at is unwritten 
   kept = λ r some. changed.1 r index (inl (λ e. unwritten (subst (λ (x : RowKey). IsSome (written x)) e some))) ∙ so_far.kept r some;
   done = λ k m r l there named. so_far.done k m r l (sym (before_removed list place k l) ∙ there) (sym (ap (λ (rs : List RowKey). slice_get rs m) rows) ∙ named);
 }
-
--- at the end of the list no row that isn't written has an entry of the index
-pub taken_out_all : (old now : Chains) (was list : List ℕ) (index place : ℕ) (written : RowKey → Option RowVal) → TakingOut old now was list index place written → length list ≤ place → (r : RowKey) → written r ≡ None → stands now r index ≡ None
-taken_out_all old now was list index place written so_far all r none =
-    elim (option_cases (stands now r index)) [
-      | inl empty ↦ empty
-      | inr some ↦
-          let there = so_far.listed.entries r some.0 some.1 in
-          let is = some_of (written r) (so_far.done there.0 there.1 r (let l = slice_get_within list there.0 there.1 there.2 in omega arith) there.2 there.3) in
-          absurd (none-some is.0 (sym none ∙ is.1))
-    ]
 
 -- ---- rows that are written
 

@@ -5,9 +5,7 @@ use Rattle.std.specs.List.{position_or_len}
 use Rattle.indexmap.proofs.CallerLemmas.{insert_entry-new}
 use Rattle.indexmap.specs.IndexMap.{IndexMap, insert_index}
 use Rattle.issuer_rows.proofs.KeyLaws.{key_eq_decides}
-use Rattle.issuer_rows.specs.RowKey.{key_eq}
-use Rattle.issuer_rows.specs.declared.row_key.RowKey.{RowKey}
-use Rattle.issuer_view.specs.RowSets.{value_in, IsOnceEach}
+use Rattle.issuer_view.specs.Words.{IsOnceEach, RowKey, key_eq, value_in}
 use Rattle.stm_memory.proofs.RowLaws.{row_at-append}
 use Rattle.stm_memory.specs.Chains.{Chain, Chains, found, links_in, room_in, stands, room_of, rows_of, row_at, AreSound, IsMade}
 use Rattle.stm_memory.specs.declared.link.Link.{Link}

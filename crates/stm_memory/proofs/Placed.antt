@@ -8,16 +8,15 @@ use Rattle.std.specs.FinMap as finite
 use Rattle.std.specs.List.{IsDistinct}
 use Rattle.std.specs.Ordering.{nat_cmp, ordering_then, is_eq, eq_by_cmp, match_ordering}
 use Rattle.issuer_rows.proofs.KeyLaws.{key_cmp_total, key_cmp_antisymmetric, key_eq_decides}
-use Rattle.issuer_rows.specs.RowKey.{key_cmp, key_eq}
-use Rattle.issuer_rows.specs.declared.row_key.RowKey.{RowKey}
-use Rattle.issuer_view.specs.RowSets.{value_in, IsOnceEach}
-use Rattle.stm_memory.proofs.ChainLaws.{found_none}
-use Rattle.stm_memory.proofs.RowLaws.{rows_cases, key_other}
-use Rattle.stm_memory.specs.Chains.{Chain, Chains, found, held_of, links_in, stands, AreInOrder}
-use Rattle.stm_memory.specs.Entries.{Held, Place, place_cmp, place_of, held}
-use Rattle.stm_memory.specs.Memory.{placed, placed_links}
+use Rattle.issuer_view.specs.Words.{IsOnceEach, RowKey, key_cmp, key_eq, value_in}
+use Rattle.stm_memory.specs.Chains.{AreInOrder, Chain, Chains, found, held_of, links_in, stands}
 use Rattle.stm_memory.specs.Resolves.{row_count}
 use Rattle.stm_memory.specs.declared.link.Link.{Link}
+use Rattle.stm_memory.proofs.ChainLaws.{found_none}
+use Rattle.stm_memory.proofs.ListLaws.{tied}
+use Rattle.stm_memory.proofs.RowLaws.{rest_once, rows_cases, key_other}
+use Rattle.stm_memory.specs.Entries.{Held, Place, place_cmp, place_of, held}
+use Rattle.stm_memory.specs.Memory.{placed, placed_links}
 
 pub place_cmp_total : IsTotalOrder place_cmp
 place_cmp_total = then_total (on_total (λ p. p.row) key_cmp_total) (on_total (λ p. p.index) nat_cmp_total)
@@ -34,11 +33,6 @@ place_cmp_antisymmetric a b e =
     let rows = key_cmp_antisymmetric a.row b.row parts.0 in
     let indexes = finite.nat_cmp-IsAntisymmetric a.index b.index parts.1 in
     λ i. record { row = rows i; index = indexes i }
-
-tied : (o : Ordering) → is_eq o ≡ true → o ≡ Equal
-tied Less e = absurd (false≢true e)
-tied Equal e = refl
-tied Greater e = absurd (false≢true e)
 
 -- two places tie where they are one
 ties_itself : (p : Place) → eq_by_cmp place_cmp p p ≡ true
@@ -82,10 +76,6 @@ find_other row other (link ∷ links) i ne =
 -- a row that comes first comes no more
 none_after : (c : RowKey × Chain) (cs : Chains) (row : RowKey) → IsOnceEach (c ∷ cs) → row ≡ c.0 → value_in cs row ≡ None
 none_after c cs row once same = Rattle.stm_memory.proofs.ListLaws.none_later c cs row once same
-
-rest_once : (c : RowKey × Chain) (cs : Chains) → IsOnceEach (c ∷ cs) → IsOnceEach cs
-unfolding IsDistinct
-rest_once c cs once = once.1
 
 met : (c : RowKey × Chain) (cs : Chains) (row : RowKey) → row ≡ c.0 → value_in (c ∷ cs) row ≡ Some c.1
 met c cs row same = ap (λ (b : Bool). cond b (Some c.1) (value_in cs row)) ((key_eq_decides row c.0).1 same)

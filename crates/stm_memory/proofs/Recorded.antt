@@ -1,18 +1,14 @@
 -- What a version wrote stands in place of its index's entries.
 use Rattle.std.proofs.Common.{◌≡◌, ◌≢◌, ◌↔◌, ◌⊎◌, ℕ, Bool, Some, None, IsSome, IsTrue, option_map, refl, sym, ap, ◌∙◌, inl, inr}
 use Rattle.std.specs.FinMap as finite
-use Rattle.issuer_rows.specs.Plan.{Writes}
-use Rattle.issuer_rows.specs.declared.row_key.RowKey.{RowKey}
-use Rattle.issuer_rows.specs.declared.row_val.RowVal.{RowVal}
-use Rattle.issuer_view.specs.RowSets.{value_in, IsOnceEach}
+use Rattle.issuer_view.specs.Words.{IsOnceEach, RowKey, RowVal, Writes, value_in}
+use Rattle.stm_memory.specs.Words.{AreEstimated, AreReplaced, Chains, Entries, IsNewLocation}
+use Rattle.stm_memory.specs.Words.{estimate_of, held, placed, rows_of, stands, value_at}
+use Rattle.stm_memory.specs.declared.version.Version.{Version}
 use Rattle.stm_memory.proofs.Kept.{once_still}
 use Rattle.stm_memory.proofs.ListLaws.{written_is}
 use Rattle.stm_memory.proofs.Loops.{some_of, is_some_of}
 use Rattle.stm_memory.proofs.Placed.{held_placed}
-use Rattle.stm_memory.specs.Chains.{Chains, stands, rows_of}
-use Rattle.stm_memory.specs.Entries.{Entries, held, value_at, estimate_of, AreReplaced, AreEstimated, IsNewLocation}
-use Rattle.stm_memory.specs.Memory.{placed}
-use Rattle.stm_memory.specs.declared.version.Version.{Version}
 
 -- what the two steps of recording do to the chains: rows that aren't written lose their entry, and then the written ones get theirs
 pub record Steps (old mid new : Chains) (version : Version) (writes : Writes) : Type 0 where

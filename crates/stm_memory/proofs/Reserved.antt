@@ -1,13 +1,10 @@
 -- Room is made beside the entries, and no entry changes.
 use Rattle.std.proofs.Common.{◌≡◌, ℕ, ◌<◌, ◌≤◌, List, length, IsSome, Result, Ok, Err, OnOk, sym, ◌∙◌}
 use Rattle.std.specs.FinMap as finite
-use Rattle.issuer_rows.specs.Plan.{Writes}
-use Rattle.issuer_rows.specs.declared.row_key.RowKey.{RowKey}
-use Rattle.issuer_view.specs.RowSets.{value_in, IsOnceEach}
+use Rattle.issuer_view.specs.Words.{IsOnceEach, RowKey, Writes, value_in}
+use Rattle.stm_memory.specs.Words.{Chains, Entries, room_of, stands}
 use Rattle.stm_memory.proofs.Kept.{told_list, told_room}
 use Rattle.stm_memory.proofs.Placed.{held_placed, place_cmp_total, place_cmp_antisymmetric}
-use Rattle.stm_memory.specs.Chains.{Chains, stands, room_of}
-use Rattle.stm_memory.specs.Entries.{Entries}
 use Rattle.stm_memory.specs.Memory.{WrittenRows, HasRoom, list_at, memory_of, placed}
 
 -- where the same stands, the entries are the same

@@ -6,16 +6,13 @@ use Rattle.std.proofs.lemmas.Option.{slice_get-get_or, none-some, same_Some}
 use Rattle.std.specs.List.{AllByRecursion, IsDistinct}
 use Rattle.indexmap.specs.IndexMap.{set_value_at}
 use Rattle.issuer_rows.proofs.KeyLaws.{key_eq_decides}
-use Rattle.issuer_rows.specs.RowKey.{key_eq}
-use Rattle.issuer_rows.specs.RowVal.{IsOfKind}
-use Rattle.issuer_rows.specs.declared.row_key.RowKey.{RowKey}
-use Rattle.issuer_view.specs.RowSets.{value_in, IsOnceEach}
-use Rattle.stm_memory.specs.Chains.{Chain, Chains, found, links_in, room_in, stands, room_of, rows_of, row_at, AreSound, IsChangedAt}
+use Rattle.issuer_view.specs.Words.{IsOfKind, IsOnceEach, RowKey, key_eq, value_in}
+use Rattle.stm_memory.specs.Chains.{AreSound, Chain, Chains, IsChangedAt, found, links_in, room_in, room_of, row_at, rows_of, stands}
 use Rattle.stm_memory.specs.Entries.{Held, value_at}
-use Rattle.stm_memory.specs.Resolves.{Resolves, IsSeenOfKind}
+use Rattle.stm_memory.specs.Resolves.{IsSeenOfKind, Resolves}
+use Rattle.stm_memory.specs.declared.link.Link.{Link}
 use Rattle.stm_memory.specs.declared.seen.Seen.{Seen}
 use Rattle.stm_memory.specs.declared.seen.Seen.TheVariants.{Base, Value, Estimate}
-use Rattle.stm_memory.specs.declared.link.Link.{Link}
 
 no_value : {X : Type 0} (o : Option X) → false ≡ is_some o → o ≡ None
 no_value None e = refl
@@ -46,7 +43,7 @@ later_other : (e : RowKey × Chain) (es : Chains) (n : ℕ) (row : RowKey) → I
 unfolding IsDistinct
 later_other e es n row once at same = false≢true (sym (all_at (λ k. key_eq e.0 k ≡ false) (rows_of es) n row once.0 at) ∙ (key_eq_decides e.0 row).1 (sym same))
 
-rest_once : (e : RowKey × Chain) (es : Chains) → IsOnceEach (e ∷ es) → IsOnceEach es
+pub rest_once : (e : RowKey × Chain) (es : Chains) → IsOnceEach (e ∷ es) → IsOnceEach es
 unfolding IsDistinct
 rest_once e es once = once.1
 

@@ -3,11 +3,10 @@ use Rattle.std.proofs.Common.{◌≡◌, ℕ, ◌<◌, Option, Some, None, refl,
 use Rattle.std.proofs.lemmas.Bool.{cases_lt, cases_eq}
 use Rattle.std.proofs.lemmas.Option.{none-some, same_Some}
 use Rattle.issuer_rows.specs.declared.row_val.RowVal.{RowVal}
-use Rattle.stm_memory.specs.Entries.{Held, value_at}
-use Rattle.stm_memory.specs.Chains.{held_of, seen_by, seen_of}
-use Rattle.stm_memory.specs.Resolves.{AreNoneBetween, IsNearestBelow, row_under}
+use Rattle.stm_memory.specs.Words.{Held, held_of, seen_by, seen_of, value_at}
 use Rattle.stm_memory.specs.declared.link.Link.{Link}
 use Rattle.stm_memory.specs.declared.seen.Seen.{Seen}
+use Rattle.stm_memory.specs.Resolves.{AreNoneBetween, IsNearestBelow, row_under}
 use Rattle.stm_memory.specs.declared.seen.Seen.TheVariants.{Base, Value, Estimate}
 
 pub seen_alike : (column other : ℕ → Option Held) (index : ℕ) (seen : Seen) → ((i : ℕ) → column i ≡ other i) → IsNearestBelow column index seen → IsNearestBelow other index seen

@@ -2,3 +2,4 @@ pub mod Chains
 pub mod Entries
 pub mod Memory
 pub mod Resolves
+pub mod Words

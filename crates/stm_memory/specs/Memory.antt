@@ -2,10 +2,7 @@
 use Rattle.std.specs.Prelude.{◌≡◌, ℕ, ◌<◌, ◌≤◌, List, [], ◌∷◌, ◌++◌, length, map, slice_get, slice_index_or, Option, Some, IsSome, refl}
 use Rattle.std.specs.Coded.{Coded, code_by, coded×, coded_list, coded_ℕ, coded_option}
 use Rattle.std.specs.FinMap as finite
-use Rattle.issuer_rows.specs.Plan.{Writes}
-use Rattle.issuer_rows.specs.declared.row_key.RowKey.{RowKey}
-use Rattle.issuer_rows.specs.declared.row_val.RowVal.{RowVal}
-use Rattle.issuer_view.specs.RowSets.{value_in, IsOnceEach}
+use Rattle.issuer_view.specs.Words.{IsOnceEach, RowKey, RowVal, Writes, value_in}
 use Rattle.stm_memory.specs.Chains.{Chains, held_of, row_at, stands}
 use Rattle.stm_memory.specs.Entries.{Entries, Held, Place, place_of}
 use Rattle.stm_memory.specs.declared.link.Link.{Link}

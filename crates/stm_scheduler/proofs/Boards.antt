@@ -6,12 +6,12 @@ use Rattle.std.proofs.Math.ListN.{length-replicate}
 use Rattle.stm_scheduler.proofs.Lists.{at, at-woken, lists_changed}
 use Rattle.stm_memory.specs.declared.version.Version.{Version}
 use Rattle.stm_scheduler.proofs.Choices.{Chooses-allowed}
+use Rattle.stm_scheduler.specs.Board.{Board, IsReady, floor, fresh_mark, mark, woken, woken_status}
+use Rattle.stm_scheduler.specs.Cursors.{Chooses, IsLoweredToWaiting, Schedule, open_schedule}
+use Rattle.stm_scheduler.specs.Sound.{AreWaitLists, IsHighest, IsSound}
+use Rattle.stm_scheduler.specs.declared.message_progress.MessageProgress.{MessageProgress}
 use Rattle.stm_scheduler.specs.declared.task.Task.{Task}
 use Rattle.stm_scheduler.specs.declared.task.Task.TheVariants as task
-use Rattle.stm_scheduler.specs.Board.{Board, IsReady, mark, fresh_mark, floor, woken, woken_status}
-use Rattle.stm_scheduler.specs.Cursors.{Schedule, Chooses, IsLoweredToWaiting, open_schedule}
-use Rattle.stm_scheduler.specs.Sound.{IsSound, IsHighest, AreWaitLists}
-use Rattle.stm_scheduler.specs.declared.message_progress.MessageProgress.{MessageProgress}
 use Rattle.stm_scheduler.specs.declared.status.Status.TheVariants as status
 
 running_executed : status.Running ≡ status.Executed → ⊥
@@ -60,14 +60,6 @@ sound_with s firsts nexts heads links marks floors epoch execution validation h 
 -- committed messages stay executed where one that isn't committed changes
 pub settled_set : (s : Schedule) (firsts nexts : List (Option ℕ)) (i : ℕ) (m : MessageProgress) → IsSound s firsts nexts → s.board.committed ≤ i → (j : ℕ) → j < s.board.committed → (at (set s.board.marks i m) j).status ≡ status.Executed
 settled_set s firsts nexts i m h past j l = ap (λ (n : MessageProgress). n.status) (get_or-set_other s.board.marks i j m fresh_mark (λ e. omega arith)) ∙ h.settled j l
-
--- or one that stays executed
-pub settled_executed : (s : Schedule) (firsts nexts : List (Option ℕ)) (i : ℕ) (m : MessageProgress) → IsSound s firsts nexts → i < length s.board.marks → m.status ≡ status.Executed → (j : ℕ) → j < s.board.committed → (at (set s.board.marks i m) j).status ≡ status.Executed
-settled_executed s firsts nexts i m h l executed j k =
-    elim (cases_eq j i) [
-      | inl same ↦ ap (λ (n : ℕ). (at (set s.board.marks i m) n).status) same ∙ ap (λ (n : MessageProgress). n.status) (get_or-set_same s.board.marks i m fresh_mark l) ∙ executed
-      | inr ne ↦ ap (λ (n : MessageProgress). n.status) (get_or-set_other s.board.marks i j m fresh_mark ne) ∙ h.settled j k
-    ]
 
 -- and where those that wait are woken
 pub settled_woken : (marks new : List MessageProgress) (i committed : ℕ) → ((j : ℕ) → j < committed → (at marks j).status ≡ status.Executed) → new ≡ map (woken i) marks → (j : ℕ) → j < committed → (at new j).status ≡ status.Executed

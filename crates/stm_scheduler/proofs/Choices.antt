@@ -1,6 +1,6 @@
 -- The cursors choose one task, and one that a claim may be answered.
 use Rattle.std.proofs.Common.{◌≡◌, ℕ, ◌<◌, ◌≤◌, ◌+◌, ◌⊎◌, inl, inr, length, refl, sym, arith}
-use Rattle.stm_scheduler.specs.Board.{Board, IsReady, IsOpen}
+use Rattle.stm_scheduler.specs.Board.{Board, IsOpen, IsReady}
 use Rattle.stm_scheduler.specs.declared.task.Task.{Task}
 use Rattle.stm_scheduler.specs.declared.task.Task.TheVariants as task
 use Rattle.stm_scheduler.specs.Cursors.{Chooses, Validations, PassesValidation, Executes, PassesExecution, Nothing, IsAllowed, present}

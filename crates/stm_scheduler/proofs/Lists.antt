@@ -7,10 +7,10 @@ use Rattle.std.proofs.lemmas.Option.{none-some, same_Some}
 use Rattle.std.specs.Bool.{Decides}
 use Rattle.std.specs.List.{count_by}
 use Rattle.stm_scheduler.specs.Board.{fresh_mark, woken, woken_status}
-use Rattle.stm_scheduler.specs.Cursors.{IsWaitingFor, IsLoweredToWaiting}
-use Rattle.stm_scheduler.specs.Sound.{IsIn, AreApart, IsListFrom, WaitList, AreWaitLists}
 use Rattle.stm_scheduler.specs.declared.message_progress.MessageProgress.{MessageProgress}
 use Rattle.stm_scheduler.specs.declared.status.Status.{Status}
+use Rattle.stm_scheduler.specs.Cursors.{IsWaitingFor, IsLoweredToWaiting}
+use Rattle.stm_scheduler.specs.Sound.{IsIn, AreApart, IsListFrom, WaitList, AreWaitLists}
 use Rattle.stm_scheduler.specs.declared.status.Status.TheVariants as status
 
 abbrev pub at : List MessageProgress → ℕ → MessageProgress

@@ -1,3 +1,4 @@
 pub mod Board
 pub mod Cursors
 pub mod Sound
+pub mod Words

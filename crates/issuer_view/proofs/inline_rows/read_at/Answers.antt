@@ -1,10 +1,7 @@
 use Rattle.std.proofs.Common.{◌≡◌, ◌+◌, take, set, None, Option, OnOk, IfSome, sym, ap, subst}
 use Rattle.std.specs.FinMap as map
-use Rattle.issuer_rows.specs.Fold.{Rows}
-use Rattle.issuer_rows.specs.RowVal.{IsOfKind}
-use Rattle.issuer_rows.specs.declared.row_val.RowVal.{RowVal}
+use Rattle.issuer_view.specs.Words.{IsOfKind, RowVal, Rows, latest}
 use Rattle.issuer_view.specs.Recording.{answer_of}
-use Rattle.issuer_view.specs.RowSets.{latest}
 use Rattle.issuer_view.proofs.ListLaws.{on_ok}
 use Rattle.issuer_view.proofs.LogLaws.{latest_set}
 use Rattle.issuer_view.proofs.inline_rows.read_at.Goals as goal

@@ -1,10 +1,6 @@
 use Rattle.std.proofs.Common.{◌≡◌, inl, None, Option, Ok, IfSome, sym, ap, subst, ◌∙◌}
 use Rattle.std.specs.FinMap as map
-use Rattle.issuer_rows.specs.Agreement.{Reads}
-use Rattle.issuer_rows.specs.Fold.{Rows}
-use Rattle.issuer_rows.specs.RowVal.{IsOfKind}
-use Rattle.issuer_rows.specs.declared.row_val.RowVal.{RowVal}
-use Rattle.issuer_view.specs.RowSets.{latest, logged}
+use Rattle.issuer_view.specs.Words.{IsOfKind, Reads, RowVal, Rows, latest, logged}
 use Rattle.issuer_view.proofs.LogLaws.{latest_last, logged_last}
 use Rattle.issuer_view.proofs.spilled_rows.ask_map.Goals as goal
 

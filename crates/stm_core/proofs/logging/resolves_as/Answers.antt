@@ -1,7 +1,6 @@
 use Rattle.std.proofs.Common.{None, Some, subst}
 use Rattle.std.proofs.lemmas.Bool.{false≢true}
-use Rattle.stm_memory.specs.Chains.{seen_of}
-use Rattle.stm_memory.specs.Entries.{held}
+use Rattle.stm_memory.specs.Words.{held, seen_of}
 use Rattle.stm_core_laws.specs.Log.{ResolvesAs}
 use Rattle.stm_core.proofs.Resolving.{link_not_base, origin_only}
 use Rattle.stm_core.proofs.logging.resolves_as.Goals as goal

@@ -1,7 +1,6 @@
 use Rattle.std.proofs.Common.{sym, ap, subst}
 use Rattle.stm_core_laws.proofs.Reached.{IsReached-start}
-use Rattle.stm_core_laws.specs.Play.{Play}
-use Rattle.stm_core_laws.specs.Run.{IsReached}
+use Rattle.stm_core_laws.specs.Words.{IsReached, Play}
 use Rattle.stm_journal_text.specs.Logged.{greatest}
 use Rattle.stm_drive.proofs.driving.drive.Goals as goal
 use Rattle.stm_drive.specs.Drives.{IsDriven, empty_hands}

@@ -1,6 +1,5 @@
 use Rattle.std.proofs.Common.{◌≡◌, length, take}
-use Rattle.stm_core_laws.specs.Run.{IsReached}
-use Rattle.stm_core_laws.specs.State.{seats}
+use Rattle.stm_core_laws.specs.Words.{IsReached, seats}
 use Rattle.stm_drive.proofs.Drives.{AreOfMessages}
 use Rattle.stm_drive.proofs.driving.take_turns.Given as goal
 use Rattle.stm_drive.specs.Drives.{IsDriven, empty_hands}

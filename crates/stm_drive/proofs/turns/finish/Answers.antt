@@ -9,4 +9,4 @@ pub returns : goal.returns
 returns c =
     subst (λ (next : Holding). HasTurned c.args.traced.now c.args.seat (holds.Execution c.args.version) next c.finish-answer.new.self) (sym c.then_holds.ensures)
     (finish_turn c.args.traced.now c.finish-answer.new.self c.args.seat c.args.version c.args.execution c.finish-answer.result c.requires.frame c.requires.keys c.requires.agrees c.requires.logged
-    c.finish-answer.ensures.answer c.finish-answer.ensures.entries c.in_ok-had_room.ensures)
+    c.finish-answer.ensures.answer c.finish-answer.ensures.step.entries c.in_ok-had_room.ensures)

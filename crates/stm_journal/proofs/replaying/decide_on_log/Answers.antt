@@ -1,7 +1,6 @@
 use Rattle.std.proofs.Common.{◌≡◌, ◌∙◌, ap, sym, subst}
-use Rattle.issuer_rows.specs.Agreement.{Executed, Agrees, Reads, keys_read}
+use Rattle.issuer_view.specs.Words.{Agrees, AgreesWithBook, Executed, Reads, keys_read}
 use Rattle.stm_core_laws.specs.State.{slot}
-use Rattle.issuer_view.specs.Recording.{AgreesWithBook}
 use Rattle.stm_journal_text.specs.Logged.{log_rows}
 use Rattle.stm_journal_text.proofs.Decided.{agrees_log}
 use Rattle.stm_journal.proofs.replaying.decide_on_log.Goals as goal

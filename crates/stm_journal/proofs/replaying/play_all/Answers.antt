@@ -1,12 +1,11 @@
 use Rattle.std.proofs.Common.{◌≡◌, refl, Result, ◌∙◌, ap, sym, subst, ℕ, ◌+◌, inl, Err, List, length, take, arith}
 use Rattle.std.proofs.Math.Seq.{take-length}
+use Rattle.stm_journal_text.specs.Words.{EntryStep, IsFirstUnlogged, Plays}
 use Rattle.stm_journal_text.specs.declared.entry.Entry.{Entry}
 use Rattle.stm_journal_text.specs.declared.replay_fault.ReplayFault.{ReplayFault}
 use Rattle.stm_journal_text.specs.declared.replay_fault.ReplayFault.TheVariants.{Unlogged}
 use Rattle.stm_journal_text.proofs.First.{all_decided, one_first}
 use Rattle.stm_journal_text.proofs.Playing.{Plays-more, EntryStep-frames, first_unlogged}
-use Rattle.stm_journal_text.specs.Logged.{IsFirstUnlogged}
-use Rattle.stm_journal_text.specs.Plays.{EntryStep, Plays}
 use Rattle.stm_journal.proofs.replaying.play_all.Goals as goal
 
 same_fault : (x : Result (Unit {0}) ReplayFault) (m n : ℕ) → x ≡ Err (Unlogged m) → x ≡ Err (Unlogged n) → m ≡ n

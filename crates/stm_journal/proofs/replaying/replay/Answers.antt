@@ -1,8 +1,7 @@
 use Rattle.std.proofs.Common.{◌≡◌, Result, Err, inl, inr, refl, sym, ap, subst}
+use Rattle.stm_journal_text.specs.Words.{IsFirstUnlogged, Plays}
 use Rattle.stm_journal_text.specs.declared.replay_fault.ReplayFault.{ReplayFault}
 use Rattle.stm_core_laws.specs.Play.{Play}
-use Rattle.stm_journal_text.specs.Logged.{IsFirstUnlogged}
-use Rattle.stm_journal_text.specs.Plays.{Plays}
 use Rattle.stm_journal.proofs.replaying.replay.Goals as goal
 
 same_fault : {X : Type 0} (x : Result X ReplayFault) (a b : ReplayFault) → x ≡ Err a → x ≡ Err b → a ≡ b

@@ -1,6 +1,5 @@
 use Rattle.std.proofs.Common.{subst}
-use Rattle.stm_journal_text.specs.Marks.{Lacks}
-use Rattle.stm_journal_text.specs.Texts.{version_text}
+use Rattle.stm_journal_text.specs.Words.{Lacks, version_text}
 use Rattle.stm_journal_text.proofs.EventTexts.{read_only, behind_version}
 use Rattle.stm_journal_text.proofs.Marks.{not_lacking}
 use Rattle.stm_journal_text.proofs.Anyway.{if_none}

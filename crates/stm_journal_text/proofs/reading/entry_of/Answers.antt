@@ -1,7 +1,6 @@
 use Rattle.std.proofs.Common.{ℕ, ◌<◌, sym, ap, subst, ◌∙◌, arith}
 use Rattle.std.specs.Fmt.{decimal}
-use Rattle.stm_journal_text.specs.Marks.{Lacks}
-use Rattle.stm_journal_text.specs.Texts.{event_text}
+use Rattle.stm_journal_text.specs.Words.{Lacks, event_text}
 use Rattle.stm_journal_text.proofs.Back.{number_back, number_back_is}
 use Rattle.stm_journal_text.proofs.Lines.{entry_parts}
 use Rattle.stm_journal_text.proofs.Marks.{not_lacking}

@@ -2,8 +2,7 @@ use Rattle.std.proofs.Common.{◌+◌, ap, sym, subst, ◌∙◌, inl, arith}
 use Rattle.issuer_rows.specs.Fold.{Rows}
 use Rattle.std.specs.FinMap as map
 use Rattle.stm_memory.proofs.Laid.{Laying, laid_value, laid_nothing, laid_all, no_value}
-use Rattle.stm_memory.specs.Chains.{stands}
-use Rattle.stm_memory.specs.Resolves.{Resolves, row_under}
+use Rattle.stm_memory.specs.Words.{Resolves, row_under, stands}
 use Rattle.stm_memory.proofs.mv_memory.lay_over.Goals as goal
 use Rattle.stm_memory.proofs.mv_memory.lay_over.Goals.{in-Value+in_ok-put_copy, in_default}
 

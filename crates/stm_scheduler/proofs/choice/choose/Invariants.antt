@@ -1,6 +1,5 @@
 use Rattle.std.proofs.Common.{◌≡◌, ◌-◌, ◌≤◌, length, ℕ, ◌+◌}
-use Rattle.stm_scheduler.specs.Board.{Board}
-use Rattle.stm_scheduler.specs.Cursors.{Chooses}
+use Rattle.stm_scheduler.specs.Words.{Board, Chooses}
 use Rattle.stm_scheduler.specs.declared.task.Task.{Task}
 use Rattle.stm_scheduler.proofs.choice.choose.Given as goal
 

@@ -1,7 +1,6 @@
 use Rattle.std.proofs.Common.{◌+◌, ◌++◌, List, drop, ap, sym, ◌∙◌, append_assoc, arith}
 use Rattle.std.proofs.lemmas.List.{append-nil, drop_all}
-use Rattle.issuer_rows.specs.Fold.{Rows, rows_after, replies_to}
-use Rattle.issuer_rows.specs.declared.frame.Frame.{Frame}
+use Rattle.issuer_view.specs.Words.{Frame, Rows, replies_to, rows_after}
 use Rattle.issuer_fold.proofs.FoldLaws.{left_in_turn}
 use Rattle.issuer_fold.proofs.prefix.Prefix.decide_each.Goals as goal
 

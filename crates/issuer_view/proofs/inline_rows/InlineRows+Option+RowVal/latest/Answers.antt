@@ -1,6 +1,5 @@
 use Rattle.std.proofs.Common.{◌≡◌, ◌-◌, suc, length, None, ap, arith, ◌∙◌}
-use Rattle.issuer_rows.specs.Agreement.{Reads}
-use Rattle.issuer_view.specs.RowSets.{latest}
+use Rattle.issuer_view.specs.Words.{Reads, latest}
 use Rattle.issuer_view.proofs.LogLaws.{last_place}
 use Rattle.issuer_view.proofs.inline_rows.InlineRows+Option+RowVal.latest.Goals as goal
 

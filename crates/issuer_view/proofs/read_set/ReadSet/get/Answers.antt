@@ -1,11 +1,8 @@
 use Rattle.std.proofs.Common.{◌≡◌, ◌++◌, List, get_or, slice_get, Option, Some, IfSome, sym, ap, subst, ◌∙◌, rules}
 use Rattle.std.proofs.lemmas.Option.{get_or_from_slice_get}
-use Rattle.issuer_rows.specs.RowVal.{IsOfKind}
-use Rattle.issuer_rows.specs.declared.row_key.RowKey.{RowKey}
-use Rattle.issuer_rows.specs.declared.row_val.RowVal.{RowVal}
+use Rattle.issuer_view.specs.Words.{IsOfKind, RowKey, RowVal, value_in}
 use Rattle.issuer_view.proofs.KindLaws.{found_suits}
 use Rattle.issuer_view.proofs.ListLaws.{found_at, found_behind}
-use Rattle.issuer_view.specs.RowSets.{value_in}
 use Rattle.issuer_view.proofs.read_set.ReadSet.get.Goals as goal
 use Rattle.issuer_view.proofs.read_set.ReadSet.get.Goals.{After-copied}
 

@@ -1,6 +1,5 @@
 use Rattle.std.proofs.Common.{◌≡◌, ◌-◌, suc, length, None, ap, sym, rules, ◌∙◌}
-use Rattle.issuer_rows.specs.Agreement.{Reads}
-use Rattle.issuer_view.specs.RowSets.{latest}
+use Rattle.issuer_view.specs.Words.{Reads, latest}
 use Rattle.issuer_view.proofs.LogLaws.{latest_behind}
 use Rattle.issuer_view.proofs.read_set.ReadSet.latest.Goals as goal
 

@@ -1,11 +1,9 @@
 use Rattle.std.proofs.Common.{◌≡◌, ◌<◌, ℕ, ◌++◌, length, slice_get, sym, ap, subst, ◌∙◌, rules}
 use Rattle.std.proofs.lemmas.List.{length-set}
-use Rattle.issuer_rows.specs.Plan.{Writes}
-use Rattle.issuer_rows.specs.RowKey.{key_eq}
+use Rattle.issuer_view.specs.Words.{Writes, key_eq, put, value_in}
 use Rattle.indexmap.specs.IndexMap.{insert_entry}
 use Rattle.issuer_view.proofs.KindLaws.{all_put}
 use Rattle.issuer_view.proofs.ListLaws.{put_front, put_behind, put_among, found_behind, on_err}
-use Rattle.issuer_view.specs.RowSets.{value_in, put}
 use Rattle.issuer_view.proofs.write_set.WriteSet.put_copy.Goals as goal
 
 -- the row that is written again keeps its place among the first ones

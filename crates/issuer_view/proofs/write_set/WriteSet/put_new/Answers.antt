@@ -1,10 +1,8 @@
 use Rattle.std.proofs.Common.{◌≡◌, ◌++◌, None, sym, ap, ◌∙◌, rules}
-use Rattle.issuer_rows.specs.Plan.{Writes}
-use Rattle.issuer_rows.specs.RowKey.{key_eq}
+use Rattle.issuer_view.specs.Words.{Writes, key_eq, put, value_in}
 use Rattle.indexmap.specs.IndexMap.{insert_entry}
 use Rattle.issuer_view.proofs.KindLaws.{all_put}
 use Rattle.issuer_view.proofs.ListLaws.{put_behind, put_among, absent_front}
-use Rattle.issuer_view.specs.RowSets.{value_in, put}
 use Rattle.issuer_view.proofs.write_set.WriteSet.put_new.Goals as goal
 
 -- a row that is not written is not among the first ones

@@ -1,7 +1,6 @@
 use Rattle.std.proofs.Common.{◌≡◌, get_or, Some, ap, sym, ◌∙◌, arith}
 use Rattle.std.specs.Option.{option_copied}
-use Rattle.issuer_rows.specs.RowKey.{key_eq}
-use Rattle.issuer_view.specs.RowSets.{value_in}
+use Rattle.issuer_view.specs.Words.{key_eq, value_in}
 use Rattle.stm_core_laws.specs.State.{Log}
 use Rattle.stm_core.specs.Origin.{log_of}
 use Rattle.stm_core.specs.declared.read.Read.{Read}

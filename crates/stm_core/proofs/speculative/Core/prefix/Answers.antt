@@ -1,30 +1,11 @@
-use Rattle.std.proofs.Common.{◌≡◌, ◌≤◌, ℕ, length, take, filter_map, subst, sym, ap, ◌∙◌, arith}
-use Rattle.std.proofs.lemmas.List.{length-take-le}
+use Rattle.std.proofs.Common.{◌≡◌, ℕ, take, filter_map, subst, ap, ◌∙◌}
 use Rattle.stm_memory.specs.Resolves.{IsLaidOver}
 use Rattle.issuer_rows.specs.Fold.{rows_after, replies_to}
-use Rattle.stm_core_laws.proofs.Reached.{Holds-reached, replies-reached, rows-reached}
-use Rattle.stm_core_laws.specs.Play.{Play}
-use Rattle.stm_core_laws.specs.State.{ExecutionSlot, State, shelf}
+use Rattle.stm_core_laws.proofs.Reached.{replies-reached, rows-reached}
+use Rattle.stm_core_laws.specs.Words.{ExecutionSlot, Play, State, shelf}
 use Rattle.stm_core.proofs.Resolving.{one_laid}
 use Rattle.stm_core.specs.contracts.speculative.Core.{the_view}
 use Rattle.stm_core.proofs.speculative.Core.prefix.Goals as goal
-
-pub slice_bounds-replies_in-end : goal.slice_bounds-replies_in-end
-slice_bounds-replies_in-end c =
-    let h = Holds-reached (the_view c.self.inside).state c.self.invariant.1 in
-    let within = h.within in
-    let slotted = h.slotted in
-    let count = c.committed-count.ensures.count in
-    let same : length c.deref.result.now ≡ length (the_view c.self.inside).state.slots = ap length c.deref.ensures.value in
-    sym (length-take-le c.committed-count.result c.deref.result.now (omega arith))
-
-pub returns-clause-within : goal.returns-clause-within
-returns-clause-within c =
-    let h = Holds-reached (the_view c.self.inside).state c.self.invariant.1 in
-    let within = h.within in
-    let count = c.committed-count.ensures.count in
-    let same = c.of.ensures.count in
-    subst (λ (p : Play). c.of.result.count ≤ length p.state.frames) c.self.view_is (omega arith)
 
 pub returns-clause-book : goal.returns-clause-book
 returns-clause-book c =
@@ -32,7 +13,7 @@ returns-clause-book c =
     let laid : IsLaidOver (shelf s) s.board.committed s.opening c.in_ok-book.book = subst (λ (n : ℕ). IsLaidOver (shelf s) n s.opening c.in_ok-book.book) c.committed-count.ensures.count c.in_ok-book.ensures in
     c.of.ensures.book
     ∙ subst (λ (p : Play). c.in_ok-book.book ≡ rows_after p.state.opening (take p.state.board.committed p.state.frames)) c.self.view_is
-    (one_laid (shelf s) s.board.committed s.opening c.in_ok-book.book (rows_after s.opening (take s.board.committed s.frames)) laid (rows-reached s c.self.invariant.1))
+    (one_laid (shelf s) s.board.committed s.opening c.in_ok-book.book (rows_after s.opening (take s.board.committed s.frames)) laid (rows-reached s c.self.invariant.reached))
 
 pub returns-clause-replies : goal.returns-clause-replies
 returns-clause-replies c =
@@ -41,4 +22,4 @@ returns-clause-replies c =
     ∙ subst (λ (p : Play). c.in_ok-replies.replies.items ≡ replies_to p.state.opening (take p.state.board.committed p.state.frames)) c.self.view_is
     (c.in_ok-replies.ensures
     ∙ ap (filter_map (λ (k : ExecutionSlot). k.reply)) (ap (take c.committed-count.result) c.deref.ensures.value ∙ ap (λ (n : ℕ). take n s.slots) c.committed-count.ensures.count)
-    ∙ replies-reached s c.self.invariant.1)
+    ∙ replies-reached s c.self.invariant.reached)

@@ -1,103 +1,82 @@
-use Rattle.std.proofs.Common.{◌≡◌, ◌<◌, ℕ, Bool, length, set, refl, sym, ◌∙◌, subst, Some, Ok, Err, arith}
-use Rattle.stm_scheduler.specs.Board.{IsOpen}
-use Rattle.stm_core_laws.proofs.Reached.{Holds-reached}
-use Rattle.stm_core_laws.specs.Play.{Play, PlayStep}
-use Rattle.stm_core_laws.specs.Run.{ValidateOne}
-use Rattle.stm_core_laws.specs.State.{State, ExecutionSlot, validation_of}
-use Rattle.stm_core_laws.specs.Step.{is_at_end}
-use Rattle.stm_core_laws.specs.declared.validation.Validation.{Validation}
+use Rattle.std.proofs.Common.{◌≡◌, ◌<◌, set, refl, sym, ◌∙◌, subst, Some, Ok, Err, length}
+use Rattle.std.proofs.lemmas.Bool.{false≢true}
+use Rattle.stm_core_laws.specs.Words.{ExecutionSlot, Play, PlayStep, ValidateOne, slot}
+use Rattle.stm_core_laws.specs.Words.{validation_of}
 use Rattle.stm_core_laws.specs.declared.core_fault.CoreFault.TheVariants.{Outdated}
-use Rattle.stm_core.proofs.Steps.{at_seat, at_slot, before_end, validation_step, next_there, play, play_kept, seat_there, slot_there}
+use Rattle.stm_core.proofs.Steps.{as_called, at_seat, at_slot, before_end, validation_step, next_there, play, refused_as_called, sound_kept}
 use Rattle.stm_core.specs.contracts.speculative.Core.{the_view}
 use Rattle.stm_core.proofs.speculative.Core.validate_one.Goals as goal
-use Rattle.std.proofs.lemmas.Bool.{false≢true}
+use Rattle.stm_core.proofs.speculative.Core.validate_one.Goals.{After-is_open, After-index-slot, After-is_at_end-is_ended}
 
-pub index-requires : goal.index-requires
-index-requires c =
-    let l = seat_there (the_view c.self.inside).state c.self.invariant.1 c.number-seat.result c.number-seat.ensures.bound in
-    omega arith
+-- the seat has the validation that was found there
+has : (c : After-is_open) → validation_of (the_view c.self.inside).state c.number-seat.result ≡ Some c.in-Some.validation
+has c =
+    at_seat (the_view c.self.inside).state c.self.invariant.holds c.number-seat.result c.index.result.now c.in-Some.validation
+    c.number-seat.ensures.bound c.index.ensures c.in-Some.is
 
-pub index_mut-requires : goal.index_mut-requires
-index_mut-requires c =
-    let l = seat_there (the_view c.self.inside).state c.self.invariant.1 c.number-seat.result c.number-seat.ensures.bound in
-    omega arith
+-- and the slot is that of its message
+here : (c : After-index-slot) → c.index-slot.result.now ≡ slot (the_view c.self.inside).state c.in-Some.validation.version.index
+here c =
+    at_slot (the_view c.self.inside).state c.self.invariant.holds c.in-Some.validation.version.index c.index-slot.result.now
+    (c.is_open.ensures.within c.if-not-is_open.false) c.index-slot.ensures
 
 pub returns-then-not-is_open : goal.returns-then-not-is_open
 returns-then-not-is_open c =
-    let s : State = (the_view c.self.inside).state in
-    let seat : ℕ = c.number-seat.result in
-    let validation : Validation = c.in-Some.validation in
-    let has : validation_of s seat ≡ Some validation = at_seat s seat c.index.result.now validation (seat_there s c.self.invariant.1 seat c.number-seat.ensures.bound) c.index.ensures c.in-Some.is in
-    let closed : ¬ IsOpen s.board validation.version = λ is. false≢true (sym c.if-not-is_open.true ∙ c.is_open.ensures.opened.1 is) in
-    let step : PlayStep (the_view c.self.inside) (ValidateOne seat (Err Outdated)) (the_view c.self.inside) =
-    ((c.number-seat.ensures.bound, ((validation, (has, sym c.is_at_end.ensures ∙ c.if-is_at_end.false), closed), refl)), (refl, refl)) in
-    record {
-      step = subst (λ (p : Play). PlayStep p (ValidateOne c.args.seat (Err Outdated)) p) c.self.view_is (subst (λ (n : ℕ). PlayStep (the_view c.self.inside) (ValidateOne n (Err Outdated)) (the_view c.self.inside)) c.number-seat.ensures.value step);
-    }
-
-pub overflow_cast-index : goal.overflow_cast-index
-overflow_cast-index c =
-    let l = c.is_open.ensures.within c.if-not-is_open.false in
-    let paired = (Holds-reached (the_view c.self.inside).state c.self.invariant.1).paired in
-    let few = c.self.invariant.0 in
-    omega arith
-
-pub index-slot-requires : goal.index-slot-requires
-index-slot-requires c =
-    let l = slot_there (the_view c.self.inside).state c.self.invariant.1 c.in-Some.validation.version.index (c.is_open.ensures.within c.if-not-is_open.false) in
-    omega arith
+    let there = has (goal.at.returns-then-not-is_open c).After-is_open in
+    let step : PlayStep (the_view c.self.inside) (ValidateOne c.number-seat.result (Err Outdated)) (the_view c.self.inside) = (
+      (
+        c.number-seat.ensures.bound,
+        (
+          (
+            c.in-Some.validation,
+            (there, sym c.is_at_end.ensures ∙ c.if-is_at_end.false),
+            λ opened. false≢true (sym c.if-not-is_open.true ∙ c.is_open.ensures.opened.1 opened),
+          ),
+          refl,
+        ),
+      ),
+      (refl, refl),
+    ) in
+    record { step = refused_as_called _ _ (λ seat. ValidateOne seat (Err Outdated)) _ _ c.self.view_is c.number-seat.ensures.value step }
 
 pub origin_at-row-requires : goal.origin_at-row-requires
 origin_at-row-requires c =
-    let s : State = (the_view c.self.inside).state in
-    let seat : ℕ = c.number-seat.result in
-    let validation : Validation = c.in-Some.validation in
-    let has : validation_of s seat ≡ Some validation = at_seat s seat c.index.result.now validation (seat_there s c.self.invariant.1 seat c.number-seat.ensures.bound) c.index.ensures c.in-Some.is in
-    let opened : IsOpen s.board validation.version = c.is_open.ensures.opened.0 c.if-not-is_open.false in
-    let l = slot_there s c.self.invariant.1 validation.version.index (c.is_open.ensures.within c.if-not-is_open.false) in
-    let next = next_there s c.self.invariant.1 seat validation has (sym c.is_at_end.ensures ∙ c.if-is_at_end.false) opened in
-    subst (λ (k : ExecutionSlot). validation.place < length k.log) (sym (at_slot s validation.version.index c.index-slot.result.now l c.index-slot.ensures)) next
+    let at = goal.at.origin_at-row-requires c in
+    subst (λ (k : ExecutionSlot). c.in-Some.validation.place < length k.log) (sym (here at.After-index-slot))
+    (next_there (the_view c.self.inside).state c.self.invariant.holds c.number-seat.result c.in-Some.validation (has at.After-is_open)
+    (sym c.is_at_end.ensures ∙ c.if-is_at_end.false) (c.is_open.ensures.opened.0 c.if-not-is_open.false))
 
 pub after_read-next-requires : goal.after_read-next-requires
 after_read-next-requires c =
-    let s : State = (the_view c.self.inside).state in
-    let seat : ℕ = c.number-seat.result in
-    let validation : Validation = c.in-Some.validation in
-    let has : validation_of s seat ≡ Some validation = at_seat s seat c.index.result.now validation (seat_there s c.self.invariant.1 seat c.number-seat.ensures.bound) c.index.ensures c.in-Some.is in
-    before_end s c.self.invariant.1 seat validation has (sym c.is_at_end.ensures ∙ c.if-is_at_end.false)
+    before_end (the_view c.self.inside).state c.self.invariant.holds c.number-seat.result c.in-Some.validation
+    (has (goal.at.after_read-next-requires c).After-is_open) (sym c.is_at_end.ensures ∙ c.if-is_at_end.false)
+
+abbrev after : After-is_at_end-is_ended → Play
+after c =
+    play (record (the_view c.self.inside).state { validations = set c.self.inside.validations.items c.number-seat.result (Some c.after_read-next.result) })
+    c.self.inside.scheduler.execution c.self.inside.scheduler.validation
+
+goes_on : (c : After-is_at_end-is_ended) → validation_of (the_view c.self.inside).state c.number-seat.result ≡ Some c.in-Some.validation
+    → c.index-slot.result.now ≡ slot (the_view c.self.inside).state c.in-Some.validation.version.index
+    → PlayStep (the_view c.self.inside) (ValidateOne c.number-seat.result (Ok c.is_at_end-is_ended.result)) (after c)
+goes_on c there is =
+    rw c.is_at_end-is_ended.ensures
+    (validation_step (the_view c.self.inside).state c.self.inside.scheduler.execution c.self.inside.scheduler.validation c.number-seat.result
+    c.in-Some.validation c.after_read-next.result c.index-slot.result.now c.origin_at-row.result c.resolves_as-stays.result
+    c.number-seat.ensures.bound there (sym c.is_at_end.ensures ∙ c.if-is_at_end.false) (c.is_open.ensures.opened.0 c.if-not-is_open.false)
+    is c.origin_at-row.ensures c.resolves_as-stays.ensures.0 c.resolves_as-stays.ensures.1 c.after_read-next.ensures)
 
 pub invariant_of-self : goal.invariant_of-self
 invariant_of-self c =
-    let s : State = (the_view c.self.inside).state in
-    let seat : ℕ = c.number-seat.result in
-    let validation : Validation = c.in-Some.validation in
-    let has : validation_of s seat ≡ Some validation = at_seat s seat c.index.result.now validation (seat_there s c.self.invariant.1 seat c.number-seat.ensures.bound) c.index.ensures c.in-Some.is in
-    let opened : IsOpen s.board validation.version = c.is_open.ensures.opened.0 c.if-not-is_open.false in
-    let l = slot_there s c.self.invariant.1 validation.version.index (c.is_open.ensures.within c.if-not-is_open.false) in
-    let next : Validation = c.after_read-next.result in
-    let after : Play = play (record s { validations = set s.validations seat (Some next) }) c.self.inside.scheduler.execution c.self.inside.scheduler.validation in
-    let made : PlayStep (the_view c.self.inside) (ValidateOne seat (Ok (is_at_end next))) after =
-    validation_step s c.self.inside.scheduler.execution c.self.inside.scheduler.validation seat validation next c.index-slot.result.now c.origin_at-row.result c.resolves_as-stays.result c.number-seat.ensures.bound has (sym c.is_at_end.ensures ∙ c.if-is_at_end.false) opened
-    (at_slot s validation.version.index c.index-slot.result.now l c.index-slot.ensures) c.origin_at-row.ensures c.resolves_as-stays.ensures.0 c.resolves_as-stays.ensures.1 c.after_read-next.ensures in
-    let step : PlayStep (the_view c.self.inside) (ValidateOne c.args.seat (Ok c.is_at_end-is_ended.result)) after =
-    subst (λ (n : ℕ). PlayStep (the_view c.self.inside) (ValidateOne n (Ok c.is_at_end-is_ended.result)) after) c.number-seat.ensures.value
-    (subst (λ (ended : Bool). PlayStep (the_view c.self.inside) (ValidateOne seat (Ok ended)) after) (sym c.is_at_end-is_ended.ensures) made) in
-    (c.self.invariant.0, play_kept (the_view c.self.inside) (ValidateOne c.args.seat (Ok c.is_at_end-is_ended.result)) after c.self.invariant.1 step, c.self.invariant.2, c.self.invariant.3)
+    let at = goal.at.invariant_of-self c in
+    sound_kept (the_view c.self.inside) (ValidateOne c.number-seat.result (Ok c.is_at_end-is_ended.result)) (after at.After-is_at_end-is_ended) c.self.invariant
+    (goes_on at.After-is_at_end-is_ended (has at.After-is_open) (here at.After-index-slot))
 
 pub returns : goal.returns
 returns c =
-    let s : State = (the_view c.self.inside).state in
-    let seat : ℕ = c.number-seat.result in
-    let validation : Validation = c.in-Some.validation in
-    let has : validation_of s seat ≡ Some validation = at_seat s seat c.index.result.now validation (seat_there s c.self.invariant.1 seat c.number-seat.ensures.bound) c.index.ensures c.in-Some.is in
-    let opened : IsOpen s.board validation.version = c.is_open.ensures.opened.0 c.if-not-is_open.false in
-    let l = slot_there s c.self.invariant.1 validation.version.index (c.is_open.ensures.within c.if-not-is_open.false) in
-    let next : Validation = c.after_read-next.result in
-    let after : Play = play (record s { validations = set s.validations seat (Some next) }) c.self.inside.scheduler.execution c.self.inside.scheduler.validation in
-    let made : PlayStep (the_view c.self.inside) (ValidateOne seat (Ok (is_at_end next))) after =
-    validation_step s c.self.inside.scheduler.execution c.self.inside.scheduler.validation seat validation next c.index-slot.result.now c.origin_at-row.result c.resolves_as-stays.result c.number-seat.ensures.bound has (sym c.is_at_end.ensures ∙ c.if-is_at_end.false) opened
-    (at_slot s validation.version.index c.index-slot.result.now l c.index-slot.ensures) c.origin_at-row.ensures c.resolves_as-stays.ensures.0 c.resolves_as-stays.ensures.1 c.after_read-next.ensures in
-    let step : PlayStep (the_view c.self.inside) (ValidateOne c.args.seat (Ok c.is_at_end-is_ended.result)) after =
-    subst (λ (n : ℕ). PlayStep (the_view c.self.inside) (ValidateOne n (Ok c.is_at_end-is_ended.result)) after) c.number-seat.ensures.value
-    (subst (λ (ended : Bool). PlayStep (the_view c.self.inside) (ValidateOne seat (Ok ended)) after) (sym c.is_at_end-is_ended.ensures) made) in
-    record { step = subst (λ (p : Play). PlayStep p (ValidateOne c.args.seat (Ok c.is_at_end-is_ended.result)) after) c.self.view_is step }
+    let at = goal.at.returns c in
+    let step = goes_on at.After-is_at_end-is_ended (has at.After-is_open) (here at.After-index-slot) in
+    record {
+      step = as_called _ _ (after at.After-is_at_end-is_ended) (λ seat. ValidateOne seat (Ok c.is_at_end-is_ended.result)) _ _
+          c.self.view_is c.number-seat.ensures.value step;
+    }

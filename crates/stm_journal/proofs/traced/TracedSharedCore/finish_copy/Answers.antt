@@ -1,9 +1,9 @@
 use Rattle.std.proofs.Common.{List, sym, ◌∙◌, subst, ◌++◌, ◌∷◌, [], ap}
+use Rattle.stm_journal_text.specs.Plays.{IsPlayed}
 use Rattle.stm_journal_text.specs.declared.entry.Entry.{Entry}
 use Rattle.stm_journal_text.specs.declared.event.Event.TheVariants.{Finish}
 use Rattle.stm_core_laws.specs.Play.{Play}
 use Rattle.stm_journal_text.proofs.Playing.{IsPlayed-push, stands_where_entered, same_where_not_entered}
-use Rattle.stm_journal_text.specs.Plays.{IsPlayed}
 use Rattle.stm_journal.proofs.traced.TracedSharedCore.finish_copy.Goals as goal
 
 pub invariant_of-self-then-enters : goal.invariant_of-self-then-enters

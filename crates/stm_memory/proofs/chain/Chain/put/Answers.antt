@@ -2,7 +2,7 @@ use Rattle.std.proofs.Common.{List, Some, ◌∙◌, ap, sym, subst, refl}
 use Rattle.std.proofs.lemmas.Bool.{false≢true}
 use Rattle.std.proofs.lemmas.Option.{none-some}
 use Rattle.stm_memory.proofs.ChainLaws.{found_at, set_own, set_other, set_order, insert_own, insert_other, insert_new, insert_order, written_over}
-use Rattle.stm_memory.specs.Chains.{Chain, found, AreInOrder, StandsAt, FitsAt}
+use Rattle.stm_memory.specs.Chains.{AreInOrder, Chain, FitsAt, StandsAt, found}
 use Rattle.stm_memory.specs.declared.link.Link.{Link}
 use Rattle.stm_memory.proofs.chain.Chain.put.Goals as goal
 

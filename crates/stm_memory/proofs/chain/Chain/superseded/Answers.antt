@@ -1,6 +1,6 @@
 use Rattle.std.proofs.Common.{◌<◌, List, IsSome, ap, sym, subst, ◌∙◌, arith}
 use Rattle.stm_memory.proofs.ChainLaws.{first_two}
-use Rattle.stm_memory.specs.Chains.{Chain, found, AreInOrder}
+use Rattle.stm_memory.specs.Chains.{AreInOrder, Chain, found}
 use Rattle.stm_memory.specs.declared.link.Link.{Link}
 use Rattle.stm_memory.proofs.chain.Chain.superseded.Goals as goal
 

@@ -1,7 +1,7 @@
 use Rattle.std.proofs.Common.{◌<◌, List, ◌∙◌, ap, sym, subst}
 use Rattle.std.proofs.lemmas.List.Quantifiers.{all_pairs_remove}
 use Rattle.stm_memory.proofs.ChainLaws.{remove_own, remove_other, insert_new}
-use Rattle.stm_memory.specs.Chains.{Chain, found, AreInOrder, StandsAt, FitsAt}
+use Rattle.stm_memory.specs.Chains.{AreInOrder, Chain, FitsAt, StandsAt, found}
 use Rattle.stm_memory.specs.declared.link.Link.{Link}
 use Rattle.stm_memory.proofs.chain.Chain.take_out.Goals as goal
 

@@ -1,7 +1,6 @@
 use Rattle.std.proofs.Common.{◌≡◌, ◌<◌, length, Some, Option, option_map, refl, ap, sym, subst, ◌∙◌}
 use Rattle.stm_memory.proofs.RowLaws.{changed, changed-sound, row_there, rows-set, chain_at, estimate_of_kind}
-use Rattle.stm_memory.specs.Chains.{Chain, Chains, found, links_in, row_at, rows_of}
-use Rattle.stm_memory.specs.Entries.{estimate_of}
+use Rattle.stm_memory.specs.Words.{Chain, Chains, estimate_of, found, links_in, row_at, rows_of}
 use Rattle.stm_memory.proofs.chains.Chains.to_estimate.Goals as goal
 
 pub invariant_of-self : goal.invariant_of-self

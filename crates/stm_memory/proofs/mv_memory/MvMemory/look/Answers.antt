@@ -3,9 +3,7 @@ use Rattle.stm_memory.proofs.Placed.{held_placed}
 use Rattle.stm_memory.proofs.RowLaws.{row_within}
 use Rattle.stm_memory.proofs.SeenLaws.{seen_alike}
 use Rattle.std.specs.Option.{option_copied}
-use Rattle.stm_memory.specs.Chains.{Chain, found, links_in, seen_of, stands}
-use Rattle.stm_memory.specs.Entries.{held}
-use Rattle.stm_memory.specs.Memory.{Memory}
+use Rattle.stm_memory.specs.Words.{Chain, Memory, found, held, links_in, seen_of, stands}
 use Rattle.stm_memory.proofs.mv_memory.MvMemory.look.Goals as goal
 
 pub nearest_at-requires : goal.nearest_at-requires

@@ -2,9 +2,7 @@ use Rattle.std.proofs.Common.{ap, sym, ◌∙◌}
 use Rattle.stm_memory.proofs.Placed.{held_placed}
 use Rattle.stm_memory.proofs.SeenLaws.{seen_alike}
 use Rattle.std.specs.Option.{option_copied}
-use Rattle.stm_memory.specs.Chains.{seen_of, stands}
-use Rattle.stm_memory.specs.Entries.{held}
-use Rattle.stm_memory.specs.Memory.{Memory}
+use Rattle.stm_memory.specs.Words.{Memory, held, seen_of, stands}
 use Rattle.stm_memory.proofs.mv_memory.MvMemory.look_at.Goals as goal
 
 pub returns-clause-seen : goal.returns-clause-seen

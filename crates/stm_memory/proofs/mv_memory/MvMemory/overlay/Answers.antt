@@ -1,9 +1,7 @@
 use Rattle.std.proofs.Common.{ap, subst}
 use Rattle.issuer_rows.specs.Fold.{Rows}
 use Rattle.stm_memory.proofs.Laid.{laid_entries}
-use Rattle.stm_memory.specs.Memory.{Memory}
-use Rattle.stm_memory.specs.Chains.{stands}
-use Rattle.stm_memory.specs.Resolves.{IsLaidOver}
+use Rattle.stm_memory.specs.Words.{IsLaidOver, Memory, stands}
 use Rattle.stm_memory.proofs.mv_memory.MvMemory.overlay.Goals as goal
 
 pub returns-in-Ok : goal.returns-in-Ok

@@ -2,10 +2,7 @@ use Rattle.std.proofs.Common.{ap, sym, subst, ◌∙◌, arith}
 use Rattle.stm_memory.proofs.Placed.{held_placed, chain_count}
 use Rattle.stm_memory.proofs.SeenLaws.{seen_alike}
 use Rattle.std.specs.Option.{option_copied}
-use Rattle.stm_memory.specs.Chains.{seen_of, stands}
-use Rattle.stm_memory.specs.Entries.{held}
-use Rattle.stm_memory.specs.Memory.{Memory}
-use Rattle.stm_memory.specs.Resolves.{Resolves, row_count}
+use Rattle.stm_memory.specs.Words.{Memory, Resolves, held, row_count, seen_of, stands}
 use Rattle.stm_memory.proofs.mv_memory.MvMemory.read_counted.Goals as goal
 
 pub returns-clause-seen : goal.returns-clause-seen

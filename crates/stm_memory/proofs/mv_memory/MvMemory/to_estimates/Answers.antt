@@ -1,8 +1,7 @@
 use Rattle.std.proofs.Common.{length, ap, sym, subst, ◌∙◌, arith}
 use Rattle.stm_memory.proofs.Kept.{kept_estimated, nothing_past, list_read}
 use Rattle.stm_memory.proofs.Recorded.{estimated, estimated_none}
-use Rattle.stm_memory.specs.Entries.{estimate_of}
-use Rattle.stm_memory.specs.Memory.{Memory, WrittenRows, AreListed, list_at}
+use Rattle.stm_memory.specs.Words.{AreListed, Memory, WrittenRows, estimate_of, list_at}
 use Rattle.stm_memory.proofs.mv_memory.MvMemory.to_estimates.Goals as goal
 
 pub estimate_all-requires : goal.estimate_all-requires

@@ -2,8 +2,7 @@ use Rattle.std.proofs.Common.{◌+◌, set, refl, sym, subst, ◌∙◌, arith, 
 use Rattle.stm_scheduler.proofs.Boards.{sound_with, lowered-IsHighest, settled_set, executed_there, executed_waits, ready_waits}
 use Rattle.stm_scheduler.proofs.Lists.{lists_changed}
 use Rattle.stm_scheduler.specs.contracts.scheduler.Scheduler.{the_view}
-use Rattle.stm_scheduler.specs.Board.{IsOpen, unstamped}
-use Rattle.stm_scheduler.specs.Cursors.{Schedule}
+use Rattle.stm_scheduler.specs.Words.{IsOpen, Schedule, unstamped}
 use Rattle.stm_scheduler.specs.declared.message_progress.MessageProgress.{MessageProgress}
 use Rattle.stm_scheduler.specs.declared.status.Status.TheVariants as status
 use Rattle.stm_scheduler.proofs.scheduler.Scheduler.abort.Goals as goal

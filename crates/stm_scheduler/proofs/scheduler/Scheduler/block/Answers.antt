@@ -4,9 +4,7 @@ use Rattle.std.proofs.lemmas.List.{get_or_default}
 use Rattle.stm_scheduler.proofs.Boards.{sound_with, settled_set, running_there, running_past, running_waits, ready_waits}
 use Rattle.stm_scheduler.proofs.Lists.{lists_changed, lists_blocked}
 use Rattle.stm_scheduler.specs.contracts.scheduler.Scheduler.{the_view}
-use Rattle.stm_scheduler.specs.Board.{IsRunning, unstamped}
-use Rattle.stm_scheduler.specs.Cursors.{Schedule}
-use Rattle.stm_scheduler.specs.Sound.{IsSound}
+use Rattle.stm_scheduler.specs.Words.{IsRunning, IsSound, Schedule, unstamped}
 use Rattle.stm_scheduler.specs.declared.message_progress.MessageProgress.{MessageProgress}
 use Rattle.stm_scheduler.specs.declared.status.Status.TheVariants as status
 use Rattle.stm_scheduler.proofs.scheduler.Scheduler.block.Goals as goal

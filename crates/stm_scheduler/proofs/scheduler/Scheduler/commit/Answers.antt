@@ -3,8 +3,7 @@ use Rattle.std.proofs.lemmas.List.{get_or_default}
 use Rattle.stm_scheduler.proofs.Boards.{more-IsHighest, committed-IsSound}
 use Rattle.stm_scheduler.specs.contracts.scheduler.Scheduler.{the_view}
 use Rattle.stm_scheduler.specs.Board.{fresh_mark, IsExecuted}
-use Rattle.stm_scheduler.specs.Cursors.{Schedule}
-use Rattle.stm_scheduler.specs.Sound.{IsHighest}
+use Rattle.stm_scheduler.specs.Words.{IsHighest, Schedule}
 use Rattle.stm_scheduler.specs.declared.message_progress.MessageProgress.{MessageProgress}
 use Rattle.stm_scheduler.specs.declared.status.Status.TheVariants as status
 use Rattle.stm_scheduler.proofs.scheduler.Scheduler.commit.Goals as goal

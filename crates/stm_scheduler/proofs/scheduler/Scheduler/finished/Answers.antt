@@ -3,9 +3,8 @@ use Rattle.std.proofs.lemmas.List.{get_or_default, length-map}
 use Rattle.stm_scheduler.proofs.Boards.{sound_with, lowered-IsHighest, lowered_before, settled_set, settled_woken, running_there, running_past, running_waits, executed_waits}
 use Rattle.stm_scheduler.proofs.Lists.{lists_changed, lists_woken}
 use Rattle.stm_scheduler.specs.contracts.scheduler.Scheduler.{the_view}
-use Rattle.stm_scheduler.specs.Board.{IsRunning, unstamped, woken}
-use Rattle.stm_scheduler.specs.Cursors.{Schedule, IsLoweredToWaiting}
-use Rattle.stm_scheduler.specs.Sound.{WaitList}
+use Rattle.stm_scheduler.specs.Words.{IsLoweredToWaiting, IsRunning, Schedule, WaitList, unstamped}
+use Rattle.stm_scheduler.specs.Words.{woken}
 use Rattle.stm_scheduler.specs.declared.message_progress.MessageProgress.{MessageProgress}
 use Rattle.stm_scheduler.specs.declared.status.Status.TheVariants as status
 use Rattle.stm_scheduler.proofs.scheduler.Scheduler.finished.Goals as goal

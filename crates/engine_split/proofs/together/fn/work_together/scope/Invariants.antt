@@ -1,4 +1,4 @@
-use Rattle.engine_workers.specs.Started.{IsStarted}
+use Rattle.issuer_fold.specs.Run.{IsStarted}
 use Rattle.engine_split.proofs.together.fn.work_together.scope.Given as goal
 
 abbrev pub invariant-loop-number : goal.invariant-loop-number
