@@ -26,7 +26,7 @@ use Rattle.iso_laws.proofs.Forms.{suits, AreKept, has_form, form_fields, each_kn
 use Rattle.iso_laws.proofs.Transactions.{transaction_known, transaction_again, some_text, known_text, is_transaction, transaction_text_from}
 use Rattle.iso_laws.proofs.Amounts.{amount_bound, action_bound, original_amount, original_again}
 use Rattle.iso_laws.proofs.Present.{rule_ok}
-use Rattle.iso_laws.proofs.Scopes.{full_function, partial_function}
+use Rattle.iso_laws.proofs.Rules.{full_function, partial_function}
 use Rattle.iso_laws.proofs.Originals.{original_is_text, original_again as reference_again, original_text_from, is_original_from}
 use Rattle.iso_laws.proofs.Whole.{AreFields, no_spelling_begins_another}
 
