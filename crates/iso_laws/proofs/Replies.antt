@@ -49,7 +49,8 @@ not_approved code some fits =
 abbrev reply_to : Transaction → Answer → Reply
 reply_to t a = record { transaction = t; answer = a }
 
-texts_known : (t : Transaction) (a : Answer) → IsTransaction t → IsAnswer a → (e : Element) → IfSome (reply_texts (reply_to t a) e) (IsText e)
+texts_known : (t : Transaction) (a : Answer) → IsTransaction t → IsAnswer a → (e : Element)
+    → IfSome (reply_texts (reply_to t a) e) (IsText e)
 texts_known t (answer.Request (Approved code) account) h k element.Approval = k.0
 texts_known t (answer.Request (Approved code) account) h k element.Action = (refl, refl, refl)
 texts_known t (answer.Request (Approved code) account) h k element.Account = account_known account k.1
@@ -107,7 +108,8 @@ replies_apart r q x y h k e =
 
 -- ---- texts of the form of a type are those of the reply that they say
 
-verdict_texts : (code action : Option (List ℕ)) → IsSome action → IfSome code (IsText element.Approval) → IfSome action (IsText element.Action) → is_ok (rule_of VerdictRule (λ _. is_some code) action) ≡ true
+verdict_texts : (code action : Option (List ℕ)) → IsSome action → IfSome code (IsText element.Approval)
+    → IfSome action (IsText element.Action) → is_ok (rule_of VerdictRule (λ _. is_some code) action) ≡ true
     → (verdict_approval (verdict_from code action) ≡ code) × (Some (verdict_action (verdict_from code action)) ≡ action) × IsVerdict (verdict_from code action)
 verdict_texts code None h k l m = absurd cc
 verdict_texts (Some code) (Some action) h k l m = (refl, ap Some (approved_action action (rule_ok (verdict_at true action) m)), k)
