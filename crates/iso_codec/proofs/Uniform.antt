@@ -30,7 +30,9 @@ abbrev read_first : ℕ → Bool → Element → Rule → List ℕ → (List ℕ
 read_first bitmap there e rule bytes next = optional_at there e bytes >>= λ x. rule_at rule bitmap x.0 >>= λ _. with_first e x.0 (next x.1)
 
 -- elements that must be there are, so that all can be read by the bitmap
-all_by_bitmap : (bitmap : ℕ) (ps : List Part) (bytes : List ℕ) → ((n : ℕ) → is_required ps n ≡ true → is_set bitmap n ≡ true) → fields_at bitmap (map by_bitmap ps) bytes ≡ fields_at bitmap ps bytes
+all_by_bitmap : (bitmap : ℕ) (ps : List Part) (bytes : List ℕ)
+    → ((n : ℕ) → is_required ps n ≡ true → is_set bitmap n ≡ true)
+    → fields_at bitmap (map by_bitmap ps) bytes ≡ fields_at bitmap ps bytes
 unfolding fields_at
 all_by_bitmap bitmap [] bytes h = refl
 all_by_bitmap bitmap ((true, e, r) ∷ ps) bytes h =
@@ -44,7 +46,8 @@ without_first e (Ok x) = refl
 without_first e (Err f) = refl
 
 -- those that a type never has are absent, and reading passes over them
-none_of_others : (bitmap : ℕ) (known : ℕ → Bool) (ps : List Part) (bytes : List ℕ) → ((e : Element) → known (element_number e) ≡ false → is_set bitmap (element_number e) ≡ false)
+none_of_others : (bitmap : ℕ) (known : ℕ → Bool) (ps : List Part) (bytes : List ℕ)
+    → ((e : Element) → known (element_number e) ≡ false → is_set bitmap (element_number e) ≡ false)
     → fields_at bitmap (filter (λ p. known (element_number p.1)) (map by_bitmap ps)) bytes ≡ fields_at bitmap (map by_bitmap ps) bytes
 unfolding fields_at optional_at
 none_of_others bitmap known [] bytes h = refl
@@ -56,7 +59,8 @@ none_of_others bitmap known ((b, e, r) ∷ ps) bytes h =
       | false ↦ λ k. none_of_others bitmap known ps bytes h ∙ sym (rw (h e k, no_rule r bitmap) (without_first e (fields_at bitmap (map by_bitmap ps) bytes)))
     ] refl
 
-those_of_type : (t : Mti) → filter (λ p. is_listed (parts_of t) (element_number p.1)) (map by_bitmap (read_parts t)) ≡ map by_bitmap (parts_of t)
+those_of_type : (t : Mti)
+    → filter (λ p. is_listed (parts_of t) (element_number p.1)) (map by_bitmap (read_parts t)) ≡ map by_bitmap (parts_of t)
 those_of_type mti.Request = refl
 those_of_type _ = refl
 
@@ -65,7 +69,8 @@ always_required mti.Request = refl
 always_required _ = refl
 
 -- so the one reader reads what the type has
-pub read_is : (t : Mti) (bitmap : ℕ) (bytes : List ℕ) → presence_at (parts_of t) bitmap ≡ Ok tt → whole_at bitmap (parts_of t) bytes ≡ whole_at bitmap (read_parts t) bytes
+pub read_is : (t : Mti) (bitmap : ℕ) (bytes : List ℕ) → presence_at (parts_of t) bitmap ≡ Ok tt
+    → whole_at bitmap (parts_of t) bytes ≡ whole_at bitmap (read_parts t) bytes
 unfolding whole_at
 read_is t bitmap bytes sound =
     let right = sound_bitmap t bitmap sound in

@@ -15,7 +15,7 @@ use iso_laws::{Element, Mti};
 use iso8583::{Alphanumeric, Answer, Approval, DeclineCode, Reply, Verdict};
 
 /// The answer that elements 38 and 39 say.
-#[tactic(auto, using(iso_laws::proofs::Scopes::is_declined))]
+#[tactic(auto, using(iso_laws::proofs::Rules::is_declined))]
 fn verdict_of(approval: Option<&[u8; 6]>, action: &[u8; 3]) -> Verdict
     requires approval { IfSome (option_map (λ t. t.now) approval) (IsText Element.Approval) }
     requires action { IsText Element.Action action.now }

@@ -1,14 +1,26 @@
 -- What is written piece by piece is the whole spelling.
-use Rattle.std.proofs.Common.{◌≡◌, ℕ, ◌+◌, ◌/◌, ◌%◌, ◌^◌, false, cond, eqb, List, ◌++◌, refl, sym, ap, ◌∙◌, append_assoc, arith}
+use Rattle.std.proofs.Common.{◌≡◌, ℕ, ◌+◌, ◌-◌, ◌/◌, ◌%◌, ◌^◌, false, cond, eqb, List, ◌++◌, Option, Some, None, refl, sym, ap, ◌∙◌, append_assoc, arith}
+use Rattle.std.specs.Prelude.{is_some, option_map}
 use Rattle.std.specs.Global.{Vec}
 use Rattle.std.specs.Int.{w64, to_be_bytes}
 use Rattle.std.specs.List.{flat_map}
 use Rattle.std.proofs.lemmas.Grind.{flat_map-append}
 use Rattle.iso_laws.proofs.Joined.{fields_among-append}
 use Rattle.iso_laws.specs.declared.element.Element.{Element}
-use Rattle.iso_laws.specs.Spelling.{field, fields_among, bitmap_bytes}
+use Rattle.iso_laws.specs.Elements.{element_number}
+use Rattle.iso_laws.specs.Spelling.{Field, field, with_field, fields_among, bitmap_of, bitmap_bytes}
 use Rattle.iso_encoder.specs.declared.parts.Parts.{Parts}
-use Rattle.iso_encoder.specs.Writing.{written_texts, Writes}
+use Rattle.iso_encoder.specs.Writing.{written_texts, bit_if, Writes}
+
+-- the bit of an element, if it is there, and those behind it
+pub bitmap_of-with : (e : Element) (text : Option (List ℕ)) (fs : List Field)
+    → bitmap_of (with_field e text fs) ≡ bit_if (is_some text) (2 ^ (128 - element_number e)) + bitmap_of fs
+bitmap_of-with e None fs = omega arith
+bitmap_of-with e (Some text) fs = refl
+
+pub is_some-map : {A B : Type 0} (f : A → B) (o : Option A) → is_some (option_map f o) ≡ is_some o
+is_some-map f None = refl
+is_some-map f (Some x) = refl
 
 -- two words where an element from 65 on is there
 pub extended_written : (o0 o1 o2 a b : List ℕ) (bitmap : ℕ) → eqb (bitmap % 2 ^ 64) 0 ≡ false → a ≡ to_be_bytes w64 (2 ^ 63 + bitmap / 2 ^ 64) → b ≡ to_be_bytes w64 (bitmap % 2 ^ 64)

@@ -45,7 +45,8 @@ none_is : (text : Option (List ℕ)) → is_some text ≡ false → text ≡ Non
 none_is None h = refl
 none_is (Some text) h = absurd cc
 
-listed_passes : (test : Element → Bool) (n : ℕ) (es : List Element) (e : Element) → list_all test es ≡ true → find (λ d. eqb (element_number d) n) es ≡ Some e → test e ≡ true
+listed_passes : (test : Element → Bool) (n : ℕ) (es : List Element) (e : Element) → list_all test es ≡ true
+    → find (λ d. eqb (element_number d) n) es ≡ Some e → test e ≡ true
 listed_passes test n [] e h k = absurd cc
 listed_passes test n (d ∷ es) e h k =
     let both = and_parts (test d) (list_all test es) h in
@@ -72,7 +73,8 @@ has_form parts text suited kept = record {
   ruled = kept;
 }
   where
-    both : (e : Element) → ((not (is_required parts (element_number e)) || is_some (text e)) ≡ true) × ((is_listed parts (element_number e) || not (is_some (text e))) ≡ true)
+    both : (e : Element)
+        → ((not (is_required parts (element_number e)) || is_some (text e)) ≡ true) × ((is_listed parts (element_number e) || not (is_some (text e))) ≡ true)
     both e = and_parts _ _ (each_passes (suits parts text) suited e)
 
     needed : (a b : Bool) → (not a || b) ≡ true → a ≡ true → b ≡ true
@@ -86,7 +88,8 @@ has_form parts text suited kept = record {
 
 -- ---- the elements of fields rise
 
-rise_with : (text : Option (List ℕ)) (low : ℕ) (e : Element) (fs : List Field) → low < element_number e → element_number e ≤ 128 → Rises (element_number e) (elements_of fs) → Rises low (elements_of (with_field e text fs))
+rise_with : (text : Option (List ℕ)) (low : ℕ) (e : Element) (fs : List Field) → low < element_number e
+    → element_number e ≤ 128 → Rises (element_number e) (elements_of fs) → Rises low (elements_of (with_field e text fs))
 rise_with None low e fs h k r = rises_from low (element_number e) (elements_of fs) (omega arith) r
 rise_with (Some text) low e fs h k r = (h, k, r)
 
@@ -131,7 +134,8 @@ same_bits low (e ∷ es) (d ∷ ds) r s h =
 
 -- ---- an element is there where it has a text
 
-number_with : (n : ℕ) (e : Element) (text : Option (List ℕ)) (fs : List Field) → has_number n (elements_of (with_field e text fs)) ≡ (eqb (element_number e) n && is_some text) || has_number n (elements_of fs)
+number_with : (n : ℕ) (e : Element) (text : Option (List ℕ)) (fs : List Field)
+    → has_number n (elements_of (with_field e text fs)) ≡ (eqb (element_number e) n && is_some text) || has_number n (elements_of fs)
 number_with n e None fs = rw (and_false (eqb (element_number e) n)) refl
 number_with n e (Some text) fs = rw (and_true (eqb (element_number e) n)) refl
 
@@ -151,8 +155,10 @@ set_where_there text e =
 
 -- ---- the bitmap is one of the type
 
-listed_with : (text : Option (List ℕ)) (e : Element) (ps : List Part) (fs : List Field) (n : ℕ) → (is_listed ps (element_number e) ≡ false → text ≡ None)
-    → (has_number n (elements_of fs) ≡ true → is_listed ps n ≡ true) → has_number n (elements_of (with_field e text fs)) ≡ true → is_listed ps n ≡ true
+listed_with : (text : Option (List ℕ)) (e : Element) (ps : List Part) (fs : List Field) (n : ℕ)
+    → (is_listed ps (element_number e) ≡ false → text ≡ None)
+    → (has_number n (elements_of fs) ≡ true → is_listed ps n ≡ true)
+    → has_number n (elements_of (with_field e text fs)) ≡ true → is_listed ps n ≡ true
 listed_with None e ps fs n h k there = k there
 listed_with (Some text) e ps fs n h k there =
     elim (eqb (element_number e) n) as (λ b. eqb (element_number e) n ≡ b → (b || has_number n (elements_of fs)) ≡ true → is_listed ps n ≡ true) [
@@ -168,7 +174,8 @@ listed_with (Some text) e ps fs n h k there =
       | false ↦ λ _ others. k others
     ] refl there
 
-listed_among : (text : Texts) (ps : List Part) (es : List Element) (n : ℕ) → ((e : Element) → is_listed ps (element_number e) ≡ false → text e ≡ None)
+listed_among : (text : Texts) (ps : List Part) (es : List Element) (n : ℕ)
+    → ((e : Element) → is_listed ps (element_number e) ≡ false → text e ≡ None)
     → has_number n (elements_of (fields_among es text)) ≡ true → is_listed ps n ≡ true
 listed_among text ps [] n h there = absurd cc
 listed_among text ps (e ∷ es) n h there =
@@ -195,7 +202,8 @@ form_sound t text form =
 
 -- ---- the texts, and the rules
 
-texts-with : (e : Element) (text : Option (List ℕ)) (fs : List Field) → IfSome text (IsText e) → AreTexts fs → AreTexts (with_field e text fs)
+texts-with : (e : Element) (text : Option (List ℕ)) (fs : List Field) → IfSome text (IsText e) → AreTexts fs
+    → AreTexts (with_field e text fs)
 texts-with e None fs h k = k
 texts-with e (Some text) fs h k = (h, k)
 
@@ -207,7 +215,8 @@ texts_among text (e ∷ es) h = texts-with e (text e) (fields_among es text) (h 
 abbrev AreOf : Texts → List Field → Type 0
 AreOf text fs = AllByRecursion (λ f. text f.0 ≡ Some f.1) fs
 
-of-with : (text : Texts) (e : Element) (one : Option (List ℕ)) (fs : List Field) → text e ≡ one → AreOf text fs → AreOf text (with_field e one fs)
+of-with : (text : Texts) (e : Element) (one : Option (List ℕ)) (fs : List Field) → text e ≡ one → AreOf text fs
+    → AreOf text (with_field e one fs)
 of-with text e None fs h k = k
 of-with text e (Some one) fs h k = (h, k)
 
@@ -215,7 +224,9 @@ of_among : (text : Texts) (es : List Element) → AreOf text (fields_among es te
 of_among text [] = tt
 of_among text (e ∷ es) = of-with text e (text e) (fields_among es text) refl (of_among text es)
 
-rule_by : (text : Texts) (bitmap : ℕ) (rule : Rule) (one : Option (List ℕ)) → ((e : Element) → is_set bitmap (element_number e) ≡ is_some (text e)) → rule_at rule bitmap one ≡ rule_of rule (λ e. is_some (text e)) one
+rule_by : (text : Texts) (bitmap : ℕ) (rule : Rule) (one : Option (List ℕ))
+    → ((e : Element) → is_set bitmap (element_number e) ≡ is_some (text e))
+    → rule_at rule bitmap one ≡ rule_of rule (λ e. is_some (text e)) one
 rule_by text bitmap Free one h = refl
 rule_by text bitmap Scope None h = refl
 rule_by text bitmap Scope (Some one) h = rw (h element.OriginalAmount) refl
@@ -238,7 +249,8 @@ right_false false b h = h
 module _ (text : Texts) (bitmap : ℕ) (set : (e : Element) → is_set bitmap (element_number e) ≡ is_some (text e)) where
   rule_first : (p : Part) (ps : List Part) (fs : List Field)
       → ((gs : List Field) → elements_of gs ≡ present bitmap ps → AreOf text gs → are_ruled bitmap (present_parts bitmap ps) gs ≡ list_all (keeps text) ps)
-      → elements_of fs ≡ (p.1 ∷ present bitmap ps) → AreOf text fs → are_ruled bitmap (p ∷ present_parts bitmap ps) fs ≡ list_all (keeps text) (p ∷ ps)
+      → elements_of fs ≡ (p.1 ∷ present bitmap ps) → AreOf text fs
+      → are_ruled bitmap (p ∷ present_parts bitmap ps) fs ≡ list_all (keeps text) (p ∷ ps)
   rule_first p ps [] others same of = absurd cc
   rule_first p ps (f ∷ fs) others same of =
       let parts = head_is f.0 p.1 (elements_of fs) (present bitmap ps) same in
@@ -247,7 +259,8 @@ module _ (text : Texts) (bitmap : ℕ) (set : (e : Element) → is_set bitmap (e
       ap is_ok (rule_by text bitmap p.2 (Some f.1) set) ∙ ap (λ (x : Option (List ℕ)). is_ok (rule_of p.2 (λ e. is_some (text e)) x)) (sym here) in
       rw (one, others fs parts.1 of.1) refl
 
-  rules_are : (ps : List Part) (fs : List Field) → elements_of fs ≡ present bitmap ps → AreOf text fs → are_ruled bitmap (present_parts bitmap ps) fs ≡ list_all (keeps text) ps
+  rules_are : (ps : List Part) (fs : List Field) → elements_of fs ≡ present bitmap ps → AreOf text fs
+      → are_ruled bitmap (present_parts bitmap ps) fs ≡ list_all (keeps text) ps
   rules_are [] fs same of = refl
   rules_are (p ∷ ps) fs same of =
       elim (p.0 || is_set bitmap (element_number p.1)) as (λ b. (p.0 || is_set bitmap (element_number p.1)) ≡ b → elements_of fs ≡ cond b (p.1 ∷ present bitmap ps) (present bitmap ps)
@@ -260,7 +273,8 @@ module _ (text : Texts) (bitmap : ℕ) (set : (e : Element) → is_set bitmap (e
       ] refl same
 
 -- texts of a type's form are fields of the type
-pub form_fields : (t : Mti) (text : Texts) → HasForm (parts_of t) text → ((e : Element) → IfSome (text e) (IsText e)) → AreFields t (fields text)
+pub form_fields : (t : Mti) (text : Texts) → HasForm (parts_of t) text → ((e : Element) → IfSome (text e) (IsText e))
+    → AreFields t (fields text)
 form_fields t text form texts =
     let bitmap = bitmap_of (fields text) in
     let bits : bitmap_of (fields text) ≡ bits_of (elements_of (fields text)) = bitmap_of-elements (fields text) in
@@ -283,7 +297,8 @@ unset : (set listed : Bool) → (set ≡ true → listed ≡ true) → listed �
 unset true listed h k = (let yes = h refl in absurd cc)
 unset false listed h k = refl
 
-pub unlisted_unset : (t : Mti) (bitmap : ℕ) (e : Element) → presence_at (parts_of t) bitmap ≡ Ok tt → is_listed (parts_of t) (element_number e) ≡ false → is_set bitmap (element_number e) ≡ false
+pub unlisted_unset : (t : Mti) (bitmap : ℕ) (e : Element) → presence_at (parts_of t) bitmap ≡ Ok tt
+    → is_listed (parts_of t) (element_number e) ≡ false → is_set bitmap (element_number e) ≡ false
 unlisted_unset t bitmap e sound h =
     let within = number_within e in
     unset (is_set bitmap (element_number e)) (is_listed (parts_of t) (element_number e)) ((sound_bitmap t bitmap sound).0 (element_number e) (omega (arith, within.0)) within.1) h
@@ -295,7 +310,8 @@ fields_form t text are = record {
   ruled = sym (rules_are text (bitmap_of (fields text)) (set_where_there text) (parts_of t) (fields text) are.elements (of_among text elements)) ∙ are.rules;
 }
 
-texts-first : (e : Element) (text : Option (List ℕ)) (fs : List Field) → AreTexts (with_field e text fs) → IfSome text (IsText e) × AreTexts fs
+texts-first : (e : Element) (text : Option (List ℕ)) (fs : List Field) → AreTexts (with_field e text fs)
+    → IfSome text (IsText e) × AreTexts fs
 texts-first e None fs h = (tt, h)
 texts-first e (Some text) fs h = h
 
@@ -313,7 +329,8 @@ each_known P h element.Pan = h.0
 each_known P h _ = assumption h
 
 -- the texts of what is read
-pub read_texts : (types : List Mti) (bytes : List ℕ) (t : Mti) (text : Texts) → IsBytes bytes → reading types bytes ≡ Ok (t, fields text) → AreTextsOf types t text
+pub read_texts : (types : List Mti) (bytes : List ℕ) (t : Mti) (text : Texts) → IsBytes bytes
+    → reading types bytes ≡ Ok (t, fields text) → AreTextsOf types t text
 read_texts types bytes t text fits h =
     let found = reading_found types bytes (t, fields text) fits h in
     record { among = found.among; form = fields_form t text found.are; known = all_known text found.are.texts }
@@ -332,7 +349,8 @@ or_none : (text : Option (List ℕ)) → or_else text None ≡ text
 or_none None = refl
 or_none (Some text) = refl
 
-text_in-with : (n : ℕ) (e : Element) (text : Option (List ℕ)) (fs : List Field) → text_in n (with_field e text fs) ≡ cond (eqb (element_number e) n) (or_else text (text_in n fs)) (text_in n fs)
+text_in-with : (n : ℕ) (e : Element) (text : Option (List ℕ)) (fs : List Field)
+    → text_in n (with_field e text fs) ≡ cond (eqb (element_number e) n) (or_else text (text_in n fs)) (text_in n fs)
 text_in-with n e None fs = elim (eqb (element_number e) n) as (λ b. text_in n fs ≡ cond b (text_in n fs) (text_in n fs)) [ true ↦ refl | false ↦ refl ]
 text_in-with n e (Some text) fs = refl
 

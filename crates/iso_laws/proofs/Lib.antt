@@ -20,7 +20,6 @@ pub mod Originals
 pub mod Present
 pub mod Replies
 pub mod Rules
-pub mod Scopes
 pub mod Transactions
 pub mod TypeFaults
 pub mod Whole

@@ -26,7 +26,7 @@ use Rattle.iso_laws.proofs.Forms.{suits, AreKept, has_form, form_fields, each_kn
 use Rattle.iso_laws.proofs.Transactions.{transaction_known, transaction_again, some_text, known_text, is_transaction, transaction_text_from}
 use Rattle.iso_laws.proofs.Amounts.{amount_bound, action_bound, original_amount, original_again}
 use Rattle.iso_laws.proofs.Present.{rule_ok}
-use Rattle.iso_laws.proofs.Scopes.{full_function, partial_function}
+use Rattle.iso_laws.proofs.Rules.{full_function, partial_function}
 use Rattle.iso_laws.proofs.Originals.{original_is_text, original_again as reference_again, original_text_from, is_original_from}
 use Rattle.iso_laws.proofs.Whole.{AreFields, no_spelling_begins_another}
 
@@ -144,7 +144,8 @@ same_message m n h k e f =
     let both : message_from (mti_of m) (message_texts m) ≡ message_from (mti_of n) (message_texts n) = cc in
     sym (message_again m h) ∙ (both ∙ message_again n k)
 
-pub messages_apart : (m n : Message) (x y : List ℕ) → IsMessage m → IsMessage n → message_spelling m ++ x ≡ message_spelling n ++ y → (m ≡ n) × (x ≡ y)
+pub messages_apart : (m n : Message) (x y : List ℕ) → IsMessage m → IsMessage n
+    → message_spelling m ++ x ≡ message_spelling n ++ y → (m ≡ n) × (x ≡ y)
 messages_apart m n x y h k e =
     let same = no_spelling_begins_another (mti_of m) (mti_of n) (fields_of m) (fields_of n) x y (message_are m h) (message_are n k) e in
     (same_message m n h k same.0 same.1, same.2)
@@ -159,7 +160,8 @@ pub is_account_from : (o : Option (List ℕ)) → IfSome o (IsText element.Accou
 is_account_from None h = tt
 is_account_from (Some text) h = h
 
-pub action_text_from : (o : Option (List ℕ)) → IsSome o → IfSome o (IsText element.Action) → Some (fixed_digits 3 (number_of (text_or_none o))) ≡ o
+pub action_text_from : (o : Option (List ℕ)) → IsSome o → IfSome o (IsText element.Action)
+    → Some (fixed_digits 3 (number_of (text_or_none o))) ≡ o
 action_text_from None h k = absurd cc
 action_text_from (Some text) h k = ap Some (fixed_digits-number_of 3 text k.0 k.1)
 
@@ -167,7 +169,8 @@ pub action_from_bound : (o : Option (List ℕ)) → IsSome o → IfSome o (IsTex
 action_from_bound None h k = absurd cc
 action_from_bound (Some text) h k = action_bound text k.0 k.1
 
-scope_function_from : (amount text : Option (List ℕ)) → IsSome text → is_ok (rule_of Scope (λ _. is_some amount) text) ≡ true → Some (scope_function (scope_from amount)) ≡ text
+scope_function_from : (amount text : Option (List ℕ)) → IsSome text
+    → is_ok (rule_of Scope (λ _. is_some amount) text) ≡ true → Some (scope_function (scope_from amount)) ≡ text
 scope_function_from amount None h k = absurd cc
 scope_function_from None (Some text) h k = ap Some (full_function text (rule_ok (scope_at false text) k))
 scope_function_from (Some amount) (Some text) h k = ap Some (partial_function text (rule_ok (scope_at true text) k))
@@ -180,7 +183,8 @@ is_scope_from : (o : Option (List ℕ)) → IfSome o (IsText element.OriginalAmo
 is_scope_from None h = tt
 is_scope_from (Some text) h = (let half = original_amount text h in amount_bound (take 12 text) half.0 half.1)
 
-original_from_text : (o : Option (List ℕ)) → IsSome o → IfSome o (IsText element.Original) → Some (original_text (original_from (text_or_none o))) ≡ o
+original_from_text : (o : Option (List ℕ)) → IsSome o → IfSome o (IsText element.Original)
+    → Some (original_text (original_from (text_or_none o))) ≡ o
 original_from_text None h k = absurd cc
 original_from_text (Some text) h k = ap Some (original_text_from text k)
 
@@ -191,7 +195,8 @@ pub record SaysMessage (t : Mti) (text : Texts) (m : Message) : Type 0 where
   pub values : IsMessage m
 
 module _ (text : Texts) (texts : (e : Element) → IfSome (text e) (IsText e)) where
-  request_texts : (repeat : Bool) → HasForm (parts_of mti.Request) text → (e : Element) → message_texts (request_from repeat text) e ≡ text e
+  request_texts : (repeat : Bool) → HasForm (parts_of mti.Request) text → (e : Element)
+      → message_texts (request_from repeat text) e ≡ text e
   request_texts repeat form element.Function = some_text (text element.Function) (form.required element.Function refl)
   request_texts repeat form element.Account = account_text_from (text element.Account)
   request_texts repeat form e = transaction_text_from mti.Request text form texts e (λ h. cc)
@@ -202,7 +207,8 @@ module _ (text : Texts) (texts : (e : Element) → IfSome (text e) (IsText e)) w
   advice_texts repeat form element.Account = account_text_from (text element.Account)
   advice_texts repeat form e = transaction_text_from mti.Advice text form texts e (λ h. cc)
 
-  reversal_texts : (repeat : Bool) → HasForm (parts_of mti.Reversal) text → (e : Element) → message_texts (reversal_from repeat text) e ≡ text e
+  reversal_texts : (repeat : Bool) → HasForm (parts_of mti.Reversal) text → (e : Element)
+      → message_texts (reversal_from repeat text) e ≡ text e
   reversal_texts repeat form element.Function =
       scope_function_from (text element.OriginalAmount) (text element.Function) (form.required element.Function refl) (and_parts _ true form.ruled).0
   reversal_texts repeat form element.OriginalAmount = scope_amount_from (text element.OriginalAmount) (texts element.OriginalAmount)

@@ -28,7 +28,7 @@ use Rattle.iso_laws.proofs.Forms.{suits, AreKept, has_form, form_fields, each_kn
 use Rattle.iso_laws.proofs.Transactions.{transaction_known, transaction_again, is_transaction, transaction_text_from}
 use Rattle.iso_laws.proofs.Amounts.{action_bound}
 use Rattle.iso_laws.proofs.Present.{rule_ok}
-use Rattle.iso_laws.proofs.Scopes.{approved_action, declined_action}
+use Rattle.iso_laws.proofs.Rules.{approved_action, is_declined}
 use Rattle.iso_laws.proofs.Messages.{action_known, account_known, account_again, account_text_from, is_account_from, action_text_from, action_from_bound}
 use Rattle.iso_laws.proofs.Whole.{AreFields, no_spelling_begins_another}
 
@@ -49,7 +49,8 @@ not_approved code some fits =
 abbrev reply_to : Transaction → Answer → Reply
 reply_to t a = record { transaction = t; answer = a }
 
-texts_known : (t : Transaction) (a : Answer) → IsTransaction t → IsAnswer a → (e : Element) → IfSome (reply_texts (reply_to t a) e) (IsText e)
+texts_known : (t : Transaction) (a : Answer) → IsTransaction t → IsAnswer a → (e : Element)
+    → IfSome (reply_texts (reply_to t a) e) (IsText e)
 texts_known t (answer.Request (Approved code) account) h k element.Approval = k.0
 texts_known t (answer.Request (Approved code) account) h k element.Action = (refl, refl, refl)
 texts_known t (answer.Request (Approved code) account) h k element.Account = account_known account k.1
@@ -107,13 +108,14 @@ replies_apart r q x y h k e =
 
 -- ---- texts of the form of a type are those of the reply that they say
 
-verdict_texts : (code action : Option (List ℕ)) → IsSome action → IfSome code (IsText element.Approval) → IfSome action (IsText element.Action) → is_ok (rule_of VerdictRule (λ _. is_some code) action) ≡ true
+verdict_texts : (code action : Option (List ℕ)) → IsSome action → IfSome code (IsText element.Approval)
+    → IfSome action (IsText element.Action) → is_ok (rule_of VerdictRule (λ _. is_some code) action) ≡ true
     → (verdict_approval (verdict_from code action) ≡ code) × (Some (verdict_action (verdict_from code action)) ≡ action) × IsVerdict (verdict_from code action)
 verdict_texts code None h k l m = absurd cc
 verdict_texts (Some code) (Some action) h k l m = (refl, ap Some (approved_action action (rule_ok (verdict_at true action) m)), k)
 verdict_texts None (Some action) h k l m =
     let again = fixed_digits-number_of 3 action l.0 l.1 in
-    (refl, ap Some again, (declined_action action (number_of action) (rule_ok (verdict_at false action) m) again, action_bound action l.0 l.1))
+    (refl, ap Some again, (is_declined action l (rule_ok (verdict_at false action) m), action_bound action l.0 l.1))
 
 -- the reply is one of the type, and has these texts
 pub record SaysReply (t : Mti) (text : Texts) (r : Reply) : Type 0 where

@@ -1,15 +1,21 @@
 -- The rules of elements 24 and 39: what reading finds by them.
-use Rattle.std.proofs.Common.{◌≡◌, ◌≢◌, ◌⊎◌, ℕ, Bool, true, false, List, Some, Ok, Err, refl, inl, inr}
+use Rattle.std.proofs.Common.{◌≡◌, ◌≢◌, ◌⊎◌, ℕ, ◌<◌, Bool, true, false, List, Some, Ok, Err, refl, sym, ap, ◌∙◌, arith, inl, inr}
 use Rattle.std.specs.Prelude.{codes}
 use Rattle.std.specs.Str.{bytes_eq}
+use Rattle.std.proofs.lemmas.Bool.{cases_lt}
 use Rattle.std.proofs.lemmas.Slice.Eq.{bytes_eq-Decides}
+use Rattle.iso8583.proofs.NumberLaws.{fixed_digits-number_of}
+use Rattle.iso8583.specs.Number.{number_of, fixed_digits}
 use Rattle.iso8583.specs.declared.codec_fault.CodecFault.{CodecFault}
 use Rattle.iso8583.specs.declared.codec_fault.CodecFault.TheVariants.{Unexpected, Missing, BadValue}
 use Rattle.iso_laws.specs.declared.rule.Rule.{Rule}
 use Rattle.iso_laws.specs.declared.rule.Rule.TheVariants.{Free, Scope, Verdict}
+use Rattle.iso_laws.specs.declared.element.Element.TheVariants as element
+use Rattle.iso_laws.specs.Elements.{IsText}
 use Rattle.iso_laws.specs.Spelling.{is_set}
 use Rattle.iso_laws.specs.Reading.{scope_at, verdict_at, rule_at}
 use Rattle.iso_laws.specs.FirstWrong.{IsRuled, BreaksRule}
+use Rattle.iso_laws.proofs.Codes.{zero_text}
 
 -- two texts are the same or not, and the test says which
 tells : (xs ys : List ℕ) → ((xs ≡ ys) × (bytes_eq xs ys ≡ true)) ⊎ ((xs ≢ ys) × (bytes_eq xs ys ≡ false))
@@ -118,3 +124,48 @@ none_found Scope bitmap text (inl x) = rw (x.0, x.1) refl
 none_found Scope bitmap text (inr x) = rw (x.0, x.1) refl
 none_found Verdict bitmap text (inl x) = rw (x.0, x.1) refl
 none_found Verdict bitmap text (inr x) = rw (differs text (codes "000") x.0, x.1) refl
+
+-- ---- what the rules leave of elements 24 and 39
+
+pub full_function : (text : List ℕ) → scope_at false text ≡ Ok tt → codes "400" ≡ text
+unfolding scope_at
+full_function text h =
+    elim (tells text (codes "400")) [
+      | inl x ↦ sym x.0
+      | inr x ↦ elim (tells text (codes "401")) [
+        | inl y ↦ (let found = rw (x.1, y.1) at h in absurd cc)
+        | inr y ↦ (let found = rw (x.1, y.1) at h in absurd cc)
+      ]
+    ]
+
+pub partial_function : (text : List ℕ) → scope_at true text ≡ Ok tt → codes "401" ≡ text
+unfolding scope_at
+partial_function text h =
+    elim (tells text (codes "400")) [
+      | inl x ↦ (let found = rw x.1 at h in absurd cc)
+      | inr x ↦ elim (tells text (codes "401")) [
+        | inl y ↦ sym y.0
+        | inr y ↦ (let found = rw (x.1, y.1) at h in absurd cc)
+      ]
+    ]
+
+pub approved_action : (text : List ℕ) → verdict_at true text ≡ Ok tt → codes "000" ≡ text
+unfolding verdict_at
+approved_action text h =
+    elim (tells text (codes "000")) [
+      | inl x ↦ sym x.0
+      | inr x ↦ (let found = rw x.1 at h in absurd cc)
+    ]
+
+-- an action that the rule takes without an approval code is a decline
+pub is_declined : (text : List ℕ) → IsText element.Action text → verdict_at false text ≡ Ok tt → 0 < number_of text
+unfolding verdict_at
+is_declined text known h =
+    elim (cases_lt 0 (number_of text)) [
+      | inl lt ↦ lt
+      | inr le ↦
+          (let none : number_of text ≡ 0 = omega arith in
+          let same : text ≡ codes "000" = sym (fixed_digits-number_of 3 text known.0 known.1) ∙ (ap (fixed_digits 3) none ∙ zero_text) in
+          let found = rw same at h in
+          absurd cc)
+    ]

@@ -17,7 +17,8 @@ use Rattle.iso_laws.specs.Reading.{is_listed, is_required}
 use Rattle.iso_laws.specs.Transactions.{transaction_texts, IsTransaction, retrieval_from, transaction_from}
 use Rattle.iso_laws.proofs.Amounts.{amount_bound}
 
-retrieval_known : (r : Option Retrieval) → IfSome r (λ t. IsText element.Retrieval t.0) → IfSome (option_map (λ t. t.0) r) (IsText element.Retrieval)
+retrieval_known : (r : Option Retrieval) → IfSome r (λ t. IsText element.Retrieval t.0)
+    → IfSome (option_map (λ t. t.0) r) (IsText element.Retrieval)
 retrieval_known None h = tt
 retrieval_known (Some r) h = h
 
@@ -47,7 +48,8 @@ retrieval_from_text : (o : Option (List ℕ)) → option_map (λ r. r.0) (retrie
 retrieval_from_text None = refl
 retrieval_from_text (Some text) = refl
 
-retrieval_of_text : (o : Option (List ℕ)) → IfSome o (IsText element.Retrieval) → IfSome (retrieval_from o) (λ r. IsText element.Retrieval r.0)
+retrieval_of_text : (o : Option (List ℕ)) → IfSome o (IsText element.Retrieval)
+    → IfSome (retrieval_from o) (λ r. IsText element.Retrieval r.0)
 retrieval_of_text None h = tt
 retrieval_of_text (Some text) h = h
 
@@ -61,7 +63,8 @@ is_common e = is_required common (element_number e)
 abbrev pub is_shared : Element → Bool
 is_shared e = is_listed common (element_number e)
 
-pub common_among : (f : ℕ → Bool) (ps : List Part) (n : ℕ) → list_all (λ p. not p.0 || f (element_number p.1)) ps ≡ true → is_required ps n ≡ true → f n ≡ true
+pub common_among : (f : ℕ → Bool) (ps : List Part) (n : ℕ) → list_all (λ p. not p.0 || f (element_number p.1)) ps ≡ true
+    → is_required ps n ≡ true → f n ≡ true
 common_among f [] n h k = absurd cc
 common_among f ((true, e, r) ∷ ps) n h k =
     let both = and_parts (f (element_number e)) (list_all (λ p. not p.0 || f (element_number p.1)) ps) h in
@@ -109,7 +112,8 @@ module _ (t : Mti) (text : Texts) (form : HasForm (parts_of t) text) (texts : (e
   not_shared _ h = cc
 
   -- the texts of a transaction, where the type has no others
-  pub transaction_text_from : (e : Element) → (is_shared e ≡ false → is_listed (parts_of t) (element_number e) ≡ false) → transaction_texts (transaction_from text) e ≡ text e
+  pub transaction_text_from : (e : Element) → (is_shared e ≡ false → is_listed (parts_of t) (element_number e) ≡ false)
+      → transaction_texts (transaction_from text) e ≡ text e
   transaction_text_from element.Retrieval other = retrieval_from_text (text element.Retrieval)
   transaction_text_from e other =
       elim (is_common e) as (λ b. is_common e ≡ b → transaction_texts (transaction_from text) e ≡ text e) [
