@@ -6,12 +6,12 @@ use issuer_rules::decide_all;
 use std::alloc::Global;
 use std::process::Abort;
 use test_fixtures::{
-    advice_rules, first_wrong, frames, opening, request_rules, reversal_rules, unchecked_rules,
-    worked,
+    advice_rules, first_wrong, frames, law_batches, opening, request_rules, reversal_rules,
+    unchecked_rules, worked,
 };
 
 // The bodies decided on the batch's book, one after another.
-fn decided(alloc: Global, batch: &str, frames: &[Frame]) -> Option<Prefix> {
+pub(crate) fn decided(alloc: Global, batch: &str, frames: &[Frame]) -> Option<Prefix> {
     let opening = Prefix::new(alloc, opening(alloc, batch)?);
     if frames.len() <= 64 && opening.count == 0 {
         decide_all(alloc, opening, frames).ok()
@@ -36,12 +36,13 @@ fn assert_batches(rt: &impl Abort, alloc: Global, batches: &str) {
     }
 }
 
-// Those that were worked out by hand, those by each rule, and those on books that `check_book` refuses.
+// Those that were worked out by hand, those by each rule, those of the laws, and those on books that `check_book` refuses.
 #[test]
 fn decides_the_batches(rt: HostRuntime) {
     assert_batches(&rt, rt.alloc(), worked());
     assert_batches(&rt, rt.alloc(), request_rules());
     assert_batches(&rt, rt.alloc(), advice_rules());
     assert_batches(&rt, rt.alloc(), reversal_rules());
+    assert_batches(&rt, rt.alloc(), law_batches());
     assert_batches(&rt, rt.alloc(), unchecked_rules());
 }
