@@ -42,5 +42,4 @@ abbrev pub IsShowingFault : Holding → List ℕ → Type 0 → JobFault → Typ
 IsShowingFault old name read_failed (Batch fault) = IsTrue (is_of_bytes fault) × ((bytes : List ℕ) → old name bytes → FailsAsShown bytes fault)
 IsShowingFault old name read_failed Unreadable = (bytes : List ℕ) → old name bytes → read_failed
 IsShowingFault old name read_failed OutOfMemory = Unit {0}
-
 IsShowingFault _ _ _ _ = ⊥

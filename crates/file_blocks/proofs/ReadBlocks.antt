@@ -26,8 +26,7 @@ pub is_file : {A : Type 0} (is : List ℕ → List A → List ℕ → Type 0) (m
     → block_head_at magic bytes ≡ Ok (count, behind) → InTurn is behind (items_of blocks) left → length blocks ≡ count → ended left ≡ Ok tt
     → IsFileInTurn magic is bytes (items_of blocks)
 is_file is magic bytes behind left count blocks head are same end =
-    let all : count ≡ length (items_of blocks) = sym same ∙ sym (length-map blocks (λ block. block.items)) in
-    (
+    let all : count ≡ length (items_of blocks) = sym same ∙ sym (length-map blocks (λ block. block.items)) in (
       behind,
       subst (λ (n : ℕ). block_head_at magic bytes ≡ Ok (n, behind)) all head,
       subst (λ (l : List ℕ). InTurn is behind (items_of blocks) l) (nothing_left left end) are,

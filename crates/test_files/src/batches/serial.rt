@@ -44,8 +44,7 @@ pub(crate) fn process_serially<T: Threads + Wait + Sync, R: Source, W: Sink>(
     book: &Book,
     source: &mut R,
     sink: &mut W,
-) -> Result<Book, BatchFault>
-{
+) -> Result<Book, BatchFault> {
     match way {
         Way::Whole => process_whole(alloc, book, source, sink),
         Way::InOrder => process_while_reading(rt, alloc, book, source, sink),
@@ -57,8 +56,7 @@ fn process_whole<R: Source, W: Sink>(
     book: &Book,
     source: &mut R,
     sink: &mut W,
-) -> Result<Book, BatchFault>
-{
+) -> Result<Book, BatchFault> {
     let decide = |book: &Book, frames: &[Frame]| -> Result<RunOutcome, AllocError>
         requires { length frames.now ≤ 65536 }
         ensures { AnswersFold book.entry.now frames.entry.now result }
@@ -75,8 +73,7 @@ fn process_while_reading<T: Threads + Wait + Sync, R: Source, W: Sink>(
     book: &Book,
     source: &mut R,
     sink: &mut W,
-) -> Result<Book, BatchFault>
-{
+) -> Result<Book, BatchFault> {
     let book = book.copy()?;
     let answered = match decide_in_order(rt, alloc, book, source, &Shipped) {
         Ok(answered) => answered,

@@ -38,8 +38,7 @@ pub(crate) fn decided<R: Source, W: Sink>(
     book: &Book,
     source: &mut R,
     sink: &mut W,
-) -> Result<Came, AllocError>
-{
+) -> Result<Came, AllocError> {
     let decide = |book: &Book, frames: &[Frame]| -> Result<RunOutcome, AllocError>
         requires { length frames.now ≤ 65536 }
         ensures { AnswersFold book.entry.now frames.entry.now result }

@@ -27,8 +27,10 @@ returns-in_err-block-clause-gives g c = λ known.
       replies_of c.loop.blocks.items,
       ahead c.loop.window (g.R.Source.remaining c.loop.source),
       c.loop.invariant.blocks known,
-      inl (omega (arith, c.loop-test.true, c.loop.invariant.count, length-map c.loop.blocks.items (λ block. block.items)),
-      rw c.loop.invariant.from at (c.in_err-block.ensures.gives (c.loop.invariant.device.known known) of_bytes)),
+      inl (
+        omega (arith, c.loop-test.true, c.loop.invariant.count, length-map c.loop.blocks.items (λ block. block.items)),
+        rw c.loop.invariant.from at (c.in_err-block.ensures.gives (c.loop.invariant.device.known known) of_bytes),
+      ),
     ))
 
 pub loop-preserved : goal.loop-preserved
