@@ -9,9 +9,7 @@ use std::process::Abort;
 use std::sync::Wait;
 use std::thread::Threads;
 use std::time::Clock;
-use test_fixtures::{
-    advice_rules, law_batches, request_rules, reversal_rules, unchecked_rules, worked,
-};
+use test_fixtures::{advice_rules, laws, request_rules, reversal_rules, unchecked_rules, worked};
 
 // How long each message is held: some ten microseconds, in which others are executed.
 const SPINS: u32 = 500;
@@ -77,6 +75,6 @@ fn runs_batches_by_each_rule(rt: HostRuntime) {
     assert_batches(&rt, rt.alloc(), request_rules());
     assert_batches(&rt, rt.alloc(), advice_rules());
     assert_batches(&rt, rt.alloc(), reversal_rules());
-    assert_batches(&rt, rt.alloc(), law_batches());
+    assert_batches(&rt, rt.alloc(), laws());
     assert_batches(&rt, rt.alloc(), unchecked_rules());
 }

@@ -124,6 +124,6 @@ rows 7
 ";
 
 /// Batches that show what the laws say of all of them.
-pub fn law_batches() -> &'static str {
+pub fn laws() -> &'static str {
     LAW_BATCHES
 }

@@ -6,7 +6,7 @@ use issuer_rules::decide_all;
 use std::alloc::Global;
 use std::process::Abort;
 use test_fixtures::{
-    advice_rules, first_wrong, frames, law_batches, opening, request_rules, reversal_rules,
+    advice_rules, first_wrong, frames, laws, opening, request_rules, reversal_rules,
     unchecked_rules, worked,
 };
 
@@ -43,6 +43,6 @@ fn decides_the_batches(rt: HostRuntime) {
     assert_batches(&rt, rt.alloc(), request_rules());
     assert_batches(&rt, rt.alloc(), advice_rules());
     assert_batches(&rt, rt.alloc(), reversal_rules());
-    assert_batches(&rt, rt.alloc(), law_batches());
+    assert_batches(&rt, rt.alloc(), laws());
     assert_batches(&rt, rt.alloc(), unchecked_rules());
 }

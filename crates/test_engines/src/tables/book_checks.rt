@@ -8,8 +8,8 @@ use std::ops::Range;
 use std::process::Abort;
 use std::test::Fail;
 use test_fixtures::{
-    advice_rules, first_book_with, frames, is_put, law_batches, opening, request_rules,
-    reversal_rules, unchecked_rules, worked,
+    advice_rules, first_book_with, frames, is_put, laws, opening, request_rules, reversal_rules,
+    unchecked_rules, worked,
 };
 
 // The number of what is wrong, a name, and the rows that are written over those of the first book: each fault, in each way that it
@@ -166,7 +166,7 @@ fn takes_the_books_of_the_batches(rt: HostRuntime) {
     assert_taken(&rt, rt.alloc(), request_rules(), true);
     assert_taken(&rt, rt.alloc(), advice_rules(), true);
     assert_taken(&rt, rt.alloc(), reversal_rules(), true);
-    assert_taken(&rt, rt.alloc(), law_batches(), true);
+    assert_taken(&rt, rt.alloc(), laws(), true);
     assert_taken(&rt, rt.alloc(), unchecked_rules(), false);
 }
 
@@ -179,7 +179,7 @@ fn number_behind(alloc: Global, batch: &str) -> Option<u8> {
 
 #[test]
 fn a_book_stays_a_book(rt: HostRuntime) {
-    for batch in law_batches().split("\n\n") {
+    for batch in laws().split("\n\n") {
         assert!(rt; number_behind(rt.alloc(), batch) == Some(0), "{batch}");
     }
 }
