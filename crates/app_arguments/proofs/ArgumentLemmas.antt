@@ -1,5 +1,5 @@
 -- From the words' reader to what the words are read as.
-use Rattle.std.proofs.Common.{◌≡◌, ◌⊎◌, ◌≤◌, ◌&&◌, ℕ, List, [], Option, Some, None, codes, inl, inr, refl, sym, ◌∙◌, true, false, Bool, arith, nat_lt, length, string_bytes, option_map, option_and_then, Result, Ok, Err, if◌then◌else◌}
+use Rattle.std.proofs.Common.{◌≡◌, ◌⊎◌, ◌≤◌, ◌&&◌, ℕ, List, [], Option, Some, None, codes, inl, inr, refl, sym, ◌∙◌, true, false, Bool, arith, nat_lt, string_bytes, option_map, option_and_then, Result, Ok, Err, if◌then◌else◌}
 use Rattle.std.proofs.lemmas.Bool.Decides.{nat_tests}
 use Rattle.std.specs.Option.{SomeIff}
 use Rattle.clap.proofs.OnLiterals.{clap_on_literals}

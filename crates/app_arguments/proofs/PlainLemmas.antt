@@ -1,5 +1,5 @@
 -- How plain words are read.
-use Rattle.std.proofs.Common.{◌≡◌, ◌==◌, ℕ, Bool, true, false, List, [], ◌∷◌, ◌%◌, length, Ok, Err, inl, refl, codes, ap, ap₂, ◌∙◌, arith, Some, find, fold, unwrap_or, inr, option_map, if◌then◌else◌}
+use Rattle.std.proofs.Common.{◌≡◌, ◌==◌, ℕ, Bool, true, false, List, [], ◌∷◌, ◌%◌, length, Err, inl, refl, codes, ap, ap₂, ◌∙◌, arith, Some, find, fold, unwrap_or, inr, option_map, if◌then◌else◌}
 use Rattle.std.proofs.lemmas.Bool.Decides.{nat_tests}
 use Rattle.clap.proofs.OnLiterals.{clap_on_literals}
 use Rattle.clap.specs.Faults.{fault_of, level_fault, step_fault, turn_fault, walk_fault}
@@ -7,7 +7,7 @@ use Rattle.clap.specs.Kinds.{Kinds, or_else}
 use Rattle.clap.specs.Simple.{Shape, built, label_of, new_rule, new_shape}
 use Rattle.clap.specs.Walk.{Held, Rule, Step, Text, Walk, after_step, answers_to, arg_by_index, finished, idle, nothing_held, option, plain_word, settled, walked}
 use Rattle.clap.specs.declared.error.kind.ErrorKind.TheVariants as kinds
-use Rattle.hex.specs.Hex.{decode_of, decode_pairs}
+use Rattle.hex.specs.Hex.{decode_pairs}
 use Rattle.hex.specs.declared.error.FromHexError.{FromHexError}
 use Rattle.file_listing.specs.Bodies.{body_of, fitting}
 use Rattle.app_arguments.specs.Plainly.{ArePlain, IsPlain, JournalIsRead, JournalAuditIsRead, AuditIsRead, BlockAuditIsRead, BlocksAreRead, OneFrameIsRead, HelpIsRead, IsNoCommand, RunIsRead, SerialIsRead, SplitBlocksAreRead, SplitIsRead, SplitJournalIsNone, VersionIsRead}

@@ -1,5 +1,5 @@
 -- From what is asked for to what the words ask for.
-use Rattle.std.proofs.Common.{◌≡◌, ◌≢◌, ℕ, List, Option, Some, None, Result, Ok, Err, MatchResult, refl}
+use Rattle.std.proofs.Common.{◌≡◌, ℕ, List, Option, Some, None, Result, Ok, Err, MatchResult, refl}
 use Rattle.file_batch_laws.specs.declared.batch_fault.BatchFault.{BatchFault}
 use Rattle.app_jobs.specs.DecidedBlocks.{AreBlocksKept}
 use Rattle.app_jobs.specs.BlockFaults.{IsBlocksFault}

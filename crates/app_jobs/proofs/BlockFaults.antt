@@ -5,17 +5,15 @@ use Rattle.file_blocks.specs.Blocks.{StopsBefore, StopsInHead, StopsInBlocks}
 use Rattle.file_batch_laws.specs.BatchFault.{failed_at, is_of_bytes}
 use Rattle.file_batch_laws.specs.declared.batch_fault.BatchFault.{BatchFault}
 use Rattle.file_devices.specs.Failing.{HasFailed}
-use Rattle.file_devices.specs.declared.read_fault.ReadFault.{ReadFault}
-use Rattle.file_devices.specs.declared.read_fault.ReadFault.TheVariants as read
 use Rattle.file_devices.specs.declared.write_fault.WriteFault.{WriteFault}
 use Rattle.file_devices.specs.declared.write_fault.WriteFault.TheVariants as write
 use Rattle.issuer_rows.specs.Fold.{Rows}
 use Rattle.app_jobs.specs.Decided.{Holding}
-use Rattle.app_jobs.specs.JobFault.{fault_of_close, fault_of_read, fault_of_write}
+use Rattle.app_jobs.specs.JobFault.{fault_of_close}
 use Rattle.app_jobs.specs.declared.job_fault.JobFault.TheVariants.{Batch}
 use Rattle.app_jobs.proofs.Faults.{one_failed}
 use Rattle.app_jobs.proofs.FirstBlocks.{device_alone}
-use Rattle.app_jobs.specs.BlockFaults.{FailsAsBlocks, IsBlockFileFault, IsBlockRepliesFault}
+use Rattle.app_jobs.specs.BlockFaults.{FailsAsBlocks, IsBlockFileFault}
 
 -- where blocks stop for what the bytes are, that is the bytes' first fault
 pub first_fault : (rows after : Rows) (count : ℕ) (reads : Type 0) (bytes : List ℕ) (puts : Type 0) (start written : List ℕ) (fault : BatchFault) (same failed : Type 0)

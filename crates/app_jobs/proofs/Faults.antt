@@ -2,15 +2,13 @@
 use Rattle.std.proofs.Common.{◌≡◌, ◌⊎◌, ◌||◌, ℕ, Bool, true, List, inl, inr, refl}
 use Rattle.std.proofs.lemmas.Bool.{or_cases}
 use Rattle.file_devices.specs.Failing.{HasFailed}
-use Rattle.file_devices.specs.declared.read_fault.ReadFault.{ReadFault}
-use Rattle.file_devices.specs.declared.read_fault.ReadFault.TheVariants as read
 use Rattle.file_devices.specs.declared.write_fault.WriteFault.{WriteFault}
 use Rattle.file_devices.specs.declared.write_fault.WriteFault.TheVariants as write
 use Rattle.app_jobs.specs.Decided.{Holding}
-use Rattle.app_jobs.specs.Faults.{HoldsSameOrNothing, IsBatchFault, IsRepliesFault, IsBookFault, IsOfBytes, IsPuttingFault, IsReplyFileFault}
-use Rattle.app_jobs.specs.JobFault.{fault_of_close, fault_of_read, fault_of_write}
+use Rattle.app_jobs.specs.Faults.{IsBatchFault, IsRepliesFault, IsOfBytes, IsPuttingFault}
+use Rattle.app_jobs.specs.JobFault.{fault_of_close, fault_of_write}
 use Rattle.app_jobs.specs.declared.job_fault.JobFault.{JobFault}
-use Rattle.app_jobs.specs.declared.job_fault.JobFault.TheVariants.{Unreadable, Unwritable, Book, Batch, Journal, Text, OutOfMemory}
+use Rattle.app_jobs.specs.declared.job_fault.JobFault.TheVariants.{Book, Batch, OutOfMemory}
 
 -- replies that can't be closed
 pub unclosed : (old : Holding) (name : List ℕ) (read_failed put_failed refused : Type 0) (e : WriteFault)

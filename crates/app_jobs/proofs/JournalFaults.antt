@@ -1,10 +1,8 @@
 -- Faults of an audit's journal.
-use Rattle.std.proofs.Common.{◌≡◌, ◌≢◌, ℕ, List, Result, Err, refl}
+use Rattle.std.proofs.Common.{◌≡◌, ℕ, List, Result, Err, refl}
 use Rattle.file_batch_laws.specs.Frames.{IsBatchOf}
-use Rattle.file_devices.specs.declared.read_fault.ReadFault.{ReadFault}
-use Rattle.file_devices.specs.declared.read_fault.ReadFault.TheVariants as read
 use Rattle.stm_journal_text.specs.Logged.{IsFirstUnlogged, greatest}
-use Rattle.stm_journal_text.specs.Journal.{AreEntries, IsFirstWrongLine, journal_text}
+use Rattle.stm_journal_text.specs.Journal.{AreEntries, journal_text}
 use Rattle.stm_journal_text.specs.declared.entry.Entry.{Entry}
 use Rattle.stm_journal_text.specs.declared.replay_fault.ReplayFault.{ReplayFault}
 use Rattle.stm_journal_text.specs.declared.replay_fault.ReplayFault.TheVariants as replay
@@ -13,8 +11,7 @@ use Rattle.issuer_rows.specs.declared.frame.Frame.{Frame}
 use Rattle.stm_core_laws.specs.Play.{opening_play}
 use Rattle.file_devices.specs.BatchNames.{Names}
 use Rattle.app_jobs.specs.Decided.{Holding, IsBookOf}
-use Rattle.app_jobs.specs.JobFault.{fault_of_read}
-use Rattle.app_jobs.specs.JournalFaults.{IsJournalFault, IsUnplayed, IsWrongJournal}
+use Rattle.app_jobs.specs.JournalFaults.{IsUnplayed}
 
 -- a journal that isn't played
 pub unplayed : {T : Type 0} (old : Holding) (names : Names) (journal : List ℕ) (rows : Rows) (frames : List Frame) (entries : List Entry) (e : ReplayFault)

@@ -9,16 +9,11 @@ use Rattle.hex.specs.Hex.{decode_of}
 use Rattle.hex.specs.declared.FromHexError.{FromHexError}
 use Rattle.file_batch.specs.Bodies.{bytes_of}
 use Rattle.file_batch_laws.specs.Files.{AreBodies, IsBody}
-use Rattle.file_devices.specs.declared.read_fault.ReadFault.{ReadFault}
-use Rattle.file_devices.specs.declared.read_fault.ReadFault.TheVariants as read
 use Rattle.file_devices.specs.declared.write_fault.WriteFault.{WriteFault}
 use Rattle.file_devices.specs.declared.write_fault.WriteFault.TheVariants as write
-use Rattle.file_listing.specs.Bodies.{HasTooMany, alone, body_of, bodies_from, bodies_of, fitting, line_bodies, lines_of, then_bodies}
-use Rattle.file_listing.specs.declared.listing_fault.ListingFault.{ListingFault}
-use Rattle.file_listing.specs.declared.listing_fault.ListingFault.TheVariants as text
-use Rattle.app_jobs.specs.Decided.{Holding}
-use Rattle.app_jobs.specs.JobFault.{fault_of_close, fault_of_read, fault_of_text, fault_of_write}
-use Rattle.app_jobs.specs.Packed.{IsTextFault, IsUnwritten}
+use Rattle.file_listing.specs.Bodies.{alone, body_of, bodies_from, bodies_of, fitting, line_bodies, lines_of, then_bodies}
+use Rattle.app_jobs.specs.JobFault.{fault_of_close, fault_of_write}
+use Rattle.app_jobs.specs.Packed.{IsUnwritten}
 
 some_is : {A : Type 0} (x y : A) → Path (Option A) (Some x) (Some y) → x ≡ y
 some_is x y h = cc

@@ -12,7 +12,7 @@ use Rattle.file_devices.specs.BatchNames.{Names}
 use Rattle.app_jobs.specs.Decided.{Holding}
 use Rattle.app_jobs.specs.Faults.{IsBookFault, IsPuttingFault, IsSomeBook}
 use Rattle.app_jobs.specs.declared.job_fault.JobFault.{JobFault}
-use Rattle.app_jobs.specs.declared.job_fault.JobFault.TheVariants.{Unreadable, Unwritable, Book, Batch, Journal, Text, OutOfMemory}
+use Rattle.app_jobs.specs.declared.job_fault.JobFault.TheVariants.{Unreadable, Unwritable, Batch, OutOfMemory}
 
 -- the first fault of a block file: in the head, in a block, or behind the last one
 abbrev pub FailsAsBlocks : List ℕ → BatchFault → Type 0

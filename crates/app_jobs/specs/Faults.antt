@@ -12,7 +12,7 @@ use Rattle.issuer_rows.specs.declared.reply_body.ReplyBody.{ReplyBody}
 use Rattle.file_devices.specs.BatchNames.{Names}
 use Rattle.app_jobs.specs.Decided.{Holding, IsBookOf}
 use Rattle.app_jobs.specs.declared.job_fault.JobFault.{JobFault}
-use Rattle.app_jobs.specs.declared.job_fault.JobFault.TheVariants.{Unreadable, Unwritable, Book, Batch, Journal, Text, OutOfMemory}
+use Rattle.app_jobs.specs.declared.job_fault.JobFault.TheVariants.{Unreadable, Unwritable, Book, Batch, OutOfMemory}
 
 -- the file of this name, where its bytes are known, is some sound book
 abbrev pub IsSomeBook : Holding → List ℕ → Type 0

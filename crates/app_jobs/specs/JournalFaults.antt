@@ -13,7 +13,7 @@ use Rattle.file_devices.specs.BatchNames.{Names}
 use Rattle.app_jobs.specs.Decided.{Holding, IsBookOf}
 use Rattle.app_jobs.specs.Faults.{IsFaultInOrder}
 use Rattle.app_jobs.specs.declared.job_fault.JobFault.{JobFault}
-use Rattle.app_jobs.specs.declared.job_fault.JobFault.TheVariants.{Unreadable, Unwritable, Book, Batch, Journal, Text, OutOfMemory}
+use Rattle.app_jobs.specs.declared.job_fault.JobFault.TheVariants.{Unreadable, Journal, OutOfMemory}
 
 -- what is held is no journal: its first wrong line; or memory ran out
 abbrev pub IsWrongJournal : (List ℕ → Type 0) → ReplayFault → Type 0

@@ -2,8 +2,6 @@
 use Rattle.std.specs.Prelude.{◌≡◌, ℕ, List}
 use Rattle.app_audit.specs.PlayFinding.{FindsInPlay}
 use Rattle.app_audit.specs.declared.audited.Audit.{Audit}
-use Rattle.file_batch_laws.specs.Frames.{IsBatchOf}
-use Rattle.file_batch_laws.specs.Replies.{IsReplyFileOf}
 use Rattle.stm_journal_text.specs.Journal.{AreEntries, journal_text}
 use Rattle.stm_journal_text.specs.declared.entry.Entry.{Entry}
 use Rattle.issuer_rows.specs.Fold.{Rows}

@@ -6,7 +6,7 @@ use Rattle.file_batch_laws.specs.declared.batch_fault.BatchFault.TheVariants.{Co
 use Rattle.file_listing.specs.Bodies.{HasTooMany, bodies_of}
 use Rattle.app_jobs.specs.Decided.{Holding}
 use Rattle.app_jobs.specs.declared.job_fault.JobFault.{JobFault}
-use Rattle.app_jobs.specs.declared.job_fault.JobFault.TheVariants.{Unreadable, Unwritable, Book, Batch, Journal, Text, OutOfMemory}
+use Rattle.app_jobs.specs.declared.job_fault.JobFault.TheVariants.{Unreadable, Unwritable, Batch, Text, OutOfMemory}
 
 -- The file of the batch holds the bodies that the text has, so many, where it is known what files hold.
 pub record IsPacked (known : Type 0) (old new : Holding) (text batch : List ℕ) (count : ℕ) : Type 0 where

@@ -1,4 +1,4 @@
-use Rattle.std.proofs.Common.{inl, inr, string_bytes}
+use Rattle.std.proofs.Common.{inl, inr}
 use Rattle.std.proofs.lemmas.Result.{err_from_is_err_and}
 use Rattle.file_devices.specs.BatchNames.{names_of}
 use Rattle.file_devices.specs.Failing.{HasFailed}

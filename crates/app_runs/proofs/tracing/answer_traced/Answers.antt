@@ -1,4 +1,4 @@
-use Rattle.std.proofs.Common.{inl, inr, refl, string_bytes}
+use Rattle.std.proofs.Common.{refl, string_bytes}
 use Rattle.file_devices.specs.Failing.{HasFailed, HasRefused}
 use Rattle.app_jobs.proofs.Faults.{one_failed, unclosed}
 use Rattle.app_runs.proofs.tracing.answer_traced.Goals as goal

@@ -1,4 +1,4 @@
-use Rattle.std.proofs.Common.{◌≡◌, ℕ, List, Result, Err, map, sym, ap, ◌∙◌, length, ◌+◌}
+use Rattle.std.proofs.Common.{◌≡◌, ℕ, Result, Err, map, ap, ◌∙◌, length, ◌+◌}
 use Rattle.file_listing.specs.declared.listing_fault.ListingFault.{ListingFault}
 use Rattle.file_listing.specs.declared.listing_fault.ListingFault.TheVariants.{Line}
 use Rattle.file_listing.proofs.LineSteps.{goes_on, wrong_line, ends, ends_wrong, shorter}
