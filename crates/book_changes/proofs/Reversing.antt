@@ -35,16 +35,16 @@ use Rattle.issuer_laws.proofs.Sums.{part, sum-insert}
 use Rattle.issuer_laws.specs.Covered.{is_open_request, open_in, AreDaysCovered}
 use Rattle.issuer_laws.specs.Messages.{reversal_frame, HasAction}
 use Rattle.issuer_laws.specs.Rules.{Conditions, first_of, has, comes_to, row_of_payer, row_that_paid, day_of_row, reversal_facts_of, is_mark, is_kept_so, is_request, is_reversed_by, gives_back, reversal_conditions, EndsGivenBack, ReversalEnds}
-use Rattle.issuer_laws.specs.declared.rule.Rule.{Rule}
+use Rattle.issuer_laws.specs.declared.decision_rule.DecisionRule.{DecisionRule}
 use Rattle.book_laws.specs.CheckBook.{has_payer, is_backed}
 use Rattle.book_changes.proofs.Reversible.{budgets_stay}
 use Rattle.book_changes.proofs.Sound.{is_kept, kept_backed, stays_sound}
 use Rattle.book_changes.specs.Reversible.{has_budget, is_budget_there, CanReverse, IsRightReversal, IsDone}
 
 -- where no condition holds, the last rule decides
-none_holds : (cs : Conditions) (last : Rule) → AllByRecursion (λ c. c.1 ≡ false) cs → first_of cs last ≡ last
+none_holds : (cs : Conditions) (last : DecisionRule) → AllByRecursion (λ c. c.1 ≡ false) cs → first_of cs last ≡ last
 none_holds [] last h = refl
-none_holds (c ∷ cs) last h = ap (λ (b : Bool). if◌then◌else◌ {A = Rule} b c.0 (first_of cs last)) h.0 ∙ none_holds cs last h.1
+none_holds (c ∷ cs) last h = ap (λ (b : Bool). if◌then◌else◌ {A = DecisionRule} b c.0 (first_of cs last)) h.0 ∙ none_holds cs last h.1
 
 -- a row counts no more than all rows do
 row_within : (f : RowKey × RowVal → ℕ) (rows : Rows) (k : RowKey) (nothing : RowVal) → f (k, nothing) ≡ 0 → part f k (map.get rows k) ≤ sum_by f (map.entries rows)
@@ -217,8 +217,8 @@ given_is_400 v OriginalKind.Advice k paid day end look h = subst (λ (p : Plan).
 reversal_done : (rows : Rows) (v : Reversal) → CanReverse rows → IsRightReversal rows v → HasAction 400 (reply_of rows (reversal_frame v))
 reversal_done rows v h r =
     let decided = reversal_decided rows v in
-    let rule = none_holds (reversal_conditions v (reversal_facts_of rows v)) Rule.GivenBack (conditions_fail rows h v r) in
-    let ends = subst (λ (x : Rule). ReversalEnds v (reversal_facts_of rows v) x decided.0) rule decided.1 in
+    let rule = none_holds (reversal_conditions v (reversal_facts_of rows v)) DecisionRule.GivenBack (conditions_fail rows h v r) in
+    let ends = subst (λ (x : DecisionRule). ReversalEnds v (reversal_facts_of rows v) x decided.0) rule decided.1 in
     subst (HasAction 400) (sym (ap (λ (p : ReplyBody × Writes). p.0) decided.2)) (given_is_400 v (kind_of_outcome ends.0.outcome) ends.0 ends.1 _ decided.0 (map.get rows) ends.4)
 
 can_still : (frames : List Frame) (rows : Rows) → CanReverse rows → CanReverse (rows_after rows frames)

@@ -21,11 +21,12 @@ use Rattle.issuer_rows.specs.declared.mark.Mark.{Mark}
 use Rattle.issuer_rows.specs.declared.original_row.OriginalRow.{OriginalRow}
 use Rattle.issuer_rows.specs.declared.row_key.RowKey.{RowKey}
 use Rattle.issuer_rows.specs.declared.velocity_row.VelocityRow.{VelocityRow}
-use Rattle.issuer_laws.specs.Rules.{Conditions, Facts, first_of, comes_to, has, named_by, stands_in, covers, advice_rule, AdviceEnds, AdviceIsDecided}
-use Rattle.issuer_laws.specs.declared.rule.Rule.{Rule}
+use Rattle.issuer_laws.specs.Messages.{advice_frame}
+use Rattle.issuer_laws.specs.Rules.{Conditions, decided_by, Facts, first_of, comes_to, has, named_by, stands_in, covers, advice_rule, AdviceEnds, AdviceIsDecided}
+use Rattle.issuer_laws.specs.declared.decision_rule.DecisionRule.{DecisionRule}
 
 -- what a plan comes to is what this rule says
-abbrev Ends : Advice → Facts → Rule → Plan → Lookup → Type 0
+abbrev Ends : Advice → Facts → DecisionRule → Plan → Lookup → Type 0
 Ends a f rule plan look = (end : Plan) × AdviceEnds a f rule end × (comes_to plan look ≡ comes_to end look)
 
 -- the facts of an advice, of this card and of the account that it is asked to pay from
@@ -43,36 +44,36 @@ facts_with a look seen card named = record {
 abbrev fresh : Option CardRow → Option AccountId → Option AccountRow → VelocityRow → Option BudgetRow → Facts
 fresh card named account day budget = record { seen = None; card = card; named = named; account = account; day = day; budget = budget }
 
-by_account : (a : Advice) (card : CardRow) (id : AccountId) (account : AccountRow) (day : VelocityRow) (budget : Option BudgetRow) (look : Lookup) (enough : Bool) → Ends a (fresh (Some card) (Some id) (Some account) day budget) (first_of ((Rule.AccountPays, enough) ∷ []) Rule.NotSufficientFunds) (advice_on_funds a (if enough then Some (Funds.Account id account) else None)) look
+by_account : (a : Advice) (card : CardRow) (id : AccountId) (account : AccountRow) (day : VelocityRow) (budget : Option BudgetRow) (look : Lookup) (enough : Bool) → Ends a (fresh (Some card) (Some id) (Some account) day budget) (first_of ((DecisionRule.AccountPays, enough) ∷ []) DecisionRule.NotSufficientFunds) (advice_on_funds a (if enough then Some (Funds.Account id account) else None)) look
 by_account a card id account day budget look true = (accepted a (Funds.Account id account), (id, account, refl, refl, refl), refl)
 by_account a card id account day budget look false = (acknowledged a, refl, refl)
 
-by_budget : (a : Advice) (card : CardRow) (id : AccountId) (account : AccountRow) (day : VelocityRow) (budget : BudgetRow) (look : Lookup) (covered enough : Bool) → Ends a (fresh (Some card) (Some id) (Some account) day (Some budget)) (first_of ((Rule.BudgetPays, covered) ∷ (Rule.AccountPays, enough) ∷ []) Rule.NotSufficientFunds) (advice_on_funds a (if covered then Some (Funds.Budget (prefix_of a.transaction.pan) budget) else (if enough then Some (Funds.Account id account) else None))) look
+by_budget : (a : Advice) (card : CardRow) (id : AccountId) (account : AccountRow) (day : VelocityRow) (budget : BudgetRow) (look : Lookup) (covered enough : Bool) → Ends a (fresh (Some card) (Some id) (Some account) day (Some budget)) (first_of ((DecisionRule.BudgetPays, covered) ∷ (DecisionRule.AccountPays, enough) ∷ []) DecisionRule.NotSufficientFunds) (advice_on_funds a (if covered then Some (Funds.Budget (prefix_of a.transaction.pan) budget) else (if enough then Some (Funds.Account id account) else None))) look
 by_budget a card id account day budget look true enough = (accepted a (Funds.Budget (prefix_of a.transaction.pan) budget), (budget, refl, refl), refl)
 by_budget a card id account day budget look false enough = by_account a card id account day (Some budget) look enough
 
-by_mode : (a : Advice) (card : CardRow) (id : AccountId) (account : AccountRow) (day : VelocityRow) (budget : BudgetRow) (look : Lookup) (mode : BudgetMode) → Ends a (fresh (Some card) (Some id) (Some account) day (Some budget)) (first_of ((Rule.BudgetPays, stands_in mode && covers a.transaction.amount budget) ∷ (Rule.AccountPays, nat_le a.transaction.amount account.available) ∷ []) Rule.NotSufficientFunds) (advice_on_funds a (budget_by_mode mode a.transaction budget (account_if_covered a.transaction id account))) look
+by_mode : (a : Advice) (card : CardRow) (id : AccountId) (account : AccountRow) (day : VelocityRow) (budget : BudgetRow) (look : Lookup) (mode : BudgetMode) → Ends a (fresh (Some card) (Some id) (Some account) day (Some budget)) (first_of ((DecisionRule.BudgetPays, stands_in mode && covers a.transaction.amount budget) ∷ (DecisionRule.AccountPays, nat_le a.transaction.amount account.available) ∷ []) DecisionRule.NotSufficientFunds) (advice_on_funds a (budget_by_mode mode a.transaction budget (account_if_covered a.transaction id account))) look
 by_mode a card id account day budget look BudgetMode.StandIn = by_budget a card id account day budget look (covers a.transaction.amount budget) (nat_le a.transaction.amount account.available)
 by_mode a card id account day budget look BudgetMode.Direct = by_account a card id account day (Some budget) look (nat_le a.transaction.amount account.available)
 
 abbrev funds_conditions : Advice → Facts → Conditions
 funds_conditions a f =
-    (Rule.BudgetPays, has (λ (b : BudgetRow). stands_in b.mode && covers a.transaction.amount b) f.budget)
-    ∷ (Rule.AccountPays, has (λ (acc : AccountRow). nat_le a.transaction.amount acc.available) f.account)
+    (DecisionRule.BudgetPays, has (λ (b : BudgetRow). stands_in b.mode && covers a.transaction.amount b) f.budget)
+    ∷ (DecisionRule.AccountPays, has (λ (acc : AccountRow). nat_le a.transaction.amount acc.available) f.account)
     ∷ []
 
-with_budget : (a : Advice) (card : CardRow) (id : AccountId) (account : AccountRow) (day : VelocityRow) (look : Lookup) (budget : Option BudgetRow) → Ends a (fresh (Some card) (Some id) (Some account) day budget) (first_of (funds_conditions a (fresh (Some card) (Some id) (Some account) day budget)) Rule.NotSufficientFunds) (advice_on_funds a (advice_funds a.transaction id account budget)) look
+with_budget : (a : Advice) (card : CardRow) (id : AccountId) (account : AccountRow) (day : VelocityRow) (look : Lookup) (budget : Option BudgetRow) → Ends a (fresh (Some card) (Some id) (Some account) day budget) (first_of (funds_conditions a (fresh (Some card) (Some id) (Some account) day budget)) DecisionRule.NotSufficientFunds) (advice_on_funds a (advice_funds a.transaction id account budget)) look
 with_budget a card id account day look None = by_account a card id account day None look (nat_le a.transaction.amount account.available)
 with_budget a card id account day look (Some budget) = by_mode a card id account day budget look budget.mode
 
-in_currency : (a : Advice) (f : Facts) (look : Lookup) (same : Bool) (next : Plan) (rest : Conditions) → Ends a f (first_of rest Rule.NotSufficientFunds) next look → Ends a f (first_of ((Rule.OtherCurrency, not same) ∷ rest) Rule.NotSufficientFunds) (if same then next else acknowledged a) look
+in_currency : (a : Advice) (f : Facts) (look : Lookup) (same : Bool) (next : Plan) (rest : Conditions) → Ends a f (first_of rest DecisionRule.NotSufficientFunds) next look → Ends a f (first_of ((DecisionRule.OtherCurrency, not same) ∷ rest) DecisionRule.NotSufficientFunds) (if same then next else acknowledged a) look
 in_currency a f look true next rest h = h
 in_currency a f look false next rest h = (acknowledged a, refl, refl)
 
 abbrev account_conditions : Advice → Facts → Conditions
 account_conditions a f =
-    (Rule.NoAccount, is_none f.account)
-    ∷ (Rule.OtherCurrency, has (λ (acc : AccountRow). not (is_same_currency a.transaction.currency acc.currency)) f.account)
+    (DecisionRule.NoAccount, is_none f.account)
+    ∷ (DecisionRule.OtherCurrency, has (λ (acc : AccountRow). not (is_same_currency a.transaction.currency acc.currency)) f.account)
     ∷ funds_conditions a f
 
 abbrev day_of_advice : Advice → Lookup → VelocityRow
@@ -81,7 +82,7 @@ day_of_advice a look = spent_in (velocity_in (look (RowKey.Velocity a.transactio
 abbrev budget_of_advice : Advice → Lookup → Option BudgetRow
 budget_of_advice a look = budget_in (look (RowKey.Budget (prefix_of a.transaction.pan)))
 
-on_account_ends : (a : Advice) (card : CardRow) (id : AccountId) (look : Lookup) (account : Option AccountRow) → Ends a (fresh (Some card) (Some id) account (day_of_advice a look) (budget_of_advice a look)) (first_of (account_conditions a (fresh (Some card) (Some id) account (day_of_advice a look) (budget_of_advice a look))) Rule.NotSufficientFunds) (advice_on_account a id account) look
+on_account_ends : (a : Advice) (card : CardRow) (id : AccountId) (look : Lookup) (account : Option AccountRow) → Ends a (fresh (Some card) (Some id) account (day_of_advice a look) (budget_of_advice a look)) (first_of (account_conditions a (fresh (Some card) (Some id) account (day_of_advice a look) (budget_of_advice a look))) DecisionRule.NotSufficientFunds) (advice_on_account a id account) look
 on_account_ends a card id look None = (acknowledged a, refl, refl)
 on_account_ends a card id look (Some account) =
     let f = fresh (Some card) (Some id) (Some account) (day_of_advice a look) (budget_of_advice a look) in
@@ -89,51 +90,51 @@ on_account_ends a card id look (Some account) =
     (with_budget a card id account (day_of_advice a look) look (budget_of_advice a look))
 
 abbrev named_conditions : Advice → Facts → Conditions
-named_conditions a f = (Rule.NotOfCard, is_none f.named) ∷ account_conditions a f
+named_conditions a f = (DecisionRule.NotOfCard, is_none f.named) ∷ account_conditions a f
 
-on_named_ends : (a : Advice) (card : CardRow) (look : Lookup) (named : Option AccountId) → Ends a (facts_with a look None (Some card) named) (first_of (named_conditions a (facts_with a look None (Some card) named)) Rule.NotSufficientFunds) (advice_on_named a named) look
+on_named_ends : (a : Advice) (card : CardRow) (look : Lookup) (named : Option AccountId) → Ends a (facts_with a look None (Some card) named) (first_of (named_conditions a (facts_with a look None (Some card) named)) DecisionRule.NotSufficientFunds) (advice_on_named a named) look
 on_named_ends a card look None = (acknowledged a, refl, refl)
 on_named_ends a card look (Some id) = on_account_ends a card id look (account_in (look (RowKey.Account id)))
 
 abbrev card_conditions : Advice → Facts → Conditions
-card_conditions a f = (Rule.NoCard, is_none f.card) ∷ named_conditions a f
+card_conditions a f = (DecisionRule.NoCard, is_none f.card) ∷ named_conditions a f
 
-on_card_ends : (a : Advice) (look : Lookup) (card : Option CardRow) → Ends a (facts_with a look None card (named_by a.account card)) (first_of (card_conditions a (facts_with a look None card (named_by a.account card))) Rule.NotSufficientFunds) (advice_on_card a card) look
+on_card_ends : (a : Advice) (look : Lookup) (card : Option CardRow) → Ends a (facts_with a look None card (named_by a.account card)) (first_of (card_conditions a (facts_with a look None card (named_by a.account card))) DecisionRule.NotSufficientFunds) (advice_on_card a card) look
 on_card_ends a look None = (acknowledged a, refl, refl)
 on_card_ends a look (Some card) = on_named_ends a card look (account_of card.accounts a.account)
 
 -- the acquirer approved
-approved_by : (a : Advice) (f : Facts) (look : Lookup) (approved : Bool) (next : Plan) (rest : Conditions) → Ends a f (first_of rest Rule.NotSufficientFunds) next look → Ends a f (first_of ((Rule.NotApproved, not approved) ∷ rest) Rule.NotSufficientFunds) (if approved then next else acknowledged a) look
+approved_by : (a : Advice) (f : Facts) (look : Lookup) (approved : Bool) (next : Plan) (rest : Conditions) → Ends a f (first_of rest DecisionRule.NotSufficientFunds) next look → Ends a f (first_of ((DecisionRule.NotApproved, not approved) ∷ rest) DecisionRule.NotSufficientFunds) (if approved then next else acknowledged a) look
 approved_by a f look true next rest h = h
 approved_by a f look false next rest h = (acknowledged a, refl, refl)
 
-marked_ends : (a : Advice) (mark : Mark) (f : Facts) (look : Lookup) (own : Bool) (rest : Conditions) → f.seen ≡ Some (OriginalRow.Ahead mark) → Ends a f (first_of ((Rule.ReversedAhead, own) ∷ (Rule.MarkOfAnother, true) ∷ rest) Rule.NotSufficientFunds) (if own then marked_advice a mark else answered_unkept a 913) look
+marked_ends : (a : Advice) (mark : Mark) (f : Facts) (look : Lookup) (own : Bool) (rest : Conditions) → f.seen ≡ Some (OriginalRow.Ahead mark) → Ends a f (first_of ((DecisionRule.ReversedAhead, own) ∷ (DecisionRule.MarkOfAnother, true) ∷ rest) DecisionRule.NotSufficientFunds) (if own then marked_advice a mark else answered_unkept a 913) look
 marked_ends a mark f look true rest e = (marked_advice a mark, (mark, e, refl), refl)
 marked_ends a mark f look false rest e = (answered_unkept a 913, refl, refl)
 
-kept_ends : (a : Advice) (kept : KeptOriginal) (f : Facts) (look : Lookup) (same again : Bool) (rest : Conditions) → f.seen ≡ Some (OriginalRow.Kept kept) → Ends a f (first_of ((Rule.Repeat, same && again) ∷ (Rule.Duplicate, true) ∷ rest) Rule.NotSufficientFunds) (if again && same then answered_unkept a (action_of_outcome kept.outcome) else answered_unkept a 913) look
+kept_ends : (a : Advice) (kept : KeptOriginal) (f : Facts) (look : Lookup) (same again : Bool) (rest : Conditions) → f.seen ≡ Some (OriginalRow.Kept kept) → Ends a f (first_of ((DecisionRule.Repeat, same && again) ∷ (DecisionRule.Duplicate, true) ∷ rest) DecisionRule.NotSufficientFunds) (if again && same then answered_unkept a (action_of_outcome kept.outcome) else answered_unkept a 913) look
 kept_ends a kept f look true true rest e = (answered_unkept a (action_of_outcome kept.outcome), (kept, e, refl), refl)
 kept_ends a kept f look true false rest e = (answered_unkept a 913, refl, refl)
 kept_ends a kept f look false true rest e = (answered_unkept a 913, refl, refl)
 kept_ends a kept f look false false rest e = (answered_unkept a 913, refl, refl)
 
 abbrev approval_conditions : Advice → Facts → Conditions
-approval_conditions a f = (Rule.NotApproved, not (a.action == 0)) ∷ card_conditions a f
+approval_conditions a f = (DecisionRule.NotApproved, not (a.action == 0)) ∷ card_conditions a f
 
 on_original_ends : (a : Advice) (look : Lookup) (seen : Option OriginalRow) (card : Option CardRow) → card_in (look (RowKey.Card a.transaction.pan)) ≡ card → Ends a (facts_with a look seen card (named_by a.account card)) (advice_rule a (facts_with a look seen card (named_by a.account card))) (advice_on_original a seen) look
 on_original_ends a look (Some (OriginalRow.Ahead mark)) card e =
     let f = facts_with a look (Some (OriginalRow.Ahead mark)) card (named_by a.account card) in
-    marked_ends a mark f look (is_marked mark a.transaction OriginalKind.Advice) ((Rule.Repeat, false) ∷ (Rule.Duplicate, true) ∷ approval_conditions a f) refl
+    marked_ends a mark f look (is_marked mark a.transaction OriginalKind.Advice) ((DecisionRule.Repeat, false) ∷ (DecisionRule.Duplicate, true) ∷ approval_conditions a f) refl
 on_original_ends a look (Some (OriginalRow.Kept kept)) card e =
     let f = facts_with a look (Some (OriginalRow.Kept kept)) card (named_by a.account card) in
     kept_ends a kept f look (is_of_same kept a.transaction OriginalKind.Advice) a.repeat (approval_conditions a f) refl
 on_original_ends a look None card e =
     let f = facts_with a look None card (named_by a.account card) in
     approved_by a f look (a.action == 0) (looked_for_card a) (card_conditions a f)
-    (subst (λ (c : Option CardRow). Ends a (facts_with a look None c (named_by a.account c)) (first_of (card_conditions a (facts_with a look None c (named_by a.account c))) Rule.NotSufficientFunds) (looked_for_card a) look) e
+    (subst (λ (c : Option CardRow). Ends a (facts_with a look None c (named_by a.account c)) (first_of (card_conditions a (facts_with a look None c (named_by a.account c))) DecisionRule.NotSufficientFunds) (looked_for_card a) look) e
     (on_card_ends a look (card_in (look (RowKey.Card a.transaction.pan)))))
 
 -- an advice is decided by the first rule of its list that holds
-pub advice_decided : (rows : Rows) (a : Advice) → AdviceIsDecided rows a
+pub advice_decided : (rows : Rows) (a : Advice) → AdviceIsDecided rows a (decided_by rows (advice_frame a))
 unfolding decision
 advice_decided rows a = on_original_ends a (map.get rows) (original_in (map.get rows (RowKey.Original (identity_of a.transaction)))) (card_in (map.get rows (RowKey.Card a.transaction.pan))) refl

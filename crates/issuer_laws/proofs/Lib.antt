@@ -6,6 +6,7 @@ pub mod Balanced
 pub mod Cards
 pub mod Conserved
 pub mod Covered
+pub mod DecidedBy
 pub mod Duplicate
 pub mod Echoed
 pub mod Funding

@@ -24,11 +24,12 @@ use Rattle.issuer_rows.specs.declared.mark.Mark.{Mark}
 use Rattle.issuer_rows.specs.declared.original_row.OriginalRow.{OriginalRow}
 use Rattle.issuer_rows.specs.declared.row_key.RowKey.{RowKey}
 use Rattle.issuer_rows.specs.declared.velocity_row.VelocityRow.{VelocityRow}
-use Rattle.issuer_laws.specs.Rules.{Conditions, Facts, first_of, comes_to, named_by, has, is_blocked, is_lost, is_stolen, stands_in, is_over, request_rule, RequestEnds, RequestIsDecided}
-use Rattle.issuer_laws.specs.declared.rule.Rule.{Rule}
+use Rattle.issuer_laws.specs.Messages.{request_frame}
+use Rattle.issuer_laws.specs.Rules.{Conditions, decided_by, Facts, first_of, comes_to, named_by, has, is_blocked, is_lost, is_stolen, stands_in, is_over, request_rule, RequestEnds, RequestIsDecided}
+use Rattle.issuer_laws.specs.declared.decision_rule.DecisionRule.{DecisionRule}
 
 -- what a plan comes to is what this rule says
-abbrev Ends : Request → Facts → Rule → Plan → Lookup → Type 0
+abbrev Ends : Request → Facts → DecisionRule → Plan → Lookup → Type 0
 Ends r f rule plan look = (end : Plan) × RequestEnds r f rule end × (comes_to plan look ≡ comes_to end look)
 
 -- what is known of a request whose identity wasn't seen
@@ -36,13 +37,13 @@ abbrev fresh : Option CardRow → Option AccountId → Option AccountRow → Vel
 fresh card named account day budget = record { seen = None; card = card; named = named; account = account; day = day; budget = budget }
 
 -- the account pays, if there is as much
-by_account : (r : Request) (card : CardRow) (id : AccountId) (account : AccountRow) (day : VelocityRow) (budget : Option BudgetRow) (look : Lookup) (short : Bool) → Ends r (fresh (Some card) (Some id) (Some account) day budget) (first_of ((Rule.NotSufficientFunds, short) ∷ []) Rule.AccountPays) (on_funds r card day (if short then Err 116 else Ok (Funds.Account id account))) look
+by_account : (r : Request) (card : CardRow) (id : AccountId) (account : AccountRow) (day : VelocityRow) (budget : Option BudgetRow) (look : Lookup) (short : Bool) → Ends r (fresh (Some card) (Some id) (Some account) day budget) (first_of ((DecisionRule.NotSufficientFunds, short) ∷ []) DecisionRule.AccountPays) (on_funds r card day (if short then Err 116 else Ok (Funds.Account id account))) look
 by_account r card id account day budget look true = (declined_request r 116, refl, refl)
 by_account r card id account day budget look false =
     (approved r card day (Funds.Account id account), (id, account, refl, refl, record { card = card; there = refl; paid = refl }), refl)
 
 -- a budget that stands in pays, if it can
-by_budget : (r : Request) (card : CardRow) (id : AccountId) (account : AccountRow) (day : VelocityRow) (budget : BudgetRow) (look : Lookup) (over : Bool) → Ends r (fresh (Some card) (Some id) (Some account) day (Some budget)) (first_of ((Rule.BudgetRefuses, over) ∷ []) Rule.BudgetPays) (on_funds r card day (if over then Err 907 else Ok (Funds.Budget (prefix_of r.transaction.pan) budget))) look
+by_budget : (r : Request) (card : CardRow) (id : AccountId) (account : AccountRow) (day : VelocityRow) (budget : BudgetRow) (look : Lookup) (over : Bool) → Ends r (fresh (Some card) (Some id) (Some account) day (Some budget)) (first_of ((DecisionRule.BudgetRefuses, over) ∷ []) DecisionRule.BudgetPays) (on_funds r card day (if over then Err 907 else Ok (Funds.Budget (prefix_of r.transaction.pan) budget))) look
 by_budget r card id account day budget look true = (declined_request r 907, refl, refl)
 by_budget r card id account day budget look false =
     (approved r card day (Funds.Budget (prefix_of r.transaction.pan) budget), (budget, refl, record { card = card; there = refl; paid = refl }), refl)
@@ -50,51 +51,51 @@ by_budget r card id account day budget look false =
 -- what is asked once the limits of the card are kept
 abbrev funds_conditions : ℕ → BudgetRow → Bool → Bool → Conditions
 funds_conditions amount budget stand_in short =
-    (Rule.BudgetRefuses, stand_in && is_over amount budget) ∷ (Rule.BudgetPays, stand_in) ∷ (Rule.NotSufficientFunds, short) ∷ []
+    (DecisionRule.BudgetRefuses, stand_in && is_over amount budget) ∷ (DecisionRule.BudgetPays, stand_in) ∷ (DecisionRule.NotSufficientFunds, short) ∷ []
 
-standing_in : (r : Request) (card : CardRow) (id : AccountId) (account : AccountRow) (day : VelocityRow) (budget : BudgetRow) (look : Lookup) (over short : Bool) → Ends r (fresh (Some card) (Some id) (Some account) day (Some budget)) (first_of ((Rule.BudgetRefuses, over) ∷ (Rule.BudgetPays, true) ∷ (Rule.NotSufficientFunds, short) ∷ []) Rule.AccountPays) (on_funds r card day (if over then Err 907 else Ok (Funds.Budget (prefix_of r.transaction.pan) budget))) look
+standing_in : (r : Request) (card : CardRow) (id : AccountId) (account : AccountRow) (day : VelocityRow) (budget : BudgetRow) (look : Lookup) (over short : Bool) → Ends r (fresh (Some card) (Some id) (Some account) day (Some budget)) (first_of ((DecisionRule.BudgetRefuses, over) ∷ (DecisionRule.BudgetPays, true) ∷ (DecisionRule.NotSufficientFunds, short) ∷ []) DecisionRule.AccountPays) (on_funds r card day (if over then Err 907 else Ok (Funds.Budget (prefix_of r.transaction.pan) budget))) look
 standing_in r card id account day budget look true short = by_budget r card id account day budget look true
 standing_in r card id account day budget look false short = by_budget r card id account day budget look false
 
-by_funds : (r : Request) (card : CardRow) (id : AccountId) (account : AccountRow) (day : VelocityRow) (budget : BudgetRow) (look : Lookup) (mode : BudgetMode) → Ends r (fresh (Some card) (Some id) (Some account) day (Some budget)) (first_of (funds_conditions r.transaction.amount budget (stands_in mode) (nat_lt account.available r.transaction.amount)) Rule.AccountPays) (on_funds r card day (by_mode mode (if is_over r.transaction.amount budget then Err 907 else Ok (Funds.Budget (prefix_of r.transaction.pan) budget)) (account_funds r.transaction id account))) look
+by_funds : (r : Request) (card : CardRow) (id : AccountId) (account : AccountRow) (day : VelocityRow) (budget : BudgetRow) (look : Lookup) (mode : BudgetMode) → Ends r (fresh (Some card) (Some id) (Some account) day (Some budget)) (first_of (funds_conditions r.transaction.amount budget (stands_in mode) (nat_lt account.available r.transaction.amount)) DecisionRule.AccountPays) (on_funds r card day (by_mode mode (if is_over r.transaction.amount budget then Err 907 else Ok (Funds.Budget (prefix_of r.transaction.pan) budget)) (account_funds r.transaction id account))) look
 by_funds r card id account day budget look BudgetMode.StandIn =
     standing_in r card id account day budget look (is_over r.transaction.amount budget) (nat_lt account.available r.transaction.amount)
 by_funds r card id account day budget look BudgetMode.Direct = by_account r card id account day (Some budget) look (nat_lt account.available r.transaction.amount)
 
 abbrev budget_conditions : Request → Facts → Conditions
 budget_conditions r f =
-    (Rule.BudgetRefuses, has (λ (b : BudgetRow). stands_in b.mode && is_over r.transaction.amount b) f.budget)
-    ∷ (Rule.BudgetPays, has (λ (b : BudgetRow). stands_in b.mode) f.budget)
-    ∷ (Rule.NotSufficientFunds, has (λ (a : AccountRow). nat_lt a.available r.transaction.amount) f.account)
+    (DecisionRule.BudgetRefuses, has (λ (b : BudgetRow). stands_in b.mode && is_over r.transaction.amount b) f.budget)
+    ∷ (DecisionRule.BudgetPays, has (λ (b : BudgetRow). stands_in b.mode) f.budget)
+    ∷ (DecisionRule.NotSufficientFunds, has (λ (a : AccountRow). nat_lt a.available r.transaction.amount) f.account)
     ∷ []
 
-with_budget : (r : Request) (card : CardRow) (id : AccountId) (account : AccountRow) (day : VelocityRow) (look : Lookup) (budget : Option BudgetRow) → Ends r (fresh (Some card) (Some id) (Some account) day budget) (first_of (budget_conditions r (fresh (Some card) (Some id) (Some account) day budget)) Rule.AccountPays) (on_funds r card day (request_funds r.transaction id account budget)) look
+with_budget : (r : Request) (card : CardRow) (id : AccountId) (account : AccountRow) (day : VelocityRow) (look : Lookup) (budget : Option BudgetRow) → Ends r (fresh (Some card) (Some id) (Some account) day budget) (first_of (budget_conditions r (fresh (Some card) (Some id) (Some account) day budget)) DecisionRule.AccountPays) (on_funds r card day (request_funds r.transaction id account budget)) look
 with_budget r card id account day look None = by_account r card id account day None look (nat_lt account.available r.transaction.amount)
 with_budget r card id account day look (Some budget) = by_funds r card id account day budget look budget.mode
 
 -- the limits of the card
-limited : (r : Request) (card : CardRow) (id : AccountId) (account : AccountRow) (day : VelocityRow) (budget : Option BudgetRow) (look : Lookup) (count sum approvals : Bool) (next : Plan) (rest : Conditions) → Ends r (fresh (Some card) (Some id) (Some account) day budget) (first_of rest Rule.AccountPays) next look → Ends r (fresh (Some card) (Some id) (Some account) day budget) (first_of ((Rule.TooManyApprovals, count) ∷ (Rule.TooMuchMoney, sum) ∷ (Rule.ApprovalsExhausted, approvals) ∷ rest) Rule.AccountPays) (unless_refused r (if count then Some 123 else (if sum then Some 121 else (if approvals then Some 909 else None))) next) look
+limited : (r : Request) (card : CardRow) (id : AccountId) (account : AccountRow) (day : VelocityRow) (budget : Option BudgetRow) (look : Lookup) (count sum approvals : Bool) (next : Plan) (rest : Conditions) → Ends r (fresh (Some card) (Some id) (Some account) day budget) (first_of rest DecisionRule.AccountPays) next look → Ends r (fresh (Some card) (Some id) (Some account) day budget) (first_of ((DecisionRule.TooManyApprovals, count) ∷ (DecisionRule.TooMuchMoney, sum) ∷ (DecisionRule.ApprovalsExhausted, approvals) ∷ rest) DecisionRule.AccountPays) (unless_refused r (if count then Some 123 else (if sum then Some 121 else (if approvals then Some 909 else None))) next) look
 limited r card id account day budget look true sum approvals next rest h = (declined_request r 123, refl, refl)
 limited r card id account day budget look false true approvals next rest h = (declined_request r 121, refl, refl)
 limited r card id account day budget look false false true next rest h = (declined_request r 909, refl, refl)
 limited r card id account day budget look false false false next rest h = h
 
 -- the currency of the account
-in_currency : (r : Request) (card : CardRow) (id : AccountId) (account : AccountRow) (day : VelocityRow) (budget : Option BudgetRow) (look : Lookup) (same : Bool) (next : Plan) (rest : Conditions) → Ends r (fresh (Some card) (Some id) (Some account) day budget) (first_of rest Rule.AccountPays) next look → Ends r (fresh (Some card) (Some id) (Some account) day budget) (first_of ((Rule.OtherCurrency, not same) ∷ rest) Rule.AccountPays) (if same then next else declined_request r 100) look
+in_currency : (r : Request) (card : CardRow) (id : AccountId) (account : AccountRow) (day : VelocityRow) (budget : Option BudgetRow) (look : Lookup) (same : Bool) (next : Plan) (rest : Conditions) → Ends r (fresh (Some card) (Some id) (Some account) day budget) (first_of rest DecisionRule.AccountPays) next look → Ends r (fresh (Some card) (Some id) (Some account) day budget) (first_of ((DecisionRule.OtherCurrency, not same) ∷ rest) DecisionRule.AccountPays) (if same then next else declined_request r 100) look
 in_currency r card id account day budget look true next rest h = h
 in_currency r card id account day budget look false next rest h = (declined_request r 100, refl, refl)
 
 abbrev limit_conditions : Request → Facts → Conditions
 limit_conditions r f =
-    (Rule.TooManyApprovals, has (λ (c : CardRow). nat_lt c.day_count (f.day.count + 1)) f.card)
-    ∷ (Rule.TooMuchMoney, has (λ (c : CardRow). nat_lt c.day_amount (f.day.sum + r.transaction.amount)) f.card)
-    ∷ (Rule.ApprovalsExhausted, has (λ (c : CardRow). nat_le 999999 c.approvals) f.card)
+    (DecisionRule.TooManyApprovals, has (λ (c : CardRow). nat_lt c.day_count (f.day.count + 1)) f.card)
+    ∷ (DecisionRule.TooMuchMoney, has (λ (c : CardRow). nat_lt c.day_amount (f.day.sum + r.transaction.amount)) f.card)
+    ∷ (DecisionRule.ApprovalsExhausted, has (λ (c : CardRow). nat_le 999999 c.approvals) f.card)
     ∷ budget_conditions r f
 
 abbrev account_conditions : Request → Facts → Conditions
 account_conditions r f =
-    (Rule.NoAccount, is_none f.account)
-    ∷ (Rule.OtherCurrency, has (λ (a : AccountRow). not (is_same_currency r.transaction.currency a.currency)) f.account)
+    (DecisionRule.NoAccount, is_none f.account)
+    ∷ (DecisionRule.OtherCurrency, has (λ (a : AccountRow). not (is_same_currency r.transaction.currency a.currency)) f.account)
     ∷ limit_conditions r f
 
 -- what was spent on the day, and the budget of the prefix, as a request's rows are looked up
@@ -104,7 +105,7 @@ day_of_request r look = spent_in (velocity_in (look (RowKey.Velocity r.transacti
 abbrev budget_of_request : Request → Lookup → Option BudgetRow
 budget_of_request r look = budget_in (look (RowKey.Budget (prefix_of r.transaction.pan)))
 
-on_account_ends : (r : Request) (card : CardRow) (id : AccountId) (look : Lookup) (account : Option AccountRow) → Ends r (fresh (Some card) (Some id) account (day_of_request r look) (budget_of_request r look)) (first_of (account_conditions r (fresh (Some card) (Some id) account (day_of_request r look) (budget_of_request r look))) Rule.AccountPays) (on_account r card id account) look
+on_account_ends : (r : Request) (card : CardRow) (id : AccountId) (look : Lookup) (account : Option AccountRow) → Ends r (fresh (Some card) (Some id) account (day_of_request r look) (budget_of_request r look)) (first_of (account_conditions r (fresh (Some card) (Some id) account (day_of_request r look) (budget_of_request r look))) DecisionRule.AccountPays) (on_account r card id account) look
 on_account_ends r card id look None = (declined_request r 909, refl, refl)
 on_account_ends r card id look (Some account) =
     let day = day_of_request r look in
@@ -119,18 +120,18 @@ abbrev account_of_request : Lookup → Option AccountId → Option AccountRow
 account_of_request look named = option_and_then (λ (id : AccountId). account_in (look (RowKey.Account id))) named
 
 abbrev named_conditions : Request → Facts → Conditions
-named_conditions r f = (Rule.NotOfCard, is_none f.named) ∷ account_conditions r f
+named_conditions r f = (DecisionRule.NotOfCard, is_none f.named) ∷ account_conditions r f
 
-on_named_ends : (r : Request) (card : CardRow) (look : Lookup) (named : Option AccountId) → Ends r (fresh (Some card) named (account_of_request look named) (day_of_request r look) (budget_of_request r look)) (first_of (named_conditions r (fresh (Some card) named (account_of_request look named) (day_of_request r look) (budget_of_request r look))) Rule.AccountPays) (on_usable r card (or_not_permitted named)) look
+on_named_ends : (r : Request) (card : CardRow) (look : Lookup) (named : Option AccountId) → Ends r (fresh (Some card) named (account_of_request look named) (day_of_request r look) (budget_of_request r look)) (first_of (named_conditions r (fresh (Some card) named (account_of_request look named) (day_of_request r look) (budget_of_request r look))) DecisionRule.AccountPays) (on_usable r card (or_not_permitted named)) look
 on_named_ends r card look None = (declined_request r 119, refl, refl)
 on_named_ends r card look (Some id) = on_account_ends r card id look (account_in (look (RowKey.Account id)))
 
 -- the card
-expiring : (r : Request) (card : CardRow) (f : Facts) (look : Lookup) (expired : Bool) (named : Result AccountId ℕ) (rest : Conditions) → Ends r f (first_of rest Rule.AccountPays) (on_usable r card named) look → Ends r f (first_of ((Rule.CardExpired, expired) ∷ rest) Rule.AccountPays) (on_usable r card (if expired then Err 101 else named)) look
+expiring : (r : Request) (card : CardRow) (f : Facts) (look : Lookup) (expired : Bool) (named : Result AccountId ℕ) (rest : Conditions) → Ends r f (first_of rest DecisionRule.AccountPays) (on_usable r card named) look → Ends r f (first_of ((DecisionRule.CardExpired, expired) ∷ rest) DecisionRule.AccountPays) (on_usable r card (if expired then Err 101 else named)) look
 expiring r card f look true named rest h = (declined_request r 101, refl, refl)
 expiring r card f look false named rest h = h
 
-by_status : (r : Request) (card : CardRow) (f : Facts) (look : Lookup) (status : CardStatus) (usable : Result AccountId ℕ) (rest : Conditions) → Ends r f (first_of rest Rule.AccountPays) (on_usable r card usable) look → Ends r f (first_of ((Rule.CardBlocked, is_blocked status) ∷ (Rule.CardLost, is_lost status) ∷ (Rule.CardStolen, is_stolen status) ∷ rest) Rule.AccountPays) (on_usable r card (unless_status (refused_by_status status) usable)) look
+by_status : (r : Request) (card : CardRow) (f : Facts) (look : Lookup) (status : CardStatus) (usable : Result AccountId ℕ) (rest : Conditions) → Ends r f (first_of rest DecisionRule.AccountPays) (on_usable r card usable) look → Ends r f (first_of ((DecisionRule.CardBlocked, is_blocked status) ∷ (DecisionRule.CardLost, is_lost status) ∷ (DecisionRule.CardStolen, is_stolen status) ∷ rest) DecisionRule.AccountPays) (on_usable r card (unless_status (refused_by_status status) usable)) look
 by_status r card f look CardStatus.Active usable rest h = h
 by_status r card f look CardStatus.Blocked usable rest h = (declined_request r 100, refl, refl)
 by_status r card f look CardStatus.Lost usable rest h = (declined_request r 208, refl, refl)
@@ -138,14 +139,14 @@ by_status r card f look CardStatus.Stolen usable rest h = (declined_request r 20
 
 abbrev expiry_conditions : Request → Facts → Conditions
 expiry_conditions r f =
-    (Rule.CardExpired, has (λ (c : CardRow). nat_lt (number_of c.expiry) (number_of (month_of r.transaction.stamp))) f.card) ∷ named_conditions r f
+    (DecisionRule.CardExpired, has (λ (c : CardRow). nat_lt (number_of c.expiry) (number_of (month_of r.transaction.stamp))) f.card) ∷ named_conditions r f
 
 abbrev card_conditions : Request → Facts → Conditions
 card_conditions r f =
-    (Rule.NoCard, is_none f.card)
-    ∷ (Rule.CardBlocked, has (λ (c : CardRow). is_blocked c.status) f.card)
-    ∷ (Rule.CardLost, has (λ (c : CardRow). is_lost c.status) f.card)
-    ∷ (Rule.CardStolen, has (λ (c : CardRow). is_stolen c.status) f.card)
+    (DecisionRule.NoCard, is_none f.card)
+    ∷ (DecisionRule.CardBlocked, has (λ (c : CardRow). is_blocked c.status) f.card)
+    ∷ (DecisionRule.CardLost, has (λ (c : CardRow). is_lost c.status) f.card)
+    ∷ (DecisionRule.CardStolen, has (λ (c : CardRow). is_stolen c.status) f.card)
     ∷ expiry_conditions r f
 
 -- the facts of a request whose identity wasn't seen, of this card
@@ -159,7 +160,7 @@ facts_with r look seen card = record {
   budget = budget_of_request r look;
 }
 
-on_card_ends : (r : Request) (look : Lookup) (card : Option CardRow) → Ends r (facts_with r look None card) (first_of (card_conditions r (facts_with r look None card)) Rule.AccountPays) (on_card r card) look
+on_card_ends : (r : Request) (look : Lookup) (card : Option CardRow) → Ends r (facts_with r look None card) (first_of (card_conditions r (facts_with r look None card)) DecisionRule.AccountPays) (on_card r card) look
 on_card_ends r look None = (declined_request r 118, refl, refl)
 on_card_ends r look (Some card) =
     let f = facts_with r look None (Some card) in
@@ -168,18 +169,18 @@ on_card_ends r look (Some card) =
     (on_named_ends r card look (account_of card.accounts r.account)))
 
 -- what is refused before the card is known
-unseen_card : (r : Request) (f : Facts) (look : Lookup) (unpermitted nothing passes : Bool) (next : Plan) (rest : Conditions) → Ends r f (first_of rest Rule.AccountPays) next look → Ends r f (first_of ((Rule.NotPermitted, unpermitted) ∷ (Rule.NoAmount, nothing) ∷ (Rule.WrongCardNumber, not passes) ∷ rest) Rule.AccountPays) (unless_refused r (if unpermitted then Some 119 else (if nothing then Some 110 else (if passes then None else Some 111))) next) look
+unseen_card : (r : Request) (f : Facts) (look : Lookup) (unpermitted nothing passes : Bool) (next : Plan) (rest : Conditions) → Ends r f (first_of rest DecisionRule.AccountPays) next look → Ends r f (first_of ((DecisionRule.NotPermitted, unpermitted) ∷ (DecisionRule.NoAmount, nothing) ∷ (DecisionRule.WrongCardNumber, not passes) ∷ rest) DecisionRule.AccountPays) (unless_refused r (if unpermitted then Some 119 else (if nothing then Some 110 else (if passes then None else Some 111))) next) look
 unseen_card r f look true nothing passes next rest h = (declined_request r 119, refl, refl)
 unseen_card r f look false true passes next rest h = (declined_request r 110, refl, refl)
 unseen_card r f look false false true next rest h = h
 unseen_card r f look false false false next rest h = (declined_request r 111, refl, refl)
 
 -- the row at its identity
-marked_ends : (r : Request) (mark : Mark) (f : Facts) (look : Lookup) (own : Bool) (rest : Conditions) → f.seen ≡ Some (OriginalRow.Ahead mark) → Ends r f (first_of ((Rule.ReversedAhead, own) ∷ (Rule.MarkOfAnother, true) ∷ rest) Rule.AccountPays) (if own then marked_request r mark else declined_unkept r 913) look
+marked_ends : (r : Request) (mark : Mark) (f : Facts) (look : Lookup) (own : Bool) (rest : Conditions) → f.seen ≡ Some (OriginalRow.Ahead mark) → Ends r f (first_of ((DecisionRule.ReversedAhead, own) ∷ (DecisionRule.MarkOfAnother, true) ∷ rest) DecisionRule.AccountPays) (if own then marked_request r mark else declined_unkept r 913) look
 marked_ends r mark f look true rest e = (marked_request r mark, (mark, e, refl), refl)
 marked_ends r mark f look false rest e = (declined_unkept r 913, refl, refl)
 
-kept_ends : (r : Request) (kept : KeptOriginal) (f : Facts) (look : Lookup) (same again : Bool) (rest : Conditions) → f.seen ≡ Some (OriginalRow.Kept kept) → Ends r f (first_of ((Rule.Repeat, same && again) ∷ (Rule.Duplicate, true) ∷ rest) Rule.AccountPays) (if again && same then Answer (reply_to_request r (kept_verdict kept.outcome)) [] else declined_unkept r 913) look
+kept_ends : (r : Request) (kept : KeptOriginal) (f : Facts) (look : Lookup) (same again : Bool) (rest : Conditions) → f.seen ≡ Some (OriginalRow.Kept kept) → Ends r f (first_of ((DecisionRule.Repeat, same && again) ∷ (DecisionRule.Duplicate, true) ∷ rest) DecisionRule.AccountPays) (if again && same then Answer (reply_to_request r (kept_verdict kept.outcome)) [] else declined_unkept r 913) look
 kept_ends r kept f look true true rest e = (Answer (reply_to_request r (kept_verdict kept.outcome)) [], (kept, e, refl), refl)
 kept_ends r kept f look true false rest e = (declined_unkept r 913, refl, refl)
 kept_ends r kept f look false true rest e = (declined_unkept r 913, refl, refl)
@@ -187,24 +188,24 @@ kept_ends r kept f look false false rest e = (declined_unkept r 913, refl, refl)
 
 abbrev unseen_conditions : Request → Facts → Conditions
 unseen_conditions r f =
-    (Rule.NotPermitted, is_unpermitted r)
-    ∷ (Rule.NoAmount, r.transaction.amount == 0)
-    ∷ (Rule.WrongCardNumber, not (passes_luhn r.transaction.pan.0))
+    (DecisionRule.NotPermitted, is_unpermitted r)
+    ∷ (DecisionRule.NoAmount, r.transaction.amount == 0)
+    ∷ (DecisionRule.WrongCardNumber, not (passes_luhn r.transaction.pan.0))
     ∷ card_conditions r f
 
 on_original_ends : (r : Request) (look : Lookup) (seen : Option OriginalRow) (card : Option CardRow) → card_in (look (RowKey.Card r.transaction.pan)) ≡ card → Ends r (facts_with r look seen card) (request_rule r (facts_with r look seen card)) (on_original r seen) look
 on_original_ends r look (Some (OriginalRow.Ahead mark)) card e =
     marked_ends r mark (facts_with r look (Some (OriginalRow.Ahead mark)) card) look (is_marked mark r.transaction OriginalKind.Request)
-    ((Rule.Repeat, false) ∷ (Rule.Duplicate, true) ∷ unseen_conditions r (facts_with r look (Some (OriginalRow.Ahead mark)) card)) refl
+    ((DecisionRule.Repeat, false) ∷ (DecisionRule.Duplicate, true) ∷ unseen_conditions r (facts_with r look (Some (OriginalRow.Ahead mark)) card)) refl
 on_original_ends r look (Some (OriginalRow.Kept kept)) card e =
     kept_ends r kept (facts_with r look (Some (OriginalRow.Kept kept)) card) look (is_of_same kept r.transaction OriginalKind.Request) r.repeat
     (unseen_conditions r (facts_with r look (Some (OriginalRow.Kept kept)) card)) refl
 on_original_ends r look None card e =
     unseen_card r (facts_with r look None card) look (is_unpermitted r) (r.transaction.amount == 0) (passes_luhn r.transaction.pan.0) (looked_for_card r) (card_conditions r (facts_with r look None card))
-    (subst (λ (c : Option CardRow). Ends r (facts_with r look None c) (first_of (card_conditions r (facts_with r look None c)) Rule.AccountPays) (looked_for_card r) look) e
+    (subst (λ (c : Option CardRow). Ends r (facts_with r look None c) (first_of (card_conditions r (facts_with r look None c)) DecisionRule.AccountPays) (looked_for_card r) look) e
     (on_card_ends r look (card_in (look (RowKey.Card r.transaction.pan)))))
 
 -- a request is decided by the first rule of its list that holds
-pub request_decided : (rows : Rows) (r : Request) → RequestIsDecided rows r
+pub request_decided : (rows : Rows) (r : Request) → RequestIsDecided rows r (decided_by rows (request_frame r))
 unfolding decision
 request_decided rows r = on_original_ends r (map.get rows) (original_in (map.get rows (RowKey.Original (identity_of r.transaction)))) (card_in (map.get rows (RowKey.Card r.transaction.pan))) refl

@@ -39,7 +39,7 @@ use Rattle.issuer_rows.specs.declared.row_val.RowVal.{RowVal}
 use Rattle.issuer_rows.specs.declared.velocity_row.VelocityRow.{VelocityRow}
 use Rattle.issuer_rows.specs.declared.reply_body.ReplyBody.{ReplyBody}
 use Rattle.issuer_laws.specs.Messages.{request_frame, advice_frame, reversal_frame}
-use Rattle.issuer_laws.specs.declared.rule.Rule.{Rule}
+use Rattle.issuer_laws.specs.declared.decision_rule.DecisionRule.{DecisionRule}
 
 -- reply and rows that a plan comes to
 abbrev pub comes_to : Plan → Lookup → ReplyBody × Writes
@@ -47,10 +47,10 @@ comes_to p look = ((carried_out p look).reply, (carried_out p look).writes)
 
 -- rules, each with whether its condition holds
 abbrev pub Conditions : Type 0
-Conditions = List (Rule × Bool)
+Conditions = List (DecisionRule × Bool)
 
 -- the first rule whose condition holds, and else this one
-abbrev pub first_of : Conditions → Rule → Rule
+abbrev pub first_of : Conditions → DecisionRule → DecisionRule
 first_of [] last = last
 first_of (c ∷ cs) last = if c.1 then c.0 else first_of cs last
 
@@ -135,32 +135,32 @@ is_over amount budget = nat_lt budget.cap amount || nat_lt budget.left amount
 
 abbrev pub request_conditions : Request → Facts → Conditions
 request_conditions r f =
-    (Rule.ReversedAhead, has (is_own_mark r.transaction OriginalKind.Request) f.seen)
-    ∷ (Rule.MarkOfAnother, has is_mark f.seen)
-    ∷ (Rule.Repeat, has (is_same_kept r.transaction OriginalKind.Request) f.seen && r.repeat)
-    ∷ (Rule.Duplicate, is_some f.seen)
-    ∷ (Rule.NotPermitted, is_unpermitted r)
-    ∷ (Rule.NoAmount, r.transaction.amount == 0)
-    ∷ (Rule.WrongCardNumber, not (passes_luhn r.transaction.pan.0))
-    ∷ (Rule.NoCard, is_none f.card)
-    ∷ (Rule.CardBlocked, has (λ (c : CardRow). is_blocked c.status) f.card)
-    ∷ (Rule.CardLost, has (λ (c : CardRow). is_lost c.status) f.card)
-    ∷ (Rule.CardStolen, has (λ (c : CardRow). is_stolen c.status) f.card)
-    ∷ (Rule.CardExpired, has (λ (c : CardRow). nat_lt (number_of c.expiry) (number_of (month_of r.transaction.stamp))) f.card)
-    ∷ (Rule.NotOfCard, is_none f.named)
-    ∷ (Rule.NoAccount, is_none f.account)
-    ∷ (Rule.OtherCurrency, has (λ (a : AccountRow). not (is_same_currency r.transaction.currency a.currency)) f.account)
-    ∷ (Rule.TooManyApprovals, has (λ (c : CardRow). nat_lt c.day_count (f.day.count + 1)) f.card)
-    ∷ (Rule.TooMuchMoney, has (λ (c : CardRow). nat_lt c.day_amount (f.day.sum + r.transaction.amount)) f.card)
-    ∷ (Rule.ApprovalsExhausted, has (λ (c : CardRow). nat_le 999999 c.approvals) f.card)
-    ∷ (Rule.BudgetRefuses, has (λ (b : BudgetRow). stands_in b.mode && is_over r.transaction.amount b) f.budget)
-    ∷ (Rule.BudgetPays, has (λ (b : BudgetRow). stands_in b.mode) f.budget)
-    ∷ (Rule.NotSufficientFunds, has (λ (a : AccountRow). nat_lt a.available r.transaction.amount) f.account)
+    (DecisionRule.ReversedAhead, has (is_own_mark r.transaction OriginalKind.Request) f.seen)
+    ∷ (DecisionRule.MarkOfAnother, has is_mark f.seen)
+    ∷ (DecisionRule.Repeat, has (is_same_kept r.transaction OriginalKind.Request) f.seen && r.repeat)
+    ∷ (DecisionRule.Duplicate, is_some f.seen)
+    ∷ (DecisionRule.NotPermitted, is_unpermitted r)
+    ∷ (DecisionRule.NoAmount, r.transaction.amount == 0)
+    ∷ (DecisionRule.WrongCardNumber, not (passes_luhn r.transaction.pan.0))
+    ∷ (DecisionRule.NoCard, is_none f.card)
+    ∷ (DecisionRule.CardBlocked, has (λ (c : CardRow). is_blocked c.status) f.card)
+    ∷ (DecisionRule.CardLost, has (λ (c : CardRow). is_lost c.status) f.card)
+    ∷ (DecisionRule.CardStolen, has (λ (c : CardRow). is_stolen c.status) f.card)
+    ∷ (DecisionRule.CardExpired, has (λ (c : CardRow). nat_lt (number_of c.expiry) (number_of (month_of r.transaction.stamp))) f.card)
+    ∷ (DecisionRule.NotOfCard, is_none f.named)
+    ∷ (DecisionRule.NoAccount, is_none f.account)
+    ∷ (DecisionRule.OtherCurrency, has (λ (a : AccountRow). not (is_same_currency r.transaction.currency a.currency)) f.account)
+    ∷ (DecisionRule.TooManyApprovals, has (λ (c : CardRow). nat_lt c.day_count (f.day.count + 1)) f.card)
+    ∷ (DecisionRule.TooMuchMoney, has (λ (c : CardRow). nat_lt c.day_amount (f.day.sum + r.transaction.amount)) f.card)
+    ∷ (DecisionRule.ApprovalsExhausted, has (λ (c : CardRow). nat_le 999999 c.approvals) f.card)
+    ∷ (DecisionRule.BudgetRefuses, has (λ (b : BudgetRow). stands_in b.mode && is_over r.transaction.amount b) f.budget)
+    ∷ (DecisionRule.BudgetPays, has (λ (b : BudgetRow). stands_in b.mode) f.budget)
+    ∷ (DecisionRule.NotSufficientFunds, has (λ (a : AccountRow). nat_lt a.available r.transaction.amount) f.account)
     ∷ []
 
 -- the rule of a request: where none of these holds, the account pays
-abbrev pub request_rule : Request → Facts → Rule
-request_rule r f = first_of (request_conditions r f) Rule.AccountPays
+abbrev pub request_rule : Request → Facts → DecisionRule
+request_rule r f = first_of (request_conditions r f) DecisionRule.AccountPays
 
 -- a request that is paid: its card is there, and pays with it
 pub record IsPaidRequest (r : Request) (f : Facts) (paying : Funds) (end : Plan) : Type 0 where
@@ -169,39 +169,39 @@ pub record IsPaidRequest (r : Request) (f : Facts) (paying : Funds) (end : Plan)
   pub paid : end ≡ approved r card f.day paying
 
 -- what a request is answered, and what is written, by each rule
-abbrev pub RequestEnds : Request → Facts → Rule → Plan → Type 0
-RequestEnds r f Rule.ReversedAhead end = (mark : Mark) × (f.seen ≡ Some (OriginalRow.Ahead mark)) × (end ≡ marked_request r mark)
-RequestEnds r f Rule.Repeat end =
+abbrev pub RequestEnds : Request → Facts → DecisionRule → Plan → Type 0
+RequestEnds r f DecisionRule.ReversedAhead end = (mark : Mark) × (f.seen ≡ Some (OriginalRow.Ahead mark)) × (end ≡ marked_request r mark)
+RequestEnds r f DecisionRule.Repeat end =
     (kept : KeptOriginal) × (f.seen ≡ Some (OriginalRow.Kept kept)) × (end ≡ Answer (reply_to_request r (kept_verdict kept.outcome)) [])
-RequestEnds r f Rule.MarkOfAnother end = end ≡ declined_unkept r 913
-RequestEnds r f Rule.Duplicate end = end ≡ declined_unkept r 913
-RequestEnds r f Rule.NotPermitted end = end ≡ declined_request r 119
-RequestEnds r f Rule.NoAmount end = end ≡ declined_request r 110
-RequestEnds r f Rule.WrongCardNumber end = end ≡ declined_request r 111
-RequestEnds r f Rule.NoCard end = end ≡ declined_request r 118
-RequestEnds r f Rule.CardBlocked end = end ≡ declined_request r 100
-RequestEnds r f Rule.CardLost end = end ≡ declined_request r 208
-RequestEnds r f Rule.CardStolen end = end ≡ declined_request r 209
-RequestEnds r f Rule.CardExpired end = end ≡ declined_request r 101
-RequestEnds r f Rule.NotOfCard end = end ≡ declined_request r 119
-RequestEnds r f Rule.NoAccount end = end ≡ declined_request r 909
-RequestEnds r f Rule.OtherCurrency end = end ≡ declined_request r 100
-RequestEnds r f Rule.TooManyApprovals end = end ≡ declined_request r 123
-RequestEnds r f Rule.TooMuchMoney end = end ≡ declined_request r 121
-RequestEnds r f Rule.ApprovalsExhausted end = end ≡ declined_request r 909
-RequestEnds r f Rule.BudgetRefuses end = end ≡ declined_request r 907
-RequestEnds r f Rule.BudgetPays end =
+RequestEnds r f DecisionRule.MarkOfAnother end = end ≡ declined_unkept r 913
+RequestEnds r f DecisionRule.Duplicate end = end ≡ declined_unkept r 913
+RequestEnds r f DecisionRule.NotPermitted end = end ≡ declined_request r 119
+RequestEnds r f DecisionRule.NoAmount end = end ≡ declined_request r 110
+RequestEnds r f DecisionRule.WrongCardNumber end = end ≡ declined_request r 111
+RequestEnds r f DecisionRule.NoCard end = end ≡ declined_request r 118
+RequestEnds r f DecisionRule.CardBlocked end = end ≡ declined_request r 100
+RequestEnds r f DecisionRule.CardLost end = end ≡ declined_request r 208
+RequestEnds r f DecisionRule.CardStolen end = end ≡ declined_request r 209
+RequestEnds r f DecisionRule.CardExpired end = end ≡ declined_request r 101
+RequestEnds r f DecisionRule.NotOfCard end = end ≡ declined_request r 119
+RequestEnds r f DecisionRule.NoAccount end = end ≡ declined_request r 909
+RequestEnds r f DecisionRule.OtherCurrency end = end ≡ declined_request r 100
+RequestEnds r f DecisionRule.TooManyApprovals end = end ≡ declined_request r 123
+RequestEnds r f DecisionRule.TooMuchMoney end = end ≡ declined_request r 121
+RequestEnds r f DecisionRule.ApprovalsExhausted end = end ≡ declined_request r 909
+RequestEnds r f DecisionRule.BudgetRefuses end = end ≡ declined_request r 907
+RequestEnds r f DecisionRule.BudgetPays end =
     (budget : BudgetRow) × (f.budget ≡ Some budget) × IsPaidRequest r f (Funds.Budget (prefix_of r.transaction.pan) budget) end
-RequestEnds r f Rule.NotSufficientFunds end = end ≡ declined_request r 116
-RequestEnds r f Rule.AccountPays end =
+RequestEnds r f DecisionRule.NotSufficientFunds end = end ≡ declined_request r 116
+RequestEnds r f DecisionRule.AccountPays end =
     (id : AccountId) × (account : AccountRow) × (f.named ≡ Some id) × (f.account ≡ Some account) × IsPaidRequest r f (Funds.Account id account) end
 RequestEnds r f _ end = ⊥
 
--- a request is decided by its rule
-abbrev pub RequestIsDecided : Rows → Request → Type 0
-RequestIsDecided rows r =
+-- a request is decided by this rule
+abbrev pub RequestIsDecided : Rows → Request → DecisionRule → Type 0
+RequestIsDecided rows r rule =
     let f = facts_of rows r.transaction r.account in
-    (end : Plan) × RequestEnds r f (request_rule r f) end × ((reply_of rows (request_frame r), writes_of rows (request_frame r)) ≡ comes_to end (map.get rows))
+    (end : Plan) × RequestEnds r f rule end × ((reply_of rows (request_frame r), writes_of rows (request_frame r)) ≡ comes_to end (map.get rows))
 
 -- ---- advices, 1120 and 1121
 
@@ -211,47 +211,47 @@ covers amount budget = nat_le amount budget.cap && nat_le amount budget.left
 
 abbrev pub advice_conditions : Advice → Facts → Conditions
 advice_conditions a f =
-    (Rule.ReversedAhead, has (is_own_mark a.transaction OriginalKind.Advice) f.seen)
-    ∷ (Rule.MarkOfAnother, has is_mark f.seen)
-    ∷ (Rule.Repeat, has (is_same_kept a.transaction OriginalKind.Advice) f.seen && a.repeat)
-    ∷ (Rule.Duplicate, is_some f.seen)
-    ∷ (Rule.NotApproved, not (a.action == 0))
-    ∷ (Rule.NoCard, is_none f.card)
-    ∷ (Rule.NotOfCard, is_none f.named)
-    ∷ (Rule.NoAccount, is_none f.account)
-    ∷ (Rule.OtherCurrency, has (λ (acc : AccountRow). not (is_same_currency a.transaction.currency acc.currency)) f.account)
-    ∷ (Rule.BudgetPays, has (λ (b : BudgetRow). stands_in b.mode && covers a.transaction.amount b) f.budget)
-    ∷ (Rule.AccountPays, has (λ (acc : AccountRow). nat_le a.transaction.amount acc.available) f.account)
+    (DecisionRule.ReversedAhead, has (is_own_mark a.transaction OriginalKind.Advice) f.seen)
+    ∷ (DecisionRule.MarkOfAnother, has is_mark f.seen)
+    ∷ (DecisionRule.Repeat, has (is_same_kept a.transaction OriginalKind.Advice) f.seen && a.repeat)
+    ∷ (DecisionRule.Duplicate, is_some f.seen)
+    ∷ (DecisionRule.NotApproved, not (a.action == 0))
+    ∷ (DecisionRule.NoCard, is_none f.card)
+    ∷ (DecisionRule.NotOfCard, is_none f.named)
+    ∷ (DecisionRule.NoAccount, is_none f.account)
+    ∷ (DecisionRule.OtherCurrency, has (λ (acc : AccountRow). not (is_same_currency a.transaction.currency acc.currency)) f.account)
+    ∷ (DecisionRule.BudgetPays, has (λ (b : BudgetRow). stands_in b.mode && covers a.transaction.amount b) f.budget)
+    ∷ (DecisionRule.AccountPays, has (λ (acc : AccountRow). nat_le a.transaction.amount acc.available) f.account)
     ∷ []
 
 -- the rule of an advice: where none of these holds, less is available than the amount
-abbrev pub advice_rule : Advice → Facts → Rule
-advice_rule a f = first_of (advice_conditions a f) Rule.NotSufficientFunds
+abbrev pub advice_rule : Advice → Facts → DecisionRule
+advice_rule a f = first_of (advice_conditions a f) DecisionRule.NotSufficientFunds
 
 -- what an advice is answered, and what is written, by each rule
-abbrev pub AdviceEnds : Advice → Facts → Rule → Plan → Type 0
-AdviceEnds a f Rule.ReversedAhead end = (mark : Mark) × (f.seen ≡ Some (OriginalRow.Ahead mark)) × (end ≡ marked_advice a mark)
-AdviceEnds a f Rule.Repeat end =
+abbrev pub AdviceEnds : Advice → Facts → DecisionRule → Plan → Type 0
+AdviceEnds a f DecisionRule.ReversedAhead end = (mark : Mark) × (f.seen ≡ Some (OriginalRow.Ahead mark)) × (end ≡ marked_advice a mark)
+AdviceEnds a f DecisionRule.Repeat end =
     (kept : KeptOriginal) × (f.seen ≡ Some (OriginalRow.Kept kept)) × (end ≡ answered_unkept a (action_of_outcome kept.outcome))
-AdviceEnds a f Rule.MarkOfAnother end = end ≡ answered_unkept a 913
-AdviceEnds a f Rule.Duplicate end = end ≡ answered_unkept a 913
-AdviceEnds a f Rule.NotApproved end = end ≡ acknowledged a
-AdviceEnds a f Rule.NoCard end = end ≡ acknowledged a
-AdviceEnds a f Rule.NotOfCard end = end ≡ acknowledged a
-AdviceEnds a f Rule.NoAccount end = end ≡ acknowledged a
-AdviceEnds a f Rule.OtherCurrency end = end ≡ acknowledged a
-AdviceEnds a f Rule.BudgetPays end =
+AdviceEnds a f DecisionRule.MarkOfAnother end = end ≡ answered_unkept a 913
+AdviceEnds a f DecisionRule.Duplicate end = end ≡ answered_unkept a 913
+AdviceEnds a f DecisionRule.NotApproved end = end ≡ acknowledged a
+AdviceEnds a f DecisionRule.NoCard end = end ≡ acknowledged a
+AdviceEnds a f DecisionRule.NotOfCard end = end ≡ acknowledged a
+AdviceEnds a f DecisionRule.NoAccount end = end ≡ acknowledged a
+AdviceEnds a f DecisionRule.OtherCurrency end = end ≡ acknowledged a
+AdviceEnds a f DecisionRule.BudgetPays end =
     (budget : BudgetRow) × (f.budget ≡ Some budget) × (end ≡ accepted a (Funds.Budget (prefix_of a.transaction.pan) budget))
-AdviceEnds a f Rule.AccountPays end =
+AdviceEnds a f DecisionRule.AccountPays end =
     (id : AccountId) × (account : AccountRow) × (f.named ≡ Some id) × (f.account ≡ Some account) × (end ≡ accepted a (Funds.Account id account))
-AdviceEnds a f Rule.NotSufficientFunds end = end ≡ acknowledged a
+AdviceEnds a f DecisionRule.NotSufficientFunds end = end ≡ acknowledged a
 AdviceEnds a f _ end = ⊥
 
--- an advice is decided by its rule
-abbrev pub AdviceIsDecided : Rows → Advice → Type 0
-AdviceIsDecided rows a =
+-- an advice is decided by this rule
+abbrev pub AdviceIsDecided : Rows → Advice → DecisionRule → Type 0
+AdviceIsDecided rows a rule =
     let f = facts_of rows a.transaction a.account in
-    (end : Plan) × AdviceEnds a f (advice_rule a f) end × ((reply_of rows (advice_frame a), writes_of rows (advice_frame a)) ≡ comes_to end (map.get rows))
+    (end : Plan) × AdviceEnds a f rule end × ((reply_of rows (advice_frame a), writes_of rows (advice_frame a)) ≡ comes_to end (map.get rows))
 
 -- ---- reversals, 1420 and 1421
 
@@ -305,22 +305,22 @@ gives_back v (Some (OriginalRow.Kept k)) = given_back v k
 
 abbrev pub reversal_conditions : Reversal → ReversalFacts → Conditions
 reversal_conditions v f =
-    (Rule.NoOriginal, is_none f.seen)
-    ∷ (Rule.MarkedBefore, has is_mark f.seen)
-    ∷ (Rule.OtherOriginal, has (is_kept_so (λ (k : KeptOriginal). not (is_named v k))) f.seen)
-    ∷ (Rule.ReversalRepeat, has (is_kept_so (is_reversed_by v)) f.seen && v.repeat)
-    ∷ (Rule.ReversedBefore, has (is_kept_so (λ (k : KeptOriginal). is_some (reversal_of_outcome k.outcome))) f.seen)
-    ∷ (Rule.NotPosted, has (is_kept_so (λ (k : KeptOriginal). is_none (payment_of_outcome k.outcome))) f.seen)
-    ∷ (Rule.WrongPart, has (is_kept_so (λ (k : KeptOriginal). is_wrong_part v.scope v.transaction.amount k.amount)) f.seen)
-    ∷ (Rule.NoPayer, is_none f.paid)
-    ∷ (Rule.NoDay, has (is_kept_so is_request) f.seen && is_none f.day)
-    ∷ (Rule.BalanceTooGreat, has (λ (paid : Funds). nat_lt greatest_balance (balance_of paid + gives_back v f.seen)) f.paid)
-    ∷ (Rule.DayTooShort, has (is_kept_so is_request) f.seen && has (λ (day : VelocityRow). (takes_approval v.scope && (day.count == 0)) || nat_lt day.sum (gives_back v f.seen)) f.day)
+    (DecisionRule.NoOriginal, is_none f.seen)
+    ∷ (DecisionRule.MarkedBefore, has is_mark f.seen)
+    ∷ (DecisionRule.OtherOriginal, has (is_kept_so (λ (k : KeptOriginal). not (is_named v k))) f.seen)
+    ∷ (DecisionRule.ReversalRepeat, has (is_kept_so (is_reversed_by v)) f.seen && v.repeat)
+    ∷ (DecisionRule.ReversedBefore, has (is_kept_so (λ (k : KeptOriginal). is_some (reversal_of_outcome k.outcome))) f.seen)
+    ∷ (DecisionRule.NotPosted, has (is_kept_so (λ (k : KeptOriginal). is_none (payment_of_outcome k.outcome))) f.seen)
+    ∷ (DecisionRule.WrongPart, has (is_kept_so (λ (k : KeptOriginal). is_wrong_part v.scope v.transaction.amount k.amount)) f.seen)
+    ∷ (DecisionRule.NoPayer, is_none f.paid)
+    ∷ (DecisionRule.NoDay, has (is_kept_so is_request) f.seen && is_none f.day)
+    ∷ (DecisionRule.BalanceTooGreat, has (λ (paid : Funds). nat_lt greatest_balance (balance_of paid + gives_back v f.seen)) f.paid)
+    ∷ (DecisionRule.DayTooShort, has (is_kept_so is_request) f.seen && has (λ (day : VelocityRow). (takes_approval v.scope && (day.count == 0)) || nat_lt day.sum (gives_back v f.seen)) f.day)
     ∷ []
 
 -- the rule of a reversal: where none of these holds, the money goes back
-abbrev pub reversal_rule : Reversal → ReversalFacts → Rule
-reversal_rule v f = first_of (reversal_conditions v f) Rule.GivenBack
+abbrev pub reversal_rule : Reversal → ReversalFacts → DecisionRule
+reversal_rule v f = first_of (reversal_conditions v f) DecisionRule.GivenBack
 
 -- the money of a request goes back to what paid and out of its day; that of an advice to what paid alone
 abbrev pub EndsGivenBack : OriginalKind → Reversal → KeptOriginal → Funds → Option VelocityRow → Plan → Type 0
@@ -329,36 +329,44 @@ EndsGivenBack OriginalKind.Request v k paid (Some day) end = end ≡ Answer (rep
 EndsGivenBack OriginalKind.Advice v k paid day end = end ≡ Answer (reply_to_reversal v 400) (advice_back v k paid)
 
 -- what a reversal is answered, and what is written, by each rule
-abbrev pub ReversalEnds : Reversal → ReversalFacts → Rule → Plan → Type 0
-ReversalEnds v f Rule.NoOriginal end = end ≡ marked_ahead v
-ReversalEnds v f Rule.MarkedBefore end = end ≡ unchanged v 914
-ReversalEnds v f Rule.OtherOriginal end = end ≡ unchanged v 914
-ReversalEnds v f Rule.ReversalRepeat end = end ≡ unchanged v 400
-ReversalEnds v f Rule.ReversedBefore end = end ≡ unchanged v 913
-ReversalEnds v f Rule.NotPosted end =
+abbrev pub ReversalEnds : Reversal → ReversalFacts → DecisionRule → Plan → Type 0
+ReversalEnds v f DecisionRule.NoOriginal end = end ≡ marked_ahead v
+ReversalEnds v f DecisionRule.MarkedBefore end = end ≡ unchanged v 914
+ReversalEnds v f DecisionRule.OtherOriginal end = end ≡ unchanged v 914
+ReversalEnds v f DecisionRule.ReversalRepeat end = end ≡ unchanged v 400
+ReversalEnds v f DecisionRule.ReversedBefore end = end ≡ unchanged v 913
+ReversalEnds v f DecisionRule.NotPosted end =
     (k : KeptOriginal) × (f.seen ≡ Some (OriginalRow.Kept k))
     × (end ≡ Answer (reply_to_reversal v 400) (original_put v (RowVal.Kept (settled k (identity_of v.transaction) 0)) ∷ []))
-ReversalEnds v f Rule.WrongPart end = end ≡ unchanged v 110
-ReversalEnds v f Rule.NoPayer end = end ≡ unchanged v 914
-ReversalEnds v f Rule.NoDay end = end ≡ unchanged v 914
-ReversalEnds v f Rule.BalanceTooGreat end = end ≡ unchanged v 909
-ReversalEnds v f Rule.DayTooShort end = end ≡ unchanged v 909
-ReversalEnds v f Rule.GivenBack end =
+ReversalEnds v f DecisionRule.WrongPart end = end ≡ unchanged v 110
+ReversalEnds v f DecisionRule.NoPayer end = end ≡ unchanged v 914
+ReversalEnds v f DecisionRule.NoDay end = end ≡ unchanged v 914
+ReversalEnds v f DecisionRule.BalanceTooGreat end = end ≡ unchanged v 909
+ReversalEnds v f DecisionRule.DayTooShort end = end ≡ unchanged v 909
+ReversalEnds v f DecisionRule.GivenBack end =
     (k : KeptOriginal) × (paid : Funds) × (f.seen ≡ Some (OriginalRow.Kept k)) × (f.paid ≡ Some paid)
     × EndsGivenBack (kind_of_outcome k.outcome) v k paid f.day end
 ReversalEnds v f _ end = ⊥
 
--- a reversal is decided by its rule
-abbrev pub ReversalIsDecided : Rows → Reversal → Type 0
-ReversalIsDecided rows v =
+-- a reversal is decided by this rule
+abbrev pub ReversalIsDecided : Rows → Reversal → DecisionRule → Type 0
+ReversalIsDecided rows v rule =
     let f = reversal_facts_of rows v in
-    (end : Plan) × ReversalEnds v f (reversal_rule v f) end × ((reply_of rows (reversal_frame v), writes_of rows (reversal_frame v)) ≡ comes_to end (map.get rows))
+    (end : Plan) × ReversalEnds v f rule end × ((reply_of rows (reversal_frame v), writes_of rows (reversal_frame v)) ≡ comes_to end (map.get rows))
 
 -- ---- all messages
 
 -- the rule that decides a body
-abbrev pub decided_by : Rows → Frame → Rule
+abbrev pub decided_by : Rows → Frame → DecisionRule
 decided_by rows (Frame.Good (Message.Request r)) = request_rule r (facts_of rows r.transaction r.account)
 decided_by rows (Frame.Good (Message.Advice a)) = advice_rule a (facts_of rows a.transaction a.account)
 decided_by rows (Frame.Good (Message.Reversal v)) = reversal_rule v (reversal_facts_of rows v)
-decided_by rows (Frame.Bad fault) = Rule.NoMessage
+decided_by rows (Frame.Bad fault) = DecisionRule.NoMessage
+
+-- a body is answered, and rows are written, as this rule says: one that is no message is answered its fault, and writes nothing
+abbrev pub IsDecidedBy : Rows → Frame → DecisionRule → Type 0
+IsDecidedBy rows (Frame.Good (Message.Request r)) rule = RequestIsDecided rows r rule
+IsDecidedBy rows (Frame.Good (Message.Advice a)) rule = AdviceIsDecided rows a rule
+IsDecidedBy rows (Frame.Good (Message.Reversal v)) rule = ReversalIsDecided rows v rule
+IsDecidedBy rows (Frame.Bad fault) rule =
+    (rule ≡ DecisionRule.NoMessage) × (reply_of rows (Frame.Bad fault) ≡ ReplyBody.Fault fault) × (writes_of rows (Frame.Bad fault) ≡ [])

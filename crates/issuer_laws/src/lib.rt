@@ -1,14 +1,15 @@
-//! Laws of the decision tables about messages that come again: a repeat is answered alike, and a second reversal of an
-//! original is a duplicate.
+//! Laws of the decision tables, for every book and whatever comes: of repeats and originals, money, limits of cards, parts of a batch, and
+//! rules.
 #![tactic(auto)]
 
+mod decision_rule;
 mod limit_laws;
 mod money_laws;
 mod part_laws;
 mod repeat_laws;
-mod rule;
 mod rule_laws;
 
+pub use decision_rule::DecisionRule;
 pub use limit_laws::{
     a_card_stays, approval_codes_of_a_card_differ, days_have_what_reversals_take,
     no_day_passes_its_limits,
@@ -21,5 +22,4 @@ pub use repeat_laws::{
     a_batch_again_changes_nothing, a_repeat_is_answered_alike, a_second_reversal_is_a_duplicate,
     an_original_is_kept_for_good, each_reply_repeats_its_message,
 };
-pub use rule::Rule;
 pub use rule_laws::the_first_rule_decides;

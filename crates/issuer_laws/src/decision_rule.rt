@@ -1,7 +1,7 @@
 /// The rule that decides a message: the first of its kind's table whose condition holds. The action code (element 39 of ISO 8583:1993) that
 /// a request, an advice or a reversal is answered by it stands behind its name.
 #[derive(Clone, Copy, Debug, PartialEq, Eq)]
-pub enum Rule {
+pub enum DecisionRule {
     /// The body is no message: answered its fault.
     NoMessage,
     /// A reversal of this message came ahead of it: request 914, advice 900.
