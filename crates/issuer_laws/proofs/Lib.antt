@@ -1,6 +1,7 @@
 pub mod AdviceRules
 pub mod AdviceWays
 pub mod Again
+pub mod Approved
 pub mod Backings
 pub mod Balanced
 pub mod Cards

@@ -1,6 +1,6 @@
 -- The decision tables as flat lists of conditions, in the order in which they are asked. The first that holds names the rule, and the
 -- rule says what is answered and written.
-use Rattle.std.specs.Prelude.{◌≡◌, ℕ, ◌+◌, Bool, true, false, ◌&&◌, ◌||◌, ◌==◌, not, nat_lt, nat_le, List, [], ◌∷◌, Option, Some, None, is_some, is_none, option_and_then, option_map, if◌then◌else◌}
+use Rattle.std.specs.Prelude.{◌≡◌, ◌≢◌, ℕ, ◌+◌, Bool, true, false, ◌&&◌, ◌||◌, ◌==◌, not, nat_lt, nat_le, List, [], ◌∷◌, Option, Some, None, is_some, is_none, option_and_then, option_map, if◌then◌else◌}
 use Rattle.std.specs.FinMap as map
 use Rattle.iso8583.specs.Luhn.{passes_luhn}
 use Rattle.iso8583.specs.Number.{number_of}
@@ -39,6 +39,7 @@ use Rattle.issuer_rows.specs.declared.row_val.RowVal.{RowVal}
 use Rattle.issuer_rows.specs.declared.velocity_row.VelocityRow.{VelocityRow}
 use Rattle.issuer_rows.specs.declared.reply_body.ReplyBody.{ReplyBody}
 use Rattle.issuer_laws.specs.Messages.{request_frame, advice_frame, reversal_frame}
+use Rattle.issuer_laws.specs.Reconciled.{is_answered}
 use Rattle.issuer_laws.specs.declared.decision_rule.DecisionRule.{DecisionRule}
 
 -- reply and rows that a plan comes to
@@ -370,3 +371,15 @@ IsDecidedBy rows (Frame.Good (Message.Advice a)) rule = AdviceIsDecided rows a r
 IsDecidedBy rows (Frame.Good (Message.Reversal v)) rule = ReversalIsDecided rows v rule
 IsDecidedBy rows (Frame.Bad fault) rule =
     (rule ≡ DecisionRule.NoMessage) × (reply_of rows (Frame.Bad fault) ≡ ReplyBody.Fault fault) × (writes_of rows (Frame.Bad fault) ≡ [])
+
+-- money is paid by the rule
+abbrev pub pays : DecisionRule → Bool
+pays DecisionRule.BudgetPays = true
+pays DecisionRule.AccountPays = true
+pays _ = false
+
+-- a request is answered 000 exactly where its rule pays; a repeat apart, which is answered what was answered first
+abbrev pub IsApprovedWherePaid : Rows → Request → Type 0
+IsApprovedWherePaid rows r =
+    let rule = decided_by rows (request_frame r) in
+    rule ≢ DecisionRule.Repeat → is_answered 0 (reply_of rows (request_frame r)) ≡ pays rule
