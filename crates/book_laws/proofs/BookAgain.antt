@@ -1,30 +1,31 @@
 -- A book's text is read again as the book.
-use Rattle.std.proofs.Common.{◌≡◌, ℕ, ◌≤◌, Bool, true, false, ◌||◌, List, [], ◌∷◌, Option, Some, Ok, Result, option_and_then, refl, sym, ap, ◌∙◌, append-nil, arith}
+use Rattle.std.proofs.Common.{◌≡◌, ℕ, ◌≤◌, Bool, true, false, cond, subst, ◌||◌, List, [], ◌∷◌, Option, Some, Ok, Result, option_and_then, refl, sym, ap, ◌∙◌, append-nil, arith}
 use Rattle.std.proofs.lemmas.Bool.{false≢true}
 use Rattle.std.specs.FinMap as map
 use Rattle.std.specs.List.{AllByRecursion}
 use Rattle.std.specs.Str.{IsUtf8}
 use Rattle.json.proofs.Printed.Trees.{value-json_tokens}
+use Rattle.json.proofs.Printed.Utf8.{IsUtf8-are_ascii}
 use Rattle.json.specs.Json as json
 use Rattle.json.specs.Lex.{tokens}
 use Rattle.json.specs.Token.{Token}
-use Rattle.json.specs.Tree.{items_depth, depth}
+use Rattle.json.specs.Tree.{depth}
 use Rattle.issuer_rows.specs.Fold.{Rows}
 use Rattle.issuer_rows.specs.RowKey.{key_cmp}
-use Rattle.issuer_rows.specs.declared.row_key.RowKey.{RowKey}
-use Rattle.issuer_rows.specs.declared.row_val.RowVal.{RowVal}
 use Rattle.issuer_rows.specs.declared.row_val.RowVal.TheVariants as val
 use Rattle.serde_json.proofs.Numbers.{number_of-decimal}
 use Rattle.serde_json.specs.Data.{Data}
 use Rattle.serde_json.specs.Read.{of_json, read, max_depth}
-use Rattle.serde_json.specs.Written.{outline, items_outline}
+use Rattle.serde_json.specs.Written.{outline}
+use Rattle.book_laws.proofs.ListNames.{list_told}
+use Rattle.book_laws.proofs.PlainTexts.{plain_tokens, plain_utf8}
 use Rattle.book_laws.proofs.Readings.{read_value}
-use Rattle.book_laws.proofs.RoundTrip.{Row, HasThose, items_again, items_flat, list_added, all_there, sorted_apart, kept_none}
+use Rattle.book_laws.proofs.RoundTrip.{Row, items_again, items_flat, list_added, all_there, sorted_apart, kept_none}
 use Rattle.book_laws.specs.Lists.{add_entries, add_list}
-use Rattle.book_laws.specs.Parts.{is_in}
+use Rattle.book_laws.specs.Parts.{is_in, list_key}
 use Rattle.book_laws.specs.Reading.{add_lists, all_lists, book_of, reading}
 use Rattle.book_laws.specs.Steps.{◌>>=◌}
-use Rattle.book_laws.specs.Text.{ReadsBack, tokens_of, rows_of, items_data, book_data}
+use Rattle.book_laws.specs.Text.{ReadsBack, IsReadAgain, IsPlain, AreItemsPlain, tokens_of, rows_of, items_data, book_data, book_text}
 use Rattle.book_laws.specs.declared.book_version.BookVersion.TheVariants.{Three}
 use Rattle.book_laws.specs.declared.row_list.RowList.{RowList}
 use Rattle.book_laws.specs.declared.row_list.RowList.TheVariants.{Cards, Days, Budgets, Originals, Ahead, Accounts}
@@ -169,3 +170,63 @@ book_again rows h = lists_again rows h
 -- the text of a book whose rows are read again is read as the book
 pub text_again : (rows : Rows) (text : List ℕ) → AreReadBack rows → IsUtf8 text → tokens text ≡ tokens_of (book_data rows) → reading text ≡ Ok rows
 text_again rows text h utf8 is = read_value text (book_data rows) utf8 (read_again rows text h is) ∙ book_again rows h
+
+-- ---- the text of a book whose rows each are read again
+
+-- of the rows of a list, each is read again, and its entry is plain
+abbrev AreEntriesOf : RowList → List Row → Type 0
+AreEntriesOf list rows = AllByRecursion (ReadsBack list) rows × AreItemsPlain (items_data rows)
+
+entries_of : (list : RowList) (rows : List Row) → AllByRecursion IsReadAgain rows → AreEntriesOf list (rows_of list rows)
+entries_of list [] h = (tt, tt)
+entries_of list (row ∷ rows) h =
+    let rest = entries_of list rows h.1 in
+    elim (is_in list row.1) as (λ b. is_in list row.1 ≡ b → AreEntriesOf list (cond b (row ∷ rows_of list rows) (rows_of list rows))) [
+      | true ↦ λ is. ((subst (λ (l : RowList). ReadsBack l row) (list_told list row.1 is) h.0.back, rest.0), (h.0.plain, rest.1))
+      | false ↦ λ is. rest
+    ] refl
+
+key_utf8 : (list : RowList) → IsUtf8 (list_key list)
+key_utf8 Cards = IsUtf8-are_ascii _ refl
+key_utf8 Days = IsUtf8-are_ascii _ refl
+key_utf8 Budgets = IsUtf8-are_ascii _ refl
+key_utf8 Originals = IsUtf8-are_ascii _ refl
+key_utf8 Ahead = IsUtf8-are_ascii _ refl
+key_utf8 Accounts = IsUtf8-are_ascii _ refl
+
+-- the text of a book is read as the book, where each of its rows is read again
+pub book_text_again : (book : Rows) → AllByRecursion IsReadAgain (map.entries book) → reading (book_text book) ≡ Ok book
+book_text_again book h =
+    let accounts = entries_of Accounts _ h in
+    let ahead = entries_of Ahead _ h in
+    let budgets = entries_of Budgets _ h in
+    let cards = entries_of Cards _ h in
+    let days = entries_of Days _ h in
+    let originals = entries_of Originals _ h in
+    let back : AreReadBack book = record { accounts = accounts.0; ahead = ahead.0; budgets = budgets.0; cards = cards.0; days = days.0; originals = originals.0 } in
+    let plain : IsPlain (book_data book) = (
+      key_utf8 Accounts,
+      accounts.1,
+      (
+        key_utf8 Ahead,
+        ahead.1,
+        (
+          key_utf8 Budgets,
+          budgets.1,
+          (
+            key_utf8 Cards,
+            cards.1,
+            (
+              key_utf8 Days,
+              days.1,
+              (
+                key_utf8 Originals,
+                originals.1,
+                (IsUtf8-are_ascii _ refl, omega arith, tt),
+              ),
+            ),
+          ),
+        ),
+      ),
+    ) in
+    text_again book (book_text book) back (plain_utf8 (book_data book) plain) (plain_tokens (book_data book) plain)

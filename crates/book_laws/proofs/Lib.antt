@@ -4,7 +4,9 @@ pub mod Characters
 pub mod ListLemmas
 pub mod ListNames
 pub mod OriginalsAgain
+pub mod PlainTexts
 pub mod Readings
 pub mod RoundTrip
 pub mod RowsAgain
+pub mod RowsPlain
 pub mod WrittenTokens

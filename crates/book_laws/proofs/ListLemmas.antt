@@ -1,5 +1,5 @@
 -- Lists of entries, one entry after another.
-use Rattle.std.proofs.Common.{◌≡◌, ◌<◌, ◌+◌, ◌∷◌, List, Result, Ok, Err, true, false, refl, ap, ◌∙◌, sym, length, nat_eq, map, Bor, ℕ, [], drop, get_or, ne_eqb, arith}
+use Rattle.std.proofs.Common.{◌≡◌, ◌<◌, ◌+◌, ◌∷◌, List, Result, Ok, refl, ap, ◌∙◌, sym, length, nat_eq, map, Bor, ℕ, [], drop, get_or, ne_eqb, arith}
 use Rattle.std.proofs.lemmas.List.{drop_more}
 use Rattle.issuer_rows.specs.Fold.{Rows}
 use Rattle.serde_json.specs.View.{view, items_view}

@@ -1,5 +1,5 @@
 -- A list is determined by its part's number.
-use Rattle.std.proofs.Common.{◌≡◌, ℕ, ◌==◌, Bool, true, false, cond, refl, ap, sym, ◌∙◌, rules}
+use Rattle.std.proofs.Common.{◌≡◌, ℕ, ◌==◌, true, cond, refl, ap, sym, ◌∙◌, rules}
 use Rattle.std.specs.Bool.{Decides}
 use Rattle.issuer_rows.specs.declared.row_val.RowVal.{RowVal}
 use Rattle.book_laws.specs.Parts.{part_number, list_part, list_of, is_in}

@@ -1,8 +1,7 @@
 -- What is written of an original is read again.
-use Rattle.std.proofs.Common.{◌≡◌, ℕ, ◌^◌, Option, Some, None, Ok, refl, lt-ltb, le-leb, eq-eqb, arith, ap, ◌∙◌}
+use Rattle.std.proofs.Common.{◌≡◌, Option, Some, None, Ok, refl, lt-ltb, le-leb, eq-eqb, arith}
 use Rattle.iso8583.proofs.NumberLaws.{number_of-fixed_digits}
 use Rattle.iso8583.specs.declared.identity.Identity.{Identity}
-use Rattle.json.specs.Tree.{depth}
 use Rattle.issuer_rows.specs.Kept.{KeptOriginal, payment_of_outcome}
 use Rattle.issuer_rows.specs.declared.payer.Payer.{Payer}
 use Rattle.issuer_rows.specs.declared.payer.Payer.TheVariants as payer
@@ -18,7 +17,6 @@ use Rattle.book_laws.specs.Text.{ReadsBack, original_data}
 use Rattle.book_laws.specs.Words.{paid_word, account_paid_of}
 use Rattle.book_laws.specs.declared.book_version.BookVersion.TheVariants.{Three}
 use Rattle.book_laws.specs.declared.original_entry.OriginalEntry.{OriginalEntry}
-use Rattle.book_laws.specs.declared.paid.Paid.{Paid}
 use Rattle.book_laws.specs.declared.row_list.RowList.TheVariants.{Originals}
 use Rattle.book_laws.proofs.RowsAgain.{kind_again, account_id_value, approval_value, identity_value, account_id_depth, approval_depth, identity_depth, account_id_again, approval_again, identity_again}
 

@@ -1,5 +1,5 @@
 -- Lists of entries are read again, one list after another.
-use Rattle.std.proofs.Common.{◌≡◌, ℕ, ◌≤◌, Bool, true, false, cond, ◌&&◌, ◌||◌, List, [], ◌∷◌, Option, Some, None, option_and_then, Ok, Ordering, Less, Equal, Greater, is_eq, refl, sym, ap, ◌∙◌, append-nil, arith}
+use Rattle.std.proofs.Common.{◌≡◌, ◌≤◌, Bool, true, false, cond, ◌&&◌, ◌||◌, List, [], ◌∷◌, Option, Some, None, Ok, Ordering, Less, Equal, Greater, is_eq, refl, sym, ap, ◌∙◌, arith}
 use Rattle.std.proofs.lemmas.Cmp.{tied_itself}
 use Rattle.std.proofs.lemmas.Option.{none-some}
 use Rattle.std.specs.Prelude.{T}
@@ -8,27 +8,17 @@ use Rattle.std.specs.FinMap as map
 use Rattle.std.specs.FinMap.Entries.{find, find_tied, is_sorted, below_all}
 use Rattle.std.specs.List.{AllByRecursion, filter}
 use Rattle.std.specs.Ordering.{eq_by_cmp, is_lt}
-use Rattle.std.specs.Str.{IsUtf8}
-use Rattle.json.proofs.Printed.Trees.{value-json_tokens}
-use Rattle.json.specs.Json as json
-use Rattle.json.specs.Lex.{tokens}
-use Rattle.json.specs.Token.{Token}
 use Rattle.json.specs.Tree.{items_depth}
 use Rattle.issuer_rows.proofs.KeyLaws.{key_cmp_total, key_cmp_antisymmetric}
 use Rattle.issuer_rows.specs.Fold.{Rows, overlay}
 use Rattle.issuer_rows.specs.RowKey.{key_cmp}
 use Rattle.issuer_rows.specs.declared.row_key.RowKey.{RowKey}
-use Rattle.issuer_rows.specs.declared.row_key.RowKey.TheVariants as key
 use Rattle.issuer_rows.specs.declared.row_val.RowVal.{RowVal}
-use Rattle.issuer_rows.specs.declared.row_val.RowVal.TheVariants as val
-use Rattle.serde_json.proofs.Numbers.{number_of-decimal}
-use Rattle.serde_json.specs.Read.{of_json, of_items, read, max_depth}
-use Rattle.serde_json.specs.Written.{outline, items_outline}
-use Rattle.book_laws.proofs.Readings.{read_value}
+use Rattle.serde_json.specs.Read.{of_items}
+use Rattle.serde_json.specs.Written.{items_outline}
 use Rattle.book_laws.specs.Lists.{add_entries, has_old_cards}
 use Rattle.book_laws.specs.Parts.{is_in}
-use Rattle.book_laws.specs.Reading.{book_of, reading}
-use Rattle.book_laws.specs.Text.{ReadsBack, tokens_of, rows_of, items_data, book_data}
+use Rattle.book_laws.specs.Text.{ReadsBack, rows_of, items_data}
 use Rattle.book_laws.specs.declared.book_version.BookVersion.TheVariants.{Three}
 use Rattle.book_laws.specs.declared.row_list.RowList.{RowList}
 use Rattle.book_laws.specs.declared.row_list.RowList.TheVariants.{Cards, Days, Budgets, Originals, Ahead, Accounts}

@@ -1,7 +1,5 @@
 -- The entry of a row is read again as the row.
-use Rattle.std.proofs.Common.{◌≡◌, ℕ, ◌<◌, ◌≤◌, ◌^◌, List, [], Option, Some, None, IfSome, Ok, refl, length, lt-ltb, le-leb, eq-eqb, arith, ap, ◌∙◌, option_and_then}
-use Rattle.iso8583.specs.Calendar.{IsDay, IsLocalStamp}
-use Rattle.iso8583.specs.Padded.{HasDigits}
+use Rattle.std.proofs.Common.{◌≡◌, ℕ, ◌≤◌, List, Option, Some, None, IfSome, Ok, refl, lt-ltb, le-leb, eq-eqb, arith}
 use Rattle.iso8583.specs.declared.account_id.AccountId.{AccountId}
 use Rattle.iso8583.specs.declared.approval.Approval.{Approval}
 use Rattle.iso8583.specs.declared.identity.Identity.{Identity}
@@ -10,7 +8,6 @@ use Rattle.iso8583.specs.declared.original_kind.OriginalKind.TheVariants.{Reques
 use Rattle.iso8583.specs.declared.pan.Pan.{Pan}
 use Rattle.iso8583.specs.declared.pan_prefix.PanPrefix.{PanPrefix}
 use Rattle.json.specs.Tree.{depth}
-use Rattle.issuer_rows.specs.Expiry.{IsExpiry}
 use Rattle.issuer_rows.specs.declared.account_row.AccountRow.{AccountRow}
 use Rattle.issuer_rows.specs.declared.budget_mode.BudgetMode.{BudgetMode}
 use Rattle.issuer_rows.specs.declared.budget_mode.BudgetMode.TheVariants.{Direct, StandIn}
@@ -29,7 +26,7 @@ use Rattle.book_laws.specs.Cards.{card_of}
 use Rattle.book_laws.specs.Entries.{day_of, budget_of, mark_of, account_of}
 use Rattle.book_laws.specs.Fields.{optional, account_id_of, approval_of, identity_of}
 use Rattle.book_laws.specs.Lists.{entry_of}
-use Rattle.book_laws.specs.Ranges.{AreDigits, IsIdentity, IsAccountId, IsApproval}
+use Rattle.book_laws.specs.Ranges.{IsIdentity, IsAccountId, IsApproval, IsCard, IsDayRow, IsBudget, IsMark, IsAccount}
 use Rattle.book_laws.specs.Text.{ReadsBack, optional_data, account_id_data, approval_data, identity_data, card_data, day_data, budget_data, mark_data, account_data}
 use Rattle.book_laws.specs.Words.{status_word, status_of, mode_word, mode_of, kind_word, kind_of}
 use Rattle.book_laws.specs.declared.book_version.BookVersion.TheVariants.{Three}
@@ -106,15 +103,6 @@ identity_again part (Some identity) h = rw (identity_of_again part identity h) r
 
 -- ---- a card
 
-pub record IsCard (number : Pan) (card : CardRow) : Type 0 where
-  pub account : IsAccountId card.accounts.first
-  pub approvals : card.approvals < 1000000
-  pub day_amount : card.day_amount ≤ 10 ^ 15
-  pub day_count : card.day_count < 1000000
-  pub expiry : IsExpiry card.expiry
-  pub pan : HasDigits 12 19 number.0
-  pub second : IfSome card.accounts.second IsAccountId
-
 card_value : (pan : Pan) (card : CardRow) → IsCard pan card → of_json (outline (card_data pan card)) ≡ Some (card_data pan card)
 card_value pan card h =
     rw (
@@ -153,12 +141,6 @@ card_again pan card h = record {
 
 -- ---- a day
 
-pub record IsDayRow (number : Pan) (text : List ℕ) (row : VelocityRow) : Type 0 where
-  pub count : row.count < 1000000
-  pub day : IsDay text
-  pub pan : HasDigits 12 19 number.0
-  pub sum : row.sum ≤ 10 ^ 15
-
 day_entry : (pan : Pan) (day : List ℕ) (row : VelocityRow) → IsDayRow pan day row → entry_of Three Days (day_data pan day row) ≡ Ok (key.Velocity pan day, val.Velocity row)
 unfolding day_of
 day_entry pan day row h =
@@ -182,11 +164,6 @@ day_again pan day row h = record {
 
 -- ---- a budget
 
-pub record IsBudget (digits : PanPrefix) (row : BudgetRow) : Type 0 where
-  pub cap : row.cap ≤ 10 ^ 15
-  pub left : row.left ≤ 10 ^ 15
-  pub prefix : AreDigits 6 digits.0
-
 budget_entry : (prefix : PanPrefix) (row : BudgetRow) → IsBudget prefix row → entry_of Three Budgets (budget_data prefix row) ≡ Ok (key.Budget prefix, val.Budget row)
 unfolding budget_of
 budget_entry prefix row h =
@@ -200,11 +177,6 @@ budget_again prefix row h = record {
 }
 
 -- ---- a mark
-
-pub record IsMark (identity : Identity) (mark : Mark) : Type 0 where
-  pub named : IsIdentity identity
-  pub card : HasDigits 12 19 mark.card.0
-  pub reversal : IsIdentity mark.reversal
 
 mark_entry : (identity : Identity) (mark : Mark) → IsMark identity mark → entry_of Three Ahead (mark_data identity mark) ≡ Ok (key.Original identity, val.Ahead mark)
 unfolding mark_of
@@ -229,11 +201,6 @@ pub mark_again : (identity : Identity) (mark : Mark) → IsMark identity mark �
 mark_again identity mark h = record { value = refl; depth = omega arith; entry = mark_entry identity mark h }
 
 -- ---- an account
-
-pub record IsAccount (name : AccountId) (row : AccountRow) : Type 0 where
-  pub available : row.available ≤ 10 ^ 15
-  pub currency : AreDigits 3 row.currency.0
-  pub id : IsAccountId name
 
 account_entry : (id : AccountId) (row : AccountRow) → IsAccount id row → entry_of Three Accounts (account_data id row) ≡ Ok (key.Account id, val.Account row)
 unfolding account_of

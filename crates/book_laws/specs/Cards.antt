@@ -5,9 +5,7 @@ use Rattle.iso8583.specs.declared.pan.Pan.{Pan}
 use Rattle.issuer_rows.specs.Plan.{Writes}
 use Rattle.issuer_rows.specs.declared.account_row.AccountRow.{AccountRow}
 use Rattle.issuer_rows.specs.declared.card_row.CardRow.{CardRow}
-use Rattle.issuer_rows.specs.declared.row_key.RowKey.{RowKey}
 use Rattle.issuer_rows.specs.declared.row_key.RowKey.TheVariants as key
-use Rattle.issuer_rows.specs.declared.row_val.RowVal.{RowVal}
 use Rattle.issuer_rows.specs.declared.row_val.RowVal.TheVariants as val
 use Rattle.serde_json.specs.Data.{Data}
 use Rattle.book_laws.specs.Fields.{with_keys, account_id_at, optional_account_id_at, balance_at, count_at, currency_at, expiry_at, pan_at, status_at}

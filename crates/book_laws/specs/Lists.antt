@@ -1,5 +1,5 @@
 -- Lists of entries, each of them a row.
-use Rattle.std.specs.Prelude.{ℕ, Bool, false, List, [], ◌∷◌, option_and_then, Result, Ok, Err, if◌then◌else◌, is_some}
+use Rattle.std.specs.Prelude.{Bool, false, [], ◌∷◌, option_and_then, Result, Ok, Err, if◌then◌else◌, is_some}
 use Rattle.std.specs.FinMap as map
 use Rattle.issuer_rows.specs.Fold.{Rows, overlay}
 use Rattle.issuer_rows.specs.Plan.{Writes}

@@ -1,12 +1,20 @@
 -- Values in their ranges, for private clauses.
-use Rattle.std.specs.Prelude.{◌≡◌, ℕ, ◌<◌, ◌^◌, List, length, IfSome}
-use Rattle.iso8583.specs.Calendar.{IsLocalStamp}
+use Rattle.std.specs.Prelude.{◌≡◌, ℕ, ◌<◌, ◌≤◌, ◌^◌, List, length, IfSome}
+use Rattle.iso8583.specs.Calendar.{IsDay, IsLocalStamp}
 use Rattle.iso8583.specs.Class.{IsDigits, IsAlphanumeric}
 use Rattle.iso8583.specs.Number.{fixed_digits}
 use Rattle.iso8583.specs.Padded.{HasDigits, HasPrintable}
 use Rattle.iso8583.specs.declared.account_id.AccountId.{AccountId}
 use Rattle.iso8583.specs.declared.approval.Approval.{Approval}
 use Rattle.iso8583.specs.declared.identity.Identity.{Identity}
+use Rattle.iso8583.specs.declared.pan.Pan.{Pan}
+use Rattle.iso8583.specs.declared.pan_prefix.PanPrefix.{PanPrefix}
+use Rattle.issuer_rows.specs.Expiry.{IsExpiry}
+use Rattle.issuer_rows.specs.declared.account_row.AccountRow.{AccountRow}
+use Rattle.issuer_rows.specs.declared.budget_row.BudgetRow.{BudgetRow}
+use Rattle.issuer_rows.specs.declared.card_row.CardRow.{CardRow}
+use Rattle.issuer_rows.specs.declared.mark.Mark.{Mark}
+use Rattle.issuer_rows.specs.declared.velocity_row.VelocityRow.{VelocityRow}
 use Rattle.book_laws.specs.declared.original_entry.OriginalEntry.{OriginalEntry}
 
 -- so many digits
@@ -40,3 +48,38 @@ pub record IsOriginalEntry (identity : Identity) (e : OriginalEntry) : Type 0 wh
   pub processing : AreDigits 6 e.processing.0
   pub reversed : IfSome e.reversed IsIdentity
   pub stay : e.stay < 10 ^ 12
+
+-- a card in its ranges
+pub record IsCard (number : Pan) (card : CardRow) : Type 0 where
+  pub account : IsAccountId card.accounts.first
+  pub approvals : card.approvals < 1000000
+  pub day_amount : card.day_amount ≤ 10 ^ 15
+  pub day_count : card.day_count < 1000000
+  pub expiry : IsExpiry card.expiry
+  pub pan : HasDigits 12 19 number.0
+  pub second : IfSome card.accounts.second IsAccountId
+
+-- what was spent with a card on a day, in its ranges
+pub record IsDayRow (number : Pan) (text : List ℕ) (row : VelocityRow) : Type 0 where
+  pub count : row.count < 1000000
+  pub day : IsDay text
+  pub pan : HasDigits 12 19 number.0
+  pub sum : row.sum ≤ 10 ^ 15
+
+-- a stand-in budget in its ranges
+pub record IsBudget (digits : PanPrefix) (row : BudgetRow) : Type 0 where
+  pub cap : row.cap ≤ 10 ^ 15
+  pub left : row.left ≤ 10 ^ 15
+  pub prefix : AreDigits 6 digits.0
+
+-- a reversal mark in its ranges
+pub record IsMark (identity : Identity) (mark : Mark) : Type 0 where
+  pub named : IsIdentity identity
+  pub card : HasDigits 12 19 mark.card.0
+  pub reversal : IsIdentity mark.reversal
+
+-- an account in its ranges
+pub record IsAccount (name : AccountId) (row : AccountRow) : Type 0 where
+  pub available : row.available ≤ 10 ^ 15
+  pub currency : AreDigits 3 row.currency.0
+  pub id : IsAccountId name

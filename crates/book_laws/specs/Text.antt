@@ -1,7 +1,8 @@
 -- The text of a book, version 3: compact JSON, the keys of each object in byte order, the rows of each list in key order.
-use Rattle.std.specs.Prelude.{◌≡◌, ◌≤◌, ℕ, List, [], ◌∷◌, ◌++◌, Option, Some, None, Ok, codes}
+use Rattle.std.specs.Prelude.{◌≡◌, ◌<◌, ◌≤◌, ◌^◌, ℕ, List, [], ◌∷◌, ◌++◌, Option, Some, None, Ok, codes, ⊤}
 use Rattle.std.specs.List.{filter}
 use Rattle.std.specs.FinMap as map
+use Rattle.std.specs.Str.{IsUtf8}
 use Rattle.iso8583.specs.Number.{fixed_digits}
 use Rattle.iso8583.specs.declared.account_id.AccountId.{AccountId}
 use Rattle.iso8583.specs.declared.approval.Approval.{Approval}
@@ -21,12 +22,12 @@ use Rattle.issuer_rows.specs.declared.row_key.RowKey.TheVariants as key
 use Rattle.issuer_rows.specs.declared.row_val.RowVal.{RowVal}
 use Rattle.issuer_rows.specs.declared.row_val.RowVal.TheVariants as val
 use Rattle.issuer_rows.specs.declared.velocity_row.VelocityRow.{VelocityRow}
-use Rattle.serde_json.specs.Data.{Data, null, number, unsigned, string, array, object, Items, no_items, item, Members, no_members, member}
+use Rattle.serde_json.specs.Data.{Data, null, boolean, number, unsigned, negative, float, string, array, object, Items, no_items, item, Members, no_members, member}
 use Rattle.serde_json.specs.Read.{of_json}
 use Rattle.serde_json.specs.Written.{compact_text, outline}
 use Rattle.book_laws.specs.Lists.{entry_of}
 use Rattle.book_laws.specs.Originals.{entry_of_kept}
-use Rattle.book_laws.specs.Parts.{list_key, is_in}
+use Rattle.book_laws.specs.Parts.{list_key, list_of, is_in}
 use Rattle.book_laws.specs.Words.{status_word, mode_word, kind_word, paid_word}
 use Rattle.book_laws.specs.declared.book_version.BookVersion.TheVariants.{Three}
 use Rattle.book_laws.specs.declared.original_entry.OriginalEntry.{OriginalEntry}
@@ -202,3 +203,28 @@ pub record ReadsBack (list : RowList) (row : RowKey × RowVal) : Type 0 where
   pub value : of_json (outline (entry_data row.0 row.1)) ≡ Some (entry_data row.0 row.1)
   pub depth : depth (outline (entry_data row.0 row.1)) ≤ 2
   pub entry : entry_of Three list (entry_data row.0 row.1) ≡ Ok row
+
+-- a value whose text is read again: its numbers are whole and have at most 64 bits, and its texts are UTF-8
+abbrev mutual
+  pub IsPlain : Data → Type 0
+  IsPlain null = ⊤
+  IsPlain (boolean b) = ⊤
+  IsPlain (number (unsigned n)) = n < 2 ^ 64
+  IsPlain (number (negative z)) = ⊥
+  IsPlain (number (float x)) = ⊥
+  IsPlain (string s) = IsUtf8 s
+  IsPlain (array ds) = AreItemsPlain ds
+  IsPlain (object ms) = AreMembersPlain ms
+
+  pub AreItemsPlain : Items → Type 0
+  AreItemsPlain no_items = ⊤
+  AreItemsPlain (item d ds) = IsPlain d × AreItemsPlain ds
+
+  pub AreMembersPlain : Members → Type 0
+  AreMembersPlain no_members = ⊤
+  AreMembersPlain (member k d ms) = IsUtf8 k × IsPlain d × AreMembersPlain ms
+
+-- a row whose entry is read again as the row, and whose entry's text as the entry
+pub record IsReadAgain (row : RowKey × RowVal) : Type 0 where
+  pub back : ReadsBack (list_of row.1) row
+  pub plain : IsPlain (entry_data row.0 row.1)

@@ -1,3 +1,4 @@
+pub mod Back
 pub mod Top
 pub mod Left
 pub mod Pieces

@@ -1,12 +1,10 @@
 -- The top object of a book's text, over its sorted rows; for private clauses.
 use Rattle.std.specs.Prelude.{List, [], ◌∷◌, codes}
-use Rattle.std.specs.List.{AllByRecursion}
 use Rattle.issuer_rows.specs.declared.row_key.RowKey.{RowKey}
 use Rattle.issuer_rows.specs.declared.row_val.RowVal.{RowVal}
 use Rattle.serde_json.specs.Data.{Data, object}
 use Rattle.book_laws.specs.Parts.{list_key}
-use Rattle.book_laws.specs.Text.{ReadsBack, numeral, members, rows_of, list_data}
-use Rattle.book_laws.specs.declared.row_list.RowList.{RowList}
+use Rattle.book_laws.specs.Text.{numeral, members, list_data}
 use Rattle.book_laws.specs.declared.row_list.RowList.TheVariants.{Cards, Days, Budgets, Originals, Ahead, Accounts}
 
 -- the top object of the book that has these rows
@@ -21,16 +19,3 @@ top_data rows =
     ∷ (list_key Originals, list_data Originals rows)
     ∷ (codes "version", numeral 3)
     ∷ []))
-
--- the rows of the list are read again
-abbrev pub IsReadBack : RowList → List (RowKey × RowVal) → Type 0
-IsReadBack list rows = AllByRecursion (ReadsBack list) (rows_of list rows)
-
--- those of each list
-pub record AreReadBack (rows : List (RowKey × RowVal)) : Type 0 where
-  pub accounts : IsReadBack Accounts rows
-  pub ahead : IsReadBack Ahead rows
-  pub budgets : IsReadBack Budgets rows
-  pub cards : IsReadBack Cards rows
-  pub days : IsReadBack Days rows
-  pub originals : IsReadBack Originals rows

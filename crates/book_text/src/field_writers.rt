@@ -28,22 +28,19 @@ pub(crate) fn balance_field(
     name: &str,
     balance: Balance,
 ) -> Result<(), AllocError>
-    ensures text { OnOk result (Adds out.old out.new (key_token name.now ∷ number_token (decimal balance) ∷ [])) }
-    ensures bound { balance ≤ 10 ^ 15 }
+    ensures { OnOk result (Adds out.old out.new (key_token name.now ∷ number_token (decimal balance) ∷ [])) }
 {
     number_field(out, name, balance.minor())
 }
 
 pub(crate) fn amount_field(out: &mut Writer, name: &str, amount: Amount) -> Result<(), AllocError>
-    ensures text { OnOk result (Adds out.old out.new (key_token name.now ∷ number_token (decimal amount) ∷ [])) }
-    ensures bound { amount < 10 ^ 12 }
+    ensures { OnOk result (Adds out.old out.new (key_token name.now ∷ number_token (decimal amount) ∷ [])) }
 {
     number_field(out, name, amount.minor())
 }
 
 pub(crate) fn count_field(out: &mut Writer, name: &str, count: Count) -> Result<(), AllocError>
-    ensures text { OnOk result (Adds out.old out.new (key_token name.now ∷ number_token (decimal count) ∷ [])) }
-    ensures bound { count < 1000000 }
+    ensures { OnOk result (Adds out.old out.new (key_token name.now ∷ number_token (decimal count) ∷ [])) }
 {
     number_field(out, name, u64::from(count.number()))
 }
@@ -53,8 +50,7 @@ fn digits_field<const N: usize>(
     name: &str,
     digits: Digits<N>,
 ) -> Result<(), AllocError>
-    ensures text { OnOk result (Adds out.old out.new (key_token name.now ∷ string_token digits.entry ∷ [])) }
-    ensures range { AreDigits N digits.entry }
+    ensures { OnOk result (Adds out.old out.new (key_token name.now ∷ string_token digits.entry ∷ [])) }
 {
     text_field(out, name, digits.as_str())
 }
@@ -64,8 +60,7 @@ pub(crate) fn currency_field(
     name: &str,
     currency: Currency,
 ) -> Result<(), AllocError>
-    ensures text { OnOk result (Adds out.old out.new (key_token name.now ∷ string_token currency.0 ∷ [])) }
-    ensures range { AreDigits 3 currency.0 }
+    ensures { OnOk result (Adds out.old out.new (key_token name.now ∷ string_token currency.0 ∷ [])) }
 {
     digits_field(out, name, currency.0)
 }
@@ -75,8 +70,7 @@ pub(crate) fn prefix_field(
     name: &str,
     prefix: PanPrefix,
 ) -> Result<(), AllocError>
-    ensures text { OnOk result (Adds out.old out.new (key_token name.now ∷ string_token prefix.0 ∷ [])) }
-    ensures range { AreDigits 6 prefix.0 }
+    ensures { OnOk result (Adds out.old out.new (key_token name.now ∷ string_token prefix.0 ∷ [])) }
 {
     digits_field(out, name, prefix.0)
 }
@@ -86,52 +80,43 @@ pub(crate) fn processing_field(
     name: &str,
     processing: Processing,
 ) -> Result<(), AllocError>
-    ensures text { OnOk result (Adds out.old out.new (key_token name.now ∷ string_token processing.0 ∷ [])) }
-    ensures range { AreDigits 6 processing.0 }
+    ensures { OnOk result (Adds out.old out.new (key_token name.now ∷ string_token processing.0 ∷ [])) }
 {
     digits_field(out, name, processing.0)
 }
 
 pub(crate) fn stan_field(out: &mut Writer, name: &str, stan: Stan) -> Result<(), AllocError>
-    ensures text { OnOk result (Adds out.old out.new (key_token name.now ∷ string_token stan.0 ∷ [])) }
-    ensures range { AreDigits 6 stan.0 }
+    ensures { OnOk result (Adds out.old out.new (key_token name.now ∷ string_token stan.0 ∷ [])) }
 {
     digits_field(out, name, stan.0)
 }
 
 pub(crate) fn action_field(out: &mut Writer, name: &str, action: Action) -> Result<(), AllocError>
-    ensures text { OnOk result (Adds out.old out.new (key_token name.now ∷ string_token (fixed_digits 3 action) ∷ [])) }
-    ensures bound { action < 1000 }
-    ensures range { AreDigits 3 (fixed_digits 3 action) }
+    ensures { OnOk result (Adds out.old out.new (key_token name.now ∷ string_token (fixed_digits 3 action) ∷ [])) }
 {
-    let _code = action.code();
     digits_field(out, name, action.digits())
 }
 
 pub(crate) fn expiry_field(out: &mut Writer, name: &str, expiry: Expiry) -> Result<(), AllocError>
-    ensures text { OnOk result (Adds out.old out.new (key_token name.now ∷ string_token expiry ∷ [])) }
-    ensures range { IsExpiry expiry }
+    ensures { OnOk result (Adds out.old out.new (key_token name.now ∷ string_token expiry ∷ [])) }
 {
     text_field(out, name, expiry.as_str())
 }
 
 pub(crate) fn day_field(out: &mut Writer, name: &str, day: Day) -> Result<(), AllocError>
-    ensures text { OnOk result (Adds out.old out.new (key_token name.now ∷ string_token day ∷ [])) }
-    ensures range { IsDay day }
+    ensures { OnOk result (Adds out.old out.new (key_token name.now ∷ string_token day ∷ [])) }
 {
     text_field(out, name, day.as_str())
 }
 
 pub(crate) fn stamp_field(out: &mut Writer, name: &str, stamp: LocalStamp) -> Result<(), AllocError>
-    ensures text { OnOk result (Adds out.old out.new (key_token name.now ∷ string_token stamp ∷ [])) }
-    ensures range { IsLocalStamp stamp }
+    ensures { OnOk result (Adds out.old out.new (key_token name.now ∷ string_token stamp ∷ [])) }
 {
     text_field(out, name, stamp.as_str())
 }
 
 pub(crate) fn pan_field(out: &mut Writer, name: &str, pan: Pan) -> Result<(), AllocError>
-    ensures text { OnOk result (Adds out.old out.new (key_token name.now ∷ string_token pan.0 ∷ [])) }
-    ensures range { HasDigits 12 19 pan.0 }
+    ensures { OnOk result (Adds out.old out.new (key_token name.now ∷ string_token pan.0 ∷ [])) }
 {
     text_field(out, name, pan.as_str())
 }
@@ -141,8 +126,7 @@ pub(crate) fn acquirer_field(
     name: &str,
     acquirer: Acquirer,
 ) -> Result<(), AllocError>
-    ensures text { OnOk result (Adds out.old out.new (key_token name.now ∷ string_token acquirer.0 ∷ [])) }
-    ensures range { HasDigits 1 11 acquirer.0 }
+    ensures { OnOk result (Adds out.old out.new (key_token name.now ∷ string_token acquirer.0 ∷ [])) }
 {
     text_field(out, name, acquirer.as_str())
 }
@@ -152,8 +136,7 @@ pub(crate) fn account_id_field(
     name: &str,
     id: AccountId,
 ) -> Result<(), AllocError>
-    ensures text { OnOk result (Adds out.old out.new (key_token name.now ∷ string_token id.0 ∷ [])) }
-    ensures range { IsAccountId id }
+    ensures { OnOk result (Adds out.old out.new (key_token name.now ∷ string_token id.0 ∷ [])) }
 {
     text_field(out, name, id.as_str())
 }
@@ -163,8 +146,7 @@ pub(crate) fn optional_account_id_field(
     name: &str,
     id: Option<AccountId>,
 ) -> Result<(), AllocError>
-    ensures text { OnOk result (Adds out.old out.new (key_token name.now ∷ tokens_of (optional_data account_id_data id))) }
-    ensures range { IfSome id IsAccountId }
+    ensures { OnOk result (Adds out.old out.new (key_token name.now ∷ tokens_of (optional_data account_id_data id))) }
 {
     match id {
         Some(id) => account_id_field(out, name, id),
@@ -174,8 +156,7 @@ pub(crate) fn optional_account_id_field(
 
 #[tactic(auto, using(book_laws::proofs::Characters::alphanumeric_utf8))]
 fn approval_field(out: &mut Writer, name: &str, code: Approval) -> Result<(), AllocError>
-    ensures text { OnOk result (Adds out.old out.new (key_token name.now ∷ string_token code.0 ∷ [])) }
-    ensures range { IsApproval code }
+    ensures { OnOk result (Adds out.old out.new (key_token name.now ∷ string_token code.0 ∷ [])) }
 {
     bytes_field(out, name, code.0.as_slice())
 }
@@ -185,8 +166,7 @@ pub(crate) fn optional_approval_field(
     name: &str,
     code: Option<Approval>,
 ) -> Result<(), AllocError>
-    ensures text { OnOk result (Adds out.old out.new (key_token name.now ∷ tokens_of (optional_data approval_data code))) }
-    ensures range { IfSome code IsApproval }
+    ensures { OnOk result (Adds out.old out.new (key_token name.now ∷ tokens_of (optional_data approval_data code))) }
 {
     match code {
         Some(code) => approval_field(out, name, code),
@@ -199,8 +179,7 @@ pub(crate) fn identity_field(
     name: &str,
     identity: Identity,
 ) -> Result<(), AllocError>
-    ensures text { OnOk result (Adds out.old out.new (key_token name.now ∷ tokens_of (identity_data identity))) }
-    ensures range { OnOk result (IsIdentity identity) }
+    ensures { OnOk result (Adds out.old out.new (key_token name.now ∷ tokens_of (identity_data identity))) }
 {
     key(out, name)?;
     begin_object(out)?;
@@ -216,8 +195,7 @@ pub(crate) fn optional_identity_field(
     name: &str,
     identity: Option<Identity>,
 ) -> Result<(), AllocError>
-    ensures text { OnOk result (Adds out.old out.new (key_token name.now ∷ tokens_of (optional_data identity_data identity))) }
-    ensures range { OnOk result (IfSome identity IsIdentity) }
+    ensures { OnOk result (Adds out.old out.new (key_token name.now ∷ tokens_of (optional_data identity_data identity))) }
 {
     match identity {
         Some(identity) => identity_field(out, name, identity),

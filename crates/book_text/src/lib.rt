@@ -4,6 +4,7 @@
 mod field_writers;
 mod listed_row;
 mod parts;
+mod ranges;
 mod row_writers;
 mod tokens;
 mod writing;

@@ -8,7 +8,7 @@ ghost use Rattle.issuer_rows.specs.RowVal.{IsOfKind};
 ghost use Rattle.book_laws.specs.Originals.{entry_of_kept};
 ghost use Rattle.book_laws.specs.Parts.{list_of};
 ghost use Rattle.book_laws.specs.Ranges.{IsAccountId, IsOriginalEntry};
-ghost use Rattle.book_laws.specs.Text.{Adds, ReadsBack, tokens_of, optional_data, account_id_data, card_data, day_data, budget_data, original_data, mark_data, account_data, entry_data};
+ghost use Rattle.book_laws.specs.Text.{Adds, tokens_of, optional_data, account_id_data, card_data, day_data, budget_data, original_data, mark_data, account_data, entry_data};
 ghost use Rattle.book_laws.specs.declared.row_list.RowList.TheVariants.{Cards, Days, Budgets, Originals, Ahead, Accounts};
 
 use crate::field_writers::{
@@ -28,23 +28,20 @@ use std::alloc::AllocError;
 
 // The account that pays where a message names none.
 fn first_account_field(out: &mut Writer, accounts: CardAccounts) -> Result<(), AllocError>
-    ensures text { OnOk result (Adds out.old out.new (key_token (codes "account") ∷ string_token accounts.first.0 ∷ [])) }
-    ensures range { IsAccountId accounts.first }
+    ensures { OnOk result (Adds out.old out.new (key_token (codes "account") ∷ string_token accounts.first.0 ∷ [])) }
 {
     account_id_field(out, "account", accounts.first())
 }
 
 // The other account, if there is one.
 fn second_account_field(out: &mut Writer, accounts: CardAccounts) -> Result<(), AllocError>
-    ensures text { OnOk result (Adds out.old out.new (key_token (codes "second") ∷ tokens_of (optional_data account_id_data accounts.second))) }
-    ensures range { IfSome accounts.second IsAccountId }
+    ensures { OnOk result (Adds out.old out.new (key_token (codes "second") ∷ tokens_of (optional_data account_id_data accounts.second))) }
 {
     optional_account_id_field(out, "second", accounts.second())
 }
 
 fn write_card(out: &mut Writer, pan: Pan, card: &CardRow) -> Result<(), AllocError>
-    ensures text { OnOk result (Adds out.old out.new (tokens_of (card_data pan card.now))) }
-    ensures back { OnOk result (ReadsBack Cards (key.Card pan, val.Card card.now)) }
+    ensures { OnOk result (Adds out.old out.new (tokens_of (card_data pan card.now))) }
 {
     begin_object(out)?;
     first_account_field(out, card.accounts)?;
@@ -60,8 +57,7 @@ fn write_card(out: &mut Writer, pan: Pan, card: &CardRow) -> Result<(), AllocErr
 }
 
 fn write_day(out: &mut Writer, pan: Pan, day: Day, row: &VelocityRow) -> Result<(), AllocError>
-    ensures text { OnOk result (Adds out.old out.new (tokens_of (day_data pan day row.now))) }
-    ensures back { OnOk result (ReadsBack Days (key.Velocity pan day, val.Velocity row.now)) }
+    ensures { OnOk result (Adds out.old out.new (tokens_of (day_data pan day row.now))) }
 {
     begin_object(out)?;
     count_field(out, "count", row.count)?;
@@ -73,8 +69,7 @@ fn write_day(out: &mut Writer, pan: Pan, day: Day, row: &VelocityRow) -> Result<
 }
 
 fn write_budget(out: &mut Writer, prefix: PanPrefix, row: &BudgetRow) -> Result<(), AllocError>
-    ensures text { OnOk result (Adds out.old out.new (tokens_of (budget_data prefix row.now))) }
-    ensures back { OnOk result (ReadsBack Budgets (key.Budget prefix, val.Budget row.now)) }
+    ensures { OnOk result (Adds out.old out.new (tokens_of (budget_data prefix row.now))) }
 {
     begin_object(out)?;
     balance_field(out, "cap", row.cap)?;
@@ -90,8 +85,7 @@ fn write_original(
     identity: Identity,
     original: &OriginalEntry,
 ) -> Result<(), AllocError>
-    ensures text { OnOk result (Adds out.old out.new (tokens_of (original_data identity original.now))) }
-    ensures range { OnOk result (IsOriginalEntry identity original.now) }
+    ensures { OnOk result (Adds out.old out.new (tokens_of (original_data identity original.now))) }
 {
     begin_object(out)?;
     optional_account_id_field(out, "account", original.account)?;
@@ -112,8 +106,7 @@ fn write_original(
 }
 
 fn write_kept(out: &mut Writer, identity: Identity, kept: &Kept) -> Result<(), AllocError>
-    ensures text { OnOk result (Adds out.old out.new (tokens_of (original_data identity (entry_of_kept kept.now)))) }
-    ensures back { OnOk result (ReadsBack Originals (key.Original identity, val.Kept kept.now)) }
+    ensures { OnOk result (Adds out.old out.new (tokens_of (original_data identity (entry_of_kept kept.now)))) }
 {
     let original = OriginalEntry::of(kept);
     write_original(out, identity, &original)?;
@@ -121,8 +114,7 @@ fn write_kept(out: &mut Writer, identity: Identity, kept: &Kept) -> Result<(), A
 }
 
 fn write_mark(out: &mut Writer, identity: Identity, mark: &Mark) -> Result<(), AllocError>
-    ensures text { OnOk result (Adds out.old out.new (tokens_of (mark_data identity mark.now))) }
-    ensures back { OnOk result (ReadsBack Ahead (key.Original identity, val.Ahead mark.now)) }
+    ensures { OnOk result (Adds out.old out.new (tokens_of (mark_data identity mark.now))) }
 {
     begin_object(out)?;
     acquirer_field(out, "acquirer", identity.acquirer)?;
@@ -136,8 +128,7 @@ fn write_mark(out: &mut Writer, identity: Identity, mark: &Mark) -> Result<(), A
 }
 
 fn write_account(out: &mut Writer, id: AccountId, row: &AccountRow) -> Result<(), AllocError>
-    ensures text { OnOk result (Adds out.old out.new (tokens_of (account_data id row.now))) }
-    ensures back { OnOk result (ReadsBack Accounts (key.Account id, val.Account row.now)) }
+    ensures { OnOk result (Adds out.old out.new (tokens_of (account_data id row.now))) }
 {
     begin_object(out)?;
     balance_field(out, "available", row.available)?;
@@ -150,8 +141,7 @@ fn write_account(out: &mut Writer, id: AccountId, row: &AccountRow) -> Result<()
 /// Writes the entry of a row.
 pub(crate) fn write_entry(out: &mut Writer, key: &RowKey, val: &RowVal) -> Result<(), AllocError>
     requires { IsOfKind key.now val.now }
-    ensures text { OnOk result (Adds out.old out.new (tokens_of (entry_data key.now val.now))) }
-    ensures back { OnOk result (ReadsBack (list_of val.now) (key.now, val.now)) }
+    ensures { OnOk result (Adds out.old out.new (tokens_of (entry_data key.now val.now))) }
 {
     match (key, val) {
         (RowKey::Card(pan), RowVal::Card(card)) => write_card(out, *pan, card),

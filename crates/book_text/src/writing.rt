@@ -4,9 +4,9 @@ ghost use Rattle.std.specs.Prelude.{◌≡◌, ◌∷◌, [], Bool, ◌||◌, Ok
 ghost use Rattle.json.specs.Token.{key as key_token, number as number_token, begin_array as begin_array_token, end_object as end_object_token};
 ghost use Rattle.book_laws.specs.Parts.{list_key, is_in};
 ghost use Rattle.book_laws.specs.Reading.{reading};
-ghost use Rattle.book_laws.specs.Text.{Adds, ReadsBack, tokens_of, entry_data, list_data, book_text};
+ghost use Rattle.book_laws.specs.Text.{Adds, tokens_of, entry_data, list_data, book_text};
 ghost use Rattle.book_text.specs.Left.{row_of, rows_listed, entries_tokens, ends_after};
-ghost use Rattle.book_text.specs.Top.{top_data, IsReadBack, AreReadBack};
+ghost use Rattle.book_text.specs.Top.{top_data};
 
 use crate::listed_row::ListedRow;
 use crate::row_writers::write_entry;
@@ -19,8 +19,7 @@ use std::alloc::{AllocError, Global};
 // Writes the entry of a row that stands in the list.
 fn write_listed(out: &mut Writer, list: RowList, row: &ListedRow<'_>) -> Result<(), AllocError>
     requires { IsTrue (is_in list row.now.val.now) }
-    ensures text { OnOk result (Adds out.old out.new (tokens_of (entry_data row.now.key.now row.now.val.now))) }
-    ensures back { OnOk result (ReadsBack list (row_of row.now)) }
+    ensures { OnOk result (Adds out.old out.new (tokens_of (entry_data row.now.key.now row.now.val.now))) }
 {
     write_entry(out, row.key, row.val)?;
     Ok(())
@@ -34,7 +33,6 @@ pub(crate) fn write_rows(
 ) -> Result<bool, AllocError>
     ensures text { OnOk result (Adds out.old out.new (entries_tokens list (rows_listed rows.now))) }
     ensures some { IfOk result (λ some. (later : Bool) → ends_after later (entries_tokens list (rows_listed rows.now)) ≡ (some || later)) }
-    ensures back { OnOk result (IsReadBack list (rows_listed rows.now)) }
 {
     let mut has_some = false;
     for row in rows {
@@ -64,8 +62,7 @@ pub(crate) fn end_book(out: &mut Writer) -> Result<(), AllocError>
 
 // Writes the list of those of the rows that stand in it.
 fn write_list(out: &mut Writer, list: RowList, rows: &[ListedRow<'_>]) -> Result<(), AllocError>
-    ensures text { OnOk result (Adds out.old out.new (key_token (list_key list) ∷ tokens_of (list_data list (rows_listed rows.now)))) }
-    ensures back { OnOk result (IsReadBack list (rows_listed rows.now)) }
+    ensures { OnOk result (Adds out.old out.new (key_token (list_key list) ∷ tokens_of (list_data list (rows_listed rows.now)))) }
 {
     open_list(out, list)?;
     write_rows(out, list, rows)?;
@@ -75,8 +72,7 @@ fn write_list(out: &mut Writer, list: RowList, rows: &[ListedRow<'_>]) -> Result
 
 // Writes the top object of the book that has these rows.
 fn write_top(out: &mut Writer, rows: &[ListedRow<'_>]) -> Result<(), AllocError>
-    ensures text { OnOk result (Adds out.old out.new (tokens_of (top_data (rows_listed rows.now)))) }
-    ensures back { OnOk result (AreReadBack (rows_listed rows.now)) }
+    ensures { OnOk result (Adds out.old out.new (tokens_of (top_data (rows_listed rows.now)))) }
 {
     begin_object(out)?;
     write_list(out, RowList::Accounts, rows)?;

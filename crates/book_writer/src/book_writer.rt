@@ -21,10 +21,11 @@ pub struct BookWriter<'s, 'a, B: OfRows> {
 }
 
 impl<'s, 'a, B: OfRows> BookWriter<'s, 'a, B> {
-    ghost use Rattle.std.specs.Prelude.{◌≡◌, IfOk};
+    ghost use Rattle.std.specs.Prelude.{◌≡◌, IfOk, OnOk};
     ghost use Rattle.std.specs.FinMap as map;
     ghost use Rattle.issuer_rows.specs.Fold.{Rows};
     ghost use Rattle.book_laws.specs.Text.{book_text};
+    ghost use Rattle.book_text.specs.Back.{IsReadAsBook};
     ghost use Rattle.book_writer.specs.Rest.{rest_of};
 
     /// A writer for the text of these rows. It fails only where memory runs out.
@@ -64,7 +65,9 @@ impl<'s, 'a, B: OfRows> BookWriter<'s, 'a, B> {
 
     /// The text of the book that has these rows. No piece is made yet. It fails only where memory runs out.
     pub fn pieces<'d, R: Wait>(&'d self, rt: &'d R) -> Result<BookPieces<'d, R, B>, AllocError>
-        ensures { IfOk result (λ pieces. (book : Rows) → B.rows ≡ map.entries book → rest_of pieces.left ≡ book_text book) }
+        ensures rest { IfOk result (λ pieces. (book : Rows) → B.rows ≡ map.entries book → rest_of pieces.left ≡ book_text book) }
+        // That text is read again as the book.
+        ensures back { OnOk result (IsReadAsBook B.rows) }
     {
         match self.listing(rt) {
             Some(listing) => Ok(BookPieces::new(rt, self.sorting.alloc(), listing, &self.sheets)),

@@ -1,4 +1,5 @@
 ghost use Rattle.std.specs.Prelude.{◌≡◌};
+ghost use Rattle.book_text.specs.Back.{IsReadAsBook, IsReadAsBook-prop};
 ghost use Rattle.book_text.specs.Left.{rows_listed};
 
 use crate::of_rows::OfRows;
@@ -15,11 +16,13 @@ pub(crate) struct Listing<'a, B: OfRows> {
     spans: Vec<Span>,
     of: PhantomData<B>,
     ghost all: { rows_listed rows.items ≡ B.rows },
+    ghost back: { IsReadAsBook B.rows } by { IsReadAsBook-prop B.rows },
 }
 
 impl<'a, B: OfRows> Listing<'a, B> {
     ghost use Rattle.std.specs.Prelude.{◌≡◌};
     ghost use Rattle.issuer_rows.specs.Book.{AllOfKind};
+    ghost use Rattle.book_text.specs.Back.{IsReadAsBook};
     ghost use Rattle.book_text.specs.Left.{rows_listed};
 
     /// Lists these rows.
@@ -38,7 +41,8 @@ impl<'a, B: OfRows> Listing<'a, B> {
 
     /// The rows.
     pub(crate) fn rows(&self) -> &[ListedRow<'a>]
-        ensures { rows_listed result.now ≡ B.rows }
+        ensures rows { rows_listed result.now ≡ B.rows }
+        ensures back { IsReadAsBook B.rows }
     {
         &self.rows
     }

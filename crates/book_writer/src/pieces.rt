@@ -26,6 +26,7 @@ pub struct BookPieces<'a, R: Wait, B: OfRows> {
 
 impl<'a, R: Wait, B: OfRows> BookPieces<'a, R, B> {
     ghost use Rattle.std.specs.Prelude.{◌≡◌, ◌<◌, ◌≤◌, ◌++◌, length, OnOk};
+    ghost use Rattle.book_text.specs.Back.{IsReadAsBook};
     ghost use Rattle.book_text.specs.Left.{text_of_rows};
     ghost use Rattle.book_writer.specs.Rest.{rest_of, piece_of, pieces_left};
     ghost use Rattle.book_writer.specs.declared.text_left.TextPlace.TheVariants as place;
@@ -37,7 +38,8 @@ impl<'a, R: Wait, B: OfRows> BookPieces<'a, R, B> {
         listing: &'a Listing<'a, B>,
         sheets: &'a Sheets<B>,
     ) -> BookPieces<'a, R, B>
-        ensures { rest_of result.left ≡ text_of_rows B.rows }
+        ensures rest { rest_of result.left ≡ text_of_rows B.rows }
+        ensures back { IsReadAsBook B.rows }
     {
         BookPieces {
             rt,

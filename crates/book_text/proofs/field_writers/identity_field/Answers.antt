@@ -1,7 +1,7 @@
 use Rattle.book_laws.proofs.WrittenTokens.{then}
 use Rattle.book_text.proofs.field_writers.identity_field.Goals as goal
 
-pub returns-clause-text : goal.returns-clause-text
-returns-clause-text c =
-    then c.in_ok-key.ensures (then c.in_ok-begin_object.ensures (then c.in_ok-acquirer_field.ensures.text (then c.in_ok-stamp_field.ensures.text
-    (then c.in_ok-stan_field.ensures.text c.in_ok-end_object.ensures))))
+pub returns : goal.returns
+returns c =
+    then c.in_ok-key.ensures (then c.in_ok-begin_object.ensures (then c.in_ok-acquirer_field.ensures (then c.in_ok-stamp_field.ensures
+    (then c.in_ok-stan_field.ensures c.in_ok-end_object.ensures))))

@@ -1,18 +1,15 @@
-use Rattle.std.proofs.Common.{◌≡◌, ℕ, subst, List, ◌++◌, ap, ◌∙◌, sym}
+use Rattle.std.proofs.Common.{◌≡◌, subst, List, ◌++◌, ap, ◌∙◌}
 use Rattle.std.specs.FinMap as map
-use Rattle.std.specs.Str.{IsUtf8}
-use Rattle.json.specs.Lex.{tokens}
-use Rattle.json.specs.Print.{print}
 use Rattle.json.specs.Token.{Token}
 use Rattle.json.specs.Written.{Written}
 use Rattle.issuer_rows.specs.Fold.{Rows}
 use Rattle.issuer_rows.specs.declared.row_key.RowKey.{RowKey}
 use Rattle.issuer_rows.specs.declared.row_val.RowVal.{RowVal}
+use Rattle.book_laws.specs.Reading.{reading}
 use Rattle.book_laws.specs.Text.{Adds, tokens_of, book_data}
-use Rattle.book_laws.proofs.BookAgain.{AreReadBack as BookIsReadBack, text_again}
 use Rattle.book_laws.proofs.WrittenTokens.{printed}
 use Rattle.book_text.specs.Left.{rows_listed}
-use Rattle.book_text.specs.Top.{top_data, AreReadBack}
+use Rattle.book_text.specs.Top.{top_data}
 use Rattle.book_text.proofs.writing.write_book.Goals as goal
 
 -- what is written of the sorted rows is written of the book
@@ -20,32 +17,12 @@ of_book : {before after : Written} (book : Rows) {rows : List (RowKey × RowVal)
     → Adds before after (tokens_of (book_data book))
 of_book {before} {after} book sorted h = subst (λ (rows : List (RowKey × RowVal)). Adds before after (tokens_of (top_data rows))) sorted h
 
-back_of_book : (book : Rows) {rows : List (RowKey × RowVal)} → rows ≡ map.entries book → AreReadBack rows → BookIsReadBack book
-back_of_book book sorted h =
-    let all = subst AreReadBack sorted h in record {
-      accounts = all.accounts;
-      ahead = all.ahead;
-      budgets = all.budgets;
-      cards = all.cards;
-      days = all.days;
-      originals = all.originals;
-    }
-
 pub returns-clause-text : goal.returns-clause-text
 returns-clause-text c =
-    let all = of_book c.args.book.now (ap rows_listed c.deref.ensures.value ∙ c.in_ok-rows.ensures ∙ c.in_ok-sorted.ensures.rows) c.in_ok-write_top.ensures.text in
+    let all = of_book c.args.book.now (ap rows_listed c.deref.ensures.value ∙ c.in_ok-rows.ensures.rows ∙ c.in_ok-sorted.ensures.rows) c.in_ok-write_top.ensures in
     printed c.write_top.new.out c.into_inner.result.items (book_data c.args.book.now) c.into_inner.ensures.items
     (all.kept ∙ c.new-out.ensures.before ∙ c.in_ok-room_for.ensures)
     (all.written ∙ ap (λ (ts : List Token). ts ++ tokens_of (book_data c.args.book.now)) c.new-out.ensures.tokens)
 
 pub returns-clause-back : goal.returns-clause-back
-returns-clause-back c =
-    let all = of_book c.args.book.now (ap rows_listed c.deref.ensures.value ∙ c.in_ok-rows.ensures ∙ c.in_ok-sorted.ensures.rows) c.in_ok-write_top.ensures.text in
-    let out = c.write_top.new.out in
-    let empty = all.kept ∙ c.new-out.ensures.before ∙ c.in_ok-room_for.ensures in
-    let written = all.written ∙ ap (λ (ts : List Token). ts ++ tokens_of (book_data c.args.book.now)) c.new-out.ensures.tokens in
-    let text = c.into_inner.ensures.items ∙ ap (λ (b : List ℕ). b ++ print out.tokens) empty in
-    text_again c.args.book.now c.into_inner.result.items
-    (back_of_book c.args.book.now (ap rows_listed c.deref.ensures.value ∙ c.in_ok-rows.ensures ∙ c.in_ok-sorted.ensures.rows) c.in_ok-write_top.ensures.back)
-    (subst IsUtf8 (sym text) c.into_inner.ensures.utf8)
-    (ap tokens text ∙ c.into_inner.ensures.reads_back ∙ written)
+returns-clause-back c = ap reading (returns-clause-text c) ∙ c.in_ok-rows.ensures.back c.args.book.now c.in_ok-sorted.ensures.rows

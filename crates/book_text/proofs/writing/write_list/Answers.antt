@@ -7,8 +7,8 @@ use Rattle.book_text.specs.Left.{rows_listed}
 use Rattle.book_text.proofs.Entries.{rest_split}
 use Rattle.book_text.proofs.writing.write_list.Goals as goal
 
-pub returns-clause-text : goal.returns-clause-text
-returns-clause-text c =
+pub returns : goal.returns
+returns c =
     let rows = rows_listed c.args.rows.now in
     let whole = sym (rest_split c.args.list rows []) ∙ ap (rest_tokens c.args.list) (append-nil rows) in
     subst (λ (ts : List Token). Adds c.args.out.now c.end_array.new.out (key_token (list_key c.args.list) ∷ begin_array ∷ ts)) whole

@@ -1,13 +1,11 @@
-use Rattle.std.proofs.Common.{◌≡◌, ◌+◌, ◌∷◌, ◌++◌, ◌||◌, List, Bool, ap, sym, subst, ◌∙◌, append_assoc, append-nil, drop}
+use Rattle.std.proofs.Common.{◌≡◌, ◌+◌, ◌∷◌, ◌++◌, ◌||◌, List, Bool, ap, sym, ◌∙◌, append_assoc, append-nil, drop}
 use Rattle.std.proofs.lemmas.List.{drop_more, drop_all}
-use Rattle.std.specs.List.{AllByRecursion}
 use Rattle.json.specs.Token.{Token}
 use Rattle.json.specs.Written.{Written}
 use Rattle.issuer_rows.specs.declared.row_key.RowKey.{RowKey}
 use Rattle.issuer_rows.specs.declared.row_val.RowVal.{RowVal}
-use Rattle.book_laws.specs.Text.{ReadsBack, entry_data, rows_of}
+use Rattle.book_laws.specs.Text.{entry_data, rows_of}
 use Rattle.book_text.specs.Left.{row_of, rows_listed, tokens_of_entries, entries_tokens, ends_after}
-use Rattle.book_text.specs.Top.{IsReadBack}
 use Rattle.book_text.specs.declared.listed_row.ListedRow.{ListedRow}
 use Rattle.book_text.proofs.Entries.{entry_ends, rows_in, rows_out}
 use Rattle.book_text.proofs.writing.write_rows.Goals as goal
@@ -27,9 +25,9 @@ loop-row-preserved c =
           let rows : rows_of list (rows_listed (drop c.loop-row.row-index c.args.rows.now)) ≡ row_of row ∷ rows_of list (rows_listed left)
           = ap (λ (l : List ListedRow). rows_of list (rows_listed l)) more ∙ rows_in list (row_of row) (rows_listed left) (sym c.is_in.ensures ∙ w.if-is_in.true) in
           record {
-            kept = ap (λ (o : Written). o.before) w.out-is ∙ put.text.kept ∙ old.kept;
+            kept = ap (λ (o : Written). o.before) w.out-is ∙ put.kept ∙ old.kept;
             text = ap (λ (o : Written). o.tokens ++ entries_tokens list (rows_listed left)) w.out-is
-                ∙ ap (λ (ts : List Token). ts ++ entries_tokens list (rows_listed left)) put.text.written
+                ∙ ap (λ (ts : List Token). ts ++ entries_tokens list (rows_listed left)) put.written
                 ∙ append_assoc c.loop-row.out.tokens _ _
                 ∙ ap (λ (rs : List (RowKey × RowVal)). c.loop-row.out.tokens ++ tokens_of_entries rs) (sym rows)
                 ∙ old.text;
@@ -37,7 +35,6 @@ loop-row-preserved c =
                 ∙ sym (entry_ends (c.loop-row.has_some || later) (entry_data row.key.now row.val.now) (entries_tokens list (rows_listed left)))
                 ∙ ap (λ (rs : List (RowKey × RowVal)). ends_after (c.loop-row.has_some || later) (tokens_of_entries rs)) (sym rows)
                 ∙ old.some later;
-            back = λ h. old.back (subst (AllByRecursion (ReadsBack list)) (sym rows) (put.back, h));
           }
       | else-is_in w ↦
           let rows : rows_of list (rows_listed (drop c.loop-row.row-index c.args.rows.now)) ≡ rows_of list (rows_listed left)
@@ -50,7 +47,6 @@ loop-row-preserved c =
             some = λ later. ap (λ (b : Bool). ends_after (b || later) (entries_tokens list (rows_listed left))) w.has_some-is
                 ∙ ap (λ (rs : List (RowKey × RowVal)). ends_after (c.loop-row.has_some || later) (tokens_of_entries rs)) (sym rows)
                 ∙ old.some later;
-            back = λ h. old.back (subst (AllByRecursion (ReadsBack list)) (sym rows) h);
           }
     ]
 
@@ -69,8 +65,3 @@ returns-clause-some c later =
     let none = drop_all c.loop-row.row-index c.args.rows.now c.loop-row-test.false in
     sym (c.loop-row.invariant.some later)
     ∙ ap (λ (l : List ListedRow). ends_after (c.loop-row.has_some || later) (entries_tokens c.args.list (rows_listed l))) none
-
-pub returns-clause-back : goal.returns-clause-back
-returns-clause-back c =
-    let none = drop_all c.loop-row.row-index c.args.rows.now c.loop-row-test.false in
-    c.loop-row.invariant.back (subst (λ (l : List ListedRow). IsReadBack c.args.list (rows_listed l)) (sym none) tt)

@@ -1,5 +1,7 @@
 use Rattle.std.proofs.Common.{◌≡◌, ◌++◌}
+use Rattle.std.specs.List.{AllByRecursion}
 use Rattle.issuer_rows.specs.Book.{AllOfKind}
+use Rattle.book_laws.specs.Text.{IsReadAgain}
 use Rattle.book_text.specs.Left.{rows_listed}
 use Rattle.book_text.proofs.listed_row.ListedRow.all.Given as goal
 
@@ -7,5 +9,6 @@ use Rattle.book_text.proofs.listed_row.ListedRow.all.Given as goal
 abbrev pub invariant-loop-key : goal.invariant-loop-key
 invariant-loop-key l = record {
   rows : rows_listed l.listed.items ++ l.key-iterator ≡ l.initial.key-iterator;
+  read : AllByRecursion IsReadAgain (rows_listed l.listed.items);
   kinds : AllOfKind l.key-iterator;
 }
