@@ -1,11 +1,10 @@
 -- The text of a fault, read back.
-use Rattle.std.proofs.Common.{◌≡◌, ℕ, ◌<◌, ◌^◌, ◌-◌, List, ◌∷◌, ◌++◌, length, take, drop, ap, Bool, true, false, ◌∙◌, arith}
-use Rattle.std.proofs.lemmas.List.{take_at, drop_at, take_all, length-append, length-drop}
-use Rattle.iso8583.proofs.NumberLaws.{length-fixed_digits, number_of-fixed_digits, is_digits-fixed_digits, is_digits-append}
+use Rattle.std.proofs.Common.{◌≡◌, ℕ, ◌<◌, ◌-◌, List, ◌∷◌, ◌++◌, length, take, drop, ap, Bool, true, false, ◌∙◌, arith}
+use Rattle.std.proofs.lemmas.List.{take_all, length-append, length-drop}
+use Rattle.iso8583.proofs.NumberLaws.{length-fixed_digits, is_digits-fixed_digits, is_digits-append}
 use Rattle.iso8583.specs.Class.{is_digits}
 use Rattle.iso8583.specs.CodecFault.{number_of_fault, element_of_fault}
 use Rattle.iso8583.specs.declared.codec_fault.CodecFault.{CodecFault}
-use Rattle.iso8583.specs.declared.codec_fault.CodecFault.TheVariants.{Short, BadMti, SecondaryBitmap, Unexpected, Missing, BadLength, BadCharacter, Trailing, BadValue, OutOfMemory}
 use Rattle.file_batch_laws.proofs.ReadBack.{element_in, number_in}
 use Rattle.issuer_rows.specs.FrameFault.{fault_body}
 use Rattle.iso8583.specs.Number.{number_of, fixed_digits}

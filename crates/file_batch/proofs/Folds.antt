@@ -1,5 +1,5 @@
 -- There are as many replies as frames.
-use Rattle.std.proofs.Common.{◌≡◌, ℕ, suc, List, [], ◌∷◌, length, refl, ap}
+use Rattle.std.proofs.Common.{◌≡◌, suc, List, [], ◌∷◌, length, refl, ap}
 use Rattle.issuer_rows.specs.Fold.{Rows, rows_after_one, replies_to}
 use Rattle.issuer_rows.specs.declared.frame.Frame.{Frame}
 

@@ -1,12 +1,14 @@
 -- Pieces that were handed over, one more at a time.
-use Rattle.std.proofs.Common.{◌≡◌, ℕ, ◌+◌, List, [], ◌∷◌, ◌++◌, length, sym, ap, ◌∙◌, append_assoc}
-use Rattle.std.specs.List.{flat_map}
+use Rattle.std.proofs.Common.{◌≡◌, ℕ, ◌+◌, List, [], ◌∷◌, ◌++◌, length, sym, ap, subst, ◌∙◌, append_assoc}
+use Rattle.std.specs.List.{flat_map, AllByRecursion}
 use Rattle.std.proofs.lemmas.List.{append-nil, length-append, nil_from_length}
 use Rattle.std.proofs.lemmas.List.Concat.{flat_map-append}
 use Rattle.file_batch_laws.specs.Files.{framed, reply_text}
-use Rattle.file_batch.specs.InOrder.{texts_of}
+use Rattle.file_batch_laws.specs.Replies.{IsReplyBody}
+use Rattle.file_batch.specs.InOrder.{texts_of, HasReplies}
 use Rattle.file_batch.specs.Pieces.{frames_in, replies_in}
 use Rattle.file_batch.specs.declared.piece.Piece.{Piece}
+use Rattle.file_batch.proofs.Pieces.{each_more}
 use Rattle.rtrb.specs.Ring.{SameProducer, SameConsumer}
 use Rattle.rtrb.specs.declared.producer.Producer.{Producer}
 use Rattle.rtrb.specs.declared.consumer.Consumer.{Consumer}
@@ -27,12 +29,14 @@ pub texts_of_more : (some more : List ReplyBody) → texts_of (some ++ more) ≡
 texts_of_more some more = flat_map-append (λ (reply : ReplyBody). framed (reply_text reply)) some more
 
 -- the text of the replies that came back, with those of one more piece
-pub told_one_more : (head out : List ℕ) (came : List Piece) (piece : Piece) → out ≡ head ++ texts_of (replies_in came)
-    → out ++ texts_of piece.replies.items ≡ head ++ texts_of (replies_in (came ++ piece ∷ []))
-told_one_more head out came piece told =
+pub told_one_more : (head out : List ℕ) (came : List Piece) (piece : Piece) → HasReplies head (replies_in came) out → AllByRecursion IsReplyBody piece.replies.items
+    → HasReplies head (replies_in (came ++ piece ∷ [])) (out ++ texts_of piece.replies.items)
+told_one_more head out came piece told bodies =
     let more : texts_of (replies_in (came ++ piece ∷ [])) ≡ texts_of (replies_in came) ++ texts_of piece.replies.items =
-    ap texts_of (replies_of_one_more came piece) ∙ texts_of_more (replies_in came) piece.replies.items in
-    rw (told, more) (append_assoc head (texts_of (replies_in came)) (texts_of piece.replies.items))
+    ap texts_of (replies_of_one_more came piece) ∙ texts_of_more (replies_in came) piece.replies.items in (
+      rw (told.0, more) (append_assoc head (texts_of (replies_in came)) (texts_of piece.replies.items)),
+      subst (AllByRecursion IsReplyBody) (sym (replies_of_one_more came piece)) (each_more IsReplyBody (replies_in came) piece.replies.items told.1 bodies),
+    )
 
 -- the book after one more piece, from the book after those before it
 pub book_of_one_more : (book now : Rows) (came : List Piece) (piece : Piece) → now ≡ rows_after book (frames_in came)
@@ -61,11 +65,11 @@ pub all_moved : (came ahead whole : List Piece) → length ahead ≡ 0 → came 
 all_moved came ahead whole none all = sym (append-nil came) ∙ ap (λ (x : List Piece). came ++ x) (sym (nil_from_length ahead none)) ∙ all
 
 -- a piece without replies adds nothing more
-pub told_none : (head out : List ℕ) (came : List Piece) (piece : Piece) → piece.replies.items ≡ [] → out ≡ head ++ texts_of (replies_in came)
-    → out ≡ head ++ texts_of (replies_in (came ++ piece ∷ []))
+pub told_none : (head out : List ℕ) (came : List Piece) (piece : Piece) → piece.replies.items ≡ [] → HasReplies head (replies_in came) out
+    → HasReplies head (replies_in (came ++ piece ∷ [])) out
 told_none head out came piece none told =
     let same : replies_in (came ++ piece ∷ []) ≡ replies_in came = replies_of_one_more came piece ∙ ap (λ (x : List ReplyBody). replies_in came ++ x) none ∙ append-nil (replies_in came) in
-    told ∙ ap (λ (x : List ReplyBody). head ++ texts_of x) (sym same)
+    subst (λ (x : List ReplyBody). HasReplies head x out) (sym same) told
 
 -- what is decided with one more piece, and handed back
 pub decided_one_more : (book now after : Rows) (count many : ℕ) (came arrived gone back : List Piece) (piece done : Piece)
@@ -81,13 +85,15 @@ decided_one_more book now after count many came arrived gone back piece done e f
 
 -- the text of the replies to what is decided, with those of one more piece
 pub told_and_decided : (book now : Rows) (head out : List ℕ) (came : List Piece) (piece : Piece) → now ≡ rows_after book (frames_in came)
-    → out ≡ head ++ texts_of (replies_to book (frames_in came))
-    → out ++ texts_of (replies_to now piece.frames.items) ≡ head ++ texts_of (replies_to book (frames_in (came ++ piece ∷ [])))
-told_and_decided book now head out came piece is told =
+    → HasReplies head (replies_to book (frames_in came)) out → AllByRecursion IsReplyBody (replies_to now piece.frames.items)
+    → HasReplies head (replies_to book (frames_in (came ++ piece ∷ []))) (out ++ texts_of (replies_to now piece.frames.items))
+told_and_decided book now head out came piece is told bodies =
     let some = replies_to book (frames_in came) in
     let more = replies_to now piece.frames.items in
-    let all : texts_of (replies_to book (frames_in (came ++ piece ∷ []))) ≡ texts_of some ++ texts_of more = ap texts_of (replies_to_one_more book now came piece is) ∙ texts_of_more some more in
-    rw (told, all) (append_assoc head (texts_of some) (texts_of more))
+    let all : texts_of (replies_to book (frames_in (came ++ piece ∷ []))) ≡ texts_of some ++ texts_of more = ap texts_of (replies_to_one_more book now came piece is) ∙ texts_of_more some more in (
+      rw (told.0, all) (append_assoc head (texts_of some) (texts_of more)),
+      subst (AllByRecursion IsReplyBody) (sym (replies_to_one_more book now came piece is)) (each_more IsReplyBody some more told.1 bodies),
+    )
 
 -- one end of a ring through two steps
 pub consumer_on : {T A P : Type 0} (a b c : Consumer T A P) → SameConsumer a b → SameConsumer b c → SameConsumer a c

@@ -1,6 +1,6 @@
 -- Writing in pieces.
-use Rattle.std.proofs.Common.{◌≡◌, ℕ, ◌+◌, ◌<◌, ◌≤◌, List, [], ◌∷◌, ◌++◌, length, get_or, take, drop, refl, sym, ap, ◌∙◌, append_assoc}
-use Rattle.std.specs.List.{flat_map}
+use Rattle.std.proofs.Common.{◌≡◌, ℕ, ◌+◌, ◌<◌, ◌≤◌, List, [], ◌∷◌, ◌++◌, length, get_or, take, drop, refl, sym, ap, subst, ◌∙◌, append_assoc}
+use Rattle.std.specs.List.{flat_map, AllByRecursion}
 use Rattle.std.proofs.lemmas.List.{append-nil, take-append-drop, take_more, take_all}
 use Rattle.std.proofs.lemmas.List.Concat.{flat_map-append}
 use Rattle.file_batch_laws.specs.Files.{framed}
@@ -63,3 +63,17 @@ one_more_at {A = A} text head items i item lt is =
 
 pub all_of_them : {A : Type 0} (text : A → List ℕ) (head : List ℕ) (items : List A) (i : ℕ) → length items ≤ i → so_many text head items i ≡ head ++ flat_map text items
 all_of_them {A = A} text head items i le = ap (λ (xs : List A). head ++ flat_map text xs) (take_all i items le)
+
+-- what holds of some and of others holds of all of them
+pub each_more : {A : Type 0} (P : A → Type 0) (some more : List A) → AllByRecursion P some → AllByRecursion P more → AllByRecursion P (some ++ more)
+each_more P [] more h k = k
+each_more P (item ∷ some) more h k = (h.0, each_more P some more h.1 k)
+
+-- what holds of the first of these, and of the next one
+pub one_more_holds : {A : Type 0} (P : A → Type 0) (items : List A) (i : ℕ) (item : A) → i < length items → item ≡ get_or items i item → P item
+    → AllByRecursion P (take i items) → AllByRecursion P (take (i + 1) items)
+one_more_holds P items i item lt is holds before =
+    subst (AllByRecursion P) (sym (take_more items i item lt)) (each_more P (take i items) (get_or items i item ∷ []) before (subst P is holds, tt))
+
+pub all_hold : {A : Type 0} (P : A → Type 0) (items : List A) (i : ℕ) → length items ≤ i → AllByRecursion P (take i items) → AllByRecursion P items
+all_hold P items i le = subst (AllByRecursion P) (take_all i items le)

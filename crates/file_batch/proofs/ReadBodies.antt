@@ -1,5 +1,5 @@
 -- Bodies that are read one after the other, or several at once, and the items that stand for them.
-use Rattle.std.proofs.Common.{◌≡◌, ℕ, zero, suc, ◌+◌, ◌<◌, List, [], ◌∷◌, ◌++◌, length, Result, Ok, Err, refl, sym, ap, ◌∙◌, append_assoc, arith}
+use Rattle.std.proofs.Common.{◌≡◌, ℕ, zero, suc, ◌+◌, ◌<◌, List, [], ◌∷◌, ◌++◌, length, Result, Ok, Err, refl, sym, ap, ◌∙◌, arith}
 use Rattle.std.specs.List.{AllZip}
 use Rattle.file_batch_laws.specs.Reading.{◌>>=◌, head_at, body_at, bodies_at, bodies_of, ended}
 use Rattle.file_batch_laws.specs.declared.batch_fault.BatchFault.{BatchFault}

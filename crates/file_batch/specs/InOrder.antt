@@ -1,6 +1,6 @@
 -- A batch that is decided in the order of its messages while it is read.
-use Rattle.std.specs.Prelude.{◌≡◌, List, ℕ, Result, Ok, Err, IsTrue, length}
-use Rattle.std.specs.List.{flat_map}
+use Rattle.std.specs.Prelude.{◌≡◌, List, ◌++◌, ℕ, Result, Ok, Err, IsTrue, length}
+use Rattle.std.specs.List.{flat_map, AllByRecursion}
 use Rattle.issuer_rows.specs.Fold.{Rows, rows_after, replies_to}
 use Rattle.issuer_rows.specs.declared.frame.Frame.{Frame}
 use Rattle.issuer_rows.specs.declared.reply_body.ReplyBody.{ReplyBody}
@@ -8,6 +8,7 @@ use Rattle.file_batch_laws.specs.BatchFault.{is_of_bytes}
 use Rattle.file_batch_laws.specs.Files.{framed, reply_text, replies_text}
 use Rattle.file_batch_laws.specs.Frames.{AreFramesOf, IsBatchOf}
 use Rattle.file_batch_laws.specs.Reading.{bodies_of, batch_magic}
+use Rattle.file_batch_laws.specs.Replies.{IsReplyBody, AreReplyBodies}
 use Rattle.file_batch_laws.specs.declared.batch_fault.BatchFault.{BatchFault}
 use Rattle.file_batch.specs.declared.in_order.Answered.{Answered}
 use Rattle.file_batch.specs.declared.in_order.Decided.{Decided}
@@ -21,13 +22,17 @@ GivesInto (Err e) frames left read = IsTrue (is_of_bytes e) → read ≡ Err e
 abbrev pub texts_of : List ReplyBody → List ℕ
 texts_of replies = flat_map (λ reply. framed (reply_text reply)) replies
 
+-- these replies, each one that a file can have, have their texts behind this head
+abbrev pub HasReplies : List ℕ → List ReplyBody → List ℕ → Type 0
+HasReplies head replies text = (text ≡ head ++ texts_of replies) × AllByRecursion IsReplyBody replies
+
 -- so many messages and their book are those of deciding the frames one after another on these rows
 abbrev pub IsDecided : Rows → List Frame → Decided → Type 0
 IsDecided rows frames decided = (decided.book ≡ rows_after rows frames) × (decided.messages ≡ length frames)
 
--- the same, with the text of the reply file
+-- the same, with the text of the reply file, and the replies are such as a file can have
 abbrev pub IsAnswered : Rows → List Frame → Answered → Type 0
-IsAnswered rows frames answered = IsDecided rows frames answered.decided × (answered.text.items ≡ replies_text (replies_to rows frames))
+IsAnswered rows frames answered = IsDecided rows frames answered.decided × (answered.text.items ≡ replies_text (replies_to rows frames)) × AreReplyBodies (replies_to rows frames)
 
 -- bodies were read, where the bytes are known so many and with these bytes left, and their frames decided; or the fault is that of reading
 abbrev pub DecidesBodies : Rows → Result Answered BatchFault → Type 0 → List ℕ → Result (List (List ℕ) × List ℕ) BatchFault → Type 0

@@ -1,11 +1,11 @@
 -- The pieces in which a batch goes from the thread that reads it to the one that decides it, and back.
-use Rattle.std.specs.Prelude.{◌≡◌, List, ℕ, ◌++◌, length}
+use Rattle.std.specs.Prelude.{◌≡◌, List, ℕ, length}
 use Rattle.std.specs.List.{flat_map}
 use Rattle.rtrb.specs.Ring.{sent, received, IsPair}
 use Rattle.issuer_rows.specs.Fold.{Rows, rows_after, replies_to}
 use Rattle.issuer_rows.specs.declared.frame.Frame.{Frame}
 use Rattle.issuer_rows.specs.declared.reply_body.ReplyBody.{ReplyBody}
-use Rattle.file_batch.specs.InOrder.{texts_of}
+use Rattle.file_batch.specs.InOrder.{HasReplies}
 use Rattle.file_batch.specs.declared.piece.Piece.{Piece}
 use Rattle.file_batch.specs.declared.reader.Reader.{Reader}
 use Rattle.file_batch.specs.declared.decider.Decider.{Decider}
@@ -27,7 +27,7 @@ HasDecided book decider =
 
 -- the texts of the replies that came back stand behind this head
 abbrev pub HasTold : List ℕ → Reader → Type 0
-HasTold head reader = reader.out.items ≡ head ++ texts_of (replies_in (received reader.inbound))
+HasTold head reader = HasReplies head (replies_in (received reader.inbound)) reader.out.items
 
 -- what the one hands over comes to the other, both ways
 abbrev pub AreJoined : Reader → Decider → Type 0

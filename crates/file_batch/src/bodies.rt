@@ -24,6 +24,8 @@ impl FileItem for Vec<u8> {
 
     ghost fits = { λ body. IsBody body.items };
 
+    ghost holds = { λ _. Unit {0} };
+
     fn add(&self, out: &mut Vec<u8>, _memory: &mut Vec<u8>) -> Result<(), AllocError> {
         add_framed(out, self)
     }

@@ -6,7 +6,7 @@ ghost use Rattle.rtrb.specs.Ring.{sent, received, SameProducer, SameConsumer};
 ghost use Rattle.file_batch.specs.Device.{UsesDevice};
 ghost use Rattle.file_batch_laws.specs.Files.{head_text};
 ghost use Rattle.file_batch_laws.specs.Reading.{bodies_at, replies_magic};
-ghost use Rattle.file_batch.specs.InOrder.{GivesInto, DecidesBodies, DecidesBatch, texts_of};
+ghost use Rattle.file_batch.specs.InOrder.{GivesInto, DecidesBodies, DecidesBatch, HasReplies};
 ghost use Rattle.file_batch.specs.Pieces.{AreJoined, HasDecided, HasTold, frames_in};
 ghost use Rattle.file_batch.specs.Window.{ahead};
 
@@ -119,7 +119,7 @@ fn decide_rest<F: Decide>(
     requires count { decider.old.prefix.count ≡ length (frames_in (received decider.old.inbound)) }
     ensures book { (book : Rows) → HasDecided book decider.old → OnOk result (decider.new.prefix.book ≡ rows_after book (frames_in (sent reader.old.outbound))) }
     ensures told { (book : Rows) (head : List ℕ) → HasDecided book decider.old → HasTold head reader.old
-        → OnOk result (reader.new.out.items ≡ head ++ texts_of (replies_to book (frames_in (sent reader.old.outbound)))) }
+        → OnOk result (HasReplies head (replies_to book (frames_in (sent reader.old.outbound))) reader.new.out.items) }
 {
     let left = reader.inbound.slots_beside(&mut decider.outbound);
     reader.take_left(left)?;

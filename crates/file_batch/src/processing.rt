@@ -6,6 +6,7 @@ ghost use Rattle.file_batch.specs.Device.{UsesDevice, UsesDevices};
 ghost use Rattle.file_batch_laws.specs.Reading.{bodies_of, batch_magic};
 ghost use Rattle.file_batch_laws.specs.Files.{replies_text};
 ghost use Rattle.file_batch_laws.specs.Frames.{IsBatchOf};
+ghost use Rattle.file_batch_laws.specs.Replies.{AreReplyBodies};
 ghost use Rattle.file_batch.specs.Writing.{AppendsPart};
 ghost use Rattle.file_batch.specs.Processing.{IsDecider, IsFold};
 
@@ -30,6 +31,7 @@ fn answer<W: Sink, E: Fn(&Book, &[Frame]) -> Result<RunOutcome, AllocError>>(
     ensures device { UsesDevice W.is_known W.has_failed sink.old sink.new result }
     ensures ok { IfOk result (λ outcome. W.is_known sink.old → W.written sink.new ≡ W.written sink.old ++ replies_text outcome.replies.items) }
     ensures answered { IfOk result (λ outcome. E.post decide.now book.entry frames.entry (Ok outcome)) }
+    ensures bodies { IfOk result (λ outcome. AreReplyBodies outcome.replies.items) }
     ensures fault { IfErr result (λ e. ¬ IsTrue (is_of_bytes e)) }
     ensures begun { OnErr result ((sink.new ≡ sink.old) ⊎ ((outcome : _) × E.post decide.now book.entry frames.entry (Ok outcome)
         × (W.is_known sink.old → AppendsPart (W.written sink.old) (W.written sink.new) (replies_text outcome.replies.items)))) }
@@ -58,6 +60,8 @@ pub fn process<R: Source, W: Sink, E: Fn(&Book, &[Frame]) -> Result<RunOutcome, 
     // What is returned is what `decide` returned for the batch, how many threads took part too.
     ensures answered { IfOk result (λ outcome. (frames : _) × E.post decide.now book.entry frames (Ok outcome)
         × (R.is_known source.old → IsBatchOf (R.remaining source.old) frames.now)) }
+    // A file of the replies is read again as these replies, and as no others.
+    ensures bodies { IfOk result (λ outcome. AreReplyBodies outcome.replies.items) }
     ensures end { OnOk result (R.is_known source.old → R.remaining source.new ≡ []) }
     ensures fault { IfErr result (λ e. IsTrue (is_of_bytes e) → R.is_known source.old → bodies_of batch_magic (R.remaining source.old) ≡ Err e) }
     // Nothing is written unless the source was a batch that was decided, and then a beginning of its text is written.

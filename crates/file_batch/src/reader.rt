@@ -31,8 +31,10 @@ pub(crate) struct Reader {
 
 impl Reader {
     ghost use Rattle.std.specs.Prelude.{◌≡◌, ◌++◌, ◌≤◌, ℕ, List, [], length, IfErr, OnOk};
+    ghost use Rattle.std.specs.List.{AllByRecursion};
     ghost use Rattle.file_batch.specs.Device.{UsesDevice};
     ghost use Rattle.file_batch_laws.specs.Reading.{bodies_at};
+    ghost use Rattle.file_batch_laws.specs.Replies.{IsReplyBody};
     ghost use Rattle.rtrb.specs.Ring.{sent, received, known_items, SameProducer, SameConsumer};
     ghost use Rattle.file_batch.specs.InOrder.{GivesInto, texts_of};
     ghost use Rattle.file_batch.specs.Pieces.{HasTold, frames_in};
@@ -178,6 +180,7 @@ impl Reader {
     pub(crate) fn tell(&mut self, piece: &Piece) -> Result<(), AllocError>
         ensures ends { (self.new.outbound ≡ self.old.outbound) × (self.new.inbound ≡ self.old.inbound) }
         ensures out { OnOk result (self.new.out.items ≡ self.old.out.items ++ texts_of piece.now.replies.items) }
+        ensures bodies { OnOk result (AllByRecursion IsReplyBody piece.now.replies.items) }
     {
         add_replies(&mut self.out, &mut self.text, &piece.replies)
     }

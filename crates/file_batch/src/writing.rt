@@ -1,4 +1,5 @@
 ghost use Rattle.std.specs.Prelude.{◌≡◌, ◌<◌, ◌≤◌, ◌^◌, ◌++◌, [], length, All, IfErr, IsTrue, OnOk, OnErr};
+ghost use Rattle.std.specs.List.{AllByRecursion};
 ghost use Rattle.byteorder.specs.Endian.{big_bytes};
 ghost use Rattle.file_batch.specs.Device.{UsesDevice};
 ghost use Rattle.file_batch_laws.specs.Files.{framed, head_text};
@@ -101,6 +102,7 @@ pub(crate) fn put_items<T: FileItem, W: Sink>(
     ensures err { OnErr result (W.is_known sink.old
         → AppendsPart (W.written sink.old) (W.written sink.new) (items_text T.text magic.now items.now)) }
     ensures fault { IfErr result (λ e. ¬ IsTrue (is_of_bytes e)) }
+    ensures holds { OnOk result (AllByRecursion T.holds items.now) }
 {
     add_head(out, magic, items.len() as u32)?;
     for item in items {

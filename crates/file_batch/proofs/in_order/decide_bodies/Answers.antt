@@ -16,13 +16,15 @@ returns-clause-decides g c =
     let frames = frames_in (sent c.work_together.new.reader.outbound) in
     let head = head_text replies_magic c.args.count in
     let had = worked.decided c.args.book ends.decided in
-    let begun : HasTold head c.in_ok-reader.reader = rw ends.none.1 (ends.out ∙ sym (append-nil head)) in
+    let begun : HasTold head c.in_ok-reader.reader = rw ends.none.1 (ends.out ∙ sym (append-nil head), tt) in
     let all : c.args.count ≡ length frames = sym worked.read in
+    let told = c.in_ok-decide_rest.ensures.told c.args.book head had (worked.told head begun) in
     let many : c.args.count ≡ length (replies_to c.args.book frames) = all ∙ sym (length-replies_to c.args.book frames) in (
       frames,
       (
         (c.in_ok-decide_rest.ensures.book c.args.book had, all),
-        c.in_ok-decide_rest.ensures.told c.args.book head had (worked.told head begun) ∙ ap (λ (n : ℕ). head_text replies_magic n ++ texts_of (replies_to c.args.book frames)) many,
+        told.0 ∙ ap (λ (n : ℕ). head_text replies_magic n ++ texts_of (replies_to c.args.book frames)) many,
+        (rw (sym many) c.requires.few, told.1),
       ),
       λ known. worked.gives known,
     )

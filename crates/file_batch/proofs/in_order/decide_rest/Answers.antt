@@ -1,8 +1,8 @@
-use Rattle.std.proofs.Common.{◌≡◌, ◌∷◌, ◌++◌, ◌≤◌, List, [], length, refl, ap, ◌∙◌, arith}
+use Rattle.std.proofs.Common.{◌≡◌, ◌∷◌, ◌++◌, ◌≤◌, List, [], length, refl, ap, subst, ◌∙◌, arith}
 use Rattle.issuer_rows.specs.Fold.{rows_after, replies_to}
 use Rattle.issuer_rows.specs.declared.reply_body.ReplyBody.{ReplyBody}
 use Rattle.rtrb.specs.Ring.{sent, received, known_items}
-use Rattle.file_batch.specs.InOrder.{texts_of}
+use Rattle.file_batch.specs.InOrder.{HasReplies}
 use Rattle.file_batch.specs.Pieces.{frames_in, replies_in}
 use Rattle.file_batch.specs.declared.piece.Piece.{Piece}
 use Rattle.file_batch.proofs.Handed.{one_moved, all_moved, count_of_one_more, book_of_one_more, told_and_decided}
@@ -21,7 +21,8 @@ loop-init g c =
           let back : received c.take_left.new.self.inbound ≡ sent c.args.decider.now.outbound =
           c.in_ok-take_left.ensures.received ∙ (c.slots_beside-left.ensures.fifo ∙ c.slots_beside-left.ensures.producer.1) in
           let before = c.in_ok-take_left.ensures.told head (rw c.slots_beside-left.ensures.looked.1 told) in
-          rw looked (before ∙ (ap (λ (x : List Piece). head ++ texts_of (replies_in x)) back ∙ ap (λ (x : List ReplyBody). head ++ texts_of x) had.2));
+          let same : replies_in (received c.take_left.new.self.inbound) ≡ replies_to book (frames_in (received c.args.decider.now.inbound)) = ap replies_in back ∙ had.2 in
+          rw looked (subst (λ (x : List ReplyBody). HasReplies head x c.take_left.new.self.out.items) same before);
     }
 
 pub pop_known-piece-requires : goal.pop_known-piece-requires
@@ -49,7 +50,7 @@ loop-preserved g c =
       count = rw (arrived, done.count) (count_of_one_more came piece c.loop.decider.prefix.count c.loop.invariant.count);
       book = λ book had. rw (arrived, done.book) (book_of_one_more book now came piece (c.loop.invariant.book book had));
       told = λ book head had told. rw (arrived, c.in_ok-tell.ensures.out, done.replies)
-          (told_and_decided book now head c.loop.reader.out.items came piece (c.loop.invariant.book book had) (c.loop.invariant.told book head had told));
+          (told_and_decided book now head c.loop.reader.out.items came piece (c.loop.invariant.book book had) (c.loop.invariant.told book head had told) (rw done.replies at c.in_ok-tell.ensures.bodies));
     }
 
 pub returns-clause-book : goal.returns-clause-book
@@ -60,4 +61,4 @@ returns-clause-book g c =
 pub returns-clause-told : goal.returns-clause-told
 returns-clause-told g c =
     let all = all_moved (received c.loop.decider.inbound) (known_items c.loop.decider.inbound) (sent c.args.reader.now.outbound) (omega (arith, c.loop.invariant.left, c.loop-test.false)) c.loop.invariant.fifo in
-    λ book head had told. c.loop.invariant.told book head had told ∙ ap (λ (x : List Piece). head ++ texts_of (replies_to book (frames_in x))) all
+    λ book head had told. subst (λ (x : List Piece). HasReplies head (replies_to book (frames_in x)) c.loop.reader.out.items) all (c.loop.invariant.told book head had told)

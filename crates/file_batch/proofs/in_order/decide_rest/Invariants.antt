@@ -1,7 +1,7 @@
 use Rattle.std.proofs.Common.{◌≡◌, ◌+◌, ◌++◌, ℕ, List, length}
 use Rattle.issuer_rows.specs.Fold.{Rows, rows_after, replies_to}
 use Rattle.rtrb.specs.Ring.{sent, received, known_items}
-use Rattle.file_batch.specs.InOrder.{texts_of}
+use Rattle.file_batch.specs.InOrder.{HasReplies}
 use Rattle.file_batch.specs.Pieces.{HasDecided, HasTold, frames_in}
 use Rattle.file_batch.proofs.in_order.decide_rest.Given as goal
 
@@ -13,5 +13,5 @@ invariant-loop g l = record {
   count : l.decider.prefix.count ≡ length (frames_in (received l.decider.inbound));
   book : (book : Rows) → HasDecided book l.fn.decider → l.decider.prefix.book ≡ rows_after book (frames_in (received l.decider.inbound));
   told : (book : Rows) (head : List ℕ) → HasDecided book l.fn.decider → HasTold head l.fn.reader
-      → l.reader.out.items ≡ head ++ texts_of (replies_to book (frames_in (received l.decider.inbound)));
+      → HasReplies head (replies_to book (frames_in (received l.decider.inbound))) l.reader.out.items;
 }

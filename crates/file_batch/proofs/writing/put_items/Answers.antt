@@ -3,7 +3,7 @@ use Rattle.std.specs.List.{flat_map}
 use Rattle.std.proofs.lemmas.Result.{err_from_is_err_and, on_err_weaker, on_ok_weaker}
 use Rattle.file_batch.specs.Writing.{items_text}
 use Rattle.file_batch_laws.specs.Files.{head_text}
-use Rattle.file_batch.proofs.Pieces.{behind_length, so_many, nothing_put, adds, moves, stops, halts, ends, one_more_at, the_rest, all_of_them}
+use Rattle.file_batch.proofs.Pieces.{behind_length, so_many, nothing_put, adds, moves, stops, halts, ends, one_more_at, the_rest, all_of_them, one_more_holds, all_hold}
 use Rattle.file_batch.proofs.writing.put_items.Goals as goal
 
 pub returns-in_err-add-clause-err : goal.returns-in_err-add-clause-err
@@ -28,7 +28,7 @@ returns-in_err-put_piece-clause-err g c =
     (c.in_err-put_piece.ensures.err (c.loop-item.invariant.device.known known)) (the_rest text head items (i + 1))
     (adds (g.W.Sink.written c.args.sink.now) (g.W.Sink.written c.loop-item.sink) c.loop-item.out.items (so_many text head items i)
     c.add.new.out.items (so_many text head items (i + 1)) (text c.item-item.result)
-    c.in_ok-add.ensures (one_more_at text head items i c.item-item.result c.loop-item-test.true c.item-item.is) (c.loop-item.invariant.bytes known)))
+    c.in_ok-add.ensures.text (one_more_at text head items i c.item-item.result c.loop-item-test.true c.item-item.is) (c.loop-item.invariant.bytes known)))
 
 pub loop-item-preserved : goal.loop-item-preserved
 loop-item-preserved g c =
@@ -43,7 +43,8 @@ loop-item-preserved g c =
           (c.in_ok-put_piece.ensures.ok (c.loop-item.invariant.device.known known))
           (adds (g.W.Sink.written c.args.sink.now) (g.W.Sink.written c.loop-item.sink) c.loop-item.out.items (so_many text head items i)
           c.add.new.out.items (so_many text head items (i + 1)) (text c.item-item.result)
-          c.in_ok-add.ensures (one_more_at text head items i c.item-item.result c.loop-item-test.true c.item-item.is) (c.loop-item.invariant.bytes known));
+          c.in_ok-add.ensures.text (one_more_at text head items i c.item-item.result c.loop-item-test.true c.item-item.is) (c.loop-item.invariant.bytes known));
+      holds = one_more_holds g.T.FileItem.holds items i c.item-item.result c.loop-item-test.true c.item-item.is c.in_ok-add.ensures.holds c.loop-item.invariant.holds;
     }
 
 pub returns-clause-err : goal.returns-clause-err
@@ -65,6 +66,9 @@ returns-clause-ok g c = on_ok_weaker c.put_all.result (λ all known.
     let put : g.W.Sink.written c.put_all.new.sink ≡ g.W.Sink.written c.loop-item.sink ++ c.loop-item.out.items = rw c.deref.ensures.value at (all (c.loop-item.invariant.device.known known)) in
     ends (g.W.Sink.written c.args.sink.now) (g.W.Sink.written c.loop-item.sink) (g.W.Sink.written c.put_all.new.sink) c.loop-item.out.items (so_many text head items i) put (c.loop-item.invariant.bytes known)
     ∙ ap (λ x. g.W.Sink.written c.args.sink.now ++ x) (all_of_them text head items i c.loop-item-test.false)) c.put_all.ensures.ok
+
+pub returns-clause-holds : goal.returns-clause-holds
+returns-clause-holds g c = on_ok_weaker c.put_all.result (λ all. all_hold g.T.FileItem.holds c.args.items.now c.loop-item.item-index c.loop-item-test.false c.loop-item.invariant.holds) c.put_all.ensures.ok
 
 pub returns-in_err-add_head-clause-err : goal.returns-in_err-add_head-clause-err
 returns-in_err-add_head-clause-err g c =

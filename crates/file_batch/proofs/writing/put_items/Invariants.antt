@@ -1,4 +1,5 @@
-use Rattle.std.proofs.Common.{◌≡◌, length}
+use Rattle.std.proofs.Common.{length, take}
+use Rattle.std.specs.List.{AllByRecursion}
 use Rattle.file_batch_laws.specs.Files.{head_text}
 use Rattle.file_batch.proofs.Pieces.{Progress, behind_length, so_many}
 use Rattle.file_batch.specs.Device.{KeepsDevice}
@@ -10,4 +11,5 @@ invariant-loop-item g l = record {
   device : KeepsDevice g.W.Sink.is_known g.W.Sink.has_failed l.fn.sink l.sink;
   bytes : g.W.Sink.is_known l.fn.sink → Progress (g.W.Sink.written l.fn.sink) (g.W.Sink.written l.sink) l.out.items
       (so_many (behind_length g.T.FileItem.text) (head_text l.magic (length l.items)) l.items l.item-index);
+  holds : AllByRecursion g.T.FileItem.holds (take l.item-index l.items);
 }

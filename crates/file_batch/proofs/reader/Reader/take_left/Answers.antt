@@ -21,8 +21,8 @@ loop-preserved c =
       fifo = one_moved (received c.loop.self.inbound) (received c.pop_known-piece.new.self) (known_items c.loop.self.inbound) (known_items c.pop_known-piece.new.self)
           c.pop_known-piece.result (received c.args.self.now.inbound ++ known_items c.args.self.now.inbound) popped.0 popped.1 c.loop.invariant.fifo;
       left = omega (arith, c.loop.invariant.left, ap (λ (ps : List Piece). length ps) popped.1);
-      told = λ head told. rw (c.in_ok-add_replies.ensures, c.deref.ensures.value, popped.0)
-          (told_one_more head c.loop.self.out.items (received c.loop.self.inbound) c.pop_known-piece.result (c.loop.invariant.told head told));
+      told = λ head told. rw (c.in_ok-add_replies.ensures.text, c.deref.ensures.value, popped.0)
+          (told_one_more head c.loop.self.out.items (received c.loop.self.inbound) c.pop_known-piece.result (c.loop.invariant.told head told) (rw c.deref.ensures.value at c.in_ok-add_replies.ensures.bodies));
     }
 
 pub returns-clause-outbound : goal.returns-clause-outbound

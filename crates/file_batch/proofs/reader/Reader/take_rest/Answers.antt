@@ -25,6 +25,6 @@ loop-preserved g c =
     let ends = c.loop.invariant.ends in
     record {
       ends = (ends.0, consumer_on c.args.self.now.inbound c.loop.self.inbound c.wait_for-piece.new.inbound ends.1 c.wait_for-piece.ensures.ring);
-      told = λ head told. rw (c.in_ok-add_replies.ensures, c.deref.ensures.value, c.wait_for-piece.ensures.received)
-          (told_one_more head c.loop.self.out.items (received c.loop.self.inbound) c.wait_for-piece.result (c.loop.invariant.told head told));
+      told = λ head told. rw (c.in_ok-add_replies.ensures.text, c.deref.ensures.value, c.wait_for-piece.ensures.received)
+          (told_one_more head c.loop.self.out.items (received c.loop.self.inbound) c.wait_for-piece.result (c.loop.invariant.told head told) (rw c.deref.ensures.value at c.in_ok-add_replies.ensures.bodies));
     }

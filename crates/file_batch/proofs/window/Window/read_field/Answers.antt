@@ -1,4 +1,4 @@
-use Rattle.std.proofs.Common.{rules, ◌∙◌, arith}
+use Rattle.std.proofs.Common.{rules, arith}
 use Rattle.file_batch.specs.Window.{part, ahead}
 use Rattle.file_batch.proofs.Parts.{moved_on, is_field}
 use Rattle.file_batch.proofs.window.Window.read_field.Goals as goal

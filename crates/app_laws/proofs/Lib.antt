@@ -1,0 +1,3 @@
+pub mod Audited
+pub mod NextDay
+pub mod Once

@@ -1,0 +1,3 @@
+pub mod Audits
+pub mod Files
+pub mod NextDay
