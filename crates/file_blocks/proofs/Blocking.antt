@@ -1,5 +1,6 @@
 -- Blocks one after another.
-use Rattle.std.proofs.Common.{◌≡◌, ◌⊎◌, ℕ, suc, ◌+◌, ◌<◌, List, [], ◌∷◌, ◌++◌, length, Ok, Err, refl, sym, ap, subst, ◌∙◌, append_assoc, arith, inl, inr}
+use Rattle.std.proofs.Common.{◌≡◌, ◌⊎◌, ℕ, suc, ◌+◌, ◌<◌, ◌≤◌, List, [], ◌∷◌, ◌++◌, length, Ok, Err, refl, sym, ap, subst, ◌∙◌, append_assoc, arith, inl, inr}
+use Rattle.std.specs.List.{AllByRecursion}
 use Rattle.std.specs.Prelude.{IsTrue}
 use Rattle.std.proofs.lemmas.List.{append-nil, length-append}
 use Rattle.issuer_rows.specs.Fold.{Rows, rows_after, replies_to}
@@ -8,6 +9,7 @@ use Rattle.file_batch_laws.specs.BatchFault.{is_of_bytes}
 use Rattle.file_batch_laws.specs.Blocks.{IsBlock, AreBlocks, block_at, block_head_at, blocks_magic, block_replies_magic, block_text, blocks_text, rows_after_blocks, replies_to_blocks, messages_in}
 use Rattle.file_batch_laws.specs.Files.{head_text}
 use Rattle.file_batch_laws.specs.Reading.{ended}
+use Rattle.file_batch_laws.specs.Replies.{AreReplyBodies}
 use Rattle.file_batch_laws.specs.declared.batch_fault.BatchFault.{BatchFault}
 use Rattle.file_blocks.specs.Blocks.{AreDecided, AreAllDecided, BeginsBlock, StopsBehind, StopsBefore, StopsInHead, StopsInBlocks, IsAnswered}
 use Rattle.file_batch.specs.Writing.{AppendsPart}
@@ -25,13 +27,19 @@ one_more_text rows (b ∷ blocks) block =
     ap (λ (x : List ℕ). block_text (replies_to rows b) ++ x) (one_more_text (rows_after rows b) blocks block)
     ∙ sym (append_assoc (block_text (replies_to rows b)) (blocks_text (replies_to_blocks (rows_after rows b) blocks)) (block_text (replies_to (rows_after_blocks (rows_after rows b) blocks) block)))
 
+-- what is known of the replies of blocks, and of those of one more
+one_more_holds : (rows : Rows) (blocks : List (List Frame)) (block : List Frame) → AllByRecursion AreReplyBodies (replies_to_blocks rows blocks)
+    → AreReplyBodies (replies_to (rows_after_blocks rows blocks) block) → AllByRecursion AreReplyBodies (replies_to_blocks rows (blocks ++ block ∷ []))
+one_more_holds rows [] block h k = (k, tt)
+one_more_holds rows (b ∷ blocks) block h k = (h.0, one_more_holds (rows_after rows b) blocks block h.1 k)
+
 one_more_count : (blocks : List (List Frame)) (block : List Frame) → messages_in (blocks ++ block ∷ []) ≡ messages_in blocks + length block
 one_more_count [] block = omega arith
 one_more_count (b ∷ blocks) block = omega (arith, one_more_count blocks block)
 
 pub starts : (opening : Rows) (reads : Type 0) (bytes : List ℕ) (puts : Type 0) (old : List ℕ) → AreDecided opening opening 0 0 reads bytes bytes puts old old
 starts opening reads bytes puts old =
-    record { blocks = []; number = refl; all = refl; book = refl; read = λ known. refl; put = λ known. sym (append-nil old) }
+    record { blocks = []; number = refl; all = refl; book = refl; bodies = tt; read = λ known. refl; put = λ known. sym (append-nil old) }
 
 pub goes_on : (opening : Rows) (before after : KeptBlocks) (reads reads' : Type 0) (bytes left left' : List ℕ) (puts puts' : Type 0) (old mid new : List ℕ)
     → AreDecided opening before.book before.blocks before.messages reads bytes left puts old mid → IsAnswered before after reads' left left' puts' mid new → (reads → reads') → (puts → puts')
@@ -44,6 +52,7 @@ goes_on opening before after reads reads' bytes left left' puts puts' old mid ne
       number = omega (arith, length-append blocks (block ∷ []), so_far.number, next.number);
       all = omega (arith, one_more_count blocks block, so_far.all, next.all);
       book = next.book ∙ ap (λ (r : Rows). rows_after r block) so_far.book ∙ sym (one_more_rows opening blocks block);
+      bodies = one_more_holds opening blocks block so_far.bodies (subst (λ (r : Rows). AreReplyBodies (replies_to r block)) so_far.book next.bodies);
       read = λ known. one_more IsBlock bytes blocks left block left' (so_far.read known) (next.read (still_read known));
       put = λ known. rw (next.put (still_put known), so_far.put known, one_more_text opening blocks block, ← so_far.book) (append_assoc old (blocks_text (replies_to_blocks opening blocks)) (block_text (replies_to before.book block)));
     }
@@ -91,9 +100,9 @@ as_many rows [] = refl
 as_many rows (block ∷ blocks) = ap suc (as_many (rows_after rows block) blocks)
 
 pub finishes : (opening rows : Rows) (count messages total : ℕ) (reads : Type 0) (bytes behind left : List ℕ) (puts : Type 0) (old mid new : List ℕ)
-    → AreDecided opening rows count messages reads behind left puts mid new → count ≡ total → (reads → block_head_at blocks_magic bytes ≡ Ok (total, behind)) → (reads → ended left ≡ Ok tt)
+    → AreDecided opening rows count messages reads behind left puts mid new → count ≡ total → total ≤ 1000 → (reads → block_head_at blocks_magic bytes ≡ Ok (total, behind)) → (reads → ended left ≡ Ok tt)
     → (puts → mid ≡ old ++ head_text block_replies_magic total) → AreAllDecided opening rows count messages reads bytes puts old new
-finishes opening rows count messages total reads bytes behind left puts old mid new so_far same head end heading =
+finishes opening rows count messages total reads bytes behind left puts old mid new so_far same few head end heading =
     let blocks = so_far.blocks in
     let number : total ≡ length blocks = sym same ∙ sym so_far.number in
     let replies : length (replies_to_blocks opening blocks) ≡ total = as_many opening blocks ∙ sym number in
@@ -102,6 +111,7 @@ finishes opening rows count messages total reads bytes behind left puts old mid 
       number = sym so_far.number;
       all = sym so_far.all;
       book = so_far.book;
+      bodies = (rw replies few, so_far.bodies);
       read = λ known. (behind, subst (λ (n : ℕ). block_head_at blocks_magic bytes ≡ Ok (n, behind)) number (head known), subst (λ (l : List ℕ). AreBlocks behind blocks l) (nothing_left left (end known)) (so_far.read known));
       put = λ known. rw (so_far.put known, heading known, replies) (append_assoc old (head_text block_replies_magic total) (blocks_text (replies_to_blocks opening blocks)));
     }
@@ -114,6 +124,7 @@ moved opening rows count messages reads reads' bytes left puts puts' old old' ne
   number = so_far.number;
   all = so_far.all;
   book = so_far.book;
+  bodies = so_far.bodies;
   read = λ known. so_far.read (r known);
   put = λ known. so_far.put (p known) ∙ ap (λ (x : List ℕ). x ++ blocks_text (replies_to_blocks opening so_far.blocks)) (eq known);
 }

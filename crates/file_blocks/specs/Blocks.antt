@@ -1,21 +1,25 @@
 -- Blocks that are decided one after another.
 use Rattle.std.specs.Prelude.{◌≡◌, ◌⊎◌, ◌+◌, ℕ, List, ◌++◌, length, Ok, Err, IsTrue}
+use Rattle.std.specs.List.{AllByRecursion}
 use Rattle.issuer_rows.specs.Fold.{Rows, rows_after, replies_to}
 use Rattle.issuer_rows.specs.declared.frame.Frame.{Frame}
 use Rattle.file_batch_laws.specs.BatchFault.{is_of_bytes}
-use Rattle.file_batch_laws.specs.Blocks.{IsBlock, AreBlocks, IsBlockFileOf, FailsBehind, block_replies_text, block_head_at, blocks_magic, block_replies_magic, block_text, blocks_text, rows_after_blocks, replies_to_blocks, messages_in}
+use Rattle.file_batch_laws.specs.Blocks.{IsBlock, AreBlocks, IsBlockFileOf, AreBlocksOfReplies, FailsBehind, block_replies_text, block_head_at, blocks_magic, block_replies_magic, block_text, blocks_text, rows_after_blocks, replies_to_blocks, messages_in}
 use Rattle.file_batch_laws.specs.Files.{head_text}
+use Rattle.file_batch_laws.specs.Replies.{AreReplyBodies}
 use Rattle.file_batch_laws.specs.declared.batch_fault.BatchFault.{BatchFault}
 use Rattle.file_batch.specs.Writing.{AppendsPart}
 use Rattle.file_blocks.specs.declared.kept_blocks.KeptBlocks.{KeptBlocks}
 
 -- These blocks were decided, each on the rows after those before it: so many blocks and messages, and the rows after them. Where the
--- bytes are known they were read as these blocks; where it is known what was written, their replies were, and nothing else.
+-- bytes are known they were read as these blocks; where it is known what was written, their replies were, and nothing else. Their replies
+-- are such as a file can have.
 pub record AreDecided (opening rows : Rows) (count messages : ℕ) (reads : Type 0) (bytes left : List ℕ) (puts : Type 0) (old new : List ℕ) : Type 0 where
   pub blocks : List (List Frame)
   pub number : length blocks ≡ count
   pub all : messages_in blocks ≡ messages
   pub book : rows ≡ rows_after_blocks opening blocks
+  pub bodies : AllByRecursion AreReplyBodies (replies_to_blocks opening blocks)
   pub read : reads → AreBlocks bytes blocks left
   pub put : puts → new ≡ old ++ blocks_text (replies_to_blocks opening blocks)
 
@@ -57,6 +61,7 @@ pub record IsAnswered (before after : KeptBlocks) (reads : Type 0) (bytes left :
   pub number : after.blocks ≡ before.blocks + 1
   pub all : after.messages ≡ before.messages + length block
   pub book : after.book ≡ rows_after before.book block
+  pub bodies : AreReplyBodies (replies_to before.book block)
   pub read : reads → IsBlock bytes block left
   pub put : puts → new ≡ old ++ block_text (replies_to before.book block)
 
@@ -66,5 +71,6 @@ pub record AreAllDecided (opening rows : Rows) (count messages : ℕ) (reads : T
   pub number : count ≡ length blocks
   pub all : messages ≡ messages_in blocks
   pub book : rows ≡ rows_after_blocks opening blocks
+  pub bodies : AreBlocksOfReplies (replies_to_blocks opening blocks)
   pub read : reads → IsBlockFileOf bytes blocks
   pub put : puts → new ≡ old ++ block_replies_text (replies_to_blocks opening blocks)

@@ -1,10 +1,12 @@
 ghost use Rattle.std.specs.Prelude.{◌≡◌, ◌⊎◌, ◌<◌, ◌≤◌, ◌++◌, length, vec_len, IfOk, IfErr, OnOk, OnErr, IsTrue, Err};
+ghost use Rattle.std.specs.List.{AllByRecursion};
 ghost use Rattle.issuer_rows.specs.declared.frame.Frame.{Frame};
 ghost use Rattle.file_batch_laws.specs.BatchFault.{is_of_bytes};
 ghost use Rattle.file_batch.specs.Device.{UsesDevice};
 ghost use Rattle.file_batch_laws.specs.Blocks.{block_text, block_at, block_count_at, block_head_at};
 ghost use Rattle.file_batch_laws.specs.Reading.{Gives};
 ghost use Rattle.file_batch_laws.specs.Frames.{GivesFrames};
+ghost use Rattle.file_batch_laws.specs.Replies.{IsReplyBody, AreReplyBodies};
 ghost use Rattle.file_batch.specs.Writing.{AppendsPart};
 ghost use Rattle.file_batch.specs.Window.{ahead};
 
@@ -66,7 +68,8 @@ pub(crate) fn read_block<R: Source>(
 // The text of a block's replies.
 fn text_of_block(alloc: Global, replies: &[ReplyBody]) -> Result<Vec<u8>, AllocError>
     requires { length replies.now ≤ 65536 }
-    ensures { IfOk result (λ text. text.items ≡ block_text replies.now) }
+    ensures text { IfOk result (λ text. text.items ≡ block_text replies.now) }
+    ensures bodies { OnOk result (AllByRecursion IsReplyBody replies.now) }
 {
     let mut out = Vec::new(alloc);
     let mut text = Vec::new(alloc);
@@ -87,6 +90,7 @@ pub(crate) fn write_block<W: Sink>(
     ensures err { OnErr result ((sink.new ≡ sink.old) ⊎ ((IsTrue (W.has_failed sink.new))
         × (W.is_known sink.old → AppendsPart (W.written sink.old) (W.written sink.new) (block_text replies.now)))) }
     ensures fault { IfErr result (λ e. ¬ IsTrue (is_of_bytes e)) }
+    ensures bodies { OnOk result (AreReplyBodies replies.now) }
 {
     let text = text_of_block(alloc, replies)?;
     put_all(sink, &text)

@@ -5,6 +5,7 @@ ghost use Rattle.file_batch_laws.specs.BatchFault.{is_of_bytes};
 ghost use Rattle.file_batch.specs.Device.{UsesDevice, UsesDevices};
 ghost use Rattle.file_batch_laws.specs.Blocks.{block_text, block_at, block_replies_magic};
 ghost use Rattle.file_batch_laws.specs.Files.{head_text};
+ghost use Rattle.file_batch_laws.specs.Replies.{AreReplyBodies};
 ghost use Rattle.file_blocks.specs.Blocks.{AreDecided, AreAllDecided, BeginsBlock, StopsBehind, StopsBefore, StopsInHead, StopsInBlocks, IsAnswered};
 ghost use Rattle.file_batch.specs.Writing.{AppendsPart};
 ghost use Rattle.file_batch.specs.Processing.{IsDecider};
@@ -73,6 +74,7 @@ impl KeptBlocks {
         ensures all { OnOk result (self.new.messages ≡ self.old.messages + length frames.now) }
         ensures book { OnOk result (self.new.book ≡ rows_after self.old.book frames.now) }
         ensures put { OnOk result (W.is_known sink.old → W.written sink.new ≡ W.written sink.old ++ block_text (replies_to self.old.book frames.now)) }
+        ensures bodies { OnOk result (AreReplyBodies (replies_to self.old.book frames.now)) }
         ensures kept { OnErr result (self.new ≡ self.old) }
         ensures fault { IfErr result (λ e. ¬ IsTrue (is_of_bytes e)) }
         ensures err { OnErr result ((sink.new ≡ sink.old) ⊎ ((IsTrue (W.has_failed sink.new))

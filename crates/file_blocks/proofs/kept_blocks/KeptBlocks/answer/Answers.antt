@@ -25,3 +25,8 @@ pub returns-clause-put : goal.returns-clause-put
 returns-clause-put g c = λ known.
     let folded = (c.requires.decider.fold _ c.args.frames _ c.in_ok-outcome.ensures).0 in
     rw (c.deref.ensures.value, folded) at (c.in_ok-write_block.ensures.ok known)
+
+pub returns-clause-bodies : goal.returns-clause-bodies
+returns-clause-bodies g c =
+    let folded = (c.requires.decider.fold _ c.args.frames _ c.in_ok-outcome.ensures).0 in
+    rw (c.deref.ensures.value, folded) at c.in_ok-write_block.ensures.bodies

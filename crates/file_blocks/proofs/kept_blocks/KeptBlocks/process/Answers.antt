@@ -71,7 +71,7 @@ returns-clause-ok g c =
     (moved c.args.self.now.book self.book self.blocks self.messages (g.R.Source.is_known source) (g.R.Source.is_known c.read_block_head.new.source) behind left
     (g.W.Sink.is_known sink) (g.W.Sink.is_known after) heading (g.W.Sink.written after) (g.W.Sink.written c.decide_blocks.new.sink)
     c.in_ok-decide_blocks.ensures.ok (λ known. c.in_ok-count.ensures.device.known known) (λ known. c.in_ok-write_head.ensures.device.known known) (λ known. c.in_ok-write_head.ensures.ok known))
-    c.in_ok-decide_blocks.ensures.all (λ known. rw c.in_ok-window.ensures at (c.in_ok-count.ensures.gives known))
+    c.in_ok-decide_blocks.ensures.all c.in_ok-count.ensures.most (λ known. rw c.in_ok-window.ensures at (c.in_ok-count.ensures.gives known))
     (λ known. c.in_ok-read_end.ensures.gives (c.in_ok-decide_blocks.ensures.devices.read_known (c.in_ok-count.ensures.device.known known))) (λ known. refl)
 
 pub returns-in_err-window-clause-err : goal.returns-in_err-window-clause-err
