@@ -1,9 +1,9 @@
 -- Tomorrow's run opens today's new book, and goes on where today's stopped.
-use Rattle.std.proofs.Common.{◌≡◌, ◌⊎◌, inl, inr, Bool, true, false, List, Result, Ok, Err, refl, sym, ap, ◌∙◌, true≢false}
+use Rattle.std.proofs.Common.{◌≡◌, ◌⊎◌, inl, inr, List, Result, Ok, Err, refl, sym, ap, ◌∙◌, true≢false}
 use Rattle.issuer_fold.proofs.FoldLaws.{rows_after-append, replies_to-append}
-use Rattle.issuer_rows.specs.Fold.{Rows, rows_after, replies_to}
+use Rattle.issuer_rows.specs.Fold.{Rows, rows_after}
 use Rattle.issuer_rows.specs.declared.frame.Frame.{Frame}
-use Rattle.book_laws.specs.CheckBook.{IsSound, IsFirstFault, are_numbers_right, have_paying_accounts, have_accounts}
+use Rattle.book_laws.specs.CheckBook.{IsSound, IsFirstFault}
 use Rattle.book_laws.specs.Reading.{reading, IsAnswer}
 use Rattle.book_laws.specs.Text.{book_text}
 use Rattle.book_laws.specs.declared.book_fault.BookFault.{BookFault}
