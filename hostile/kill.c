@@ -1,5 +1,6 @@
-// Kills the program that it is loaded into, before one of its calls that change files: the one of the number that KILLED has,
-// counted from 1; with 0 none. Each such call is told first, by a line on the descriptor that TOLD has: its name and the file's.
+// Sends a signal, the one that SIGNAL has, to the program that it is loaded into, before one of its calls that change files: the one
+// of the number that CALL has, counted from 1; with 0 none. Each such call is told first, by a line on the descriptor that TOLD
+// has: its name and the file's.
 #define _GNU_SOURCE
 #include <dlfcn.h>
 #include <fcntl.h>
@@ -29,9 +30,8 @@ static void meet(const char *call, const char *file)
     char line[PATH_MAX + 32];
     int length = snprintf(line, sizeof line, "%s %s\n", call, file);
     syscall(SYS_write, (int)number_in("TOLD"), line, (size_t)length);
-    if (atomic_fetch_add(&calls, 1) + 1 == number_in("KILLED")) {
-        kill(getpid(), SIGKILL);
-        pause();
+    if (atomic_fetch_add(&calls, 1) + 1 == number_in("CALL")) {
+        kill(getpid(), (int)number_in("SIGNAL"));
     }
 }
 
