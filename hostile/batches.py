@@ -139,6 +139,25 @@ def reversals_ahead():
 BATCHES = [ordinary, one_card, bad_bodies, large_book, one_identity, reversals_ahead]
 
 
+def batch_of(bodies):
+    """The bytes of a batch file."""
+    framed = b"".join(len(it).to_bytes(2, "big") + it for it in bodies)
+    return b"I83B\0\1" + len(bodies).to_bytes(4, "big") + framed
+
+
+def blocks_of(blocks):
+    """The bytes of a block file."""
+    text = b"I83M\0\1" + len(blocks).to_bytes(4, "big")
+    for bodies in blocks:
+        text += len(bodies).to_bytes(4, "big") + batch_of(bodies)[10:]
+    return text
+
+
+def day_of(text):
+    """The bodies of a text as `switch pack` takes it."""
+    return [bytes.fromhex(it.decode()) for it in text.split(b"\n") if it and not it.startswith(b"#")]
+
+
 def write(made, book, text):
     """Writes the book's file, and the text that `switch pack` takes."""
     rows, bodies = made
