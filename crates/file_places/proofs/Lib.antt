@@ -1,0 +1,2 @@
+pub mod OneMore
+pub mod Faults
