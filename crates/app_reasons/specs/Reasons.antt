@@ -1,0 +1,50 @@
+-- What is said of a file: that its first fault stands at this place.
+use Rattle.std.specs.Prelude.{ℕ, List, IsOk}
+use Rattle.issuer_rows.specs.declared.reply_body.ReplyBody.{ReplyBody}
+use Rattle.file_batch_laws.specs.Blocks.{blocks_magic, block_replies_magic}
+use Rattle.file_batch_laws.specs.Reading.{bodies_of, batch_magic, replies_magic}
+use Rattle.file_batch_laws.specs.Replies.{IsReplyFileOf}
+use Rattle.file_places.specs.Places.{IsBatchPlace, IsBlocksPlace, IsWholeBlockFile}
+use Rattle.file_places.specs.declared.batch_place.BatchPlace.TheVariants as batch
+use Rattle.file_places.specs.declared.blocks_place.BlocksPlace.TheVariants as blocks
+use Rattle.file_places.specs.declared.body_kind.BodyKind.{BodyKind}
+use Rattle.file_places.specs.declared.body_kind.BodyKind.TheVariants.{Message, Reply}
+use Rattle.app_reasons.specs.declared.file_kind.FileKind.{FileKind}
+use Rattle.app_reasons.specs.declared.file_kind.FileKind.TheVariants as kind
+use Rattle.app_reasons.specs.declared.reason.Reason.{Reason}
+use Rattle.app_reasons.specs.declared.reason.Reason.TheVariants.{Head, Body, Block, Behind}
+
+-- the letters that a file begins with
+abbrev pub letters_of : FileKind → List ℕ
+letters_of kind.Batch = batch_magic
+letters_of kind.Replies = replies_magic
+letters_of kind.Blocks = blocks_magic
+letters_of kind.BlockReplies = block_replies_magic
+
+-- the first fault of a file of bodies is the one that is said
+abbrev pub SaysOfBodies : List ℕ → BodyKind → List ℕ → Reason → Type 0
+SaysOfBodies magic kind file (Head words) = IsBatchPlace magic kind file (batch.Head words.wrong)
+SaysOfBodies magic kind file (Body words) = IsBatchPlace magic kind file (batch.Body words.0)
+SaysOfBodies magic kind file (Behind end more) = IsBatchPlace magic kind file (batch.Behind end more)
+SaysOfBodies magic kind file _ = ⊥
+
+-- the same of a file of blocks
+abbrev pub SaysOfBlocks : List ℕ → BodyKind → List ℕ → Reason → Type 0
+SaysOfBlocks magic kind file (Head words) = IsBlocksPlace magic kind file (blocks.Head words.wrong)
+SaysOfBlocks magic kind file (Block words) = IsBlocksPlace magic kind file (blocks.Block words.0)
+SaysOfBlocks magic kind file (Behind end more) = IsBlocksPlace magic kind file (blocks.Behind end more)
+SaysOfBlocks magic kind file _ = ⊥
+
+-- the first fault of a file that is to be of this kind is the one that is said
+abbrev pub Says : FileKind → List ℕ → Reason → Type 0
+Says kind.Batch file reason = SaysOfBodies batch_magic Message file reason
+Says kind.Replies file reason = SaysOfBodies replies_magic Reply file reason
+Says kind.Blocks file reason = SaysOfBlocks blocks_magic Message file reason
+Says kind.BlockReplies file reason = SaysOfBlocks block_replies_magic Reply file reason
+
+-- the file is of this kind, and has no fault
+abbrev pub IsFileOf : FileKind → List ℕ → Type 0
+IsFileOf kind.Batch file = IsOk (bodies_of batch_magic file)
+IsFileOf kind.Replies file = (replies : List ReplyBody) × IsReplyFileOf file replies
+IsFileOf kind.Blocks file = IsWholeBlockFile blocks_magic Message file
+IsFileOf kind.BlockReplies file = IsWholeBlockFile block_replies_magic Reply file
