@@ -18,10 +18,18 @@ impl fmt::Display for HeadWords {
         let letters = self.kind.letters();
         match (self.wrong, self.found) {
             (HeadFault::Letters, Some(found)) => {
-                write!(f, "these are {found}, and {} is to be here", self.kind)
+                let begun = found.letters();
+                write!(
+                    f,
+                    "it begins with {begun}, the letters of {found}, where {letters} is to be"
+                )
             }
             (HeadFault::Letters, None) => {
-                write!(f, "it doesn't begin with {letters}, as {} does", self.kind)
+                write!(
+                    f,
+                    "it doesn't begin with {letters}, the letters of {}",
+                    self.kind
+                )
             }
             (HeadFault::Version(version), _) => {
                 write!(f, "byte 4: version {version}, where 1 is read")
