@@ -1,0 +1,106 @@
+//! The first fault of a text that isn't read as a book.
+
+use crate::book_place::BookPlace;
+use crate::entry_reading::first_unread;
+use crate::fields::fields_of;
+use crate::wrong_entry::WrongEntry;
+use book_laws::{BookVersion, RowList, TextFault};
+use serde_json::Value;
+use std::alloc::Global;
+
+// The lists in the order of their parts.
+const LISTS: [RowList; 6] = [
+    RowList::Cards,
+    RowList::Days,
+    RowList::Budgets,
+    RowList::Originals,
+    RowList::Ahead,
+    RowList::Accounts,
+];
+
+// What is wrong with an entry that isn't read: its keys, else its first field that is wrong, else all of them together.
+fn wrong_entry(version: BookVersion, list: RowList, entry: &Value) -> WrongEntry {
+    let fields = fields_of(version, list);
+    let has_keys = match entry.as_object() {
+        Some(members) => members.len() == fields.len(),
+        None => false,
+    };
+    if !has_keys || fields.iter().any(|field| entry.get(field.key).is_none()) {
+        return WrongEntry::Keys;
+    }
+    for field in fields {
+        match entry.get(field.key) {
+            Some(value) if field.kind.is_right(value) => {}
+            _ => return WrongEntry::Field(field.key, field.kind),
+        }
+    }
+    WrongEntry::Together
+}
+
+// The first fault of a list.
+fn place_in_list(version: BookVersion, list: RowList, top: &Value) -> Option<BookPlace> {
+    let Some(entries) = top.get(list.key()).and_then(Value::as_array) else {
+        return Some(BookPlace::List(list));
+    };
+    let index = first_unread(version, list, entries)?;
+    let entry = entries.get(index)?;
+    let wrong = wrong_entry(version, list, entry);
+    Some(BookPlace::Entry(list, index, wrong))
+}
+
+// Whether the top object has the keys of this version and no other.
+fn has_keys_of(version: BookVersion, top: &Value) -> bool {
+    let Some(members) = top.as_object() else {
+        return false;
+    };
+    let lists = LISTS.iter().filter(|list| version.has_list(**list)).count();
+    let has_lists = LISTS.iter().all(|list| version.has_list(*list)
+        == top.get(list.key()).is_some());
+    has_lists && top.get("version").is_some() && members.len() == lists.saturating_add(1)
+}
+
+// The version whose keys the top object has.
+fn version_of_keys(top: &Value) -> Option<BookVersion> {
+    if has_keys_of(BookVersion::Three, top) {
+        Some(BookVersion::Three)
+    } else if has_keys_of(BookVersion::Two, top) {
+        Some(BookVersion::Two)
+    } else if has_keys_of(BookVersion::One, top) {
+        Some(BookVersion::One)
+    } else {
+        None
+    }
+}
+
+// The first fault of a JSON value that isn't read as a book.
+fn place_in_top(top: &Value) -> Option<BookPlace> {
+    let Some(version) = version_of_keys(top) else {
+        return Some(BookPlace::Keys);
+    };
+    if top.get("version").and_then(Value::as_u64) != Some(version.number()) {
+        return Some(BookPlace::Version);
+    }
+    for list in LISTS {
+        if version.has_list(list) {
+            let place = place_in_list(version, list, top);
+            if place.is_some() {
+                return place;
+            }
+        }
+    }
+    None
+}
+
+/// Where a text that isn't read as a book has its first fault. Of an entry whose row an earlier one has there is no place.
+pub fn place_in_text(alloc: Global, text: &[u8]) -> Result<Option<BookPlace>, TextFault> {
+    match Value::from_slice(alloc, text) {
+        Ok(top) => Ok(place_in_top(&top)),
+        Err(e) => {
+            if e.is_memory() {
+                Err(TextFault::OutOfMemory)
+            } else {
+                Ok(Some(BookPlace::Syntax(e.line(), e.column())))
+            }
+        }
+    }
+}
