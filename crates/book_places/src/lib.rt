@@ -11,7 +11,7 @@ mod row_places;
 mod wrong_entry;
 
 pub use book_place::BookPlace;
-pub use entry_reading::first_unread;
+pub use entry_reading::first_wrong;
 pub use field_kind::FieldKind;
 pub use places::place_in_text;
 pub use row_places::place_of_row;

@@ -1,10 +1,11 @@
 //! The first fault of a text that isn't read as a book.
 
 use crate::book_place::BookPlace;
-use crate::entry_reading::first_unread;
+use crate::entry_reading::{entry_reads, first_wrong};
 use crate::fields::fields_of;
 use crate::wrong_entry::WrongEntry;
 use book_laws::{BookVersion, RowList, TextFault};
+use issuer_rows::Book;
 use serde_json::Value;
 use std::alloc::Global;
 
@@ -18,8 +19,11 @@ const LISTS: [RowList; 6] = [
     RowList::Accounts,
 ];
 
-// What is wrong with an entry that isn't read: its keys, else its first field that is wrong, else all of them together.
+// What is wrong with an entry: its keys, else its first field that is wrong, else all of them together, or its row.
 fn wrong_entry(version: BookVersion, list: RowList, entry: &Value) -> WrongEntry {
+    if entry_reads(version, list, entry) {
+        return WrongEntry::Twice;
+    }
     let fields = fields_of(version, list);
     let has_keys = match entry.as_object() {
         Some(members) => members.len() == fields.len(),
@@ -37,15 +41,42 @@ fn wrong_entry(version: BookVersion, list: RowList, entry: &Value) -> WrongEntry
     WrongEntry::Together
 }
 
-// The first fault of a list.
-fn place_in_list(version: BookVersion, list: RowList, top: &Value) -> Option<BookPlace> {
+// The first fault of a list, whose rows are written to the book.
+fn place_in_list(
+    version: BookVersion,
+    list: RowList,
+    top: &Value,
+    book: &mut Book,
+) -> Result<Option<BookPlace>, TextFault> {
     let Some(entries) = top.get(list.key()).and_then(Value::as_array) else {
-        return Some(BookPlace::List(list));
+        return Ok(Some(BookPlace::List(list)));
     };
-    let index = first_unread(version, list, entries)?;
-    let entry = entries.get(index)?;
+    let Some(index) = first_wrong(version, list, entries, book)? else {
+        return Ok(None);
+    };
+    let Some(entry) = entries.get(index) else {
+        return Ok(None);
+    };
     let wrong = wrong_entry(version, list, entry);
-    Some(BookPlace::Entry(list, index, wrong))
+    Ok(Some(BookPlace::Entry(list, index, wrong)))
+}
+
+// The first fault of these lists, whose rows are written to the book.
+fn place_in_lists(
+    version: BookVersion,
+    lists: &[RowList],
+    top: &Value,
+    book: &mut Book,
+) -> Result<Option<BookPlace>, TextFault> {
+    for list in lists {
+        if version.has_list(*list) {
+            match place_in_list(version, *list, top, book) {
+                Ok(None) => {}
+                found => return found,
+            }
+        }
+    }
+    Ok(None)
 }
 
 // Whether the top object has the keys of this version and no other.
@@ -73,28 +104,21 @@ fn version_of_keys(top: &Value) -> Option<BookVersion> {
 }
 
 // The first fault of a JSON value that isn't read as a book.
-fn place_in_top(top: &Value) -> Option<BookPlace> {
+fn place_in_top(alloc: Global, top: &Value) -> Result<Option<BookPlace>, TextFault> {
     let Some(version) = version_of_keys(top) else {
-        return Some(BookPlace::Keys);
+        return Ok(Some(BookPlace::Keys));
     };
     if top.get("version").and_then(Value::as_u64) != Some(version.number()) {
-        return Some(BookPlace::Version);
+        return Ok(Some(BookPlace::Version));
     }
-    for list in LISTS {
-        if version.has_list(list) {
-            let place = place_in_list(version, list, top);
-            if place.is_some() {
-                return place;
-            }
-        }
-    }
-    None
+    let mut book = Book::new(alloc);
+    place_in_lists(version, &LISTS, top, &mut book)
 }
 
-/// Where a text that isn't read as a book has its first fault. Of an entry whose row an earlier one has there is no place.
+/// Where a text that isn't read as a book has its first fault. It has none where the text is read as a book.
 pub fn place_in_text(alloc: Global, text: &[u8]) -> Result<Option<BookPlace>, TextFault> {
     match Value::from_slice(alloc, text) {
-        Ok(top) => Ok(place_in_top(&top)),
+        Ok(top) => place_in_top(alloc, &top),
         Err(e) => {
             if e.is_memory() {
                 Err(TextFault::OutOfMemory)

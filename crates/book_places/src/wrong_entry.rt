@@ -11,6 +11,8 @@ pub enum WrongEntry {
     Field(&'static str, FieldKind),
     /// Its fields are right, and it is an original that can't be.
     Together,
+    /// An earlier entry has its row.
+    Twice,
     /// Its card number fails the Luhn test.
     CardNumber(MaskedPan),
     /// The account at this key has no entry.
@@ -25,6 +27,7 @@ impl fmt::Display for WrongEntry {
             WrongEntry::Keys => write!(f, ": it hasn't the keys of its list"),
             WrongEntry::Field(key, kind) => write!(f, ".{key}: {kind} is to be here"),
             WrongEntry::Together => write!(f, ": no original can be so"),
+            WrongEntry::Twice => write!(f, ": an earlier entry has its row"),
             WrongEntry::CardNumber(pan) => write!(f, ".pan: {pan} fails the Luhn test"),
             WrongEntry::NoAccount(key) => write!(f, ".{key}: this account isn't in the book"),
             WrongEntry::SameAccounts => write!(f, ".second: it is the first account again"),
