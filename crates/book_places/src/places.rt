@@ -2,9 +2,12 @@
 
 use crate::book_place::BookPlace;
 use crate::entry_reading::{entry_reads, first_wrong};
+use crate::field::Field;
+use crate::field_kind::FieldKind;
 use crate::fields::fields_of;
 use crate::wrong_entry::WrongEntry;
 use book_laws::{BookVersion, RowList, TextFault};
+use iso8583::{Digits, number_of};
 use issuer_rows::Book;
 use serde_json::Value;
 use std::alloc::Global;
@@ -18,6 +21,18 @@ const LISTS: [RowList; 6] = [
     RowList::Ahead,
     RowList::Accounts,
 ];
+
+// What is wrong with a field: its month, where it has one.
+fn wrong_field(field: &Field, value: &Value) -> WrongEntry {
+    let wrong = WrongEntry::Field(field.key, field.kind);
+    let (FieldKind::Month, Some(text)) = (field.kind, value.as_str()) else {
+        return wrong;
+    };
+    match Digits::<4>::new(text.as_bytes()) {
+        Some(digits) => WrongEntry::Month(field.key, number_of(&digits.as_slice()[2..])),
+        None => wrong,
+    }
+}
 
 // What is wrong with an entry: its keys, else its first field that is wrong, else all of them together, or its row.
 fn wrong_entry(version: BookVersion, list: RowList, entry: &Value) -> WrongEntry {
@@ -35,7 +50,8 @@ fn wrong_entry(version: BookVersion, list: RowList, entry: &Value) -> WrongEntry
     for field in fields {
         match entry.get(field.key) {
             Some(value) if field.kind.is_right(value) => {}
-            _ => return WrongEntry::Field(field.key, field.kind),
+            Some(value) => return wrong_field(field, value),
+            None => return WrongEntry::Keys,
         }
     }
     WrongEntry::Together

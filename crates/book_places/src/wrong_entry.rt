@@ -9,6 +9,8 @@ pub enum WrongEntry {
     Keys,
     /// The field at this key doesn't hold what it is to hold.
     Field(&'static str, FieldKind),
+    /// The text at this key is four digits, and the last two are this number, which is no month.
+    Month(&'static str, u64),
     /// Its fields are right, and it is an original that can't be.
     Together,
     /// An earlier entry has its row.
@@ -26,6 +28,7 @@ impl fmt::Display for WrongEntry {
         match self {
             WrongEntry::Keys => write!(f, ": it hasn't the keys of its list"),
             WrongEntry::Field(key, kind) => write!(f, ".{key}: {kind} is to be here"),
+            WrongEntry::Month(key, month) => write!(f, ".{key}: month {month:02}"),
             WrongEntry::Together => write!(f, ": no original can be so"),
             WrongEntry::Twice => write!(f, ": an earlier entry has its row"),
             WrongEntry::CardNumber(pan) => write!(f, ".pan: {pan} fails the Luhn test"),
