@@ -3,6 +3,7 @@ use crate::file_kind::FileKind;
 use crate::head_words::HeadWords;
 use crate::host_reason::HostReason;
 use crate::line_reason::LineReason;
+use book_places::BookPlace;
 use file_places::{
     BatchPlace, BlocksPlace, place_in_batch, place_in_block_replies, place_in_blocks,
     place_in_replies,
@@ -25,6 +26,8 @@ pub enum Reason {
     Behind(usize, usize),
     /// The body of this number begins so, which is no MTI in ASCII.
     Opening(u32, Opening),
+    /// The text of a book is wrong there.
+    Book(BookPlace),
     /// The line of this number, from 1, is no entry of a journal.
     JournalLine(usize),
     /// The decision of the entry of this number, from 1, asks for a row that isn't logged.
@@ -123,6 +126,7 @@ impl fmt::Display for Reason {
             Reason::Opening(number, opening) => {
                 write!(f, "body {number} {}", opening_words(*opening))
             }
+            Reason::Book(place) => write!(f, "{place}"),
             Reason::JournalLine(line) => write!(f, "line {line}: no entry of a journal"),
             Reason::JournalEntry(entry) => {
                 write!(

@@ -4,48 +4,6 @@ use app_reasons::{HostReason, LineReason, Reason, Told, reason_of_line};
 use iso_shown::Opening;
 use std::alloc::Global;
 
-/// Reasons, and what is said of each.
-const SAID: &[(Reason, &str)] = &[
-    (
-        Reason::Host(HostReason::NotFound),
-        "after.json: no such file or directory",
-    ),
-    (
-        Reason::Host(HostReason::NotAllowed),
-        "after.json: permission denied",
-    ),
-    (
-        Reason::Host(HostReason::Directory),
-        "after.json: is a directory",
-    ),
-    (
-        Reason::Host(HostReason::Full),
-        "after.json: no space left on the device",
-    ),
-    (
-        Reason::Opening(15, Opening::LengthHeader),
-        "after.json: body 15 begins with a length of two bytes, where an MTI is to be",
-    ),
-    (
-        Reason::Opening(15, Opening::Ebcdic),
-        "after.json: body 15 is in EBCDIC, where ASCII is to be",
-    ),
-    (
-        Reason::JournalLine(7),
-        "after.json: line 7: no entry of a journal",
-    ),
-    (
-        Reason::JournalEntry(7),
-        "after.json: entry 7: its decision asks for a row that isn't logged",
-    ),
-    (
-        Reason::TextLine(3, LineReason::Character(5)),
-        "after.json: line 3: column 5: no hexadecimal digit",
-    ),
-    (Reason::TooManyLines, "after.json: more than 65536 bodies"),
-    (Reason::OutOfMemory, "after.json: memory ran out"),
-];
-
 /// Lines of a text, and why each is no body.
 const LINES: &[(&[u8], Option<LineReason>)] = &[
     (b"31313030", None),
@@ -67,7 +25,47 @@ fn is_said(alloc: Global, reason: Reason, text: &str) -> bool {
 
 #[test]
 fn reasons_are_said(rt: HostRuntime) {
-    for (reason, text) in SAID {
+    let said = [
+        (
+            Reason::Host(HostReason::NotFound),
+            "after.json: no such file or directory",
+        ),
+        (
+            Reason::Host(HostReason::NotAllowed),
+            "after.json: permission denied",
+        ),
+        (
+            Reason::Host(HostReason::Directory),
+            "after.json: is a directory",
+        ),
+        (
+            Reason::Host(HostReason::Full),
+            "after.json: no space left on the device",
+        ),
+        (
+            Reason::Opening(15, Opening::LengthHeader),
+            "after.json: body 15 begins with a length of two bytes, where an MTI is to be",
+        ),
+        (
+            Reason::Opening(15, Opening::Ebcdic),
+            "after.json: body 15 is in EBCDIC, where ASCII is to be",
+        ),
+        (
+            Reason::JournalLine(7),
+            "after.json: line 7: no entry of a journal",
+        ),
+        (
+            Reason::JournalEntry(7),
+            "after.json: entry 7: its decision asks for a row that isn't logged",
+        ),
+        (
+            Reason::TextLine(3, LineReason::Character(5)),
+            "after.json: line 3: column 5: no hexadecimal digit",
+        ),
+        (Reason::TooManyLines, "after.json: more than 65536 bodies"),
+        (Reason::OutOfMemory, "after.json: memory ran out"),
+    ];
+    for (reason, text) in &said {
         assert!(rt; is_said(rt.alloc(), *reason, text), "{text}");
     }
 }
