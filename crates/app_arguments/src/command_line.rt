@@ -7,11 +7,12 @@ use std::alloc::{AllocError, Global};
 
 // What the program's help says behind its subcommands.
 const AFTER_HELP: &str =
-    "Exit status: 0 done, 1 fault, 2 words that are no command, 3 an audit found a difference.
+    "Exit status: 0 done, 1 fault, 2 usage error, 3 an audit found a difference.
 
 A fault is printed on standard error as what it is of and its number there:
   file 1     a file can't be opened or read
   file 2     a file can't be made or written
+  file 3     another run writes a file
   book N     BOOK or NEWBOOK is no book: 1 no JSON, 2 another shape, 3 a value out of range, 4 not sound; 5 out of memory
   batch N    BATCH, FILE or REPLIES is none: 1 other letters, 2 another version, 3 more than 65,536 bodies, 4 a body of
              0 or over 512 bytes, 5 it ends within a field, 6 a byte after its end, 9 a body is no reply, 10 more than
@@ -19,8 +20,11 @@ A fault is printed on standard error as what it is of and its number there:
   journal N  the journal is none: 1 a line is no entry, 2 a decision asks for a row that was not logged; 3 out of memory
   text N     line N of TEXT is no body
   memory 1   memory ran out
-Behind a fault of `blocks` a line `kept M` says that NEWBOOK is the book after the first M blocks, whose replies were
-written.";
+  output 1   standard output can't be written; the files are in place
+After a fault all files are as they were. If `blocks` fails, `kept M` means that the first M blocks were decided: REPLIES
+and NEWBOOK are those after them.
+Files are put in place together when all are written. Two names of one file are a usage error where one of them is
+written; NEWBOOK alone may be BOOK.";
 
 /// The words that the program has.
 pub(crate) fn command_line<'a>(alloc: Global) -> Result<Command<'a>, AllocError>

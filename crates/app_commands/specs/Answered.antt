@@ -1,5 +1,5 @@
 -- What the program does for its words.
-use Rattle.std.specs.Prelude.{◌≡◌, ◌≢◌, ◌⊎◌, ℕ, Bool, List, [], ◌∷◌, ◌++◌, Option, Some, None, codes, string_bytes}
+use Rattle.std.specs.Prelude.{◌≡◌, ◌≢◌, ◌⊎◌, ℕ, Bool, true, false, List, [], ◌∷◌, ◌++◌, Option, Some, None, codes, string_bytes}
 use Rattle.app_runs.specs.Answers.{IsAnswerInDigits}
 use Rattle.app_runs.specs.SampleBook.{sample_rows}
 use Rattle.app_audit.specs.Texts.{audit_text, block_audit_text}
@@ -12,6 +12,8 @@ use Rattle.app_jobs.specs.AuditedBlocks.{AreBlocksAudited}
 use Rattle.app_jobs.specs.DecidedBlocks.{AreBlocksDecided, AreBlocksKept}
 use Rattle.app_jobs.specs.BlockFaults.{IsBlockAuditingFault, IsBlocksFault}
 use Rattle.file_devices.specs.Failing.{HasFailed, HasRefused}
+use Rattle.file_devices.specs.Holding.{AreAsTheyWere, IsThere}
+use Rattle.app_commands.specs.Apart.{AreApart, HasOneFile, names_apart}
 use Rattle.app_jobs.specs.Audited.{IsAudited}
 use Rattle.app_jobs.specs.Decided.{Holding, IsDecided}
 use Rattle.app_jobs.specs.Faults.{IsAuditingFault, IsDecidingFault}
@@ -21,7 +23,8 @@ use Rattle.app_runs.specs.Journaled.{IsDecidedWithJournal}
 use Rattle.app_jobs.specs.Packed.{IsPacked, IsPackingFault}
 use Rattle.app_jobs.specs.Shown.{IsShowingFault, IsShown}
 use Rattle.app_jobs.specs.declared.job_fault.JobFault.{JobFault}
-use Rattle.app_jobs.specs.declared.job_fault.JobFault.TheVariants.{Batch}
+use Rattle.app_jobs.specs.declared.job_fault.JobFault.TheVariants.{Batch, InUse}
+use Rattle.app_jobs.specs.declared.job_fault.JobFault.TheVariants as job
 use Rattle.app_arguments.specs.Asked.{Asked, Names, help, version, one, serial, run, run_with_journal, blocks, audit, audit_blocks, show, pack}
 use Rattle.app_arguments.specs.Arguments.{Asks, IsUsageFault}
 use Rattle.app_commands.specs.Fault.{status_of, text_of}
@@ -77,36 +80,20 @@ IsDoneAs known old new (run_with_journal names workers journal) (report.Decided 
 IsDoneAs known old new (blocks names workers engine) (report.DecidedBlocks count) =
     AreBlocksDecided known old new names count.blocks count.messages
 IsDoneAs known old new (audit names None) (report.Audited found text) =
-    IsAudited old names found × (text.items ≡ audit_text found)
+    IsAudited known old names found × (text.items ≡ audit_text found)
 IsDoneAs known old new (audit names (Some journal)) (report.Audited found text) =
-    IsAuditedWithJournal old names journal found × (text.items ≡ audit_text found)
+    IsAuditedWithJournal known old names journal found × (text.items ≡ audit_text found)
 IsDoneAs known old new (audit_blocks names) (report.AuditedBlocks found text) =
-    AreBlocksAudited old names found × (text.items ≡ block_audit_text found)
-IsDoneAs known old new (show file) (report.Lines text) = (bytes : List ℕ) → old file bytes → IsShown bytes text.items
+    AreBlocksAudited known old names found × (text.items ≡ block_audit_text found)
+IsDoneAs known old new (show file) (report.Lines text) = (known → IsThere old file) × ((bytes : List ℕ) → old file bytes → IsShown bytes text.items)
 IsDoneAs known old new (pack text batch) (report.Packed count) = IsPacked known old new text batch count
 IsDoneAs known old new what told = ⊥
 
 -- Some first blocks are kept, so many, and the files hold what these come to; behind them this fault came.
-abbrev pub IsHaltedAs : Type 0 → Holding → Holding → Asked → JobFault → ℕ → Type 0
-IsHaltedAs known old new (blocks names workers engine) fault kept =
-    (why : BatchFault) × (fault ≡ Batch why) × AreBlocksKept known old new names why kept
-IsHaltedAs known old new what fault kept = ⊥
-
--- the file of the new book, where it is not that of the replies, holds what it held
-abbrev pub IsBookAsItWas : Holding → Holding → Names → Type 0
-IsBookAsItWas old new names = names.new_book ≢ names.replies → (held : List ℕ) → old names.new_book held → new names.new_book held
-
--- What is asked for is not done with the files, or not to its end. An older book under the name of the new one is not lost, where that is
--- the name of no other file that is written.
-abbrev pub IsUndone : Holding → Holding → Asked → Type 0
-IsUndone old new (help text) = ⊥
-IsUndone old new version = ⊥
-IsUndone old new (one body) = ⊥
-IsUndone old new (serial names) = IsBookAsItWas old new names
-IsUndone old new (run names workers engine) = IsBookAsItWas old new names
-IsUndone old new (run_with_journal names workers journal) = names.new_book ≢ journal → IsBookAsItWas old new names
-IsUndone old new (blocks names workers engine) = IsBookAsItWas old new names
-IsUndone old new what = Unit {0}
+abbrev pub IsHaltedAs : Type 0 → Holding → Holding → Type 0 → Asked → JobFault → ℕ → Type 0
+IsHaltedAs known old new writing (blocks names workers engine) fault kept =
+    (why : BatchFault) × (fault ≡ Batch why) × AreBlocksKept known old new names writing why kept
+IsHaltedAs known old new writing what fault kept = ⊥
 
 -- the file of this name is none of those that are written for what is asked for
 abbrev pub Spares : Asked → List ℕ → Type 0
@@ -117,15 +104,17 @@ Spares (blocks names workers engine) file = (file ≢ names.replies) × (file �
 Spares (pack text batch) file = file ≢ batch
 Spares what file = Unit {0}
 
--- what may fail of files: a call of one that is read, or of one that is written; or a name is refused
+-- what may fail of files: a call of one that is read, or of one that is written; a name is refused; or another run has claimed it
 pub record Failing : Type 1 where
   pub reading : Type 0
   pub writing : Type 0
   pub refused : Type 0
+  pub in_use : Type 0
 
--- that a call failed, and that a name is refused, is known so
-abbrev pub failing : {I O X : Type 0} → (I → Bool) → (O → Bool) → (X → List ℕ → Type 0) → Failing
-failing inputs outputs refuses = record { reading = HasFailed inputs; writing = HasFailed outputs; refused = HasRefused refuses }
+-- that a call failed, and that a name is refused or claimed, is known so
+abbrev pub failing : {I O X : Type 0} → (I → Bool) → (O → Bool) → (X → List ℕ → Type 0) → (X → List ℕ → Type 0) → Failing
+failing inputs outputs refuses is_in_use =
+    record { reading = HasFailed inputs; writing = HasFailed outputs; refused = HasRefused refuses; in_use = HasRefused is_in_use }
 
 -- Why what is asked for is not done, as the files were: the first fault of what they held, in the order of reading; a call that failed;
 -- or out of memory.
@@ -145,39 +134,62 @@ IsJobFault old devices (audit_blocks names) fault = IsBlockAuditingFault old nam
 IsJobFault old devices (show file) fault = IsShowingFault old file devices.reading fault
 IsJobFault old devices (pack text batch) fault = IsPackingFault old text devices.reading devices.writing devices.refused fault
 
--- What is asked for has this fault: memory ran out; or it isn't done with the files, or blocks are done in part, for why that is.
+-- why files are not claimed: another run has claimed one, or memory ran out
+abbrev pub IsClaimFault : Type 0 → Fault → Type 0
+IsClaimFault in_use OutOfMemory = Unit {0}
+IsClaimFault in_use (Job fault) = ((fault ≡ InUse) × in_use) ⊎ (fault ≡ job.OutOfMemory)
+IsClaimFault in_use _ = ⊥
+
+-- What is asked for has this fault. Two of its names are one file's, one of its files is in use, memory ran out, or it isn't done with the
+-- files for why that is: then all files are as they were. Or blocks are done in part.
 abbrev pub IsFaultIn : Type 0 → Holding → Holding → Failing → Asked → Fault → Type 0
-IsFaultIn known old new devices what (Usage text) = ⊥
-IsFaultIn known old new devices what OutOfMemory = Unit {0}
-IsFaultIn known old new devices what (Job fault) = IsUndone old new what × IsJobFault old devices what fault
-IsFaultIn known old new devices what (Halted fault kept) = IsHaltedAs known old new what fault kept × IsJobFault old devices what fault
+IsFaultIn known old new devices what (Usage text) = AreAsTheyWere old new × (known → HasOneFile (names_apart what))
+IsFaultIn known old new devices what OutOfMemory = AreAsTheyWere old new
+IsFaultIn known old new devices what (Job fault) =
+    AreAsTheyWere old new × (IsJobFault old devices what fault ⊎ IsClaimFault devices.in_use (Job fault))
+IsFaultIn known old new devices what (Halted fault kept) = IsHaltedAs known old new devices.writing what fault kept × IsJobFault old devices what fault
 
--- the report is of what the words ask for
+-- the words alone have this fault
+abbrev pub IsFaultOfWords : List (List ℕ) → Fault → Type 0
+IsFaultOfWords words (Usage text) = IsUsageFault words
+IsFaultOfWords words OutOfMemory = Unit {0}
+IsFaultOfWords words fault = ⊥
+
+-- the report is of what the words ask for, whose names are of as many files as they have to be
 abbrev pub IsAskedFor : Type 0 → Holding → Holding → List (List ℕ) → Report → Type 0
-IsAskedFor known old new words told = (what : Asked) × Asks words what × IsDoneAs known old new what told
+IsAskedFor known old new words told = (what : Asked) × Asks words what × (known → AreApart (names_apart what)) × IsDoneAs known old new what told
 
--- the words have this fault: they are no command, memory ran out, or what they ask for has it
+-- the words have this fault: they are no command, or memory ran out, and all files are as they were; or what they ask for has it
 abbrev pub IsFaultOf : Type 0 → Holding → Holding → Failing → List (List ℕ) → Fault → Type 0
-IsFaultOf known old new devices words (Usage text) = IsUsageFault words
-IsFaultOf known old new devices words OutOfMemory = Unit {0}
-IsFaultOf known old new devices words fault = (what : Asked) × Asks words what × IsFaultIn known old new devices what fault
+IsFaultOf known old new devices words fault =
+    (AreAsTheyWere old new × IsFaultOfWords words fault) ⊎ ((what : Asked) × Asks words what × IsFaultIn known old new devices what fault)
 
 -- the file of this name is none of those that are written for what the words ask for
 abbrev pub AreSparing : List (List ℕ) → List ℕ → Type 0
 AreSparing words file = (what : Asked) → Asks words what → Spares what file
 
--- what is printed on standard output and on standard error, before and after
+-- what is printed on standard output and on standard error, before and after, and whether standard output lost some of it
 pub record Pages : Type 0 where
   pub out : Option (List ℕ)
   pub err : Option (List ℕ)
+  pub is_lost : Bool
 
 -- what is asked for is done, and reported on standard output, nothing goes to standard error, and the status is the report's
 pub record IsDone (known : Type 0) (old_files new_files : Holding) (words : List (List ℕ)) (old new : Pages) (status : ℕ) : Type 0 where
   pub told : Report
   pub asked : IsAskedFor known old_files new_files words told
   pub out : Prints old.out new.out (text_of_report told)
+  pub taken : new.is_lost ≡ false
   pub err : new.err ≡ old.err
   pub by_report : status ≡ status_of_report told
+
+-- what is asked for is done, but standard output didn't take its report: standard error says so, and the status is that of a fault
+pub record IsUnreported (known : Type 0) (old_files new_files : Holding) (words : List (List ℕ)) (old new : Pages) (status : ℕ) : Type 0 where
+  pub told : Report
+  pub asked : IsAskedFor known old_files new_files words told
+  pub lost : new.is_lost ≡ true
+  pub err : PrintsLine old.err new.err (codes "output 1")
+  pub failed : status ≡ 1
 
 -- the fault is a line of standard error, or two, nothing goes to standard output, and the status is the fault's
 pub record IsRefused (known : Type 0) (old_files new_files : Holding) (devices : Failing) (words : List (List ℕ)) (old new : Pages) (status : ℕ) : Type 0 where
@@ -187,7 +199,8 @@ pub record IsRefused (known : Type 0) (old_files new_files : Holding) (devices :
   pub err : PrintsLine old.err new.err (text_of fault)
   pub by_fault : status ≡ status_of fault
 
--- the words are done or refused
+-- the words are done, with or without a report, or refused
 abbrev pub IsActed : Type 0 → Holding → Holding → Failing → List (List ℕ) → Pages → Pages → ℕ → Type 0
 IsActed known old_files new_files devices words old new status =
-    IsDone known old_files new_files words old new status ⊎ IsRefused known old_files new_files devices words old new status
+    IsDone known old_files new_files words old new status
+    ⊎ (IsUnreported known old_files new_files words old new status ⊎ IsRefused known old_files new_files devices words old new status)

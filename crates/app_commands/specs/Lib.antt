@@ -1,3 +1,4 @@
 pub mod Answered
+pub mod Apart
 pub mod Fault
 pub mod Printed

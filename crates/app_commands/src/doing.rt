@@ -1,7 +1,11 @@
-ghost use Rattle.std.specs.Prelude.{◌≡◌, MatchResult, ℕ, List, None, Some, option_map, string_bytes};
+ghost use Rattle.std.specs.Prelude.{◌≡◌, MatchResult, OnOk, ℕ, List, None, Some, option_map, string_bytes};
 ghost use Rattle.app_arguments.specs.Asked.{asked_of, audit, audit_blocks, blocks, names_of, one, pack, run, run_with_journal, serial, show};
+ghost use Rattle.file_devices.specs.Holding.{IsAsItWas};
+ghost use Rattle.app_commands.specs.Apart.{AreApart, names_apart};
 ghost use Rattle.app_commands.specs.Answered.{IsDoneAs, IsFaultIn, Spares, failing};
 
+use crate::apart::check_names;
+use crate::claims::claim_files;
 use crate::fault::Fault;
 use crate::report::Report;
 use app_arguments::Command;
@@ -17,8 +21,26 @@ use std::sync::Wait;
 use std::thread::Threads;
 use std::time::Clock;
 
-/// Does what the command asks for.
+/// Does what the command asks for, where its names are of as many files as they have to be and no other run has claimed one.
 pub(crate) fn done<R: Clock + Threads + Wait + Sync, F: Files>(
+    rt: &R,
+    alloc: Global,
+    files: &mut F,
+    command: Command,
+) -> Result<Report, Fault>
+    ensures apart { OnOk result (F.is_known files.old → AreApart (names_apart (asked_of command))) }
+    ensures done { MatchResult result
+        (IsDoneAs (F.is_known files.old) (F.holds files.old) (F.holds files.new) (asked_of command))
+        (IsFaultIn (F.is_known files.old) (F.holds files.old) (F.holds files.new) (failing F.Input.has_failed F.Output.has_failed F.refuses F.is_in_use) (asked_of command)) }
+    ensures others { (other : List ℕ) → Spares (asked_of command) other → IsAsItWas (F.holds files.old) (F.holds files.new) other }
+{
+    check_names(alloc, files, &command)?;
+    let _claims = claim_files(alloc, files, &command)?;
+    act_on(rt, alloc, files, command)
+}
+
+// Does what the command asks for.
+fn act_on<R: Clock + Threads + Wait + Sync, F: Files>(
     rt: &R,
     alloc: Global,
     files: &mut F,
@@ -26,8 +48,8 @@ pub(crate) fn done<R: Clock + Threads + Wait + Sync, F: Files>(
 ) -> Result<Report, Fault>
     ensures done { MatchResult result
         (IsDoneAs (F.is_known files.old) (F.holds files.old) (F.holds files.new) (asked_of command))
-        (IsFaultIn (F.is_known files.old) (F.holds files.old) (F.holds files.new) (failing F.Input.has_failed F.Output.has_failed F.refuses) (asked_of command)) }
-    ensures others { (other held : List ℕ) → Spares (asked_of command) other → F.holds files.old other held → F.holds files.new other held }
+        (IsFaultIn (F.is_known files.old) (F.holds files.old) (F.holds files.new) (failing F.Input.has_failed F.Output.has_failed F.refuses F.is_in_use) (asked_of command)) }
+    ensures others { (other : List ℕ) → Spares (asked_of command) other → IsAsItWas (F.holds files.old) (F.holds files.new) other }
 {
     match command {
         Command::Help(text) => Ok(Report::Help(text)),
@@ -68,8 +90,8 @@ fn serial<R: Threads + Wait + Sync, F: Files>(
 ) -> Result<Report, Fault>
     ensures done { MatchResult result
         (IsDoneAs (F.is_known files.old) (F.holds files.old) (F.holds files.new) (serial (names_of names.now)))
-        (IsFaultIn (F.is_known files.old) (F.holds files.old) (F.holds files.new) (failing F.Input.has_failed F.Output.has_failed F.refuses) (serial (names_of names.now))) }
-    ensures others { (other held : List ℕ) → Spares (serial (names_of names.now)) other → F.holds files.old other held → F.holds files.new other held }
+        (IsFaultIn (F.is_known files.old) (F.holds files.old) (F.holds files.new) (failing F.Input.has_failed F.Output.has_failed F.refuses F.is_in_use) (serial (names_of names.now))) }
+    ensures others { (other : List ℕ) → Spares (serial (names_of names.now)) other → IsAsItWas (F.holds files.old) (F.holds files.new) other }
 {
     let count = serial_batch(rt, alloc, files, names)?;
     Ok(Report::Decided(count))
@@ -86,8 +108,8 @@ fn run<R: Clock + Threads + Wait + Sync, F: Files>(
 ) -> Result<Report, Fault>
     ensures done { MatchResult result
         (IsDoneAs (F.is_known files.old) (F.holds files.old) (F.holds files.new) (run (names_of names.now) workers engine))
-        (IsFaultIn (F.is_known files.old) (F.holds files.old) (F.holds files.new) (failing F.Input.has_failed F.Output.has_failed F.refuses) (run (names_of names.now) workers engine)) }
-    ensures others { (other held : List ℕ) → Spares (run (names_of names.now) workers engine) other → F.holds files.old other held → F.holds files.new other held }
+        (IsFaultIn (F.is_known files.old) (F.holds files.old) (F.holds files.new) (failing F.Input.has_failed F.Output.has_failed F.refuses F.is_in_use) (run (names_of names.now) workers engine)) }
+    ensures others { (other : List ℕ) → Spares (run (names_of names.now) workers engine) other → IsAsItWas (F.holds files.old) (F.holds files.new) other }
 {
     let count = run_batch(rt, alloc, files, names, workers, engine)?;
     Ok(Report::Decided(count))
@@ -104,8 +126,8 @@ fn run_with_journal<R: Clock + Threads + Wait + Sync, F: Files>(
 ) -> Result<Report, Fault>
     ensures done { MatchResult result
         (IsDoneAs (F.is_known files.old) (F.holds files.old) (F.holds files.new) (run_with_journal (names_of names.now) workers journal.now))
-        (IsFaultIn (F.is_known files.old) (F.holds files.old) (F.holds files.new) (failing F.Input.has_failed F.Output.has_failed F.refuses) (run_with_journal (names_of names.now) workers journal.now)) }
-    ensures others { (other held : List ℕ) → Spares (run_with_journal (names_of names.now) workers journal.now) other → F.holds files.old other held → F.holds files.new other held }
+        (IsFaultIn (F.is_known files.old) (F.holds files.old) (F.holds files.new) (failing F.Input.has_failed F.Output.has_failed F.refuses F.is_in_use) (run_with_journal (names_of names.now) workers journal.now)) }
+    ensures others { (other : List ℕ) → Spares (run_with_journal (names_of names.now) workers journal.now) other → IsAsItWas (F.holds files.old) (F.holds files.new) other }
 {
     let count = run_batch_with_journal(rt, alloc, files, names, workers, journal)?;
     Ok(Report::Decided(count))
@@ -122,8 +144,8 @@ fn blocks<R: Clock + Threads + Wait + Sync, F: Files>(
 ) -> Result<Report, Fault>
     ensures done { MatchResult result
         (IsDoneAs (F.is_known files.old) (F.holds files.old) (F.holds files.new) (blocks (names_of names.now) workers engine))
-        (IsFaultIn (F.is_known files.old) (F.holds files.old) (F.holds files.new) (failing F.Input.has_failed F.Output.has_failed F.refuses) (blocks (names_of names.now) workers engine)) }
-    ensures others { (other held : List ℕ) → Spares (blocks (names_of names.now) workers engine) other → F.holds files.old other held → F.holds files.new other held }
+        (IsFaultIn (F.is_known files.old) (F.holds files.old) (F.holds files.new) (failing F.Input.has_failed F.Output.has_failed F.refuses F.is_in_use) (blocks (names_of names.now) workers engine)) }
+    ensures others { (other : List ℕ) → Spares (blocks (names_of names.now) workers engine) other → IsAsItWas (F.holds files.old) (F.holds files.new) other }
 {
     let count = run_blocks(rt, alloc, files, names, workers, engine)?;
     Ok(Report::DecidedBlocks(count))
@@ -138,7 +160,7 @@ fn audited<R: Threads, F: Files>(
 ) -> Result<Report, Fault>
     ensures { MatchResult result
         (IsDoneAs (F.is_known files.now) (F.holds files.now) (F.holds files.now) (audit (names_of names.now) None))
-        (IsFaultIn (F.is_known files.now) (F.holds files.now) (F.holds files.now) (failing F.Input.has_failed F.Output.has_failed F.refuses) (audit (names_of names.now) None)) }
+        (IsFaultIn (F.is_known files.now) (F.holds files.now) (F.holds files.now) (failing F.Input.has_failed F.Output.has_failed F.refuses F.is_in_use) (audit (names_of names.now) None)) }
 {
     let found = audit_batch(rt, alloc, files, names)?;
     let text = audit_text(alloc, &found)?;
@@ -155,7 +177,7 @@ fn audited_with_journal<R: Threads, F: Files>(
 ) -> Result<Report, Fault>
     ensures { MatchResult result
         (IsDoneAs (F.is_known files.now) (F.holds files.now) (F.holds files.now) (audit (names_of names.now) (Some journal.now)))
-        (IsFaultIn (F.is_known files.now) (F.holds files.now) (F.holds files.now) (failing F.Input.has_failed F.Output.has_failed F.refuses) (audit (names_of names.now) (Some journal.now))) }
+        (IsFaultIn (F.is_known files.now) (F.holds files.now) (F.holds files.now) (failing F.Input.has_failed F.Output.has_failed F.refuses F.is_in_use) (audit (names_of names.now) (Some journal.now))) }
 {
     let found = audit_batch_with_journal(rt, alloc, files, names, journal)?;
     let text = audit_text(alloc, &found)?;
@@ -171,7 +193,7 @@ fn audited_blocks<R: Threads, F: Files>(
 ) -> Result<Report, Fault>
     ensures { MatchResult result
         (IsDoneAs (F.is_known files.now) (F.holds files.now) (F.holds files.now) (audit_blocks (names_of names.now)))
-        (IsFaultIn (F.is_known files.now) (F.holds files.now) (F.holds files.now) (failing F.Input.has_failed F.Output.has_failed F.refuses) (audit_blocks (names_of names.now))) }
+        (IsFaultIn (F.is_known files.now) (F.holds files.now) (F.holds files.now) (failing F.Input.has_failed F.Output.has_failed F.refuses F.is_in_use) (audit_blocks (names_of names.now))) }
 {
     let found = audit_block_files(rt, alloc, files, names)?;
     let text = block_audit_text(alloc, &found)?;
@@ -182,7 +204,7 @@ fn audited_blocks<R: Threads, F: Files>(
 fn show<F: Files>(alloc: Global, files: &F, file: &str) -> Result<Report, Fault>
     ensures { MatchResult result
         (IsDoneAs (F.is_known files.now) (F.holds files.now) (F.holds files.now) (show file.now))
-        (IsFaultIn (F.is_known files.now) (F.holds files.now) (F.holds files.now) (failing F.Input.has_failed F.Output.has_failed F.refuses) (show file.now)) }
+        (IsFaultIn (F.is_known files.now) (F.holds files.now) (F.holds files.now) (failing F.Input.has_failed F.Output.has_failed F.refuses F.is_in_use) (show file.now)) }
 {
     let text = show_file(alloc, files, file)?;
     Ok(Report::Lines(text))
@@ -192,8 +214,8 @@ fn show<F: Files>(alloc: Global, files: &F, file: &str) -> Result<Report, Fault>
 fn pack<F: Files>(alloc: Global, files: &mut F, text: &str, batch: &str) -> Result<Report, Fault>
     ensures done { MatchResult result
         (IsDoneAs (F.is_known files.old) (F.holds files.old) (F.holds files.new) (pack text.now batch.now))
-        (IsFaultIn (F.is_known files.old) (F.holds files.old) (F.holds files.new) (failing F.Input.has_failed F.Output.has_failed F.refuses) (pack text.now batch.now)) }
-    ensures others { (other held : List ℕ) → Spares (pack text.now batch.now) other → F.holds files.old other held → F.holds files.new other held }
+        (IsFaultIn (F.is_known files.old) (F.holds files.old) (F.holds files.new) (failing F.Input.has_failed F.Output.has_failed F.refuses F.is_in_use) (pack text.now batch.now)) }
+    ensures others { (other : List ℕ) → Spares (pack text.now batch.now) other → IsAsItWas (F.holds files.old) (F.holds files.new) other }
 {
     let count = pack_batch(alloc, files, text, batch)?;
     Ok(Report::Packed(count))

@@ -4,7 +4,7 @@ ghost use Rattle.app_commands.specs.declared.fault.Fault.TheVariants.{Job, OutOf
 
 use app_arguments::LineFault;
 use app_jobs::{Halt, JobFault};
-use std::alloc::AllocError;
+use std::alloc::{AllocError, AllocFailed};
 use thiserror::Error;
 
 /// Why the program doesn't do what its words say.
@@ -42,6 +42,14 @@ impl From<AllocError> for Fault {
     ghost from_gives = { λ _ fault. fault ≡ OutOfMemory };
 
     fn from(_error: AllocError) -> Fault {
+        Fault::OutOfMemory
+    }
+}
+
+impl<T: Drop> From<AllocFailed<T>> for Fault {
+    ghost from_gives = { λ _ fault. fault ≡ OutOfMemory };
+
+    fn from(_error: AllocFailed<T>) -> Fault {
         Fault::OutOfMemory
     }
 }

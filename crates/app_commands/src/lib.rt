@@ -1,6 +1,8 @@
 //! What the program does for its words.
 #![tactic(auto)]
 
+mod apart;
+mod claims;
 mod doing;
 mod fault;
 mod printer;

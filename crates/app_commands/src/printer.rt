@@ -70,6 +70,13 @@ impl<W: Write> Printer<W> {
         }
     }
 
+    /// Whether the writer didn't take all that was printed.
+    pub fn is_stuck(&self) -> bool
+        ensures { result ≡ self.now.is_stuck }
+    {
+        self.is_stuck
+    }
+
     /// The writer, and whether it took all that was printed.
     pub fn into_parts(self) -> (W, bool)
         ensures { printed W.contents self ≡ (if result.1 then W.contents result.0 else None) }

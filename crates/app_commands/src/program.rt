@@ -3,6 +3,7 @@ ghost use Rattle.app_commands.specs.Answered.{AreSparing, IsActed, IsAskedFor, I
 ghost use Rattle.app_commands.specs.Fault.{text_of};
 ghost use Rattle.app_commands.specs.declared.fault.Fault.TheVariants.{Halted};
 ghost use Rattle.app_commands.specs.Printed.{printed, Prints, PrintsLine};
+ghost use Rattle.file_devices.specs.Holding.{IsAsItWas};
 
 use crate::doing::done;
 use crate::fault::Fault;
@@ -18,8 +19,9 @@ use std::sync::Wait;
 use std::thread::Threads;
 use std::time::Clock;
 
-/// Does what the words say over these files, and returns the exit status: 0 done, 1 fault, 2 words that are no command, 3 an audit that
-/// found a difference. What is asked for goes to the first printer, a fault's text to the second; what a writer doesn't take is dropped.
+/// Does what the words say over these files, and returns the exit status: 0 done, 1 fault, 2 words that are no command or two names of
+/// one file, 3 an audit that found a difference. What is asked for goes to the first printer, a fault's text to the second. Where the
+/// first writer doesn't take all, that is a fault, too; what the second doesn't take is dropped.
 pub fn act<R: Clock + Threads + Wait + Sync, F: Files, O: Write, E: Write>(
     rt: &R,
     alloc: Global,
@@ -29,15 +31,19 @@ pub fn act<R: Clock + Threads + Wait + Sync, F: Files, O: Write, E: Write>(
     err: &mut Printer<E>,
 ) -> u8
     ensures status { result ≤ 3 }
-    ensures acted { IsActed (F.is_known files.old) (F.holds files.old) (F.holds files.new) (failing F.Input.has_failed F.Output.has_failed F.refuses) (map string_bytes words.now)
-        (record { out = printed O.contents out.old; err = printed E.contents err.old })
-        (record { out = printed O.contents out.new; err = printed E.contents err.new }) result }
+    ensures acted { IsActed (F.is_known files.old) (F.holds files.old) (F.holds files.new) (failing F.Input.has_failed F.Output.has_failed F.refuses F.is_in_use) (map string_bytes words.now)
+        (record { out = printed O.contents out.old; err = printed E.contents err.old; is_lost = out.old.is_stuck })
+        (record { out = printed O.contents out.new; err = printed E.contents err.new; is_lost = out.new.is_stuck }) result }
     // A file that is none of those that are written for what the words ask for stays as it was.
-    ensures others { (other held : List ℕ) → AreSparing (map string_bytes words.now) other → F.holds files.old other held → F.holds files.new other held }
+    ensures others { (other : List ℕ) → AreSparing (map string_bytes words.now) other → IsAsItWas (F.holds files.old) (F.holds files.new) other }
 {
     match answer(rt, alloc, files, words) {
         Ok(report) => {
             print_report(&report, out);
+            if out.is_stuck() {
+                err.line(b"output 1");
+                return 1;
+            }
             status_of(&report)
         }
         Err(fault) => {
@@ -56,8 +62,8 @@ fn answer<R: Clock + Threads + Wait + Sync, F: Files>(
 ) -> Result<Report, Fault>
     ensures answered { MatchResult result
         (IsAskedFor (F.is_known files.old) (F.holds files.old) (F.holds files.new) (map string_bytes words.now))
-        (IsFaultOf (F.is_known files.old) (F.holds files.old) (F.holds files.new) (failing F.Input.has_failed F.Output.has_failed F.refuses) (map string_bytes words.now)) }
-    ensures others { (other held : List ℕ) → AreSparing (map string_bytes words.now) other → F.holds files.old other held → F.holds files.new other held }
+        (IsFaultOf (F.is_known files.old) (F.holds files.old) (F.holds files.new) (failing F.Input.has_failed F.Output.has_failed F.refuses F.is_in_use) (map string_bytes words.now)) }
+    ensures others { (other : List ℕ) → AreSparing (map string_bytes words.now) other → IsAsItWas (F.holds files.old) (F.holds files.new) other }
 {
     let command = read_arguments(alloc, words)?;
     done(rt, alloc, files, command)

@@ -16,12 +16,12 @@ of_first_two old names read_failed behind fault (inl a) = inl a
 of_first_two old names read_failed behind fault (inr (b, c)) = inr (b, inl c)
 
 -- a fault of the last two
-pub of_last_two : (old : Holding) (names : Names) (rows : Rows) (frames : List Frame) (read_failed behind : Type 0) (fault : JobFault)
-    → AreDecided old names rows frames → IsAnswersFault old names read_failed fault
+pub of_last_two : (known : Type 0) (old : Holding) (names : Names) (rows : Rows) (frames : List Frame) (read_failed behind : Type 0) (fault : JobFault)
+    → AreDecided known old names rows frames → IsAnswersFault old names read_failed fault
     → IsFaultInOrder old names read_failed behind fault
-of_last_two old names rows frames read_failed behind fault held (inl a) =
+of_last_two known old names rows frames read_failed behind fault held (inl a) =
     inr ((rows, held.opening), inr ((frames, held.messages), inl a))
-of_last_two old names rows frames read_failed behind fault held (inr (b, c)) =
+of_last_two known old names rows frames read_failed behind fault held (inr (b, c)) =
     inr ((rows, held.opening), inr ((frames, held.messages), inr (b, inl c)))
 
 -- a fault of one of the four files, whatever may come behind them
@@ -34,8 +34,8 @@ of_four old names read_failed behind fault (inr (b, inr (c, inr (d, inl a)))) = 
 of_four old names read_failed behind fault (inr (b, inr (c, inr (d, inr (e, none))))) = absurd none
 
 -- a fault behind all four
-pub behind_four : (old : Holding) (names : Names) (rows : Rows) (frames : List Frame) (answers : List ReplyBody) (rows_after_it : Rows)
-    (read_failed behind : Type 0) (fault : JobFault) → AreHeld old names rows frames answers rows_after_it
+pub behind_four : (known : Type 0) (old : Holding) (names : Names) (rows : Rows) (frames : List Frame) (answers : List ReplyBody) (rows_after_it : Rows)
+    (read_failed behind : Type 0) (fault : JobFault) → AreHeld known old names rows frames answers rows_after_it
     → behind → IsFaultInOrder old names read_failed behind fault
-behind_four old names rows frames answers rows_after_it read_failed behind fault held h =
+behind_four known old names rows frames answers rows_after_it read_failed behind fault held h =
     inr ((rows, held.decided.opening), inr ((frames, held.decided.messages), inr ((answers, held.answered.answered), inr ((rows_after_it, held.answered.after), h))))

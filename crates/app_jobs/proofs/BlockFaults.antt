@@ -5,11 +5,8 @@ use Rattle.file_blocks.specs.Blocks.{StopsBefore, StopsInHead, StopsInBlocks}
 use Rattle.file_batch_laws.specs.BatchFault.{failed_at, is_of_bytes}
 use Rattle.file_batch_laws.specs.declared.batch_fault.BatchFault.{BatchFault}
 use Rattle.file_devices.specs.Failing.{HasFailed}
-use Rattle.file_devices.specs.declared.write_fault.WriteFault.{WriteFault}
-use Rattle.file_devices.specs.declared.write_fault.WriteFault.TheVariants as write
 use Rattle.issuer_rows.specs.Fold.{Rows}
 use Rattle.app_jobs.specs.Decided.{Holding}
-use Rattle.app_jobs.specs.JobFault.{fault_of_close}
 use Rattle.app_jobs.specs.declared.job_fault.JobFault.TheVariants.{Batch}
 use Rattle.app_jobs.proofs.Faults.{one_failed}
 use Rattle.app_jobs.proofs.FirstBlocks.{device_alone}
@@ -42,9 +39,3 @@ stopped old batch reading putting refused rows after count reads bytes puts star
       let failing = rw d at sum in
       one_failed reading putting refused x y failing),
 )
-
--- replies that can't be closed
-pub unclosed_blocks : (old : Holding) (name : List ℕ) (read_failed put_failed refused : Type 0) (e : WriteFault)
-    → (e ≡ write.Unwritable → refused) → IsBlockFileFault old name read_failed put_failed refused (fault_of_close e)
-unclosed_blocks old name read_failed put_failed refused write.Unwritable h = (λ bytes o t. absurd (cc t), λ d. inr (inr (h refl)))
-unclosed_blocks old name read_failed put_failed refused write.OutOfMemory h = (λ bytes o t. absurd (cc t), λ d. absurd (cc d))

@@ -5,33 +5,15 @@ use Rattle.file_devices.specs.Failing.{HasFailed}
 use Rattle.file_devices.specs.declared.write_fault.WriteFault.{WriteFault}
 use Rattle.file_devices.specs.declared.write_fault.WriteFault.TheVariants as write
 use Rattle.app_jobs.specs.Decided.{Holding}
-use Rattle.app_jobs.specs.Faults.{IsBatchFault, IsRepliesFault, IsOfBytes, IsPuttingFault}
-use Rattle.app_jobs.specs.JobFault.{fault_of_close, fault_of_write}
+use Rattle.app_jobs.specs.Faults.{IsBatchFault, IsRepliesFault, IsPuttingFault}
+use Rattle.app_jobs.specs.JobFault.{fault_of_write}
 use Rattle.app_jobs.specs.declared.job_fault.JobFault.{JobFault}
-use Rattle.app_jobs.specs.declared.job_fault.JobFault.TheVariants.{Book, Batch, OutOfMemory}
-
--- replies that can't be closed
-pub unclosed : (old : Holding) (name : List ℕ) (read_failed put_failed refused : Type 0) (e : WriteFault)
-    → (e ≡ write.Unwritable → refused) → IsBatchFault old name read_failed put_failed refused (fault_of_close e)
-unclosed old name read_failed put_failed refused write.Unwritable h = (λ bytes o t. absurd (cc t), λ d. inr (inr (h refl)))
-unclosed old name read_failed put_failed refused write.OutOfMemory h = (λ bytes o t. absurd (cc t), λ d. absurd (cc d))
+use Rattle.app_jobs.specs.declared.job_fault.JobFault.TheVariants.{Batch, OutOfMemory}
 
 -- a file that isn't put in its place
 pub unput : (refused : Type 0) (e : WriteFault) → (e ≡ write.Unwritable → refused) → IsPuttingFault refused (fault_of_write e)
 unput refused write.Unwritable h = h refl
 unput refused write.OutOfMemory h = tt
-
--- that a file is not put in its place is no fault of bytes
-pub none_of_putting : (refused : Type 0) (e : JobFault) → IsPuttingFault refused e → ¬ IsOfBytes e
-none_of_putting refused (Book fault) h o = h
-none_of_putting refused (Batch fault) h o = h
-none_of_putting refused _ h o = o
-
--- nor that replies are not written to theirs
-pub none_of_replies : (put_failed refused : Type 0) (e : JobFault) → IsRepliesFault put_failed refused e → ¬ IsOfBytes e
-none_of_replies put_failed refused (Batch fault) h o = h.0 o
-none_of_replies put_failed refused (Book fault) h o = h
-none_of_replies put_failed refused _ h o = o
 
 -- of two devices one failed, for a fault of a batch
 pub one_failed : {X Y : Type 0} (reading : X → Bool) (putting : Y → Bool) (refused : Type 0) (x : X) (y : Y) → (reading x || putting y) ≡ true

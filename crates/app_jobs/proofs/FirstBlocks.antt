@@ -4,21 +4,20 @@ use Rattle.std.proofs.lemmas.Bool.{or_parts}
 use Rattle.std.proofs.lemmas.List.{append-nil}
 use Rattle.file_blocks.specs.Blocks.{StopsBefore, StopsInHead, StopsInBlocks}
 use Rattle.file_batch_laws.specs.BatchFault.{failed_at, is_of_bytes}
-use Rattle.file_batch_laws.specs.Blocks.{block_replies_magic, block_text, blocks_text, replies_to_blocks, rows_after_blocks}
+use Rattle.file_batch_laws.specs.Blocks.{block_replies_magic, blocks_text, replies_to_blocks}
 use Rattle.file_batch_laws.specs.Files.{head_text}
 use Rattle.file_batch_laws.specs.declared.batch_fault.BatchFault.{BatchFault}
 use Rattle.file_batch_laws.specs.declared.batch_fault.BatchFault.TheVariants.{Device}
-use Rattle.issuer_rows.specs.Fold.{Rows, replies_to}
-use Rattle.file_devices.specs.BatchNames.{Names}
+use Rattle.issuer_rows.specs.Fold.{Rows}
 use Rattle.app_jobs.specs.DecidedBlocks.{AreFirstAnswered}
 use Rattle.app_jobs.specs.Decided.{Holding}
 
-pub before_head : (known : Type 0) (old new : Holding) (names : Names) (rows after : Rows) (fault : BatchFault) (count : ℕ)
+pub before_head : (known : Type 0) (old : Holding) (batch : List ℕ) (rows after : Rows) (fault : BatchFault) (count : ℕ) (said : Type 0)
     (reads : Type 0) (bytes written : List ℕ) (same : Type 0)
-    → ((held : List ℕ) → old names.batch held → reads × (bytes ≡ held)) → (known → new names.replies written) → (known → same → written ≡ [])
+    → ((held : List ℕ) → old batch held → reads × (bytes ≡ held)) → (known → same → written ≡ [])
     → StopsBefore rows after count reads bytes fault same
-    → AreFirstAnswered known old new names rows after fault count
-before_head known old new names rows after fault count reads bytes written same opened closed empty h =
+    → AreFirstAnswered known old batch rows after fault count said written
+before_head known old batch rows after fault count said reads bytes written same opened empty h =
     record {
       blocks = [];
       number = h.0;
@@ -26,15 +25,15 @@ before_head known old new names rows after fault count reads bytes written same 
       book = h.1;
       read = λ held o. inl refl;
       fails = λ held o t. inl (refl, rw (← (opened held o).1) (h.3 (opened held o).0 t));
-      answered = λ k. (written, closed k, inl (refl, head_text block_replies_magic 0, rw (empty k h.2) refl));
+      replied = λ k. inl (refl, head_text block_replies_magic 0, rw (empty k h.2) refl);
     }
 
-pub in_head : (known : Type 0) (old new : Holding) (names : Names) (rows after : Rows) (fault : BatchFault) (count : ℕ)
+pub in_head : (known : Type 0) (old : Holding) (batch : List ℕ) (rows after : Rows) (fault : BatchFault) (count : ℕ) (said : Type 0)
     (reads : Type 0) (bytes : List ℕ) (puts : Type 0) (start written : List ℕ) (failed : Type 0)
-    → (known → new names.replies written) → (known → puts) → (known → start ≡ []) → (failed → ¬ IsTrue (is_of_bytes fault))
+    → (known → puts) → (known → start ≡ []) → (failed → ¬ IsTrue (is_of_bytes fault))
     → StopsInHead rows after count reads bytes puts start written failed
-    → AreFirstAnswered known old new names rows after fault count
-in_head known old new names rows after fault count reads bytes puts start written failed closed put empty device h =
+    → AreFirstAnswered known old batch rows after fault count said written
+in_head known old batch rows after fault count said reads bytes puts start written failed put empty device h =
     record {
       blocks = [];
       number = h.0;
@@ -42,17 +41,17 @@ in_head known old new names rows after fault count reads bytes puts start writte
       book = h.1;
       read = λ held o. inl refl;
       fails = λ held o t. absurd (device h.2 t);
-      answered = λ k.
+      replied = λ k.
           let part = h.6 (put k) in
-          (written, closed k, inl (refl, part.1, rw (part.2, empty k) part.3));
+          inl (refl, part.1, rw (part.2, empty k) part.3);
     }
 
-pub behind_head : (known : Type 0) (old new : Holding) (names : Names) (rows after : Rows) (fault : BatchFault) (count : ℕ)
+pub behind_head : (known : Type 0) (old : Holding) (batch : List ℕ) (rows after : Rows) (fault : BatchFault) (count : ℕ) (said : Type 0)
     (reads : Type 0) (bytes : List ℕ) (puts : Type 0) (start written : List ℕ) (failed : Type 0)
-    → ((held : List ℕ) → old names.batch held → reads × (bytes ≡ held)) → (known → new names.replies written) → (known → puts) → (known → start ≡ [])
+    → ((held : List ℕ) → old batch held → reads × (bytes ≡ held)) → (known → puts) → (known → start ≡ []) → (failed → said)
     → StopsInBlocks rows after count reads bytes puts start written fault failed
-    → AreFirstAnswered known old new names rows after fault count
-behind_head known old new names rows after fault count reads bytes puts start written failed opened closed put empty h =
+    → AreFirstAnswered known old batch rows after fault count said written
+behind_head known old batch rows after fault count said reads bytes puts start written failed opened put empty tells h =
     let kept = h.3.kept in
     record {
       blocks = kept.blocks;
@@ -67,16 +66,32 @@ behind_head known old new names rows after fault count reads bytes puts start wr
         kept.read (opened held o).0,
         rw kept.number (h.3.fails (opened held o).0 t),
       );
-      answered = λ k. (
-        written,
-        closed k,
-        inr (elim h.3.begun [
-          | inl none ↦ ([], [], block_text (replies_to (rows_after_blocks rows kept.blocks) []), none (put k) ∙ (kept.put (put k) ∙ rw (empty k) (sym (append-nil (head_text block_replies_magic h.0 ++ blocks_text (replies_to_blocks rows kept.blocks))))), refl)
-          | inr begun ↦
-              let part = begun.4 (put k) in
-              (begun.1, part.0, part.1, rw (part.2, kept.put (put k), empty k) refl, rw (← kept.book) part.3)
-        ]),
-      );
+      replied = λ k. inr (elim h.3.begun [
+        | inl none ↦ (
+          [],
+          none (put k) ∙ (kept.put (put k) ∙ rw (empty k) (sym (append-nil (head_text block_replies_magic h.0 ++ blocks_text (replies_to_blocks rows kept.blocks))))),
+          inl refl,
+        )
+        | inr begun ↦
+            let part = begun.4 (put k) in (
+              part.0,
+              rw (part.2, kept.put (put k), empty k) refl,
+              inr (
+                tells begun.0,
+                begun.1,
+                (λ held o. (
+                  h.1,
+                  h.3.left,
+                  begun.2,
+                  rw (← (opened held o).1) (h.2 (opened held o).0),
+                  kept.read (opened held o).0,
+                  begun.3 (opened held o).0,
+                )),
+                part.1,
+                rw (← kept.book) part.3,
+              ),
+            )
+      ]);
     }
 
 -- one device alone failed, so that the fault is of no bytes

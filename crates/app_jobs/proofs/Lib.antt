@@ -1,3 +1,4 @@
+pub mod AnsweredFiles
 pub mod Audits
 pub mod BlockFaults
 pub mod BytesFaults

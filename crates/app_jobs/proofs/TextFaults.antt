@@ -12,7 +12,7 @@ use Rattle.file_batch_laws.specs.Files.{AreBodies, IsBody}
 use Rattle.file_devices.specs.declared.write_fault.WriteFault.{WriteFault}
 use Rattle.file_devices.specs.declared.write_fault.WriteFault.TheVariants as write
 use Rattle.file_listing.specs.Bodies.{alone, body_of, bodies_from, bodies_of, fitting, line_bodies, lines_of, then_bodies}
-use Rattle.app_jobs.specs.JobFault.{fault_of_close, fault_of_write}
+use Rattle.app_jobs.specs.JobFault.{fault_of_write}
 use Rattle.app_jobs.specs.Packed.{IsUnwritten}
 
 some_is : {A : Type 0} (x y : A) → Path (Option A) (Some x) (Some y) → x ≡ y
@@ -74,8 +74,3 @@ text_fits bytes bodies is few = (rw length-map few, lines_fit 1 (lines_of bytes)
 pub unmade_batch : (put_failed refused : Type 0) (e : WriteFault) → (e ≡ write.Unwritable → refused) → IsUnwritten put_failed refused (fault_of_write e)
 unmade_batch put_failed refused write.Unwritable h = h refl
 unmade_batch put_failed refused write.OutOfMemory h = tt
-
--- a batch that can't be closed
-pub unclosed_batch : (put_failed refused : Type 0) (e : WriteFault) → (e ≡ write.Unwritable → refused) → IsUnwritten put_failed refused (fault_of_close e)
-unclosed_batch put_failed refused write.Unwritable h = (λ t. absurd (cc t), λ d. inr (h refl))
-unclosed_batch put_failed refused write.OutOfMemory h = (λ t. absurd (cc t), λ d. absurd (cc d))

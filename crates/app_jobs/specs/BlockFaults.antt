@@ -41,7 +41,7 @@ abbrev pub IsBlocksFault : Holding → Names → Type 0 → Type 0 → Type 0 �
 IsBlocksFault old names read_failed put_failed refused fault =
     IsBookFault old names.book read_failed fault
     ⊎ (IsSomeBook old names.book × (IsBlockFileFault old names.batch read_failed put_failed refused fault
-    ⊎ (IsSomeBlockFile old names.batch × IsPuttingFault refused fault)))
+    ⊎ (IsSomeBlockFile old names.batch × IsPuttingFault (put_failed ⊎ refused) fault)))
 
 -- Why the file of this name gives no replies of blocks: its first fault; a call on it failed; or memory ran out.
 abbrev pub IsBlockRepliesFault : Holding → List ℕ → Type 0 → JobFault → Type 0

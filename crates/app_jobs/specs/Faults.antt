@@ -1,5 +1,5 @@
 -- Why a job on files is not done: the first fault of what a file holds, where its bytes are known; a call that failed; or out of memory.
-use Rattle.std.specs.Prelude.{◌≡◌, ◌≢◌, ◌⊎◌, ℕ, List, [], Err, IsTrue}
+use Rattle.std.specs.Prelude.{◌≡◌, ◌≢◌, ◌⊎◌, ℕ, List, Err, IsTrue}
 use Rattle.file_batch_laws.specs.BatchFault.{is_of_bytes}
 use Rattle.file_batch_laws.specs.Reading.{bodies_of, batch_magic}
 use Rattle.file_batch_laws.specs.Frames.{IsBatchOf}
@@ -42,21 +42,11 @@ IsRepliesFault put_failed refused (Batch fault) = (¬ IsTrue (is_of_bytes fault)
 IsRepliesFault put_failed refused OutOfMemory = Unit {0}
 IsRepliesFault _ _ _ = ⊥
 
--- Why a file is not put in its place: it is refused, or memory ran out.
+-- Why a file is not written or put in its place: a call on it failed or it is refused, or memory ran out.
 abbrev pub IsPuttingFault : Type 0 → JobFault → Type 0
 IsPuttingFault refused Unwritable = refused
 IsPuttingFault refused OutOfMemory = Unit {0}
 IsPuttingFault _ _ = ⊥
-
--- a fault of what a file holds
-abbrev pub IsOfBytes : JobFault → Type 0
-IsOfBytes (Book fault) = Unit {0}
-IsOfBytes (Batch fault) = IsTrue (is_of_bytes fault)
-IsOfBytes _ = ⊥
-
--- what the file of this name held, where it is known, it still holds, or nothing
-abbrev pub HoldsSameOrNothing : Holding → Holding → List ℕ → Type 0
-HoldsSameOrNothing old new name = (held : List ℕ) → old name held → new name held ⊎ new name []
 
 -- the file of this name, where its bytes are known, is some batch
 abbrev pub IsSomeBatch : Holding → List ℕ → Type 0
@@ -66,13 +56,18 @@ IsSomeBatch old name = (frames : List Frame) × ((bytes : List ℕ) → old name
 abbrev pub IsSomeReplyFile : Holding → List ℕ → Type 0
 IsSomeReplyFile old name = (answers : List ReplyBody) × ((bytes : List ℕ) → old name bytes → IsReplyFileOf bytes answers)
 
--- Why a batch is not decided on a book: the first fault of the book; or, behind a sound book, the first of the batch, or a call on a file
--- that failed; or, behind both, that a file is not put in its place.
+-- Why a batch is not decided on a book, or what it comes to isn't put in place: the first fault of the batch, or a call on a file that
+-- failed; or, behind a batch, that a file is not written or put in its place.
+abbrev pub IsAnsweringFault : Holding → List ℕ → Type 0 → Type 0 → Type 0 → JobFault → Type 0
+IsAnsweringFault old batch read_failed put_failed refused fault =
+    IsBatchFault old batch read_failed put_failed refused fault
+    ⊎ (IsSomeBatch old batch × IsPuttingFault (put_failed ⊎ refused) fault)
+
+-- Why a batch is not decided: the first fault of the book; or, behind a sound book, that the batch is not answered.
 abbrev pub IsDecidingFault : Holding → Names → Type 0 → Type 0 → Type 0 → JobFault → Type 0
 IsDecidingFault old names read_failed put_failed refused fault =
     IsBookFault old names.book read_failed fault
-    ⊎ (IsSomeBook old names.book × (IsBatchFault old names.batch read_failed put_failed refused fault
-    ⊎ (IsSomeBatch old names.batch × IsPuttingFault refused fault)))
+    ⊎ (IsSomeBook old names.book × IsAnsweringFault old names.batch read_failed put_failed refused fault)
 
 -- Why the file of this name gives no replies: its first fault; a call on it failed; or memory ran out.
 abbrev pub IsReplyFileFault : Holding → List ℕ → Type 0 → JobFault → Type 0

@@ -9,16 +9,18 @@ use Rattle.issuer_rows.specs.declared.frame.Frame.{Frame}
 use Rattle.issuer_rows.specs.declared.reply_body.ReplyBody.{ReplyBody}
 use Rattle.file_devices.specs.BatchNames.{Names}
 use Rattle.app_jobs.specs.Audited.{AreHeld}
+use Rattle.file_devices.specs.Holding.{IsThere}
 use Rattle.app_jobs.specs.Decided.{Holding}
 
 -- Replies and new book, as the files hold them, are compared with what the journal, as its file holds it, plays to.
-pub record IsAuditedWithJournal (old : Holding) (names : Names) (journal : List ℕ) (found : Audit) : Type 0 where
+pub record IsAuditedWithJournal (known : Type 0) (old : Holding) (names : Names) (journal : List ℕ) (found : Audit) : Type 0 where
   pub rows : Rows
   pub frames : List Frame
   pub answers : List ReplyBody
   pub rows_after_it : Rows
   pub entries : List Entry
-  pub held : AreHeld old names rows frames answers rows_after_it
+  pub held : AreHeld known old names rows frames answers rows_after_it
   pub are : AreEntries entries
+  pub journal_there : known → IsThere old journal
   pub logged : (bytes : List ℕ) → old journal bytes → bytes ≡ journal_text entries
   pub finds : FindsInPlay rows frames entries answers rows_after_it found

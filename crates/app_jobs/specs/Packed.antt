@@ -4,13 +4,15 @@ use Rattle.file_batch_laws.specs.BatchFault.{is_of_bytes}
 use Rattle.file_batch_laws.specs.Files.{batch_text}
 use Rattle.file_batch_laws.specs.declared.batch_fault.BatchFault.TheVariants.{Count, Device}
 use Rattle.file_listing.specs.Bodies.{HasTooMany, bodies_of}
+use Rattle.file_devices.specs.Holding.{IsThere}
 use Rattle.app_jobs.specs.Decided.{Holding}
 use Rattle.app_jobs.specs.declared.job_fault.JobFault.{JobFault}
 use Rattle.app_jobs.specs.declared.job_fault.JobFault.TheVariants.{Unreadable, Unwritable, Batch, Text, OutOfMemory}
 
--- The file of the batch holds the bodies that the text has, so many, where it is known what files hold.
+-- Where it is known what files hold, the text is there, and the file of the batch holds the bodies that it has, so many.
 pub record IsPacked (known : Type 0) (old new : Holding) (text batch : List ℕ) (count : ℕ) : Type 0 where
   pub bodies : List (List ℕ)
+  pub there : known → IsThere old text
   pub lines : (bytes : List ℕ) → old text bytes → bodies_of bytes ≡ Ok bodies
   pub counted : count ≡ length bodies
   pub packed : known → new batch (batch_text bodies)

@@ -24,7 +24,7 @@ pub fn audit_batch<R: Threads, F: Files>(
     files: &F,
     names: &BatchNames,
 ) -> Result<Audit, JobFault>
-    ensures audited { IfOk result (IsAudited (F.holds files.now)
+    ensures audited { IfOk result (IsAudited (F.is_known files.now) (F.holds files.now)
         (names_of names.now)) }
     ensures fault { IfErr result (IsAuditingFault (F.holds files.now)
         (names_of names.now) (HasFailed F.Input.has_failed)) }
@@ -52,7 +52,7 @@ pub fn audit_batch_with_journal<R: Threads, F: Files>(
     names: &BatchNames,
     journal: &str,
 ) -> Result<Audit, JobFault>
-    ensures audited { IfOk result (IsAuditedWithJournal (F.holds files.now)
+    ensures audited { IfOk result (IsAuditedWithJournal (F.is_known files.now) (F.holds files.now)
         (names_of names.now) journal.now) }
     ensures fault { IfErr result (IsJournalAuditingFault (F.holds files.now)
         (names_of names.now) journal.now (HasFailed F.Input.has_failed)) }
@@ -88,7 +88,7 @@ fn open_run<R: Threads, F: Files>(
     files: &F,
     names: &BatchNames,
 ) -> Result<AuditedRun, JobFault>
-    ensures held { IfOk result (λ run. AreHeld (F.holds files.now)
+    ensures held { IfOk result (λ run. AreHeld (F.is_known files.now) (F.holds files.now)
         (names_of names.now)
         run.book run.frames.items run.replies.items run.after) }
     ensures count { IfOk result (λ run. length run.frames.items ≤ 65536) }
@@ -112,7 +112,7 @@ fn open_decided<R: Threads, F: Files>(
     files: &F,
     names: &BatchNames,
 ) -> Result<(Book, Vec<Frame>), JobFault>
-    ensures held { IfOk result (λ decided. AreDecided (F.holds files.now) (names_of names.now) decided.0 decided.1.items) }
+    ensures held { IfOk result (λ decided. AreDecided (F.is_known files.now) (F.holds files.now) (names_of names.now) decided.0 decided.1.items) }
     ensures count { IfOk result (λ decided. length decided.1.items ≤ 65536) }
     ensures fault { IfErr result (IsOpeningFault (F.holds files.now) (names_of names.now) (HasFailed F.Input.has_failed)) }
 {
@@ -128,7 +128,7 @@ fn open_answers<R: Threads, F: Files>(
     files: &F,
     names: &BatchNames,
 ) -> Result<(Vec<ReplyBody>, Book), JobFault>
-    ensures held { IfOk result (λ answers. AreAnswers (F.holds files.now) (names_of names.now) answers.0.items answers.1) }
+    ensures held { IfOk result (λ answers. AreAnswers (F.is_known files.now) (F.holds files.now) (names_of names.now) answers.0.items answers.1) }
     ensures fault { IfErr result (IsAnswersFault (F.holds files.now) (names_of names.now) (HasFailed F.Input.has_failed)) }
 {
     let replies = open_replies(alloc, files, names.replies.as_str())?;

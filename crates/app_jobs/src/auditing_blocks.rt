@@ -1,9 +1,10 @@
-ghost use Rattle.std.specs.Prelude.{◌≤◌, ℕ, List, IfOk, IfErr, length};
+ghost use Rattle.std.specs.Prelude.{◌≤◌, ℕ, List, IfOk, IfErr, OnOk, length};
 ghost use Rattle.std.specs.List.{All};
 ghost use Rattle.file_blocks.specs.BlockFiles.{frames_of, replies_of};
 ghost use Rattle.file_batch_laws.specs.Blocks.{IsBlockFileOf, IsBlockReplyFileOf};
 ghost use Rattle.file_devices.specs.BatchNames.{names_of};
 ghost use Rattle.file_devices.specs.Failing.{HasFailed};
+ghost use Rattle.file_devices.specs.Holding.{IsThere};
 ghost use Rattle.app_jobs.specs.AuditedBlocks.{AreAnswersAudited, AreBlocksAudited};
 ghost use Rattle.app_jobs.specs.BlockFaults.{IsBlockAnswersFault, IsBlockAuditingFault, IsBlockFileFault, IsBlockRepliesFault};
 
@@ -26,7 +27,7 @@ pub fn audit_block_files<R: Threads, F: Files>(
     files: &F,
     names: &BatchNames,
 ) -> Result<BlockAudit, JobFault>
-    ensures audited { IfOk result (AreBlocksAudited (F.holds files.now)
+    ensures audited { IfOk result (AreBlocksAudited (F.is_known files.now) (F.holds files.now)
         (names_of names.now)) }
     ensures fault { IfErr result (IsBlockAuditingFault (F.holds files.now)
         (names_of names.now) (HasFailed F.Input.has_failed)) }
@@ -47,7 +48,7 @@ fn audit_answers<R: Threads, F: Files>(
 ) -> Result<BlockAudit, JobFault>
     requires count { length blocks.now ≤ 1000 }
     requires each { All (λ block. length block.items ≤ 65536) blocks.now }
-    ensures audited { IfOk result (AreAnswersAudited (F.holds files.now) (names_of names.now) book.now (frames_of blocks.now)) }
+    ensures audited { IfOk result (AreAnswersAudited (F.is_known files.now) (F.holds files.now) (names_of names.now) book.now (frames_of blocks.now)) }
     ensures fault { IfErr result (IsBlockAnswersFault (F.holds files.now) (names_of names.now) (HasFailed F.Input.has_failed)) }
 {
     let replies = open_block_replies(alloc, files, names.replies.as_str())?;
@@ -59,6 +60,7 @@ fn audit_answers<R: Threads, F: Files>(
 fn open_blocks<F: Files>(alloc: Global, files: &F, name: &str) -> Result<Vec<Vec<Frame>>, JobFault>
     ensures count { IfOk result (λ blocks. length blocks.items ≤ 1000) }
     ensures each { IfOk result (λ blocks. All (λ block. length block.items ≤ 65536) blocks.items) }
+    ensures there { OnOk result (F.is_known files.now → IsThere (F.holds files.now) name.now) }
     ensures fault { IfErr result (IsBlockFileFault (F.holds files.now) name.now (HasFailed F.Input.has_failed) ⊥ ⊥) }
     ensures blocks { (bytes : List ℕ) → F.holds files.now name.now bytes → IfOk result (λ blocks. IsBlockFileOf bytes (frames_of blocks.items)) }
 {
@@ -75,6 +77,7 @@ fn open_block_replies<F: Files>(
     files: &F,
     name: &str,
 ) -> Result<Vec<Vec<ReplyBody>>, JobFault>
+    ensures there { OnOk result (F.is_known files.now → IsThere (F.holds files.now) name.now) }
     ensures fault { IfErr result (IsBlockRepliesFault (F.holds files.now) name.now (HasFailed F.Input.has_failed)) }
     ensures replies { (bytes : List ℕ) → F.holds files.now name.now bytes → IfOk result (λ replies. IsBlockReplyFileOf bytes (replies_of replies.items)) }
 {

@@ -1,32 +1,33 @@
-ghost use Rattle.std.specs.Prelude.{◌≡◌, ◌≢◌, ℕ, List, IfOk, IfErr, string_bytes};
-ghost use Rattle.std.specs.FinMap as map;
+ghost use Rattle.std.specs.Prelude.{◌≡◌, ℕ, List, IfOk, IfErr, string_bytes};
 ghost use Rattle.file_batch.specs.Processing.{IsDecider, IsFold};
 ghost use Rattle.file_batch_laws.specs.Files.{replies_text};
 ghost use Rattle.file_batch_laws.specs.Frames.{IsBatchOf};
-ghost use Rattle.book_laws.specs.Text.{book_text};
+ghost use Rattle.file_batch_laws.specs.Replies.{AreReplyBodies};
 ghost use Rattle.file_devices.specs.BatchNames.{names_of};
 ghost use Rattle.file_devices.specs.Failing.{HasFailed, HasRefused};
-ghost use Rattle.issuer_rows.specs.Fold.{Rows, replies_to};
+ghost use Rattle.file_devices.specs.Holding.{IsThere};
+ghost use Rattle.issuer_rows.specs.Fold.{replies_to};
 ghost use Rattle.issuer_rows.specs.declared.frame.Frame.{Frame};
-ghost use Rattle.app_jobs.specs.Deciding.{DecidesFiles, PutsFile};
-ghost use Rattle.app_jobs.specs.Faults.{HoldsSameOrNothing, IsBatchFault, IsOfBytes};
+ghost use Rattle.app_jobs.specs.Decided.{IsAnswered};
+ghost use Rattle.app_jobs.specs.Deciding.{DecidesFiles};
+ghost use Rattle.app_jobs.specs.Faults.{IsAnsweringFault, IsBatchFault};
 
-use crate::job_fault::{JobFault, fault_of_closing};
+use crate::job_fault::JobFault;
 use crate::opening::open_book;
-use book_writer::{BookWriter, OfRows, Sorting};
+use crate::placing::put_answer;
+use crate::writing::write_book;
+use crate::written_answer::WrittenAnswer;
 use file_batch::process;
 use file_devices::{BatchNames, Files};
 use issuer_fold::RunOutcome;
 use issuer_rows::{Book, Frame};
 use std::alloc::{AllocError, Global};
-use std::marker::Brand;
 use std::sync::Wait;
-use std::thread::{Threads, join_mut};
+use std::thread::Threads;
 
-/// Decides the batch of one file on the book of another, and writes the replies and the new book to files. `decide` has to return the
-/// fold. Returns how many messages were decided. Until the batch is decided nothing is written but an empty file for the replies. After a
-/// fault the file of the new book, where it is not that of the replies, is as it was. The fault is the first one in the order of reading,
-/// book and then batch; a call on a file that failed; or out of memory.
+/// Decides the batch of one file on the book of another, and puts the replies and the new book in place. `decide` has to return the
+/// fold. Returns how many messages were decided. After a fault all files are as they were. The fault is the first one in the order of
+/// reading, book and then batch; a call on a file that failed; or out of memory.
 pub fn decide_batch<
     R: Threads + Wait + Sync,
     F: Files,
@@ -38,118 +39,60 @@ pub fn decide_batch<
         files.old files.new (names_of names.now) result }
 {
     let book = open_book(rt, alloc, files, names.book.as_str())?;
-    let outcome = answer_batch(alloc, files, names, &book, decide)?;
-    put_book(rt, alloc, files, names.new_book.as_str(), &outcome.book)?;
-    Ok(outcome.replies.len())
+    let answer = answer_batch(rt, alloc, files, names, &book, decide)?;
+    put_answer(alloc, files, names, answer.replies, answer.new_book)?;
+    Ok(answer.count)
 }
 
-// Decides the batch on a book, and writes the replies to their file.
-fn answer_batch<F: Files, E: Fn(&Book, &[Frame]) -> Result<RunOutcome, AllocError>>(
+// Decides the batch on a book, and writes what that comes to.
+fn answer_batch<
+    R: Threads + Wait + Sync,
+    F: Files,
+    E: Fn(&Book, &[Frame]) -> Result<RunOutcome, AllocError>,
+>(
+    rt: &R,
     alloc: Global,
-    files: &mut F,
+    files: &F,
     names: &BatchNames,
     book: &Book,
     decide: &E,
-) -> Result<RunOutcome, JobFault>
+) -> Result<WrittenAnswer<F::Output>, JobFault>
     requires decider { IsDecider E.pre E.post (λ rows. rows.now) (λ frames. frames.now) decide.now }
-    ensures ok { IfOk result (λ outcome. (frames : List Frame) × IsFold book.now frames outcome
-        × ((bytes : List ℕ) → F.holds files.old (string_bytes names.now.batch) bytes → IsBatchOf bytes frames)
-        × (F.is_known files.old → F.holds files.new (string_bytes names.now.replies) (replies_text (replies_to book.now frames)))) }
-    ensures fault { IfErr result (IsBatchFault (F.holds files.old) (string_bytes names.now.batch)
+    ensures answered { IfOk result (λ answer. IsAnswered F.Output.is_known F.Output.written (F.is_known files.now) (F.holds files.now)
+        (string_bytes names.now.batch) book.now answer.count answer.replies answer.new_book) }
+    ensures fault { IfErr result (IsAnsweringFault (F.holds files.now) (string_bytes names.now.batch)
         (HasFailed F.Input.has_failed) (HasFailed F.Output.has_failed) (HasRefused F.refuses)) }
-    ensures unanswered { IfErr result (λ fault. IsOfBytes fault → F.is_known files.old
-        → HoldsSameOrNothing (F.holds files.old) (F.holds files.new) (string_bytes names.now.replies)) }
-    ensures known { F.is_known files.old → F.is_known files.new }
-    ensures others { (other held : List ℕ) → other ≢ string_bytes names.now.replies → F.holds files.old other held → F.holds files.new other held }
+{
+    let (outcome, replies) = reply_to_batch(alloc, files, names, book, decide)?;
+    let new_book = write_book(rt, alloc, files, names.new_book.as_str(), &outcome.book)?;
+    Ok(WrittenAnswer {
+        count: outcome.replies.len(),
+        replies,
+        new_book,
+    })
+}
+
+// Decides the batch on a book, and writes the replies.
+fn reply_to_batch<F: Files, E: Fn(&Book, &[Frame]) -> Result<RunOutcome, AllocError>>(
+    alloc: Global,
+    files: &F,
+    names: &BatchNames,
+    book: &Book,
+    decide: &E,
+) -> Result<(RunOutcome, F::Output), JobFault>
+    requires decider { IsDecider E.pre E.post (λ rows. rows.now) (λ frames. frames.now) decide.now }
+    ensures there { IfOk result (λ answer. F.is_known files.now → IsThere (F.holds files.now) (string_bytes names.now.batch)) }
+    ensures bodies { IfOk result (λ answer. AreReplyBodies answer.0.replies.items) }
+    ensures ok { IfOk result (λ answer. (frames : List Frame) × IsFold book.now frames answer.0
+        × ((bytes : List ℕ) → F.holds files.now (string_bytes names.now.batch) bytes → IsBatchOf bytes frames)
+        × (F.is_known files.now → F.Output.is_known answer.1 × (F.Output.written answer.1 ≡ replies_text (replies_to book.now frames)))) }
+    ensures fault { IfErr result (IsBatchFault (F.holds files.now) (string_bytes names.now.batch)
+        (HasFailed F.Input.has_failed) (HasFailed F.Output.has_failed) (HasRefused F.refuses)) }
 {
     let mut batch = files.open(names.batch.as_str())?;
     let mut replies = files.create(names.replies.as_str())?;
-    let processed = process(alloc, book, &mut batch, &mut replies, decide);
-    let closed = files.close(names.replies.as_str(), replies);
-    match (processed, closed) {
-        (Ok(outcome), Ok(())) => Ok(outcome),
-        (Ok(_), Err(fault)) => Err(fault_of_closing(fault)),
-        (Err(fault), _) => Err(JobFault::Batch(fault)),
+    match process(alloc, book, &mut batch, &mut replies, decide) {
+        Ok(outcome) => Ok((outcome, replies)),
+        Err(fault) => Err(JobFault::Batch(fault)),
     }
-}
-
-/// Writes the text of a book to the file of this name. It fails where the name is refused or memory runs out, and the file is then as it
-/// was.
-pub fn put_book<R: Threads + Wait + Sync, F: Files>(
-    rt: &R,
-    alloc: Global,
-    files: &mut F,
-    name: &str,
-    book: &Book,
-) -> Result<(), JobFault>
-    ensures puts { PutsFile F.is_known F.holds (HasRefused F.refuses) files.old files.new name.now
-        (F.holds files.new name.now (book_text book.now)) result }
-{
-    put_text::<Brand, R, F>(rt, alloc, files, Target { name }, book)
-}
-
-// The file that a text is written to. A function whose caller picks the rows of its types can't take a name as it is.
-#[derive(Drop)]
-struct Target<'a> {
-    name: &'a str,
-}
-
-// The same, where the rows are those of the types.
-fn put_text<B: OfRows + Send + Sync, R: Threads + Wait + Sync, F: Files>(
-    rt: &R,
-    alloc: Global,
-    files: &mut F,
-    target: Target<'_>,
-    book: &Book,
-) -> Result<(), JobFault>
-    requires { map.entries book.now ≡ B.rows }
-    ensures puts { PutsFile F.is_known F.holds (HasRefused F.refuses) files.old files.new target.entry.name.now
-        (F.holds files.new target.entry.name.now (book_text book.now)) result }
-{
-    let sorting: Sorting<'_, B> = Sorting::new(alloc, book);
-    let writer = BookWriter::new(&sorting)?;
-    put_helped(rt, files, target.name, &writer)
-}
-
-// Writes the text of a writer's rows to the file of this name. Other threads help to make it, where there are many.
-fn put_helped<B: OfRows + Send + Sync, R: Threads + Wait + Sync, F: Files>(
-    rt: &R,
-    files: &mut F,
-    name: &str,
-    writer: &BookWriter<'_, '_, B>,
-) -> Result<(), JobFault>
-    ensures puts { PutsFile F.is_known F.holds (HasRefused F.refuses) files.old files.new name.now
-        ((book : Rows) → B.rows ≡ map.entries book → F.holds files.new name.now (book_text book)) result }
-{
-    let helpers = writer.helpers(rt);
-    if helpers == 0 {
-        return put_pieces(rt, files, name, writer);
-    }
-    let (_, put) = join_mut(
-        rt,
-        &mut || writer.help_in(rt, helpers),
-        &mut || -> Result<(), JobFault>
-            ensures puts { PutsFile F.is_known F.holds (HasRefused F.refuses) files.entry.now files.exit.now name.entry.now
-                ((book : Rows) → B.rows ≡ map.entries book → F.holds files.exit.now name.entry.now (book_text book)) result }
-        {
-            let put = put_pieces(rt, files, name, writer);
-            writer.close();
-            put
-        },
-    );
-    put
-}
-
-// Writes the text of a writer's rows to the file of this name.
-pub(crate) fn put_pieces<B: OfRows, R: Wait, F: Files>(
-    rt: &R,
-    files: &mut F,
-    name: &str,
-    writer: &BookWriter<'_, '_, B>,
-) -> Result<(), JobFault>
-    ensures puts { PutsFile F.is_known F.holds (HasRefused F.refuses) files.old files.new name.now
-        ((book : Rows) → B.rows ≡ map.entries book → F.holds files.new name.now (book_text book)) result }
-{
-    let mut text = writer.pieces(rt)?;
-    Ok(files.replace(name, &mut text)?)
 }

@@ -1,12 +1,12 @@
 ghost use Rattle.std.specs.Prelude.{◌≡◌};
-ghost use Rattle.app_jobs.specs.JobFault.{part_of, number_of, fault_of_close, fault_of_read, fault_of_text, fault_of_write};
+ghost use Rattle.app_jobs.specs.JobFault.{part_of, number_of, fault_of_claim, fault_of_read, fault_of_text, fault_of_write};
 ghost use Rattle.app_jobs.specs.declared.job_fault.JobFault.TheVariants.{OutOfMemory};
 
 use book_json::JsonFault;
 use file_batch::BatchFault;
-use file_devices::{ReadFault, WriteFault};
+use file_devices::{ClaimFault, ReadFault, WriteFault};
 use file_listing::ListingFault;
-use std::alloc::AllocError;
+use std::alloc::{AllocError, AllocFailed};
 use std::error::Error;
 use std::fmt;
 use stm_journal_text::ReplayFault;
@@ -18,6 +18,8 @@ pub enum JobFault {
     Unreadable,
     /// A file can't be made or written.
     Unwritable,
+    /// Another run writes a file.
+    InUse,
     /// A book is none.
     Book(JsonFault),
     /// A batch or its replies are none, or are not written.
@@ -36,7 +38,7 @@ impl JobFault {
         ensures { result.now ≡ part_of self.now }
     {
         match self {
-            JobFault::Unreadable | JobFault::Unwritable => "file",
+            JobFault::Unreadable | JobFault::Unwritable | JobFault::InUse => "file",
             JobFault::Book(_) => "book",
             JobFault::Batch(_) => "batch",
             JobFault::Journal(_) => "journal",
@@ -52,6 +54,7 @@ impl JobFault {
         match self {
             JobFault::Unreadable | JobFault::OutOfMemory => 1,
             JobFault::Unwritable => 2,
+            JobFault::InUse => 3,
             JobFault::Book(fault) => usize::from(fault.number()),
             JobFault::Batch(fault) => usize::from(fault.number()),
             JobFault::Journal(fault) => usize::from(fault.number()),
@@ -72,6 +75,14 @@ impl From<AllocError> for JobFault {
     ghost from_gives = { λ _ fault. fault ≡ OutOfMemory };
 
     fn from(_error: AllocError) -> JobFault {
+        JobFault::OutOfMemory
+    }
+}
+
+impl<T: Drop> From<AllocFailed<T>> for JobFault {
+    ghost from_gives = { λ _ fault. fault ≡ OutOfMemory };
+
+    fn from(_error: AllocFailed<T>) -> JobFault {
         JobFault::OutOfMemory
     }
 }
@@ -98,13 +109,14 @@ impl From<WriteFault> for JobFault {
     }
 }
 
-/// Why a file of a batch or its replies is not written, where it can't be closed.
-pub fn fault_of_closing(fault: WriteFault) -> JobFault
-    ensures { result ≡ fault_of_close fault }
-{
-    match fault {
-        WriteFault::Unwritable => JobFault::Batch(BatchFault::Device),
-        WriteFault::OutOfMemory => JobFault::Batch(BatchFault::OutOfMemory),
+impl From<ClaimFault> for JobFault {
+    ghost from_gives = { λ claim fault. fault ≡ fault_of_claim claim };
+
+    fn from(fault: ClaimFault) -> JobFault {
+        match fault {
+            ClaimFault::InUse => JobFault::InUse,
+            ClaimFault::OutOfMemory => JobFault::OutOfMemory,
+        }
     }
 }
 

@@ -1,7 +1,8 @@
-ghost use Rattle.std.specs.Prelude.{◌≡◌, ◌≤◌, ℕ, List, IfOk, IfErr, length};
+ghost use Rattle.std.specs.Prelude.{◌≡◌, ◌≤◌, ℕ, List, IfOk, IfErr, OnOk, length};
 ghost use Rattle.file_batch_laws.specs.Frames.{IsBatchOf};
 ghost use Rattle.file_batch_laws.specs.Replies.{IsReplyFileOf};
 ghost use Rattle.file_devices.specs.Failing.{HasFailed};
+ghost use Rattle.file_devices.specs.Holding.{IsThere};
 ghost use Rattle.stm_journal_text.specs.Journal.{AreEntries, journal_text};
 ghost use Rattle.app_jobs.specs.Decided.{IsBookOf};
 ghost use Rattle.app_jobs.specs.Faults.{IsBatchFault, IsBookFault, IsReplyFileFault};
@@ -24,6 +25,7 @@ pub fn open_book<R: Threads, F: Files>(
     name: &str,
 ) -> Result<Book, JobFault>
     ensures book { IfOk result (IsBookOf (F.holds files.now) name.now) }
+    ensures there { OnOk result (F.is_known files.now → IsThere (F.holds files.now) name.now) }
     ensures fault { IfErr result (IsBookFault (F.holds files.now) name.now (HasFailed F.Input.has_failed)) }
 {
     let text = read_file(alloc, files, name)?;
@@ -40,6 +42,7 @@ pub(crate) fn open_batch<F: Files>(
     name: &str,
 ) -> Result<Vec<Frame>, JobFault>
     ensures count { IfOk result (λ frames. length frames.items ≤ 65536) }
+    ensures there { OnOk result (F.is_known files.now → IsThere (F.holds files.now) name.now) }
     ensures fault { IfErr result (IsBatchFault (F.holds files.now) name.now (HasFailed F.Input.has_failed) ⊥ ⊥) }
     ensures frames { (bytes : List ℕ) → F.holds files.now name.now bytes → IfOk result (λ frames. IsBatchOf bytes frames.items) }
 {
@@ -56,6 +59,7 @@ pub(crate) fn open_replies<F: Files>(
     files: &F,
     name: &str,
 ) -> Result<Vec<ReplyBody>, JobFault>
+    ensures there { OnOk result (F.is_known files.now → IsThere (F.holds files.now) name.now) }
     ensures fault { IfErr result (IsReplyFileFault (F.holds files.now) name.now (HasFailed F.Input.has_failed)) }
     ensures replies { (bytes : List ℕ) → F.holds files.now name.now bytes → IfOk result (λ replies. IsReplyFileOf bytes replies.items) }
 {
@@ -74,6 +78,7 @@ pub(crate) fn open_journal<F: Files>(
     name: &str,
 ) -> Result<Vec<Entry>, JobFault>
     ensures are { IfOk result (λ entries. AreEntries entries.items) }
+    ensures there { OnOk result (F.is_known files.now → IsThere (F.holds files.now) name.now) }
     ensures fault { IfErr result (IsJournalFault (F.holds files.now) name.now (HasFailed F.Input.has_failed)) }
     ensures entries { (bytes : List ℕ) → F.holds files.now name.now bytes → IfOk result (λ entries. bytes ≡ journal_text entries.items) }
 {

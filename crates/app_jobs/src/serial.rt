@@ -1,21 +1,23 @@
-ghost use Rattle.std.specs.Prelude.{◌≡◌, ◌≢◌, ◌++◌, ℕ, List, [], false, IfOk, IfErr, IsSome, OnOk, OnErr, string_bytes};
+ghost use Rattle.std.specs.Prelude.{◌≡◌, ◌⊎◌, ◌++◌, Ok, IfOk, IfErr, OnOk, string_bytes};
 ghost use Rattle.std.specs.FinMap as map;
-ghost use Rattle.file_batch.specs.InOrder as in_order;
-ghost use Rattle.file_batch_laws.specs.Frames.{IsBatchOf};
+ghost use Rattle.book_laws.specs.Reading.{reading};
 ghost use Rattle.book_laws.specs.Text.{book_text};
+ghost use Rattle.book_text.specs.Back.{IsReadAsBook};
 ghost use Rattle.file_devices.specs.BatchNames.{names_of};
 ghost use Rattle.file_devices.specs.Failing.{HasFailed, HasRefused};
 ghost use Rattle.issuer_rows.specs.Fold.{Rows};
-ghost use Rattle.issuer_rows.specs.declared.frame.Frame.{Frame};
-ghost use Rattle.app_jobs.specs.Deciding.{DecidesFiles, PutsAnswer};
-ghost use Rattle.app_jobs.specs.Faults.{HoldsSameOrNothing, IsBatchFault, IsRepliesFault};
+ghost use Rattle.app_jobs.specs.Decided.{IsAnswered};
+ghost use Rattle.app_jobs.specs.Deciding.{DecidesFiles};
+ghost use Rattle.app_jobs.specs.Faults.{IsAnsweringFault, IsPuttingFault, IsRepliesFault};
 
-use crate::deciding::put_pieces;
-use crate::job_fault::{JobFault, fault_of_closing};
+use crate::job_fault::JobFault;
 use crate::opening::open_book;
+use crate::placing::put_answer;
+use crate::writing::write_rows;
+use crate::written_answer::WrittenAnswer;
 use book_writer::{BookWriter, OfRows, Sorting};
 use file_batch::{Answered, decide_in_order, put_all};
-use file_devices::{BatchNames, Files};
+use file_devices::{BatchNames, Files, Sink};
 use issuer_rows::Book;
 use issuer_rules::Shipped;
 use std::alloc::Global;
@@ -36,153 +38,129 @@ pub fn serial_batch<R: Threads + Wait + Sync, F: Files>(
         files.old files.new (names_of names.now) result }
 {
     let book = open_book(rt, alloc, files, names.book.as_str())?;
-    let (answered, replies) = decide_file(rt, alloc, files, names, book)?;
-    put_answered(rt, alloc, files, names, &answered, replies)?;
-    Ok(answered.decided.messages as usize)
+    let answer = answer_in_order(rt, alloc, files, names, book)?;
+    put_answer(alloc, files, names, answer.replies, answer.new_book)?;
+    Ok(answer.count)
 }
 
-// Decides the batch on a book, one message after another. Returns what it came to, with the file that was made for the replies and has
-// nothing in it. After a fault that file is closed.
-fn decide_file<R: Threads + Wait + Sync, F: Files>(
+// Decides the batch on a book, one message after another, and writes what that comes to.
+fn answer_in_order<R: Threads + Wait + Sync, F: Files>(
     rt: &R,
     alloc: Global,
-    files: &mut F,
+    files: &F,
     names: &BatchNames,
     book: Book,
-) -> Result<(Answered, F::Output), JobFault>
-    ensures decided { IfOk result (λ done. (frames : List Frame) × in_order.IsAnswered book frames done.0
-        × ((bytes : List ℕ) → F.holds files.old (string_bytes names.now.batch) bytes → IsBatchOf bytes frames)) }
-    ensures output { IfOk result (λ done. (F.Output.has_failed done.1 ≡ false)
-        × (F.is_known files.old → F.Output.is_known done.1 × (F.Output.written done.1 ≡ []))) }
-    ensures fault { IfErr result (IsBatchFault (F.holds files.old) (string_bytes names.now.batch)
+) -> Result<WrittenAnswer<F::Output>, JobFault>
+    ensures answered { IfOk result (λ answer. IsAnswered F.Output.is_known F.Output.written (F.is_known files.now) (F.holds files.now)
+        (string_bytes names.now.batch) book answer.count answer.replies answer.new_book) }
+    ensures fault { IfErr result (IsAnsweringFault (F.holds files.now) (string_bytes names.now.batch)
         (HasFailed F.Input.has_failed) (HasFailed F.Output.has_failed) (HasRefused F.refuses)) }
-    ensures unanswered { OnErr result (F.is_known files.old → HoldsSameOrNothing (F.holds files.old) (F.holds files.new) (string_bytes names.now.replies)) }
-    ensures known { F.is_known files.old → F.is_known files.new }
-    ensures others { (other held : List ℕ) → other ≢ string_bytes names.now.replies → F.holds files.old other held → F.holds files.new other held }
 {
     let mut batch = files.open(names.batch.as_str())?;
-    let replies = files.create(names.replies.as_str())?;
-    match decide_in_order(rt, alloc, book, &mut batch, &Shipped) {
-        Ok(answered) => Ok((answered, replies)),
-        Err(fault) => {
-            let _ = files.close(names.replies.as_str(), replies);
-            Err(JobFault::Batch(fault))
-        }
-    }
+    let mut replies = files.create(names.replies.as_str())?;
+    let answered = match decide_in_order(rt, alloc, book, &mut batch, &Shipped) {
+        Ok(answered) => answered,
+        Err(fault) => return Err(JobFault::Batch(fault)),
+    };
+    let mut new_book = files.create(names.new_book.as_str())?;
+    write_answered(rt, alloc, &answered, &mut replies, &mut new_book)?;
+    Ok(WrittenAnswer {
+        count: answered.decided.messages as usize,
+        replies,
+        new_book,
+    })
 }
 
-// Writes the replies to a batch to the file that was made for them, and the book after it to its own.
-fn put_answered<R: Threads + Wait + Sync, F: Files>(
+// Writes the replies to a batch, and the book after it.
+fn write_answered<R: Threads + Wait + Sync, W: Sink>(
     rt: &R,
     alloc: Global,
-    files: &mut F,
-    names: &BatchNames,
     answered: &Answered,
-    replies: F::Output,
+    replies: &mut W,
+    new_book: &mut W,
 ) -> Result<(), JobFault>
-    ensures puts { PutsAnswer F.is_known F.holds (HasFailed F.Output.has_failed) (HasRefused F.refuses) files.old files.new (names_of names.now)
-        (F.Output.is_known replies → F.holds files.new (string_bytes names.now.replies) (F.Output.written replies ++ answered.now.text.items))
-        (F.holds files.new (string_bytes names.now.new_book) (book_text answered.now.decided.book)) result }
+    ensures replies { OnOk result (W.is_known replies.old → W.is_known replies.new × (W.written replies.new ≡ W.written replies.old ++ answered.now.text.items)) }
+    ensures book { OnOk result (W.is_known new_book.old → W.is_known new_book.new
+        × (W.written new_book.new ≡ W.written new_book.old ++ book_text answered.now.decided.book)) }
+    ensures back { OnOk result (reading (book_text answered.now.decided.book) ≡ Ok answered.now.decided.book) }
+    ensures fault { IfErr result (λ fault. IsRepliesFault (HasFailed W.has_failed) ⊥ fault ⊎ IsPuttingFault (HasFailed W.has_failed) fault) }
 {
-    put_both::<Brand, R, F>(rt, alloc, files, names, answered, replies)
+    write_both::<Brand, R, W>(rt, alloc, answered, replies, new_book)
 }
 
 // The same, where the rows of the book are those of the types.
-fn put_both<B: OfRows + Send + Sync, R: Threads + Wait + Sync, F: Files>(
+fn write_both<B: OfRows + Send + Sync, R: Threads + Wait + Sync, W: Sink>(
     rt: &R,
     alloc: Global,
-    files: &mut F,
-    names: &BatchNames,
     answered: &Answered,
-    output: F::Output,
+    replies: &mut W,
+    new_book: &mut W,
 ) -> Result<(), JobFault>
     requires rows { map.entries answered.now.decided.book ≡ B.rows }
-    ensures puts { PutsAnswer F.is_known F.holds (HasFailed F.Output.has_failed) (HasRefused F.refuses) files.old files.new (names_of names.now)
-        (F.Output.is_known output → F.holds files.new (string_bytes names.now.replies) (F.Output.written output ++ answered.now.text.items))
-        (F.holds files.new (string_bytes names.now.new_book) (book_text answered.now.decided.book)) result }
+    ensures replies { OnOk result (W.is_known replies.old → W.is_known replies.new × (W.written replies.new ≡ W.written replies.old ++ answered.now.text.items)) }
+    ensures book { OnOk result (W.is_known new_book.old → W.is_known new_book.new
+        × (W.written new_book.new ≡ W.written new_book.old ++ book_text answered.now.decided.book)) }
+    ensures back { OnOk result (reading (book_text answered.now.decided.book) ≡ Ok answered.now.decided.book) }
+    ensures fault { IfErr result (λ fault. IsRepliesFault (HasFailed W.has_failed) ⊥ fault ⊎ IsPuttingFault (HasFailed W.has_failed) fault) }
 {
     let sorting: Sorting<'_, B> = Sorting::new(alloc, &answered.decided.book);
     let writer = BookWriter::new(&sorting)?;
-    let mut replies = Some(output);
-    put_helped(rt, files, names, &answered.text, &mut replies, &writer)
+    write_helped(rt, &answered.text, replies, new_book, &writer)
 }
 
-// Writes the replies to a batch, of this text, to the file that is there for them, and then the text of a writer's rows to that of the
-// new book. Where these are many, other threads sort them meanwhile and help to make the text.
-fn put_helped<B: OfRows + Send + Sync, R: Threads + Wait + Sync, F: Files>(
+// Writes replies of this text, and then the text of a writer's rows. Where these are many, other threads sort them meanwhile and help to
+// make the text.
+fn write_helped<B: OfRows + Send + Sync, R: Threads + Wait + Sync, W: Sink>(
     rt: &R,
-    files: &mut F,
-    names: &BatchNames,
     text: &[u8],
-    replies: &mut Option<F::Output>,
+    replies: &mut W,
+    new_book: &mut W,
     writer: &BookWriter<'_, '_, B>,
 ) -> Result<(), JobFault>
-    requires some { IsSome replies.old }
-    ensures puts { PutsAnswer F.is_known F.holds (HasFailed F.Output.has_failed) (HasRefused F.refuses) files.old files.new (names_of names.now)
-        ((output : F.Output) → replies.old ≡ Some output → F.Output.is_known output
-        → F.holds files.new (string_bytes names.now.replies) (F.Output.written output ++ text.now))
-        ((book : Rows) → B.rows ≡ map.entries book → F.holds files.new (string_bytes names.now.new_book) (book_text book)) result }
+    ensures replies { OnOk result (W.is_known replies.old → W.is_known replies.new × (W.written replies.new ≡ W.written replies.old ++ text.now)) }
+    ensures book { OnOk result ((book : Rows) → B.rows ≡ map.entries book → W.is_known new_book.old
+        → W.is_known new_book.new × (W.written new_book.new ≡ W.written new_book.old ++ book_text book)) }
+    ensures back { OnOk result (IsReadAsBook B.rows) }
+    ensures fault { IfErr result (λ fault. IsRepliesFault (HasFailed W.has_failed) ⊥ fault ⊎ IsPuttingFault (HasFailed W.has_failed) fault) }
 {
     let helpers = writer.helpers(rt);
     if helpers == 0 {
-        return put_in_turn(rt, files, names, text, replies, writer);
+        return write_in_turn(rt, text, replies, new_book, writer);
     }
-    let (_, put) = join_mut(
+    let (_, written) = join_mut(
         rt,
         &mut || writer.help_in(rt, helpers),
         &mut || -> Result<(), JobFault>
-            requires some { IsSome replies.now }
-            ensures puts { PutsAnswer F.is_known F.holds (HasFailed F.Output.has_failed) (HasRefused F.refuses) files.entry.now files.exit.now (names_of names.entry.now)
-                ((output : F.Output) → replies.entry.now ≡ Some output → F.Output.is_known output
-                → F.holds files.exit.now (string_bytes names.entry.now.replies) (F.Output.written output ++ text.entry.now))
-                ((book : Rows) → B.rows ≡ map.entries book → F.holds files.exit.now (string_bytes names.entry.now.new_book) (book_text book)) result }
+            ensures replies { OnOk result (W.is_known replies.entry.now → W.is_known replies.exit.now × (W.written replies.exit.now ≡ W.written replies.entry.now ++ text.entry.now)) }
+            ensures book { OnOk result ((book : Rows) → B.rows ≡ map.entries book → W.is_known new_book.entry.now
+                → W.is_known new_book.exit.now × (W.written new_book.exit.now ≡ W.written new_book.entry.now ++ book_text book)) }
+            ensures back { OnOk result (IsReadAsBook B.rows) }
+            ensures fault { IfErr result (λ fault. IsRepliesFault (HasFailed W.has_failed) ⊥ fault ⊎ IsPuttingFault (HasFailed W.has_failed) fault) }
         {
-            let put = put_in_turn(rt, files, names, text, replies, writer);
+            let written = write_in_turn(rt, text, replies, new_book, writer);
             writer.close();
-            put
+            written
         },
     );
-    put
+    written
 }
 
 // The same in this thread.
-fn put_in_turn<B: OfRows, R: Wait, F: Files>(
+fn write_in_turn<B: OfRows, R: Wait, W: Sink>(
     rt: &R,
-    files: &mut F,
-    names: &BatchNames,
     text: &[u8],
-    replies: &mut Option<F::Output>,
+    replies: &mut W,
+    new_book: &mut W,
     writer: &BookWriter<'_, '_, B>,
 ) -> Result<(), JobFault>
-    requires some { IsSome replies.old }
-    ensures puts { PutsAnswer F.is_known F.holds (HasFailed F.Output.has_failed) (HasRefused F.refuses) files.old files.new (names_of names.now)
-        ((output : F.Output) → replies.old ≡ Some output → F.Output.is_known output
-        → F.holds files.new (string_bytes names.now.replies) (F.Output.written output ++ text.now))
-        ((book : Rows) → B.rows ≡ map.entries book → F.holds files.new (string_bytes names.now.new_book) (book_text book)) result }
+    ensures replies { OnOk result (W.is_known replies.old → W.is_known replies.new × (W.written replies.new ≡ W.written replies.old ++ text.now)) }
+    ensures book { OnOk result ((book : Rows) → B.rows ≡ map.entries book → W.is_known new_book.old
+        → W.is_known new_book.new × (W.written new_book.new ≡ W.written new_book.old ++ book_text book)) }
+    ensures back { OnOk result (IsReadAsBook B.rows) }
+    ensures fault { IfErr result (λ fault. IsRepliesFault (HasFailed W.has_failed) ⊥ fault ⊎ IsPuttingFault (HasFailed W.has_failed) fault) }
 {
-    let output = replies.take().unwrap();
-    put_replies(files, names.replies.as_str(), text, output)?;
-    put_pieces(rt, files, names.new_book.as_str(), writer)
-}
-
-// Writes the replies to a batch, of this text, to the file that was made for them under this name.
-fn put_replies<F: Files>(
-    files: &mut F,
-    name: &str,
-    text: &[u8],
-    mut replies: F::Output,
-) -> Result<(), JobFault>
-    ensures put { OnOk result (F.is_known files.old → F.Output.is_known replies
-        → F.holds files.new name.now (F.Output.written replies ++ text.now)) }
-    ensures fault { IfErr result (IsRepliesFault (HasFailed F.Output.has_failed) (HasRefused F.refuses)) }
-    ensures known { F.is_known files.old → F.is_known files.new }
-    ensures others { (other held : List ℕ) → other ≢ name.now → F.holds files.old other held → F.holds files.new other held }
-{
-    let put = put_all(&mut replies, text);
-    let closed = files.close(name, replies);
-    match (put, closed) {
-        (Ok(()), Ok(())) => Ok(()),
-        (Ok(()), Err(fault)) => Err(fault_of_closing(fault)),
-        (Err(fault), _) => Err(JobFault::Batch(fault)),
+    if let Err(fault) = put_all(replies, text) {
+        return Err(JobFault::Batch(fault));
     }
+    write_rows(rt, new_book, writer)
 }

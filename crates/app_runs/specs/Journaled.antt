@@ -1,10 +1,11 @@
 -- What files hold after a batch was decided and the run's journal was kept.
-use Rattle.std.specs.Prelude.{◌≡◌, ◌≢◌, ℕ, List, length}
+use Rattle.std.specs.Prelude.{◌≡◌, ◌≢◌, ℕ, List, Result, Ok, IfErr, OnErr, OnOk, length}
 use Rattle.file_batch_laws.specs.Files.{replies_text}
 use Rattle.file_batch_laws.specs.Frames.{IsBatchOf}
+use Rattle.file_batch_laws.specs.Replies.{AreReplyBodies}
+use Rattle.book_laws.specs.Reading.{reading}
 use Rattle.book_laws.specs.Text.{book_text}
 use Rattle.engine_locked.specs.Journals.{IsJournalOf}
-use Rattle.issuer_fold.specs.declared.run_outcome.RunOutcome.{RunOutcome}
 use Rattle.stm_journal_text.specs.Logged.{greatest}
 use Rattle.stm_journal_text.specs.Journal.{AreEntries, journal_text}
 use Rattle.stm_journal_text.specs.declared.entry.Entry.{Entry}
@@ -12,19 +13,45 @@ use Rattle.issuer_rows.specs.Fold.{Rows, rows_after, replies_to}
 use Rattle.issuer_rows.specs.declared.frame.Frame.{Frame}
 use Rattle.stm_core_laws.specs.Play.{opening_play}
 use Rattle.file_devices.specs.BatchNames.{Names}
+use Rattle.file_devices.specs.Holding.{AreAsTheyWere, IsAsItWas, IsThere}
+use Rattle.app_jobs.specs.Faults.{IsPuttingFault}
+use Rattle.app_jobs.specs.declared.job_fault.JobFault.{JobFault}
+use Rattle.app_runs.specs.declared.traced_answer.TracedAnswer.{TracedAnswer}
 use Rattle.app_jobs.specs.Decided.{Holding, IsBookOf}
 
 -- the entries are the journal of a run of these frames on these rows, which committed so many of them
 abbrev pub IsRunJournal : Rows → List Frame → List Entry → ℕ → Type 0
 IsRunJournal rows frames entries committed = IsJournalOf (opening_play rows frames greatest) entries committed (replies_to rows frames)
 
--- The entries are a journal's, and the run decided so many messages. Where it is known what files hold, the file of the new book
--- holds the text of the run's book, and that of the journal, where it is another, the entries' text.
-pub record IsRunPut (known : Type 0) (new : Holding) (new_book journal : List ℕ) (outcome : RunOutcome) (entries : List Entry) (count : ℕ) : Type 0 where
-  pub counted : count ≡ length outcome.replies.items
+-- The batch of this name was decided on these rows, and the entries are the journal of that run. Where it is known what files hold, the
+-- batch was there; replies, journal and the book after them were written to outputs of their own, whose bytes are known then.
+pub record IsAnsweredWithJournal {O : Type 0} (is_known_output : O → Type 0) (written : O → List ℕ) (known : Type 0) (old : Holding) (batch : List ℕ) (rows : Rows) (answer : TracedAnswer O) : Type 0 where
+  pub frames : List Frame
+  pub entries : List Entry
+  pub committed : ℕ
+  pub counted : answer.count ≡ length (replies_to rows frames)
+  pub batch_there : known → IsThere old batch
+  pub messages : (bytes : List ℕ) → old batch bytes → IsBatchOf bytes frames
   pub are : AreEntries entries
-  pub after : known → new new_book (book_text outcome.book)
-  pub logged : known → journal ≢ new_book → new journal (journal_text entries)
+  pub ran : IsRunJournal rows frames entries committed
+  pub back : reading (book_text (rows_after rows frames)) ≡ Ok (rows_after rows frames)
+  pub bodies : AreReplyBodies (replies_to rows frames)
+  pub replied : known → is_known_output answer.replies × (written answer.replies ≡ replies_text (replies_to rows frames))
+  pub logged : known → is_known_output answer.journal × (written answer.journal ≡ journal_text entries)
+  pub booked : known → is_known_output answer.new_book × (written answer.new_book ≡ book_text (rows_after rows frames))
+
+-- over files and their outputs
+module _ {F O : Type 0} (is_known : F → Type 0) (holds : F → Holding) (is_known_output : O → Type 0) (written : O → List ℕ) (refused : Type 0) where
+  -- replies, journal and new book are put in place, in this order: all of them or, after a fault, none
+  pub record PutsRun (old new : F) (names : Names) (journal : List ℕ) (answer : TracedAnswer O) (result : Result (Unit {0}) JobFault) : Type 0 where
+    pub replies : OnOk result (is_known old → is_known_output answer.replies → names.replies ≢ journal → names.replies ≢ names.new_book
+        → holds new names.replies (written answer.replies))
+    pub log : OnOk result (is_known old → is_known_output answer.journal → journal ≢ names.new_book → holds new journal (written answer.journal))
+    pub book : OnOk result (is_known old → is_known_output answer.new_book → holds new names.new_book (written answer.new_book))
+    pub kept : OnErr result (AreAsTheyWere (holds old) (holds new))
+    pub fault : IfErr result (IsPuttingFault refused)
+    pub others : (other : List ℕ) → other ≢ names.replies → other ≢ names.new_book → other ≢ journal → IsAsItWas (holds old) (holds new) other
+    pub known : is_known old → is_known new
 
 -- The book and the batch that the files held were decided, so many messages, and the entries are the journal of that run. Where it is
 -- known what files hold, the file of the new book holds the text of the book after the batch, that of the journal, where it is
@@ -35,10 +62,14 @@ pub record IsDecidedWithJournal (known : Type 0) (old new : Holding) (names : Na
   pub entries : List Entry
   pub committed : ℕ
   pub counted : count ≡ length (replies_to rows frames)
+  pub book_there : known → IsThere old names.book
+  pub batch_there : known → IsThere old names.batch
   pub opening : IsBookOf old names.book rows
   pub messages : (bytes : List ℕ) → old names.batch bytes → IsBatchOf bytes frames
   pub are : AreEntries entries
   pub ran : IsRunJournal rows frames entries committed
+  pub back : reading (book_text (rows_after rows frames)) ≡ Ok (rows_after rows frames)
+  pub bodies : AreReplyBodies (replies_to rows frames)
   pub after : known → new names.new_book (book_text (rows_after rows frames))
   pub logged : known → journal ≢ names.new_book → new journal (journal_text entries)
   pub answered : known → names.replies ≢ journal → names.replies ≢ names.new_book → new names.replies (replies_text (replies_to rows frames))

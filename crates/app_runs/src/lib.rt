@@ -6,6 +6,7 @@ mod hexadecimal;
 mod running;
 mod running_blocks;
 mod sample;
+mod traced_answer;
 mod tracing;
 
 pub use answers::answer_on;

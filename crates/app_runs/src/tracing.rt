@@ -1,36 +1,37 @@
-ghost use Rattle.std.specs.Prelude.{◌≡◌, ◌≢◌, ◌++◌, ℕ, List, Ok, Err, IfOk, IfErr, OnOk, OnErr, IsTrue, string_bytes};
+ghost use Rattle.std.specs.Prelude.{◌≡◌, ◌≢◌, ◌⊎◌, ◌++◌, [], ◌∷◌, ℕ, List, Ok, Err, IfOk, IfErr, OnErr, IsTrue, string_bytes};
 ghost use Rattle.file_batch.specs.Processing.{IsFold};
 ghost use Rattle.file_batch.specs.Device.{UsesDevices};
 ghost use Rattle.file_batch_laws.specs.BatchFault.{is_of_bytes};
 ghost use Rattle.file_batch_laws.specs.Files.{replies_text};
 ghost use Rattle.file_batch_laws.specs.Frames.{IsBatchOf};
 ghost use Rattle.file_batch_laws.specs.Reading.{bodies_of, batch_magic};
+ghost use Rattle.file_batch_laws.specs.Replies.{AreReplyBodies};
 ghost use Rattle.file_devices.specs.BatchNames.{names_of};
 ghost use Rattle.file_devices.specs.Failing.{HasFailed, HasRefused};
+ghost use Rattle.file_devices.specs.Holding.{AreAsTheyWere, IsAsItWas, IsThere};
 ghost use Rattle.stm_journal_text.specs.Journal.{AreEntries, journal_text};
 ghost use Rattle.issuer_rows.specs.Fold.{replies_to};
 ghost use Rattle.issuer_rows.specs.declared.frame.Frame.{Frame};
-ghost use Rattle.app_jobs.specs.Deciding.{PutsFile};
-ghost use Rattle.app_jobs.specs.Faults.{HoldsSameOrNothing, IsBatchFault, IsDecidingFault, IsOfBytes, IsPuttingFault};
-ghost use Rattle.app_runs.specs.Journaled.{IsDecidedWithJournal, IsRunJournal, IsRunPut};
+ghost use Rattle.app_jobs.specs.Faults.{IsAnsweringFault, IsBatchFault, IsDecidingFault, IsPuttingFault};
+ghost use Rattle.app_runs.specs.Journaled.{IsAnsweredWithJournal, IsDecidedWithJournal, IsRunJournal, PutsRun};
 
-use app_jobs::{JobFault, fault_of_closing, open_book, put_book};
+use crate::traced_answer::TracedAnswer;
+use app_jobs::{JobFault, open_book, write_book, written};
 use engine_locked::run_traced;
 use engine_workers::{NoHook, Workers};
-use file_batch::{BatchFault, read_batch, write_replies};
-use file_devices::{BatchNames, Files, Sink, Source, Whole};
+use file_batch::{BatchFault, put_all, read_batch, write_replies};
+use file_devices::{BatchNames, Files, Sink, Source, Written};
 use issuer_fold::RunOutcome;
 use issuer_rows::Book;
 use issuer_rules::Shipped;
-use std::alloc::Global;
+use std::alloc::{AllocError, Global};
 use std::sync::Wait;
 use std::thread::Threads;
 use std::time::Clock;
 use stm_journal_text::{Entry, write_journal};
 
-/// Decides a batch by so many workers, files to files, as [`run_batch`](crate::run_batch), and writes the journal of the run to a file.
-/// The journal is written before the new book, so that after any fault the file of the new book, where it is neither that of the replies
-/// nor that of the journal, is as it was. Its faults are those of [`decide_batch`](app_jobs::decide_batch).
+/// Decides a batch by so many workers, files to files, as [`run_batch`](crate::run_batch), and puts the journal of the run in place
+/// before the new book. Its faults are those of [`decide_batch`](app_jobs::decide_batch); after one all files are as they were.
 pub fn run_batch_with_journal<R: Clock + Threads + Wait + Sync, F: Files>(
     rt: &R,
     alloc: Global,
@@ -43,18 +44,42 @@ pub fn run_batch_with_journal<R: Clock + Threads + Wait + Sync, F: Files>(
         (names_of names.now) journal.now) }
     ensures fault { IfErr result (IsDecidingFault (F.holds files.old) (names_of names.now)
         (HasFailed F.Input.has_failed) (HasFailed F.Output.has_failed) (HasRefused F.refuses)) }
-    // Nothing of an older new book is lost.
-    ensures kept { OnErr result (string_bytes names.now.new_book ≢ string_bytes names.now.replies → string_bytes names.now.new_book ≢ journal.now → (held : List ℕ)
-        → F.holds files.old (string_bytes names.now.new_book) held → F.holds files.new (string_bytes names.now.new_book) held) }
-    ensures unanswered { IfErr result (λ fault. IsOfBytes fault → F.is_known files.old
-        → HoldsSameOrNothing (F.holds files.old) (F.holds files.new) (string_bytes names.now.replies)) }
-    ensures others { (other held : List ℕ) → other ≢ string_bytes names.now.replies → other ≢ string_bytes names.now.new_book → other ≢ journal.now
-        → F.holds files.old other held → F.holds files.new other held }
+    ensures kept { OnErr result (AreAsTheyWere (F.holds files.old) (F.holds files.new)) }
+    ensures others { (other : List ℕ) → other ≢ string_bytes names.now.replies → other ≢ string_bytes names.now.new_book → other ≢ journal.now
+        → IsAsItWas (F.holds files.old) (F.holds files.new) other }
     ensures known { F.is_known files.old → F.is_known files.new }
 {
     let book = open_book(rt, alloc, files, names.book.as_str())?;
-    let traced = answer_traced(rt, alloc, files, names, &book, workers)?;
-    put_run(rt, alloc, files, names, journal, &traced)
+    let answer = answer_traced(rt, alloc, files, names, &book, workers, journal)?;
+    let count = answer.count;
+    put_run(alloc, files, names, journal, answer)?;
+    Ok(count)
+}
+
+// Decides the batch on a book, and writes what that comes to, with the journal of the run.
+fn answer_traced<R: Clock + Threads + Wait + Sync, F: Files>(
+    rt: &R,
+    alloc: Global,
+    files: &F,
+    names: &BatchNames,
+    book: &Book,
+    workers: Workers,
+    journal: &str,
+) -> Result<TracedAnswer<F::Output>, JobFault>
+    ensures answered { IfOk result (IsAnsweredWithJournal F.Output.is_known F.Output.written (F.is_known files.now) (F.holds files.now)
+        (string_bytes names.now.batch) book.now) }
+    ensures fault { IfErr result (IsAnsweringFault (F.holds files.now) (string_bytes names.now.batch)
+        (HasFailed F.Input.has_failed) (HasFailed F.Output.has_failed) (HasRefused F.refuses)) }
+{
+    let (run, replies) = reply_traced(rt, alloc, files, names, book, workers)?;
+    let new_book = write_book(rt, alloc, files, names.new_book.as_str(), &run.outcome.book)?;
+    let journal = log_run(alloc, files, journal, &run.entries)?;
+    Ok(TracedAnswer {
+        count: run.outcome.replies.len(),
+        replies,
+        journal,
+        new_book,
+    })
 }
 
 // What a batch came to, and the journal of the run.
@@ -64,36 +89,28 @@ struct TracedRun {
     entries: Vec<Entry>,
 }
 
-// Decides the batch on a book, and writes the replies to their file; with the journal of the run.
-fn answer_traced<R: Clock + Threads + Wait + Sync, F: Files>(
+// Decides the batch on a book, and writes the replies; with the journal of the run.
+fn reply_traced<R: Clock + Threads + Wait + Sync, F: Files>(
     rt: &R,
     alloc: Global,
-    files: &mut F,
+    files: &F,
     names: &BatchNames,
     book: &Book,
     workers: Workers,
-) -> Result<TracedRun, JobFault>
-    ensures ok { IfOk result (λ run. (frames : List Frame) × IsFold book.now frames run.outcome × IsRunJournal book.now frames run.entries.items run.outcome.committed
-        × ((bytes : List ℕ) → F.holds files.old (string_bytes names.now.batch) bytes → IsBatchOf bytes frames)
-        × (F.is_known files.old → F.holds files.new (string_bytes names.now.replies) (replies_text (replies_to book.now frames)))) }
-    ensures fault { IfErr result (IsBatchFault (F.holds files.old) (string_bytes names.now.batch)
+) -> Result<(TracedRun, F::Output), JobFault>
+    ensures there { IfOk result (λ run. F.is_known files.now → IsThere (F.holds files.now) (string_bytes names.now.batch)) }
+    ensures bodies { IfOk result (λ run. AreReplyBodies run.0.outcome.replies.items) }
+    ensures ok { IfOk result (λ run. (frames : List Frame) × IsFold book.now frames run.0.outcome × IsRunJournal book.now frames run.0.entries.items run.0.outcome.committed
+        × ((bytes : List ℕ) → F.holds files.now (string_bytes names.now.batch) bytes → IsBatchOf bytes frames)
+        × (F.is_known files.now → F.Output.is_known run.1 × (F.Output.written run.1 ≡ replies_text (replies_to book.now frames)))) }
+    ensures fault { IfErr result (IsBatchFault (F.holds files.now) (string_bytes names.now.batch)
         (HasFailed F.Input.has_failed) (HasFailed F.Output.has_failed) (HasRefused F.refuses)) }
-    ensures unanswered { IfErr result (λ fault. IsOfBytes fault → F.is_known files.old
-        → HoldsSameOrNothing (F.holds files.old) (F.holds files.new) (string_bytes names.now.replies)) }
-    ensures known { F.is_known files.old → F.is_known files.new }
-    ensures others { (other held : List ℕ) → other ≢ string_bytes names.now.replies → F.holds files.old other held → F.holds files.new other held }
 {
     let mut batch = files.open(names.batch.as_str())?;
     let mut replies = files.create(names.replies.as_str())?;
-    let traced = trace_batch(rt, alloc, book, &mut batch, &mut replies, workers);
-    let closed = files.close(names.replies.as_str(), replies);
-    let run = match traced {
-        Ok(run) => run,
-        Err(fault) => return Err(JobFault::Batch(fault)),
-    };
-    match closed {
-        Ok(()) => Ok(run),
-        Err(fault) => Err(fault_of_closing(fault)),
+    match trace_batch(rt, alloc, book, &mut batch, &mut replies, workers) {
+        Ok(run) => Ok((run, replies)),
+        Err(fault) => Err(JobFault::Batch(fault)),
     }
 }
 
@@ -108,6 +125,7 @@ fn trace_batch<R: Clock + Threads + Wait + Sync, S: Source, W: Sink>(
     workers: Workers,
 ) -> Result<TracedRun, BatchFault>
     ensures devices { UsesDevices S.is_known S.has_failed W.is_known W.has_failed source.old source.new sink.old sink.new result }
+    ensures bodies { IfOk result (λ run. AreReplyBodies run.outcome.replies.items) }
     ensures ok { IfOk result (λ run. (frames : List Frame) × IsFold book.now frames run.outcome × IsRunJournal book.now frames run.entries.items run.outcome.committed
         × (S.is_known source.old → IsBatchOf (S.remaining source.old) frames)
         × (W.is_known sink.old → W.written sink.new ≡ W.written sink.old ++ replies_text (replies_to book.now frames))) }
@@ -121,39 +139,60 @@ fn trace_batch<R: Clock + Threads + Wait + Sync, S: Source, W: Sink>(
     Ok(run)
 }
 
-// Writes the journal of a run to its file, and then the book after it. Returns how many messages were decided.
-fn put_run<R: Threads + Wait + Sync, F: Files>(
-    rt: &R,
+// Writes the text of a journal to a file that can be put in the place of this name.
+fn log_run<F: Files>(
+    alloc: Global,
+    files: &F,
+    name: &str,
+    entries: &[Entry],
+) -> Result<F::Output, JobFault>
+    ensures written { IfOk result (λ output. F.is_known files.now → F.Output.is_known output × (F.Output.written output ≡ journal_text entries.now)) }
+    ensures are { IfOk result (λ output. AreEntries entries.now) }
+    ensures fault { IfErr result (IsPuttingFault (HasFailed F.Output.has_failed ⊎ HasRefused F.refuses)) }
+{
+    let text = write_journal(alloc, entries)?;
+    let mut output = files.create(name)?;
+    match put_all(&mut output, &text) {
+        Ok(()) => Ok(output),
+        Err(_) => Err(JobFault::Unwritable),
+    }
+}
+
+// Puts replies, journal and new book in place, in this order.
+fn put_run<F: Files>(
     alloc: Global,
     files: &mut F,
     names: &BatchNames,
     journal: &str,
-    run: &TracedRun,
-) -> Result<usize, JobFault>
-    ensures put { IfOk result (IsRunPut (F.is_known files.old) (F.holds files.new) (string_bytes names.now.new_book) journal.now run.now.outcome run.now.entries.items) }
-    ensures fault { IfErr result (IsPuttingFault (HasRefused F.refuses)) }
-    ensures kept { OnErr result (string_bytes names.now.new_book ≢ journal.now → (held : List ℕ)
-        → F.holds files.old (string_bytes names.now.new_book) held → F.holds files.new (string_bytes names.now.new_book) held) }
-    ensures known { F.is_known files.old → F.is_known files.new }
-    ensures others { (other held : List ℕ) → other ≢ string_bytes names.now.new_book → other ≢ journal.now
-        → F.holds files.old other held → F.holds files.new other held }
+    answer: TracedAnswer<F::Output>,
+) -> Result<(), JobFault>
+    ensures puts { PutsRun F.is_known F.holds F.Output.is_known F.Output.written (HasRefused F.refuses) files.old files.new (names_of names.now) journal.now answer result }
 {
-    put_journal(alloc, files, journal, &run.entries)?;
-    put_book(rt, alloc, files, names.new_book.as_str(), &run.outcome.book)?;
-    Ok(run.outcome.replies.len())
+    let TracedAnswer {
+        count: _,
+        replies,
+        journal: log,
+        new_book,
+    } = answer;
+    let replies = written(alloc, names.replies.as_str(), replies)?;
+    let log = written(alloc, journal, log)?;
+    let new_book = written(alloc, names.new_book.as_str(), new_book)?;
+    let run = all_three(alloc, replies, log, new_book)?;
+    Ok(files.put_in_place(run)?)
 }
 
-// Writes the text of a journal to the file of this name.
-fn put_journal<F: Files>(
+// Three files that were written, in this order.
+fn all_three<O: Drop>(
     alloc: Global,
-    files: &mut F,
-    name: &str,
-    entries: &[Entry],
-) -> Result<(), JobFault>
-    ensures puts { PutsFile F.is_known F.holds (HasRefused F.refuses) files.old files.new name.now
-        (F.holds files.new name.now (journal_text entries.now)) result }
-    ensures are { OnOk result (AreEntries entries.now) }
+    first: Written<O>,
+    second: Written<O>,
+    third: Written<O>,
+) -> Result<Vec<Written<O>>, AllocError>
+    ensures { IfOk result (λ files. files.items ≡ first ∷ second ∷ third ∷ []) }
 {
-    let text = write_journal(alloc, entries)?;
-    Ok(files.replace(name, &mut Whole::new(&text))?)
+    let mut files = Vec::new(alloc);
+    files.push(first)?;
+    files.push(second)?;
+    files.push(third)?;
+    Ok(files)
 }

@@ -2,3 +2,4 @@ pub mod BatchNames
 pub mod Devices
 pub mod Failing
 pub mod Held
+pub mod Holding

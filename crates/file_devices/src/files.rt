@@ -1,53 +1,65 @@
-ghost use Rattle.std.specs.Prelude.{◌≡◌, ◌≢◌, ◌⊎◌, ℕ, List, [], false, Err, IfOk, OnOk, OnErr};
+ghost use Rattle.std.specs.Prelude.{◌≡◌, ◌≢◌, ◌↔◌, ℕ, List, [], false, Err, IfOk, OnOk, OnErr, IsTrue};
+ghost use Rattle.file_devices.specs.Holding.{AreAsTheyWere, ArePlaced, IsAsItWas, IsNoneNamed, IsThere};
 
-use crate::pieces::Pieces;
+use crate::claim_fault::ClaimFault;
 use crate::read_fault::ReadFault;
 use crate::sink::Sink;
 use crate::source::Source;
 use crate::write_fault::WriteFault;
+use crate::written::Written;
+use std::alloc::AllocError;
 
-/// Files by name. Where it is known what files hold, what is read of them and written to them is known too.
+/// Files by name. What is written is seen under no name until it is put in place. Where it is known what files hold, what is read of
+/// them and put in their place is known too.
 pub trait Files {
     /// A file that is read from its beginning.
     type Input: Source + Drop;
-    /// A file that is written from its beginning.
+    /// A file that is written, and isn't yet in its place. One that is dropped is gone.
     type Output: Sink + Drop;
+    /// The right to write a file, or to read it while nobody writes it, until it is dropped.
+    type Claim: Drop;
 
     // It is known what files hold.
     ghost is_known: { Self → Type 0 };
     // The file of this name holds these bytes.
     ghost holds: { Self → List ℕ → List ℕ → Type 0 };
-    // A file of this name may be refused to be made or written, with memory enough.
+    // A file of this name may be refused to be made, written or put in place, with memory enough.
     ghost refuses: { Self → List ℕ → Type 0 };
+    // Another run may have claimed the file of this name.
+    ghost is_in_use: { Self → List ℕ → Type 0 };
 
-    /// Opens a file to read it. One that holds known bytes is opened, unless memory runs out.
+    /// Opens a file to read it. One that holds known bytes is opened, unless memory runs out; where it is known what files hold, no
+    /// other is.
     fn open(&self, name: &str) -> Result<Self::Input, ReadFault>
         ensures fresh { IfOk result (λ input. Self.Input.has_failed input ≡ false) }
         ensures bytes { (bytes : List ℕ) → holds self.now name.now bytes → IfOk result (λ input. Self.Input.is_known input × (Self.Input.remaining input ≡ bytes)) }
+        ensures there { OnOk result (is_known self.now → IsThere (holds self.now) name.now) }
         ensures absent { result ≡ Err ReadFault.Unreadable → (bytes : List ℕ) → ¬ holds self.now name.now bytes };
 
-    /// Makes a file, or empties the one of that name, to write it. Other files stay.
-    fn create(&mut self, name: &str) -> Result<Self::Output, WriteFault>
+    /// Makes a file that can be put in the place of this name. Until it is, all files stay as they are.
+    fn create(&self, name: &str) -> Result<Self::Output, WriteFault>
         ensures fresh { IfOk result (λ output. Self.Output.has_failed output ≡ false) }
-        ensures empty { IfOk result (λ output. is_known self.old → Self.Output.is_known output × (Self.Output.written output ≡ [])) }
-        ensures refused { result ≡ Err WriteFault.Unwritable → refuses self.old name.now }
-        ensures known { is_known self.old → is_known self.new }
-        ensures emptied { (bytes : List ℕ) → holds self.old name.now bytes → holds self.new name.now bytes ⊎ holds self.new name.now [] }
-        ensures others { (other bytes : List ℕ) → other ≢ name.now → holds self.old other bytes → holds self.new other bytes };
+        ensures empty { IfOk result (λ output. is_known self.now → Self.Output.is_known output × (Self.Output.written output ≡ [])) }
+        ensures refused { result ≡ Err WriteFault.Unwritable → refuses self.now name.now };
 
-    /// Closes a file that was made under this name, which then holds what was written. Other files stay.
-    fn close(&mut self, name: &str, output: Self::Output) -> Result<(), WriteFault>
-        ensures written { OnOk result (is_known self.old → Self.Output.is_known output → holds self.new name.now (Self.Output.written output)) }
-        ensures refused { result ≡ Err WriteFault.Unwritable → refuses self.old name.now }
+    /// Puts what was written in place, in this order: all files or, after a fault, none. Each is on the disk before the first is put in
+    /// place. Other files stay.
+    fn put_in_place(&mut self, files: Vec<Written<Self::Output>>) -> Result<(), WriteFault>
+        ensures placed { OnOk result (is_known self.old → ArePlaced Self.Output.is_known Self.Output.written (holds self.new) files.items) }
+        ensures kept { OnErr result (AreAsTheyWere (holds self.old) (holds self.new)) }
+        ensures refused { result ≡ Err WriteFault.Unwritable → (name : List ℕ) × refuses self.old name }
         ensures known { is_known self.old → is_known self.new }
-        ensures kept { OnErr result ((bytes : List ℕ) → holds self.old name.now bytes → holds self.new name.now bytes) }
-        ensures others { (other bytes : List ℕ) → other ≢ name.now → holds self.old other bytes → holds self.new other bytes };
+        ensures others { (other : List ℕ) → IsNoneNamed other files.items → IsAsItWas (holds self.old) (holds self.new) other };
 
-    /// Replaces the file of that name by one of these bytes: whole or, after a fault, not at all. Other files stay.
-    fn replace<P: Pieces>(&mut self, name: &str, bytes: &mut P) -> Result<(), WriteFault>
-        ensures kept { OnErr result ((held : List ℕ) → holds self.old name.now held → holds self.new name.now held) }
-        ensures replaced { OnOk result (is_known self.old → holds self.new name.now (P.rest bytes.old)) }
-        ensures refused { result ≡ Err WriteFault.Unwritable → refuses self.old name.now }
-        ensures known { is_known self.old → is_known self.new }
-        ensures others { (other held : List ℕ) → other ≢ name.now → holds self.old other held → holds self.new other held };
+    /// Claims a file, to write it alone.
+    fn claim(&self, name: &str) -> Result<Self::Claim, ClaimFault>
+        ensures { result ≡ Err ClaimFault.InUse → is_in_use self.now name.now };
+
+    /// Claims a file, to read it with others while nobody writes it.
+    fn claim_to_read(&self, name: &str) -> Result<Self::Claim, ClaimFault>
+        ensures { result ≡ Err ClaimFault.InUse → is_in_use self.now name.now };
+
+    /// Whether both names are one file's: by equal words or, on a host, by links.
+    fn is_one_file(&self, first: &str, second: &str) -> Result<bool, AllocError>
+        ensures { IfOk result (λ one. is_known self.now → (IsTrue one ↔ (first.now ≡ second.now))) };
 }

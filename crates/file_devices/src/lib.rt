@@ -4,10 +4,12 @@
 
 mod batch_names;
 mod broken;
+mod claim_fault;
 mod failing;
 mod files;
 mod host;
 mod memory;
+mod memory_input;
 mod pieces;
 mod read_fault;
 mod reading;
@@ -15,13 +17,16 @@ mod sink;
 mod source;
 mod whole;
 mod write_fault;
+mod written;
 
 pub use batch_names::BatchNames;
 pub use broken::Broken;
+pub use claim_fault::ClaimFault;
 pub use failing::{FailingSink, FailingSource};
 pub use files::Files;
-pub use host::HostFiles;
+pub use host::{HostClaim, HostFiles, HostOutput};
 pub use memory::MemoryFiles;
+pub use memory_input::MemoryInput;
 pub use pieces::Pieces;
 pub use read_fault::ReadFault;
 pub use reading::read_file;
@@ -29,3 +34,4 @@ pub use sink::{IntoWrite, Sink};
 pub use source::{FromRead, Source};
 pub use whole::Whole;
 pub use write_fault::WriteFault;
+pub use written::Written;

@@ -1,15 +1,16 @@
-ghost use Rattle.std.specs.Prelude.{◌≡◌, ◌≢◌, ℕ, List, Some, OnOk, OnErr, IfOk, option_map};
-ghost use Rattle.file_devices.specs.Held.{held};
+ghost use Rattle.std.specs.Prelude.{◌≡◌, ◌≢◌, ℕ, List, Some, None, Err, IsSome, OnOk, OnErr, IfOk, option_map};
+ghost use Rattle.file_devices.specs.Held.{HeldBy, IsMemory, held, written_to};
+ghost use Rattle.file_devices.specs.Holding.{AreAsTheyWere, ArePlaced, IsAsItWas, IsNoneNamed};
 
+use crate::claim_fault::ClaimFault;
 use crate::files::Files;
-use crate::pieces::Pieces;
+use crate::memory_input::MemoryInput;
 use crate::read_fault::ReadFault;
 use crate::sink::IntoWrite;
-use crate::source::FromRead;
 use crate::write_fault::WriteFault;
+use crate::written::Written;
 use std::alloc::{AllocError, Global};
 use std::collections::BTreeMap;
-use std::io::Cursor;
 
 /// Files that are kept in memory. A call fails where a file that has no such name is to be read, or memory runs out.
 #[derive(Drop)]
@@ -34,16 +35,63 @@ impl MemoryFiles {
         self.files.get(name).map(|bytes| bytes.as_slice())
     }
 
-    /// Keeps a file of these bytes under the name. The one that was there is lost. It fails only where memory runs out.
-    pub fn put(&mut self, name: &str, bytes: Vec<u8>) -> Result<(), AllocError>
+    /// Keeps a file of these bytes under the name, and returns what the one held that was there. It fails only where memory runs out, and
+    /// all files are then as they were.
+    pub fn put(&mut self, name: &str, bytes: Vec<u8>) -> Result<Option<Vec<u8>>, AllocError>
         ensures ok { OnOk result (held self.new.files name.now ≡ Some bytes.items) }
+        ensures before { IfOk result (λ before. option_map (λ held. held.items) before ≡ held self.old.files name.now) }
         ensures err { OnErr result ((other : List ℕ) → held self.new.files other ≡ held self.old.files other) }
         ensures others { (other : List ℕ) → other ≢ name.now → held self.new.files other ≡ held self.old.files other }
     {
         let name = String::from_str(self.alloc, name)?;
         match self.files.insert(name, bytes) {
-            Ok(_) => Ok(()),
+            Ok(before) => Ok(before),
             Err(_) => Err(AllocError),
+        }
+    }
+
+    /// Takes all files away.
+    pub fn clear(&mut self)
+        ensures { (name : List ℕ) → held self.new.files name ≡ None }
+    {
+        self.files = BTreeMap::new(self.alloc);
+    }
+
+    // Puts back what a file held, or that there was none.
+    fn put_back(&mut self, name: &str, before: Option<Vec<u8>>)
+        requires there { IsSome (held self.old.files name.now) }
+        ensures back { held self.new.files name.now ≡ option_map (λ bytes. bytes.items) before }
+        ensures others { (other : List ℕ) → other ≢ name.now → held self.new.files other ≡ held self.old.files other }
+    {
+        match before {
+            None => {
+                self.files.remove(name);
+            }
+            Some(bytes) => {
+                if let Some(place) = self.files.get_mut(name) {
+                    *place = bytes;
+                }
+            }
+        }
+    }
+
+    // Keeps these files, one after another: all of them, or none.
+    fn put_all(&mut self, mut files: Vec<Written<IntoWrite<Vec<u8>>>>) -> Result<(), AllocError>
+        ensures placed { OnOk result (ArePlaced IsMemory written_to (HeldBy self.new.files) files.items) }
+        ensures kept { OnErr result ((other : List ℕ) → held self.new.files other ≡ held self.old.files other) }
+        ensures others { (other : List ℕ) → IsNoneNamed other files.items → held self.new.files other ≡ held self.old.files other }
+    {
+        if files.is_empty() {
+            return Ok(());
+        }
+        let Written { name, output } = files.remove(0);
+        let before = self.put(name.as_str(), output.into_writer())?;
+        match self.put_all(files) {
+            Ok(()) => Ok(()),
+            Err(error) => {
+                self.put_back(name.as_str(), before);
+                Err(error)
+            }
         }
     }
 
@@ -57,48 +105,50 @@ impl MemoryFiles {
 }
 
 impl Files for MemoryFiles {
-    type Input = FromRead<Cursor<Vec<u8>>>;
+    type Input = MemoryInput;
 
     type Output = IntoWrite<Vec<u8>>;
 
+    type Claim = ();
+
     ghost is_known = { λ _. Unit {0} };
 
-    ghost holds = { λ files name bytes. held files.files name ≡ Some bytes };
+    ghost holds = { λ files name bytes. HeldBy files.files name bytes };
 
     ghost refuses = { λ _ _. ⊥ };
 
-    fn open(&self, name: &str) -> Result<FromRead<Cursor<Vec<u8>>>, ReadFault> {
+    ghost is_in_use = { λ _ _. ⊥ };
+
+    fn open(&self, name: &str) -> Result<MemoryInput, ReadFault> {
         match self.files.get(name) {
-            Some(bytes) => Ok(FromRead::new(Cursor::new(self.copied(bytes)?))),
+            Some(bytes) => Ok(MemoryInput::new(self.copied(bytes)?)),
             None => Err(ReadFault::Unreadable),
         }
     }
 
-    fn create(&mut self, _name: &str) -> Result<IntoWrite<Vec<u8>>, WriteFault> {
+    fn create(&self, _name: &str) -> Result<IntoWrite<Vec<u8>>, WriteFault> {
         Ok(IntoWrite::new(Vec::new(self.alloc)))
     }
 
-    fn close(&mut self, name: &str, output: IntoWrite<Vec<u8>>) -> Result<(), WriteFault> {
-        Ok(self.put(name, output.into_writer())?)
+    fn put_in_place(&mut self, files: Vec<Written<IntoWrite<Vec<u8>>>>) -> Result<(), WriteFault>
+        ensures placed { OnOk result (Unit {0} → ArePlaced IsMemory written_to (HeldBy self.new.files) files.items) }
+        ensures kept { OnErr result (AreAsTheyWere (HeldBy self.old.files) (HeldBy self.new.files)) }
+        ensures refused { result ≡ Err WriteFault.Unwritable → (name : List ℕ) × ⊥ }
+        ensures known { Unit {0} → Unit {0} }
+        ensures others { (other : List ℕ) → IsNoneNamed other files.items → IsAsItWas (HeldBy self.old.files) (HeldBy self.new.files) other }
+    {
+        Ok(self.put_all(files)?)
     }
 
-    fn replace<P: Pieces>(&mut self, name: &str, bytes: &mut P) -> Result<(), WriteFault> {
-        let bytes = gathered(self.alloc, bytes)?;
-        Ok(self.put(name, bytes)?)
+    fn claim(&self, _name: &str) -> Result<(), ClaimFault> {
+        Ok(())
     }
-}
 
-// All pieces that are still to be made, in one.
-fn gathered<P: Pieces>(alloc: Global, pieces: &mut P) -> Result<Vec<u8>, AllocError>
-    ensures { IfOk result (λ bytes. bytes.items ≡ P.rest pieces.old) }
-{
-    let mut bytes = Vec::new(alloc);
-    for _ in 0..u64::MAX {
-        if !pieces.make_next()? {
-            return Ok(bytes);
-        }
-        bytes.extend_from_slice(pieces.piece())?;
+    fn claim_to_read(&self, _name: &str) -> Result<(), ClaimFault> {
+        Ok(())
     }
-    // Nobody waits for so many pieces.
-    Err(AllocError)
+
+    fn is_one_file(&self, first: &str, second: &str) -> Result<bool, AllocError> {
+        Ok(first == second)
+    }
 }

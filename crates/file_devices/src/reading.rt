@@ -1,5 +1,6 @@
 ghost use Rattle.std.specs.Prelude.{◌≡◌, ◌<◌, ◌++◌, ℕ, List, [], false, length, Err, IfOk, IsTrue, OnOk};
 ghost use Rattle.file_devices.specs.Failing.{HasFailed};
+ghost use Rattle.file_devices.specs.Holding.{IsThere};
 
 use crate::files::Files;
 use crate::read_fault::ReadFault;
@@ -9,9 +10,11 @@ use std::alloc::{AllocError, Global};
 // How many bytes are asked for at once.
 const PIECE: usize = 65_536;
 
-/// What the file of this name holds, whole. One that holds known bytes is read, unless a call of its device fails or memory runs out.
+/// What the file of this name holds, whole. One that holds known bytes is read, unless a call of its device fails or memory runs out;
+/// where it is known what files hold, no other is.
 pub fn read_file<F: Files>(alloc: Global, files: &F, name: &str) -> Result<Vec<u8>, ReadFault>
     ensures read { (bytes : List ℕ) → F.holds files.now name.now bytes → IfOk result (λ read. read.items ≡ bytes) }
+    ensures there { OnOk result (F.is_known files.now → IsThere (F.holds files.now) name.now) }
     ensures unreadable { result ≡ Err ReadFault.Unreadable → (bytes : List ℕ) → F.holds files.now name.now bytes → HasFailed F.Input.has_failed }
 {
     let mut input = files.open(name)?;

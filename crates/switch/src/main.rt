@@ -9,7 +9,7 @@ use std::process::ExitCode;
 use std::{env, io};
 
 fn main(rt: HostRuntime) -> ExitCode {
-    let mut files = HostFiles::new(&rt, rt.alloc());
+    let mut files = HostFiles::new(rt, rt.alloc());
     let mut out = Printer::new(rt.stdout());
     let mut err = Printer::new(rt.stderr());
     let status = match arguments_of(&rt) {

@@ -81,17 +81,29 @@ fn unheard<R: Clock + Threads + Wait + Sync>(
     (status, out.into_parts().1, err.into_parts().1)
 }
 
-// What a writer doesn't take is dropped, and the status stays.
+// What standard output doesn't take is a fault; what standard error doesn't take is dropped, and the status stays.
 #[test]
-fn what_is_not_taken_is_dropped(rt: HostRuntime) {
-    for (line, status) in [("switch one 31", 0), ("switch one 3", 2)] {
+fn what_is_not_taken_is_a_fault(rt: HostRuntime) {
+    for (line, status, is_out_whole) in [("switch one 31", 1, false), ("switch one 3", 2, true)] {
         let words = arguments_of(rt.alloc(), line).expect(&rt, "room");
         let (ended, all_out, all_err) = unheard(&rt, rt.alloc(), &words);
         assert!(rt;
-            ended == status && all_out == (status != 0) && all_err == (status == 0),
+            ended == status && all_out == is_out_whole && !all_err,
             "{line}"
         );
     }
+}
+
+// A report that standard output doesn't take is told on standard error.
+#[test]
+fn a_lost_report_is_told(rt: HostRuntime) {
+    let words = arguments_of(rt.alloc(), "switch one 31").expect(&rt, "room");
+    let mut out = Printer::new(Closed);
+    let mut err = Printer::new(Vec::new(rt.alloc()));
+    let mut files = MemoryFiles::new(rt.alloc());
+    let status = act(&rt, rt.alloc(), &mut files, &words, &mut out, &mut err);
+    let (told, _) = err.into_parts();
+    assert!(rt; status == 1 && told.as_slice() == b"output 1\n".as_slice());
 }
 
 // A writer that takes one write of ten bytes at most, and then nothing.

@@ -14,6 +14,10 @@ mod command_lines;
 #[cfg(test)]
 mod day;
 #[cfg(test)]
+mod host;
+#[cfg(test)]
+mod host_stage;
+#[cfg(test)]
 mod script;
 #[cfg(test)]
 mod texts;

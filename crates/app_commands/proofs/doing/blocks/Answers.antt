@@ -8,4 +8,4 @@ returns-in_err-count-clause-done g c =
     let p = err_from_is_err_and c.from_residual.result c.from_residual.ensures.1 in
     let blocks = c.in_err-count.ensures.decides in
     rw (p.1, p.2) (halted _ _ _ _ (names_of c.args.names.now) c.args.workers c.args.engine c.in_err-count.field-0.0.fault c.in_err-count.field-0.0.kept
-    blocks.halted (λ none apart held. blocks.kept none held apart) blocks.fault)
+    blocks.halted blocks.kept blocks.fault)

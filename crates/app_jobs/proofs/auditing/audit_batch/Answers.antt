@@ -23,5 +23,5 @@ returns-clause-audited g c = IfOk-weaker c.audit_run.result _ _ (λ found finds.
 pub returns-clause-fault : goal.returns-clause-fault
 returns-clause-fault g c =
     let run = c.in_ok-run.run' in
-    IfErr-weaker c.audit_run.result _ _ (λ fault none. behind_four (g.F.Files.holds c.args.files.now) (names_of c.args.names.now)
+    IfErr-weaker c.audit_run.result _ _ (λ fault none. behind_four (g.F.Files.is_known c.args.files.now) (g.F.Files.holds c.args.files.now) (names_of c.args.names.now)
     run.book run.frames.items run.replies.items run.after (HasFailed g.F.Input.Source.has_failed) _ fault c.in_ok-run.ensures.held none) c.audit_run.ensures.fault

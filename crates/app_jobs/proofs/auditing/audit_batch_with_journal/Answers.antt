@@ -16,7 +16,7 @@ returns-in_err-run-clause-fault g c =
 pub returns-in_err-entries-clause-fault : goal.returns-in_err-entries-clause-fault
 returns-in_err-entries-clause-fault g c =
     let p = err_from_is_err_and c.from_residual-in_err-entries.result c.from_residual-in_err-entries.ensures.1 in
-    rw (p.1, p.2) (behind_four (g.F.Files.holds c.args.files.now) (names_of c.args.names.now)
+    rw (p.1, p.2) (behind_four (g.F.Files.is_known c.args.files.now) (g.F.Files.holds c.args.files.now) (names_of c.args.names.now)
     c.in_ok-run.run'.book c.in_ok-run.run'.frames.items c.in_ok-run.run'.replies.items c.in_ok-run.run'.after (HasFailed g.F.Input.Source.has_failed) _ c.in_err-entries.field-0.0
     c.in_ok-run.ensures.held (inl c.in_err-entries.ensures.fault))
 
@@ -29,6 +29,7 @@ returns-in-Ok-clause-audited g c = record {
   entries = c.in_ok-entries.entries.items;
   held = c.in_ok-run.ensures.held;
   are = c.in_ok-entries.ensures.are;
+  journal_there = λ k. c.in_ok-entries.ensures.there k;
   logged = λ bytes h. c.in_ok-entries.ensures.entries bytes h;
   finds = rw (c.deref.ensures.value, c.deref-2.ensures.value, c.deref-3.ensures.value) at c.in-Ok.ensures.finds;
 }
@@ -38,7 +39,7 @@ returns-clause-fault g c =
     let run = c.in_ok-run.run' in
     let held = c.in_ok-run.ensures.held in
     let unlogged = rw (c.deref.ensures.value, c.deref-2.ensures.value) at c.in-Err.ensures.unlogged in
-    behind_four (g.F.Files.holds c.args.files.now) (names_of c.args.names.now)
+    behind_four (g.F.Files.is_known c.args.files.now) (g.F.Files.holds c.args.files.now) (names_of c.args.names.now)
     run.book run.frames.items run.replies.items run.after (HasFailed g.F.Input.Source.has_failed) _ (Journal c.in-Err.fault) held
     (inr (unplayed (g.F.Files.holds c.args.files.now) (names_of c.args.names.now) c.args.journal.now
     run.book run.frames.items c.in_ok-entries.entries.items c.in-Err.fault held.decided.opening held.decided.messages c.in_ok-entries.ensures.are c.in_ok-entries.ensures.entries

@@ -4,6 +4,8 @@ use Rattle.app_jobs.proofs.auditing.open_answers.Goals as goal
 
 pub returns-clause-held : goal.returns-clause-held
 returns-clause-held g c = record {
+  replies_there = λ k. rw c.as_str.ensures.value at c.in_ok-replies.ensures.there k;
+  after_there = λ k. rw c.as_str-2.ensures.value at c.in_ok-after.ensures.there k;
   answered = λ bytes h. c.in_ok-replies.ensures.replies bytes (rw c.as_str.ensures.value h);
   after = λ bytes h. c.in_ok-after.ensures.book bytes (rw c.as_str-2.ensures.value h);
 }

@@ -4,6 +4,8 @@ use Rattle.app_jobs.proofs.auditing.open_decided.Goals as goal
 
 pub returns-clause-held : goal.returns-clause-held
 returns-clause-held g c = record {
+  book_there = λ k. rw c.as_str.ensures.value at c.in_ok-book.ensures.there k;
+  batch_there = λ k. rw c.as_str-2.ensures.value at c.in_ok-frames.ensures.there k;
   opening = λ bytes h. c.in_ok-book.ensures.book bytes (rw c.as_str.ensures.value h);
   messages = λ bytes h. c.in_ok-frames.ensures.frames bytes (rw c.as_str-2.ensures.value h);
 }

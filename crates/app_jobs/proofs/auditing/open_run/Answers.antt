@@ -13,5 +13,5 @@ returns-in_err-book-clause-fault g c =
 pub returns-in_err-replies-clause-fault : goal.returns-in_err-replies-clause-fault
 returns-in_err-replies-clause-fault g c =
     let p = err_from_is_err_and c.from_residual-in_err-replies.result c.from_residual-in_err-replies.ensures.1 in
-    rw (p.1, p.2) (of_last_two (g.F.Files.holds c.args.files.now) (names_of c.args.names.now)
+    rw (p.1, p.2) (of_last_two (g.F.Files.is_known c.args.files.now) (g.F.Files.holds c.args.files.now) (names_of c.args.names.now)
     c.in_ok-book.book c.in_ok-book.frames.items (HasFailed g.F.Input.Source.has_failed) _ c.in_err-replies.field-0.0 c.in_ok-book.ensures.held c.in_err-replies.ensures.fault)

@@ -7,6 +7,8 @@ pub returns-clause-audited : goal.returns-clause-audited
 returns-clause-audited g c = record {
   answers = replies_of c.in_ok-replies.replies.items;
   rows_after_them = c.in_ok-after.after;
+  replies_there = λ k. rw c.as_str.ensures.value at c.in_ok-replies.ensures.there k;
+  after_there = λ k. rw c.as_str-2.ensures.value at c.in_ok-after.ensures.there k;
   answered = λ bytes h. c.in_ok-replies.ensures.replies bytes (rw c.as_str.ensures.value h);
   after = λ bytes h. c.in_ok-after.ensures.book bytes (rw c.as_str-2.ensures.value h);
   finds = rw c.deref.ensures.value at c.in_ok-audit_blocks.ensures;

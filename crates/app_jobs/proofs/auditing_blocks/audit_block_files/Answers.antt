@@ -7,6 +7,8 @@ pub returns-clause-audited : goal.returns-clause-audited
 returns-clause-audited g c = IfOk-weaker c.audit_answers.result _ _ (λ found h. record {
   rows = c.in_ok-book.book;
   blocks = frames_of c.in_ok-blocks.blocks.items;
+  book_there = λ k. rw c.as_str.ensures.value at c.in_ok-book.ensures.there k;
+  blocks_there = λ k. rw c.as_str-2.ensures.value at c.in_ok-blocks.ensures.there k;
   opening = λ bytes o. c.in_ok-book.ensures.book bytes (rw c.as_str.ensures.value o);
   read = λ bytes o. c.in_ok-blocks.ensures.blocks bytes (rw c.as_str-2.ensures.value o);
   answers = h;

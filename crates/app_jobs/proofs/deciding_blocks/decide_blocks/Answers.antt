@@ -1,53 +1,74 @@
 use Rattle.std.proofs.Common.{rules, ◌∙◌, inl, inr}
-use Rattle.std.proofs.lemmas.Result.{IfErr-weaker, IfOk-weaker, err_from_is_err_and}
+use Rattle.std.proofs.lemmas.Result.{err_from_is_err_and}
+use Rattle.app_jobs.proofs.AnsweredFiles.{untouched}
 use Rattle.app_jobs.proofs.deciding_blocks.decide_blocks.Goals as goal
 
-pub returns-in_err-outcome : goal.returns-in_err-outcome
-returns-in_err-outcome g c =
-    let p = err_from_is_err_and c.from_residual-in_err-outcome.result c.from_residual-in_err-outcome.ensures.1 in
+pub returns-in_err-processed : goal.returns-in_err-processed
+returns-in_err-processed g c =
+    let p = err_from_is_err_and c.from_residual-in_err-processed.result c.from_residual-in_err-processed.ensures.1 in
     let book = rw c.as_str.ensures.value at c.in_ok-book.ensures.book in
     record {
       decides = record {
         decided = search rules;
         halted = search rules;
-        fault = rw (p.1, p.2.0) (inr ((c.in_ok-book.book, book), inl c.in_err-outcome.ensures.fault));
-        kept = search rules;
-        others = search rules;
+        fault = rw (p.1, p.2.0) (inr ((c.in_ok-book.book, book), inl c.in_err-processed.ensures.fault));
+        kept = rw p.1 (λ none. untouched (g.F.Files.holds c.args.files.now));
+        others = λ other apart further. untouched (g.F.Files.holds c.args.files.now) other;
         known = search rules;
       };
     }
 
-pub returns-in-Ok : goal.returns-in-Ok
-returns-in-Ok g c =
+pub returns-in_err-put_blocks-in-Ok : goal.returns-in_err-put_blocks-in-Ok
+returns-in_err-put_blocks-in-Ok g c =
+    let p = err_from_is_err_and c.from_residual-in_err-put_blocks-in-Ok.result c.from_residual-in_err-put_blocks-in-Ok.ensures.1 in
     let book = rw c.as_str.ensures.value at c.in_ok-book.ensures.book in
-    let answered = rw c.in-Ok.is at c.in_ok-outcome.ensures.ok in
-    let same = rw c.as_str-in-Ok.ensures.value at c.put_outcome.ensures.same in
+    let answered = rw c.in-Ok.is at c.in_ok-processed.ensures.ok in
+    let put = c.in_err-put_blocks-in-Ok.ensures.puts in
     record {
       decides = record {
-        decided = IfOk-weaker c.put_outcome.result _ _ (λ count put. record {
+        decided = search rules;
+        halted = search rules;
+        fault = rw (p.1, p.2.0) (inr ((c.in_ok-book.book, book), inr ((answered.blocks, answered.read), put.fault)));
+        kept = rw p.1 (λ none. put.kept);
+        others = put.others;
+        known = put.known;
+      };
+    }
+
+pub returns-in_ok-put_blocks-in-Ok : goal.returns-in_ok-put_blocks-in-Ok
+returns-in_ok-put_blocks-in-Ok g c =
+    let book = rw c.as_str.ensures.value at c.in_ok-book.ensures.book in
+    let there = rw c.as_str.ensures.value at c.in_ok-book.ensures.there in
+    let answered = rw c.in-Ok.is at c.in_ok-processed.ensures.ok in
+    let put = c.in_ok-put_blocks-in-Ok.ensures.puts in
+    record {
+      decides = record {
+        decided = record {
           rows = c.in_ok-book.book;
           blocks = answered.blocks;
-          number = put.0 ∙ answered.number;
-          all = put.1 ∙ answered.all;
+          number = answered.number;
+          all = answered.all;
+          book_there = there;
+          blocks_there = c.in_ok-processed.ensures.there;
           opening = book;
           read = answered.read;
-          after = λ k. rw (← answered.book, ← c.as_str-in-Ok.ensures.value) (put.2 (c.in_ok-outcome.ensures.known k));
-          answered = λ k other. c.put_outcome.ensures.others _ _ (rw c.as_str-in-Ok.ensures.value other) (answered.answered k);
-        }) c.put_outcome.ensures.put;
-        halted = IfErr-weaker c.put_outcome.result _ _ (λ halt put count kept. absurd (cc (put.0, kept))) c.put_outcome.ensures.fault;
-        fault = IfErr-weaker c.put_outcome.result _ _ (λ halt put. inr ((c.in_ok-book.book, book), inr ((answered.blocks, answered.read), put.1))) c.put_outcome.ensures.fault;
-        kept = IfErr-weaker c.put_outcome.result _ _ (λ halt same none held other h. same held (c.in_ok-outcome.ensures.others _ held other h)) same;
-        others = λ other held replies book h.
-            c.put_outcome.ensures.others other held (rw c.as_str-in-Ok.ensures.value book) (c.in_ok-outcome.ensures.others other held replies h);
-        known = search rules;
+          after = λ k. rw (← answered.book) (put.book k);
+          answered = λ k apart. rw (← answered.replied k) (put.replies k apart (c.in_ok-processed.ensures.known k));
+        };
+        halted = tt;
+        fault = tt;
+        kept = tt;
+        others = put.others;
+        known = put.known;
       };
     }
 
 pub returns-in-Err : goal.returns-in-Err
 returns-in-Err g c =
     let book = rw c.as_str.ensures.value at c.in_ok-book.ensures.book in
-    let answered = rw c.in-Err.is at c.in_ok-outcome.ensures.some in
-    let stopped = rw c.in-Err.is at c.in_ok-outcome.ensures.stopped in
+    let there = rw c.as_str.ensures.value at c.in_ok-book.ensures.there in
+    let answered = rw c.in-Err.is at c.in_ok-processed.ensures.some in
+    let stopped = rw c.in-Err.is at c.in_ok-processed.ensures.stopped in
     record {
       decides = record {
         decided = tt;
@@ -60,19 +81,18 @@ returns-in-Err g c =
                 blocks = answered.blocks;
                 number = put.0 ∙ answered.number;
                 total = answered.total;
+                book_there = there;
+                blocks_there = c.in_ok-processed.ensures.there;
                 opening = book;
                 read = answered.read;
                 fails = answered.fails;
-                after = λ k. rw (← answered.book, ← c.as_str-in-Err.ensures.value) (put.1 (c.in_ok-outcome.ensures.known k));
-                answered = λ k other.
-                    let text = answered.answered k in
-                    (text.0, c.keep_blocks.ensures.others _ _ (rw c.as_str-in-Err.ensures.value other) text.1, text.2);
+                after = λ k. rw (← answered.book) (put.1.book k);
+                answered = λ k apart. (g.F.Output.Sink.written c.in_ok-processed.replies, put.1.replies k apart (c.in_ok-processed.ensures.known k), answered.replied k);
               },
             );
         fault = rw c.keep_blocks.ensures.fault (inr ((c.in_ok-book.book, book), inl stopped));
-        kept = search rules;
-        others = λ other held replies book h.
-            c.keep_blocks.ensures.others other held (rw c.as_str-in-Err.ensures.value book) (c.in_ok-outcome.ensures.others other held replies h);
-        known = search rules;
+        kept = c.keep_blocks.ensures.same;
+        others = c.keep_blocks.ensures.others;
+        known = c.keep_blocks.ensures.known;
       };
     }

@@ -7,6 +7,7 @@ use Rattle.app_jobs.proofs.packing.pack_batch.Goals as goal
 pub returns-clause-packed : goal.returns-clause-packed
 returns-clause-packed g c = record {
   bodies = bytes_of c.in_ok-bodies.bodies.items;
+  there = c.in_ok-bodies.ensures.there;
   lines = c.in_ok-bodies.ensures.bodies;
   counted = rw length-map (c.len.ensures ∙ c.in_ok-bodies.bodies.ok.0);
   packed = rw c.deref.ensures.value at c.in_ok-put_batch.ensures.put;

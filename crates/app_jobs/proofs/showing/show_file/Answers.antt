@@ -4,6 +4,7 @@ use Rattle.app_jobs.proofs.showing.show_file.Goals as goal
 pub returns : goal.returns
 returns g c = record {
   shown = tt;
+  there = tt;
   fault = elim c.fault_of_showing.ensures [
     | inl memory ↦ rw memory.1 tt
     | inr other ↦

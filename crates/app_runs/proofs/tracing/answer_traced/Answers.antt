@@ -1,20 +1,25 @@
-use Rattle.std.proofs.Common.{refl, string_bytes}
-use Rattle.file_devices.specs.Failing.{HasFailed, HasRefused}
-use Rattle.app_jobs.proofs.Faults.{one_failed, unclosed}
+use Rattle.std.proofs.Common.{◌∙◌, ap, length}
+use Rattle.book_laws.specs.Text.{book_text}
 use Rattle.app_runs.proofs.tracing.answer_traced.Goals as goal
 
-pub returns-in-Err-clause-fault : goal.returns-in-Err-clause-fault
-returns-in-Err-clause-fault g c = (
-  (λ bytes h t.
-      let opened = c.in_ok-batch.ensures.bytes bytes (rw c.as_str.ensures.value h) in
-      rw (← opened.1) (c.in-Err.ensures.fault t opened.0)),
-  (λ d.
-      let failing = rw d at c.in-Err.ensures.devices.failed in
-      one_failed g.F.Input.Source.has_failed g.F.Output.Sink.has_failed _ c.trace_batch-traced.new.source c.trace_batch-traced.new.sink failing),
-)
-
-pub returns-clause-fault : goal.returns-clause-fault
-returns-clause-fault g c =
-    rw c.fault_of_closing.ensures (unclosed (g.F.Files.holds c.args.files.now) (string_bytes c.args.names.now.batch)
-    (HasFailed g.F.Input.Source.has_failed) (HasFailed g.F.Output.Sink.has_failed) (HasRefused g.F.Files.refuses) c.in-Err-closed.fault
-    (λ d. (_, _, c.in-Err-closed.ensures.refused (rw d refl))))
+pub returns-clause-answered : goal.returns-clause-answered
+returns-clause-answered g c =
+    let run = c.in_ok-run.run' in
+    let decided = c.in_ok-run.ensures.ok in
+    record {
+      frames = decided.0;
+      entries = run.entries.items;
+      committed = run.outcome.committed;
+      counted = c.len.ensures ∙ run.outcome.replies.ok.0 ∙ ap length decided.1.0;
+      batch_there = c.in_ok-run.ensures.there;
+      messages = decided.3;
+      are = rw c.deref.ensures.value at c.in_ok-journal.ensures.are;
+      ran = decided.2;
+      back = rw decided.1.1 at c.in_ok-new_book.ensures.back;
+      bodies = rw decided.1.0 at c.in_ok-run.ensures.bodies;
+      replied = decided.4;
+      logged = rw c.deref.ensures.value at c.in_ok-journal.ensures.written;
+      booked = λ k.
+          let text = c.in_ok-new_book.ensures.written k in
+          (text.0, text.1 ∙ ap book_text decided.1.1);
+    }

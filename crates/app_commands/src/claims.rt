@@ -1,0 +1,88 @@
+ghost use Rattle.std.specs.Prelude.{◌≡◌, IfErr};
+ghost use Rattle.file_devices.specs.Failing.{HasRefused};
+ghost use Rattle.app_commands.specs.Answered.{IsClaimFault};
+
+use crate::fault::Fault;
+use app_arguments::Command;
+use app_jobs::JobFault;
+use file_devices::{BatchNames, Files};
+use std::alloc::Global;
+
+/// Claims the files that a command writes, so that no other run writes them meanwhile, or those that it audits, so that none changes
+/// while it reads. They are claimed until the result is dropped.
+pub(crate) fn claim_files<F: Files>(
+    alloc: Global,
+    files: &F,
+    command: &Command,
+) -> Result<Vec<F::Claim>, Fault>
+    ensures { IfErr result (IsClaimFault (HasRefused F.is_in_use)) }
+{
+    match command {
+        Command::Serial(names) | Command::Run { names, .. } | Command::Blocks { names, .. } => {
+            claim_answer(alloc, files, names)
+        }
+        Command::RunWithJournal { names, journal, .. } => {
+            let mut claims = claim_answer(alloc, files, names)?;
+            claims.push(claim(files, journal.as_str())?)?;
+            Ok(claims)
+        }
+        Command::Audit { names, .. } | Command::AuditBlocks(names) => {
+            claim_audited(alloc, files, names)
+        }
+        Command::Pack { batch, .. } => {
+            let mut claims = Vec::new(alloc);
+            claims.push(claim(files, batch.as_str())?)?;
+            Ok(claims)
+        }
+        _ => Ok(Vec::new(alloc)),
+    }
+}
+
+// Claims the files of replies and of the new book, to write them.
+fn claim_answer<F: Files>(
+    alloc: Global,
+    files: &F,
+    names: &BatchNames,
+) -> Result<Vec<F::Claim>, Fault>
+    ensures { IfErr result (IsClaimFault (HasRefused F.is_in_use)) }
+{
+    let mut claims = Vec::new(alloc);
+    claims.push(claim(files, names.replies.as_str())?)?;
+    claims.push(claim(files, names.new_book.as_str())?)?;
+    Ok(claims)
+}
+
+// Claims the files of a book, of replies and of the new book, to read them.
+fn claim_audited<F: Files>(
+    alloc: Global,
+    files: &F,
+    names: &BatchNames,
+) -> Result<Vec<F::Claim>, Fault>
+    ensures { IfErr result (IsClaimFault (HasRefused F.is_in_use)) }
+{
+    let mut claims = Vec::new(alloc);
+    claims.push(claim_to_read(files, names.book.as_str())?)?;
+    claims.push(claim_to_read(files, names.replies.as_str())?)?;
+    claims.push(claim_to_read(files, names.new_book.as_str())?)?;
+    Ok(claims)
+}
+
+// Claims a file, to write it.
+fn claim<F: Files>(files: &F, name: &str) -> Result<F::Claim, Fault>
+    ensures { IfErr result (IsClaimFault (HasRefused F.is_in_use)) }
+{
+    match files.claim(name) {
+        Ok(claim) => Ok(claim),
+        Err(fault) => Err(Fault::Job(JobFault::from(fault))),
+    }
+}
+
+// Claims a file, to read it.
+fn claim_to_read<F: Files>(files: &F, name: &str) -> Result<F::Claim, Fault>
+    ensures { IfErr result (IsClaimFault (HasRefused F.is_in_use)) }
+{
+    match files.claim_to_read(name) {
+        Ok(claim) => Ok(claim),
+        Err(fault) => Err(Fault::Job(JobFault::from(fault))),
+    }
+}
