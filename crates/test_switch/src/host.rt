@@ -188,7 +188,7 @@ count 5
 put claimed/book BOOK
 put claimed/batch BATCH
 put claimed/.after.switch-0 'left
-put claimed/.after.switch-lock 'claimed/.after.switch-0
+put claimed/.after.switch-lock '.after.switch-0
 put claimed/.replies.switch-0 'a_stranger's
 put claimed/.replies.switch-lock 'too
 0 switch serial claimed/book claimed/batch claimed/replies claimed/after

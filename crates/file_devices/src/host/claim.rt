@@ -4,13 +4,14 @@ use std::alloc::Global;
 use std::fs::{File, OpenFile, OpenOptions, TryLockError};
 use std::io::{ErrorKind, Read, Seek, SeekFrom, Write};
 use std::os::unix::prelude::{MetadataExt, OpenOptionsExt};
+use std::path::Path;
 use std::{fs, io, rt};
 
 // How often a lock is tried again that another run has just given up.
 const TRIES: u32 = 100;
 
 // A file's name has at most 255 bytes.
-const LONGEST_NOTE: usize = 4_096;
+const LONGEST_NOTE: usize = 512;
 
 /// The lock on a file of the host, until it is dropped: an advisory lock on the hidden file `.NAME.switch-lock` beside it. A device has
 /// none, nor a file in whose folder none can be made.
@@ -154,7 +155,7 @@ fn is_still_there<R: rt::Files<File = File> + Copy>(
 enum LockNote {
     // Nothing: no run writes the target, or it has made no file beside it yet.
     Empty,
-    // The path of the file that a run writes beside the target, or wrote when it was killed.
+    // The name of the file that a run writes beside the target, or wrote when it was killed. This is its path.
     Beside(String),
     // Something else, of a stranger.
     Strange,
@@ -170,22 +171,23 @@ impl LockNote {
             return Ok(LockNote::Empty);
         }
         match std::str::from_utf8(&note[..count]) {
-            Ok(path) if is_beside(alloc, target, path)? => {
-                Ok(LockNote::Beside(String::from_str(alloc, path)?))
-            }
-            _ => Ok(LockNote::Strange),
+            Ok(name) => LockNote::of_name(alloc, target, name),
+            Err(_) => Ok(LockNote::Strange),
         }
     }
-}
 
-// Whether the path is one that this program gives files beside the target.
-fn is_beside(alloc: Global, target: &str, path: &str) -> io::Result<bool> {
-    let beside = hidden_path(alloc, target, "")?;
-    match path.strip_prefix(beside.as_str()) {
-        Some(number) => Ok(
-            !number.is_empty() && number.bytes().all(|digit| digit.is_ascii_digit()),
-        ),
-        None => Ok(false),
+    // What this name says: it is one that this program gives files beside the target, or a stranger's.
+    fn of_name(alloc: Global, target: &str, name: &str) -> io::Result<LockNote> {
+        let number = name.rsplit_once('-').map_or("", |(_, number)| number);
+        if number.is_empty() || !number.bytes().all(|digit| digit.is_ascii_digit()) {
+            return Ok(LockNote::Strange);
+        }
+        let path = hidden_path(alloc, target, number)?;
+        if Path::new(path.as_str()).file_name() == Some(name) {
+            Ok(LockNote::Beside(path))
+        } else {
+            Ok(LockNote::Strange)
+        }
     }
 }
 
@@ -209,7 +211,7 @@ fn take_leftover<R: rt::Files<File = File> + Copy>(
     }
 }
 
-/// Writes the path of a file beside the target into the file that locks it, where there is one that is no stranger's, so that the next
+/// Writes the name of a file beside the target into the file that locks it, where there is one that is no stranger's, so that the next
 /// run takes the file away where this one is killed.
 pub(crate) fn note_beside<R: rt::Files<File = File> + Copy>(
     host: &R,
@@ -231,9 +233,12 @@ pub(crate) fn note_beside<R: rt::Files<File = File> + Copy>(
     if matches!(LockNote::read(alloc, target, &file)?, LockNote::Strange) {
         return Ok(());
     }
+    let Some(name) = Path::new(path).file_name() else {
+        return Ok(());
+    };
     file.set_len(0)?;
     file.seek(SeekFrom::Start(0))?;
-    file.write_all(path.as_bytes())
+    file.write_all(name.as_bytes())
 }
 
 // Whether a plain file has this path, or none: what else may stand there is never opened.
