@@ -10,10 +10,11 @@ use Rattle.clap.specs.Simple.{is_simple, subcommand_of}
 use Rattle.clap.specs.Walk.{Row, Text, first_of}
 use Rattle.clap.specs.declared.error.kind.ErrorKind.{ErrorKind}
 use Rattle.clap.specs.declared.error.kind.ErrorKind.TheVariants as kinds
+use Rattle.file_batch.specs.declared.strictness.Strictness.{Strictness}
 use Rattle.file_listing.specs.Bodies.{body_of}
 use Rattle.engine_workers.specs.declared.engine.Engine.{Engine}
 use Rattle.engine_workers.specs.declared.engine.Engine.TheVariants.{Locked, Split}
-use Rattle.app_arguments.specs.Asked.{Asked, Names, asked, asked_of, audit, audit_blocks, audit_blocks_in, audit_in, blocks, blocks_in, engine_in, help, names_in, one, one_in, pack, pack_in, run, run_by, run_in, run_with_journal, serial, serial_in, show, show_in, version, workers_in}
+use Rattle.app_arguments.specs.Asked.{Asked, Names, asked, asked_of, audit, audit_blocks, audit_blocks_in, audit_in, blocks, blocks_in, engine_in, help, names_in, one, one_in, pack, pack_in, run, run_by, run_in, run_with_journal, serial, serial_in, show, show_in, strictness_in, version, workers_in}
 use Rattle.app_arguments.specs.CommandLine.{command_line}
 use Rattle.app_arguments.specs.Arguments.{IsRead, IsReadAs, IsReadOfKind, asked_in}
 use Rattle.app_arguments.specs.declared.command.Command.{Command}
@@ -38,10 +39,10 @@ read_of_kind words kind (Ok (Help text)) (inr among) h = rw (← h) among
 read_of_kind words kind (Ok Version) (inl memory) h = let both : kinds.DisplayVersion ≡ kinds.OutOfMemory = sym h ∙ memory in cc
 read_of_kind words kind (Ok Version) (inr among) h = rw (← h) among
 read_of_kind words kind (Ok (One body)) among h = absurd h
-read_of_kind words kind (Ok (Serial names)) among h = absurd h
-read_of_kind words kind (Ok (Run names workers engine)) among h = absurd h
-read_of_kind words kind (Ok (RunWithJournal names workers journal)) among h = absurd h
-read_of_kind words kind (Ok (Blocks names workers engine)) among h = absurd h
+read_of_kind words kind (Ok (Serial names strictness)) among h = absurd h
+read_of_kind words kind (Ok (Run names workers engine strictness)) among h = absurd h
+read_of_kind words kind (Ok (RunWithJournal names workers journal strictness)) among h = absurd h
+read_of_kind words kind (Ok (Blocks names workers engine strictness)) among h = absurd h
 read_of_kind words kind (Ok (Audit names journal)) among h = absurd h
 read_of_kind words kind (Ok (AuditBlocks names)) among h = absurd h
 read_of_kind words kind (Ok (Show file)) among h = absurd h
@@ -55,10 +56,10 @@ abbrev is_of_subcommand : Asked → Bool
 is_of_subcommand (help text) = false
 is_of_subcommand version = false
 is_of_subcommand (one body) = true
-is_of_subcommand (serial names) = true
-is_of_subcommand (run names workers engine) = true
-is_of_subcommand (run_with_journal names workers journal) = true
-is_of_subcommand (blocks names workers engine) = true
+is_of_subcommand (serial names strictness) = true
+is_of_subcommand (run names workers engine strictness) = true
+is_of_subcommand (run_with_journal names workers journal strictness) = true
+is_of_subcommand (blocks names workers engine strictness) = true
 is_of_subcommand (audit names journal) = true
 is_of_subcommand (audit_blocks names) = true
 is_of_subcommand (show file) = true
@@ -79,11 +80,11 @@ of_each : {A : Type 0} (f : A → Option Asked) → ((a : A) (what : Asked) → 
 of_each f each None what h = cc
 of_each f each (Some a) what h = each a what h
 
-of_run : (names : Names) (workers : ℕ) (engine : Engine) (journal : Option Text) (what : Asked) → run_by names workers engine journal ≡ Some what
-    → is_of_subcommand what ≡ true
-of_run names workers engine None what h = let same : run names workers engine ≡ what = cc in rw (← same) refl
-of_run names workers Locked (Some journal) what h = let same : run_with_journal names workers journal ≡ what = cc in rw (← same) refl
-of_run names workers Split (Some journal) what h = cc
+of_run : (names : Names) (workers : ℕ) (engine : Engine) (strictness : Strictness) (journal : Option Text) (what : Asked)
+    → run_by names workers engine strictness journal ≡ Some what → is_of_subcommand what ≡ true
+of_run names workers engine strictness None what h = let same : run names workers engine strictness ≡ what = cc in rw (← same) refl
+of_run names workers Locked strictness (Some journal) what h = let same : run_with_journal names workers journal strictness ≡ what = cc in rw (← same) refl
+of_run names workers Split strictness (Some journal) what h = cc
 
 of_subcommand : (a b c d e f g i : Bool) (rows : List Row) (what : Asked)
     → (if a then one_in rows
@@ -96,15 +97,15 @@ of_subcommand : (a b c d e f g i : Bool) (rows : List Row) (what : Asked)
     else (if i then pack_in rows else None)))))))) ≡ Some what → is_of_subcommand what ≡ true
 of_subcommand true b c d e f g i rows what h = of_one one (λ body. refl) (option_and_then body_of (first_of (codes "FRAME") rows)) what h
 of_subcommand false true c d e f g i rows what h =
-    of_each (λ names. option_and_then (λ workers. option_and_then (λ engine. run_by names workers engine (first_of (codes "journal") rows)) (engine_in rows)) (workers_in rows))
-    (λ names. of_each (λ workers. option_and_then (λ engine. run_by names workers engine (first_of (codes "journal") rows)) (engine_in rows))
-    (λ workers. of_each (λ engine. run_by names workers engine (first_of (codes "journal") rows))
-    (λ engine. of_run names workers engine (first_of (codes "journal") rows)) (engine_in rows)) (workers_in rows))
+    of_each (λ names. option_and_then (λ workers. option_and_then (λ engine. run_by names workers engine (strictness_in rows) (first_of (codes "journal") rows)) (engine_in rows)) (workers_in rows))
+    (λ names. of_each (λ workers. option_and_then (λ engine. run_by names workers engine (strictness_in rows) (first_of (codes "journal") rows)) (engine_in rows))
+    (λ workers. of_each (λ engine. run_by names workers engine (strictness_in rows) (first_of (codes "journal") rows))
+    (λ engine. of_run names workers engine (strictness_in rows) (first_of (codes "journal") rows)) (engine_in rows)) (workers_in rows))
     (names_in (codes "BATCH") rows) what h
-of_subcommand false false true d e f g i rows what h = of_one serial (λ names. refl) (names_in (codes "BATCH") rows) what h
+of_subcommand false false true d e f g i rows what h = of_one (λ names. serial names (strictness_in rows)) (λ names. refl) (names_in (codes "BATCH") rows) what h
 of_subcommand false false false true e f g i rows what h =
-    of_each (λ names. option_and_then (λ workers. option_map (blocks names workers) (engine_in rows)) (workers_in rows))
-    (λ names. of_two (blocks names) (λ workers engine. refl) (workers_in rows) (engine_in rows)) (names_in (codes "FILE") rows) what h
+    of_each (λ names. option_and_then (λ workers. option_map (λ engine. blocks names workers engine (strictness_in rows)) (engine_in rows)) (workers_in rows))
+    (λ names. of_two (λ workers engine. blocks names workers engine (strictness_in rows)) (λ workers engine. refl) (workers_in rows) (engine_in rows)) (names_in (codes "FILE") rows) what h
 of_subcommand false false false false true f g i rows what h =
     of_one (λ names. audit names (first_of (codes "journal") rows)) (λ names. refl) (names_in (codes "BATCH") rows) what h
 of_subcommand false false false false false true g i rows what h = of_one audit_blocks (λ names. refl) (names_in (codes "FILE") rows) what h
@@ -124,10 +125,10 @@ read_as : (words : List Text) (command : Command) → fault_of command_line word
 read_as words (Help text) fault h = let no : false ≡ true = met_asks (subcommand_of command_line words) (help (string_bytes text)) (sym h) in cc
 read_as words Version fault h = let no : false ≡ true = met_asks (subcommand_of command_line words) version (sym h) in cc
 read_as words (One body) fault h = (fault, sym h)
-read_as words (Serial names) fault h = (fault, sym h)
-read_as words (Run names workers engine) fault h = (fault, sym h)
-read_as words (RunWithJournal names workers journal) fault h = (fault, sym h)
-read_as words (Blocks names workers engine) fault h = (fault, sym h)
+read_as words (Serial names strictness) fault h = (fault, sym h)
+read_as words (Run names workers engine strictness) fault h = (fault, sym h)
+read_as words (RunWithJournal names workers journal strictness) fault h = (fault, sym h)
+read_as words (Blocks names workers engine strictness) fault h = (fault, sym h)
 read_as words (Audit names journal) fault h = (fault, sym h)
 read_as words (AuditBlocks names) fault h = (fault, sym h)
 read_as words (Show file) fault h = (fault, sym h)

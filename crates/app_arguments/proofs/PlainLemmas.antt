@@ -10,7 +10,7 @@ use Rattle.clap.specs.declared.error.kind.ErrorKind.TheVariants as kinds
 use Rattle.hex.specs.Hex.{decode_pairs}
 use Rattle.hex.specs.declared.error.FromHexError.{FromHexError}
 use Rattle.file_listing.specs.Bodies.{body_of, fitting}
-use Rattle.app_arguments.specs.Plainly.{ArePlain, IsPlain, JournalIsRead, JournalAuditIsRead, AuditIsRead, BlockAuditIsRead, BlocksAreRead, OneFrameIsRead, HelpIsRead, IsNoCommand, RunIsRead, SerialIsRead, SplitBlocksAreRead, SplitIsRead, SplitJournalIsNone, VersionIsRead}
+use Rattle.app_arguments.specs.Plainly.{ArePlain, IsPlain, JournalIsRead, JournalAuditIsRead, AuditIsRead, BlockAuditIsRead, BlocksAreRead, OneFrameIsRead, HelpIsRead, IsNoCommand, RunIsRead, SerialIsRead, SplitBlocksAreRead, SplitIsRead, SplitJournalIsNone, StrictSerialIsRead, VersionIsRead}
 use Rattle.app_arguments.specs.Asked.{Names, asked, one}
 use Rattle.app_arguments.specs.CommandLine.{command_line}
 use Rattle.app_arguments.specs.Arguments.{asked_in}
@@ -130,6 +130,13 @@ unfolding clap_on_literals
 serial_read name names plain = (
   ap (λ k. or_else k []) (files_fault (leaf (codes "serial")) serial_files names plain []),
   files_asked (codes "serial") (leaf (codes "serial")) serial_files names plain [],
+)
+
+pub strict_serial_read : (name : Text) (names : Names) → StrictSerialIsRead name names
+unfolding clap_on_literals
+strict_serial_read name names plain = (
+  ap (λ k. or_else k []) (files_fault (leaf (codes "serial")) serial_files names plain (codes "--strict" ∷ [])),
+  files_asked (codes "serial") (leaf (codes "serial")) serial_files names plain (codes "--strict" ∷ []),
 )
 
 pub run_read : (name : Text) (names : Names) → RunIsRead name names

@@ -4,6 +4,8 @@ use Rattle.std.specs.Str.{bytes_eq}
 use Rattle.clap.specs.Walk.{Row, Text, byte_or_zero, first_of}
 use Rattle.engine_workers.specs.declared.engine.Engine.{Engine}
 use Rattle.engine_workers.specs.declared.engine.Engine.TheVariants.{Locked, Split}
+use Rattle.file_batch.specs.declared.strictness.Strictness.{Strictness}
+use Rattle.file_batch.specs.declared.strictness.Strictness.TheVariants.{Lenient, Strict}
 use Rattle.file_listing.specs.Bodies.{body_of}
 use Rattle.app_arguments.specs.declared.command.Command.{Command}
 use Rattle.app_arguments.specs.declared.command.Command.TheVariants.{Help, Version, One, Serial, Run, RunWithJournal, Blocks, Audit, AuditBlocks, Show, Pack}
@@ -11,16 +13,16 @@ use Rattle.app_arguments.specs.declared.asked.BatchArguments.{BatchArguments}
 pub use Rattle.file_devices.specs.BatchNames.{Names, names_of}
 
 -- help; the version; one body on the sample book; a batch, one message after another, or by so many workers of an engine, or with a
--- journal; blocks by so many workers of an engine; an audit of a batch, against a journal or without, or of blocks; what a file
+-- journal; blocks by so many workers of an engine, each of these strictly or not; an audit of a batch, against a journal or without, or of blocks; what a file
 -- holds; a batch of a text
 pub data Asked : Type 0 where
   help : Text → Asked
   version : Asked
   one : List ℕ → Asked
-  serial : Names → Asked
-  run : Names → ℕ → Engine → Asked
-  run_with_journal : Names → ℕ → Text → Asked
-  blocks : Names → ℕ → Engine → Asked
+  serial : Names → Strictness → Asked
+  run : Names → ℕ → Engine → Strictness → Asked
+  run_with_journal : Names → ℕ → Text → Strictness → Asked
+  blocks : Names → ℕ → Engine → Strictness → Asked
   audit : Names → Option Text → Asked
   audit_blocks : Names → Asked
   show : Text → Asked
@@ -42,6 +44,15 @@ engine_named text = if bytes_eq text (codes "locked") then Some Locked else (if 
 abbrev pub engine_in : List Row → Option Engine
 engine_in rows = option_and_then engine_named (first_of (codes "engine") rows)
 
+-- whether bodies that are no message are answered: not where the flag is set
+abbrev pub strictness_of : Option Text → Strictness
+strictness_of None = Lenient
+strictness_of (Some text) = if bytes_eq text (codes "true") then Strict else Lenient
+
+-- the same, by `--strict`
+abbrev pub strictness_in : List Row → Strictness
+strictness_in rows = strictness_of (first_of (codes "strict") rows)
+
 -- the words BOOK, this one, REPLIES and NEWBOOK
 abbrev pub names_in : Text → List Row → Option Names
 names_in input rows =
@@ -60,20 +71,20 @@ one_in rows = option_map one (option_and_then body_of (first_of (codes "FRAME") 
 
 -- the files behind `serial`
 abbrev pub serial_in : List Row → Option Asked
-serial_in rows = option_map serial (names_in (codes "BATCH") rows)
+serial_in rows = option_map (λ names. serial names (strictness_in rows)) (names_in (codes "BATCH") rows)
 
 -- a run by this engine, or with this journal, which the locked engine alone keeps
-abbrev pub run_by : Names → ℕ → Engine → Option Text → Option Asked
-run_by names workers engine None = Some (run names workers engine)
-run_by names workers Locked (Some journal) = Some (run_with_journal names workers journal)
-run_by names workers Split (Some journal) = None
+abbrev pub run_by : Names → ℕ → Engine → Strictness → Option Text → Option Asked
+run_by names workers engine strictness None = Some (run names workers engine strictness)
+run_by names workers Locked strictness (Some journal) = Some (run_with_journal names workers journal strictness)
+run_by names workers Split strictness (Some journal) = None
 
 -- the files, the workers and the engine behind `run`, and the journal
 abbrev pub run_in : List Row → Option Asked
 run_in rows =
     option_and_then (λ names.
     option_and_then (λ workers.
-    option_and_then (λ engine. run_by names workers engine (first_of (codes "journal") rows))
+    option_and_then (λ engine. run_by names workers engine (strictness_in rows) (first_of (codes "journal") rows))
     (engine_in rows))
     (workers_in rows))
     (names_in (codes "BATCH") rows)
@@ -83,7 +94,7 @@ abbrev pub blocks_in : List Row → Option Asked
 blocks_in rows =
     option_and_then (λ names.
     option_and_then (λ workers.
-    option_map (blocks names workers)
+    option_map (λ engine. blocks names workers engine (strictness_in rows))
     (engine_in rows))
     (workers_in rows))
     (names_in (codes "FILE") rows)
@@ -129,10 +140,10 @@ abbrev pub asked_of : Command → Asked
 asked_of (Help text) = help (string_bytes text)
 asked_of Version = version
 asked_of (One body) = one body.items
-asked_of (Serial names) = serial (names_of names)
-asked_of (Run names workers engine) = run (names_of names) workers engine
-asked_of (RunWithJournal names workers journal) = run_with_journal (names_of names) workers (string_bytes journal)
-asked_of (Blocks names workers engine) = blocks (names_of names) workers engine
+asked_of (Serial names strictness) = serial (names_of names) strictness
+asked_of (Run names workers engine strictness) = run (names_of names) workers engine strictness
+asked_of (RunWithJournal names workers journal strictness) = run_with_journal (names_of names) workers (string_bytes journal) strictness
+asked_of (Blocks names workers engine strictness) = blocks (names_of names) workers engine strictness
 asked_of (Audit names journal) = audit (names_of names) (option_map string_bytes journal)
 asked_of (AuditBlocks names) = audit_blocks (names_of names)
 asked_of (Show file) = show (string_bytes file)

@@ -2,6 +2,7 @@
 use Rattle.std.specs.Prelude.{◌≡◌, true, false, Some, [], ◌∷◌, codes}
 use Rattle.clap.specs.Simple.{App, app_of, new_app, new_rule, on_top, with_rule, with_subcommand}
 use Rattle.clap.specs.Walk.{Rule, Text, rule_of}
+use Rattle.clap.specs.declared.builder.action.ArgAction.TheVariants.{SetTrue}
 use Rattle.clap.specs.declared.builder.arg.Arg.{Arg}
 use Rattle.clap.specs.declared.builder.command.Command.{Command}
 use Rattle.clap.specs.declared.builder.command.Command.TheViews.{out-Command}
@@ -18,6 +19,10 @@ setting name = record (new_rule name) { long = Some name; value_names = 1 }
 abbrev pub setting_or : Text → Text → Rule
 setting_or name value = record (setting name) { defaults = value ∷ [] }
 
+-- `--NAME`, without a value
+abbrev pub flag : Text → Rule
+flag name = record (new_rule name) { long = Some name; action = Some SetTrue }
+
 -- `one FRAME`
 abbrev pub one_line : App
 one_line = with_rule (new_app (codes "one")) (operand (codes "FRAME"))
@@ -31,17 +36,21 @@ files_line name input =
 abbrev pub with_engine : App → App
 with_engine line = with_rule (with_rule line (setting_or (codes "workers") (codes "4"))) (setting_or (codes "engine") (codes "locked"))
 
--- `run BOOK BATCH REPLIES NEWBOOK [--workers N] [--engine ENGINE] [--journal FILE]`
+-- a line with `[--strict]` behind it
+abbrev pub with_strict : App → App
+with_strict line = with_rule line (flag (codes "strict"))
+
+-- `run BOOK BATCH REPLIES NEWBOOK [--workers N] [--engine ENGINE] [--journal FILE] [--strict]`
 abbrev pub run_line : App
-run_line = with_rule (with_engine (files_line (codes "run") (codes "BATCH"))) (setting (codes "journal"))
+run_line = with_strict (with_rule (with_engine (files_line (codes "run") (codes "BATCH"))) (setting (codes "journal")))
 
--- `serial BOOK BATCH REPLIES NEWBOOK`
+-- `serial BOOK BATCH REPLIES NEWBOOK [--strict]`
 abbrev pub serial_line : App
-serial_line = files_line (codes "serial") (codes "BATCH")
+serial_line = with_strict (files_line (codes "serial") (codes "BATCH"))
 
--- `blocks BOOK FILE REPLIES NEWBOOK [--workers N] [--engine ENGINE]`
+-- `blocks BOOK FILE REPLIES NEWBOOK [--workers N] [--engine ENGINE] [--strict]`
 abbrev pub blocks_line : App
-blocks_line = with_engine (files_line (codes "blocks") (codes "FILE"))
+blocks_line = with_strict (with_engine (files_line (codes "blocks") (codes "FILE")))
 
 -- `audit BOOK BATCH REPLIES NEWBOOK [--journal FILE]`
 abbrev pub audit_line : App

@@ -3,6 +3,7 @@ use Rattle.std.specs.Prelude.{◌≡◌, ◌≢◌, ℕ, List, [], ◌∷◌, So
 use Rattle.clap.specs.Walk.{Text}
 use Rattle.file_listing.specs.Bodies.{body_of}
 use Rattle.engine_workers.specs.declared.engine.Engine.TheVariants.{Locked, Split}
+use Rattle.file_batch.specs.declared.strictness.Strictness.TheVariants.{Lenient, Strict}
 use Rattle.app_arguments.specs.Asked.{Names, audit, audit_blocks, blocks, one, run, run_with_journal, serial}
 use Rattle.app_arguments.specs.Arguments.{Asks, IsHelp, IsUsageFault, IsVersion}
 
@@ -39,20 +40,24 @@ arguments_of name subcommand names behind = name ∷ subcommand ∷ names.book �
 
 -- `serial` with its files asks for them
 abbrev pub SerialIsRead : Text → Names → Type 0
-SerialIsRead name names = ArePlain names → Asks (arguments_of name (codes "serial") names []) (serial names)
+SerialIsRead name names = ArePlain names → Asks (arguments_of name (codes "serial") names []) (serial names Lenient)
+
+-- with `--strict` behind them, for one that is refused where a body is no message
+abbrev pub StrictSerialIsRead : Text → Names → Type 0
+StrictSerialIsRead name names = ArePlain names → Asks (arguments_of name (codes "serial") names (codes "--strict" ∷ [])) (serial names Strict)
 
 -- `run` with its files asks for 4 workers of the locked engine and no journal
 abbrev pub RunIsRead : Text → Names → Type 0
-RunIsRead name names = ArePlain names → Asks (arguments_of name (codes "run") names []) (run names 4 Locked)
+RunIsRead name names = ArePlain names → Asks (arguments_of name (codes "run") names []) (run names 4 Locked Lenient)
 
 -- with `--journal FILE` behind them, for the journal in FILE too
 abbrev pub JournalIsRead : Text → Names → Text → Type 0
 JournalIsRead name names file =
-    ArePlain names → IsPlain file → Asks (arguments_of name (codes "run") names (codes "--journal" ∷ file ∷ [])) (run_with_journal names 4 file)
+    ArePlain names → IsPlain file → Asks (arguments_of name (codes "run") names (codes "--journal" ∷ file ∷ [])) (run_with_journal names 4 file Lenient)
 
 -- with `--engine split` behind them, for 4 workers of the split engine
 abbrev pub SplitIsRead : Text → Names → Type 0
-SplitIsRead name names = ArePlain names → Asks (arguments_of name (codes "run") names (codes "--engine" ∷ codes "split" ∷ [])) (run names 4 Split)
+SplitIsRead name names = ArePlain names → Asks (arguments_of name (codes "run") names (codes "--engine" ∷ codes "split" ∷ [])) (run names 4 Split Lenient)
 
 -- with both behind them they are a usage fault
 abbrev pub SplitJournalIsNone : Text → Names → Text → Type 0
@@ -62,11 +67,11 @@ SplitJournalIsNone name names file =
 
 -- `blocks` with its files asks for 4 workers of the locked engine, and with `--engine split` behind them for 4 of the split engine
 abbrev pub BlocksAreRead : Text → Names → Type 0
-BlocksAreRead name names = ArePlain names → Asks (arguments_of name (codes "blocks") names []) (blocks names 4 Locked)
+BlocksAreRead name names = ArePlain names → Asks (arguments_of name (codes "blocks") names []) (blocks names 4 Locked Lenient)
 
 abbrev pub SplitBlocksAreRead : Text → Names → Type 0
 SplitBlocksAreRead name names =
-    ArePlain names → Asks (arguments_of name (codes "blocks") names (codes "--engine" ∷ codes "split" ∷ [])) (blocks names 4 Split)
+    ArePlain names → Asks (arguments_of name (codes "blocks") names (codes "--engine" ∷ codes "split" ∷ [])) (blocks names 4 Split Lenient)
 
 -- `audit` with its files asks for an audit without a journal, and with `--journal FILE` behind them for one against FILE
 abbrev pub AuditIsRead : Text → Names → Type 0

@@ -3,7 +3,7 @@ ghost use Rattle.clap.specs.Matches.{found_of};
 ghost use Rattle.clap.specs.Simple.{subcommand_rows_of};
 ghost use Rattle.clap.specs.Values.{kind_of};
 ghost use Rattle.clap.specs.Walk.{first_of, rows_of};
-ghost use Rattle.app_arguments.specs.Asked.{asked, asked_of, audit_blocks_in, audit_in, blocks_in, engine_in, names_in, names_of, names_of_arguments, one_in, pack_in, run_by, run_in, serial_in, show_in, workers_in};
+ghost use Rattle.app_arguments.specs.Asked.{asked, asked_of, audit_blocks_in, audit_in, blocks_in, engine_in, names_in, names_of, names_of_arguments, one_in, pack_in, run_by, run_in, serial_in, show_in, strictness_in, workers_in};
 ghost use Rattle.app_arguments.specs.Arguments.{IsRead, IsReadAs, IsReadOfKind};
 
 use crate::command::Command;
@@ -12,6 +12,7 @@ use crate::line_fault::LineFault;
 use clap::error::ErrorKind;
 use clap::{ArgMatches, Error};
 use engine_workers::{Engine, Workers};
+use file_batch::Strictness;
 use file_devices::BatchNames;
 use file_listing::body_of_digits;
 use std::alloc::{AllocError, Global};
@@ -107,17 +108,20 @@ fn one_of(alloc: Global, matches: &ArgMatches<'_>) -> Result<Option<Command>, Al
     }
 }
 
-// The files behind `serial`.
+// The files behind `serial`, and whether `--strict` is there.
 fn serial_of(alloc: Global, matches: &ArgMatches<'_>) -> Result<Option<Command>, AllocError>
     ensures { IfOk result (λ command. option_map asked_of command ≡ serial_in (rows_of (found_of matches.now))) }
 {
     match names_of(alloc, matches, "BATCH")? {
-        Some(names) => Ok(Some(Command::Serial(names))),
+        Some(names) => Ok(Some(Command::Serial {
+            names,
+            strictness: strictness_of(matches),
+        })),
         None => Ok(None),
     }
 }
 
-// The files, the workers and the engine behind `run`, and the journal.
+// The files, the workers and the engine behind `run`, whether `--strict` is there, and the journal.
 fn run_of(alloc: Global, matches: &ArgMatches<'_>) -> Result<Option<Command>, AllocError>
     ensures { IfOk result (λ command. option_map asked_of command ≡ run_in (rows_of (found_of matches.now))) }
 {
@@ -131,7 +135,7 @@ fn run_of(alloc: Global, matches: &ArgMatches<'_>) -> Result<Option<Command>, Al
         return Ok(None);
     };
     let journal = journal_of(alloc, matches)?;
-    Ok(run_by(names, workers, engine, journal))
+    Ok(run_by(names, workers, engine, strictness_of(matches), journal))
 }
 
 // A run by this engine. The split engine keeps no journal.
@@ -139,28 +143,31 @@ fn run_by(
     names: BatchNames,
     workers: Workers,
     engine: Engine,
+    strictness: Strictness,
     journal: Option<String>,
 ) -> Option<Command>
-    ensures { option_map asked_of result ≡ run_by (names_of names) workers engine (option_map string_bytes journal) }
+    ensures { option_map asked_of result ≡ run_by (names_of names) workers engine strictness (option_map string_bytes journal) }
 {
     match journal {
         None => Some(Command::Run {
             names,
             workers,
             engine,
+            strictness,
         }),
         Some(journal) => match engine {
             Engine::Locked => Some(Command::RunWithJournal {
                 names,
                 workers,
                 journal,
+                strictness,
             }),
             Engine::Split => None,
         },
     }
 }
 
-// The files, the workers and the engine behind `blocks`.
+// The files, the workers and the engine behind `blocks`, and whether `--strict` is there.
 fn blocks_of(alloc: Global, matches: &ArgMatches<'_>) -> Result<Option<Command>, AllocError>
     ensures { IfOk result (λ command. option_map asked_of command ≡ blocks_in (rows_of (found_of matches.now))) }
 {
@@ -175,6 +182,7 @@ fn blocks_of(alloc: Global, matches: &ArgMatches<'_>) -> Result<Option<Command>,
             names,
             workers,
             engine,
+            strictness: strictness_of(matches),
         })),
         None => Ok(None),
     }
@@ -237,6 +245,16 @@ fn engine_of(matches: &ArgMatches<'_>) -> Option<Engine>
         "locked" => Some(Engine::Locked),
         "split" => Some(Engine::Split),
         _ => None,
+    }
+}
+
+// What is to come of bodies that are no message: whether `--strict` is there.
+fn strictness_of(matches: &ArgMatches<'_>) -> Strictness
+    ensures { result ≡ strictness_in (rows_of (found_of matches.now)) }
+{
+    match word(matches, "strict") {
+        Some("true") => Strictness::Strict,
+        _ => Strictness::Lenient,
     }
 }
 

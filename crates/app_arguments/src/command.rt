@@ -1,4 +1,5 @@
 use engine_workers::{Engine, Workers};
+use file_batch::Strictness;
 use file_devices::BatchNames;
 
 /// What the words ask for.
@@ -11,7 +12,12 @@ pub enum Command {
     /// Decide this one body on the sample book.
     One(Vec<u8>),
     /// Decide a batch one message after another.
-    Serial(BatchNames),
+    Serial {
+        /// The names of its files.
+        names: BatchNames,
+        /// Whether bodies that are no message are answered.
+        strictness: Strictness,
+    },
     /// Decide a batch by several workers.
     Run {
         /// The names of its files.
@@ -20,6 +26,8 @@ pub enum Command {
         workers: Workers,
         /// How they share their work.
         engine: Engine,
+        /// Whether bodies that are no message are answered.
+        strictness: Strictness,
     },
     /// Decide a batch by several workers under one lock, and keep the run's journal.
     RunWithJournal {
@@ -29,6 +37,8 @@ pub enum Command {
         workers: Workers,
         /// The name of the file for the journal.
         journal: String,
+        /// Whether bodies that are no message are answered.
+        strictness: Strictness,
     },
     /// Decide blocks, one after another, each by several workers. The batch is their file.
     Blocks {
@@ -38,6 +48,8 @@ pub enum Command {
         workers: Workers,
         /// How they share their work.
         engine: Engine,
+        /// Whether bodies that are no message are answered.
+        strictness: Strictness,
     },
     /// Compare replies and book of a batch with what deciding it comes to.
     Audit {

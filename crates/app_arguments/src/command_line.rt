@@ -1,8 +1,8 @@
 ghost use Rattle.std.specs.Prelude.{◌≡◌, IfOk, codes};
 ghost use Rattle.clap.specs.Simple.{app_of, with_subcommand};
-ghost use Rattle.app_arguments.specs.CommandLine.{IsLine, IsWord, audit_blocks_line, audit_line, blocks_line, command_line, files_line, one_line, operand, pack_line, program_line, run_line, serial_line, setting, setting_or, show_line, with_engine};
+ghost use Rattle.app_arguments.specs.CommandLine.{IsLine, IsWord, audit_blocks_line, audit_line, blocks_line, command_line, files_line, flag, one_line, operand, pack_line, program_line, run_line, serial_line, setting, setting_or, show_line, with_engine};
 
-use clap::{Arg, Command};
+use clap::{Arg, ArgAction, Command};
 use std::alloc::{AllocError, Global};
 
 // What the program's help says behind its subcommands.
@@ -19,6 +19,7 @@ A fault is printed on standard error as what it is of and its number there:
              1,000 blocks; 7 a device failed, 8 out of memory
   journal N  the journal is none: 1 a line is no entry, 2 a decision asks for a row that was not logged; 3 out of memory
   text N     line N of TEXT is no body
+  unreadable N  with --strict: N bodies are no message
   memory 1   memory ran out
   output 1   standard output can't be written; the files are in place
 After a fault all files are as they were. If `blocks` fails, `kept M` means that the first M blocks were decided: REPLIES
@@ -76,7 +77,7 @@ fn one_line<'a>(alloc: Global) -> Result<Command<'a>, AllocError>
         .arg(frame)
 }
 
-// `run BOOK BATCH REPLIES NEWBOOK [--workers N] [--engine ENGINE] [--journal FILE]`.
+// `run BOOK BATCH REPLIES NEWBOOK [--workers N] [--engine ENGINE] [--journal FILE] [--strict]`.
 fn run_line<'a>(alloc: Global) -> Result<Command<'a>, AllocError>
     ensures { IfOk result (IsLine run_line) }
 {
@@ -85,20 +86,22 @@ fn run_line<'a>(alloc: Global) -> Result<Command<'a>, AllocError>
         "run",
         "Decides a batch on several threads; the answers are those of deciding one message after another",
     )?;
-    with_engine(alloc, files)?.arg(journal_setting(
+    let logged = with_engine(alloc, files)?.arg(journal_setting(
         alloc,
         "Puts the run's journal into this file: a line for each thing that a worker asked of the core; the locked engine alone keeps one",
-    ))
+    ))?;
+    logged.arg(strict_flag(alloc))
 }
 
-// `serial BOOK BATCH REPLIES NEWBOOK`.
+// `serial BOOK BATCH REPLIES NEWBOOK [--strict]`.
 fn serial_line<'a>(alloc: Global) -> Result<Command<'a>, AllocError>
     ensures { IfOk result (IsLine serial_line) }
 {
-    batch_line(alloc, "serial", "Decides a batch one message after another")
+    let files = batch_line(alloc, "serial", "Decides a batch one message after another")?;
+    files.arg(strict_flag(alloc))
 }
 
-// `blocks BOOK FILE REPLIES NEWBOOK [--workers N] [--engine ENGINE]`.
+// `blocks BOOK FILE REPLIES NEWBOOK [--workers N] [--engine ENGINE] [--strict]`.
 fn blocks_line<'a>(alloc: Global) -> Result<Command<'a>, AllocError>
     ensures { IfOk result (IsLine blocks_line) }
 {
@@ -107,7 +110,7 @@ fn blocks_line<'a>(alloc: Global) -> Result<Command<'a>, AllocError>
         "blocks",
         "Decides blocks, each on the book after those before it, and answers each before the next is read; a fault keeps the blocks that were answered",
     )?;
-    with_engine(alloc, files)
+    with_engine(alloc, files)?.arg(strict_flag(alloc))
 }
 
 // `audit BOOK BATCH REPLIES NEWBOOK [--journal FILE]`.
@@ -229,6 +232,16 @@ fn with_engine<'a>(alloc: Global, line: Command<'a>) -> Result<Command<'a>, Allo
         "How they share their work: locked, all of it under one lock; split, each row, message and commit under a lock of its own, and of a long batch only what takes long to decide",
     );
     counted.arg(engine.default_value("locked"))
+}
+
+// `--strict`.
+fn strict_flag<'a>(alloc: Global) -> Arg<'a>
+    ensures { IsWord (flag (codes "strict")) result }
+{
+    Arg::new(alloc, "strict")
+        .long("strict")
+        .action(ArgAction::SetTrue)
+        .help("Refuses what has a body that is no message: status 1, and no file is written")
 }
 
 // `--journal FILE`.

@@ -1,5 +1,6 @@
 -- What the program does for its words.
-use Rattle.std.specs.Prelude.{◌≡◌, ◌≢◌, ◌⊎◌, ℕ, Bool, true, false, List, [], ◌∷◌, ◌++◌, Option, Some, None, codes, string_bytes}
+use Rattle.std.specs.Prelude.{◌≡◌, ◌≢◌, ◌⊎◌, ℕ, Bool, true, false, List, [], ◌∷◌, ◌++◌, Option, Some, None, IfSome, codes, option_map, string_bytes}
+use Rattle.std.specs.Global.{Vec}
 use Rattle.app_runs.specs.Answers.{IsAnswerInDigits}
 use Rattle.app_runs.specs.SampleBook.{sample_rows}
 use Rattle.app_audit.specs.Texts.{audit_text, block_audit_text}
@@ -7,11 +8,13 @@ use Rattle.app_audit.specs.declared.audited.Audit.{Audit}
 use Rattle.app_audit.specs.declared.audited.Audit.TheVariants as found
 use Rattle.app_audit.specs.declared.block_audit.BlockAudit.{BlockAudit}
 use Rattle.app_audit.specs.declared.block_audit.BlockAudit.TheVariants as block_found
+use Rattle.file_batch.specs.Counting.{Admits}
+use Rattle.file_batch.specs.declared.strictness.Strictness.TheVariants.{Lenient}
 use Rattle.file_batch_laws.specs.declared.batch_fault.BatchFault.{BatchFault}
 use Rattle.app_jobs.specs.AuditedBlocks.{AreBlocksAudited}
 use Rattle.app_jobs.specs.DecidedBlocks.{AreBlocksDecided, AreBlocksKept}
 use Rattle.app_jobs.specs.BlockFaults.{IsBlockAuditingFault, IsBlocksFault}
-use Rattle.file_devices.specs.Failing.{HasFailed, HasRefused}
+use Rattle.file_devices.specs.Failing.{Failing}
 use Rattle.file_devices.specs.Holding.{AreAsTheyWere, IsThere}
 use Rattle.app_commands.specs.Apart.{AreApart, HasOneFile, names_apart}
 use Rattle.app_jobs.specs.Audited.{IsAudited}
@@ -19,7 +22,7 @@ use Rattle.app_jobs.specs.Decided.{Holding, IsDecided}
 use Rattle.app_jobs.specs.Faults.{IsAuditingFault, IsDecidingFault}
 use Rattle.app_jobs.specs.JournalFaults.{IsJournalAuditingFault}
 use Rattle.app_jobs.specs.Journaled.{IsAuditedWithJournal}
-use Rattle.app_runs.specs.Journaled.{IsDecidedWithJournal}
+use Rattle.app_runs.specs.Journaled.{IsDecidedWithJournal, IsDecidingFaultWithJournal}
 use Rattle.app_jobs.specs.Packed.{IsPacked, IsPackingFault}
 use Rattle.app_jobs.specs.Shown.{IsShowingFault, IsShown}
 use Rattle.app_jobs.specs.declared.job_fault.JobFault.{JobFault}
@@ -28,9 +31,13 @@ use Rattle.app_jobs.specs.declared.job_fault.JobFault.TheVariants as job
 use Rattle.app_arguments.specs.Asked.{Asked, Names, help, version, one, serial, run, run_with_journal, blocks, audit, audit_blocks, show, pack}
 use Rattle.app_arguments.specs.Arguments.{Asks, IsUsageFault}
 use Rattle.app_commands.specs.Fault.{status_of, text_of}
-use Rattle.app_commands.specs.Printed.{Prints, PrintsLine, decided_in_blocks, numbered}
+use Rattle.app_commands.specs.Printed.{Prints, PrintsLine, behind, decided, decided_in_blocks, numbered}
 use Rattle.app_commands.specs.declared.fault.Fault.{Fault}
 use Rattle.app_commands.specs.declared.fault.Fault.TheVariants.{Usage, OutOfMemory, Job, Halted}
+use Rattle.app_reasons.specs.Tells.{Tells}
+use Rattle.app_reasons.specs.Words.{told_line}
+use Rattle.app_reasons.specs.declared.reason.Reason.{Reason}
+use Rattle.app_commands.specs.declared.refusal.Refusal.{Refusal}
 use Rattle.app_commands.specs.declared.report.Report.{Report}
 use Rattle.app_commands.specs.declared.report.Report.TheVariants as report
 
@@ -39,8 +46,8 @@ abbrev pub text_of_report : Report → List ℕ
 text_of_report (report.Help text) = string_bytes text ++ 10 ∷ []
 text_of_report report.Version = codes "switch 0.1.0" ++ 10 ∷ []
 text_of_report (report.Answer text) = string_bytes text ++ 10 ∷ []
-text_of_report (report.Decided count) = numbered (codes "decided") count ++ 10 ∷ []
-text_of_report (report.DecidedBlocks count) = decided_in_blocks count.messages count.blocks ++ 10 ∷ []
+text_of_report (report.Decided count) = decided count ++ 10 ∷ []
+text_of_report (report.DecidedBlocks count) = decided_in_blocks count ++ 10 ∷ []
 text_of_report (report.Packed count) = numbered (codes "packed") count ++ 10 ∷ []
 text_of_report (report.Audited found text) = text.items ++ 10 ∷ []
 text_of_report (report.AuditedBlocks found text) = text.items ++ 10 ∷ []
@@ -71,14 +78,14 @@ abbrev pub IsDoneAs : Type 0 → Holding → Holding → Asked → Report → Ty
 IsDoneAs known old new (help text) (report.Help told) = string_bytes told ≡ text
 IsDoneAs known old new version report.Version = Unit {0}
 IsDoneAs known old new (one body) (report.Answer text) = IsAnswerInDigits sample_rows body (string_bytes text)
-IsDoneAs known old new (serial names) (report.Decided count) =
-    IsDecided known old new names count
-IsDoneAs known old new (run names workers engine) (report.Decided count) =
-    IsDecided known old new names count
-IsDoneAs known old new (run_with_journal names workers journal) (report.Decided count) =
-    IsDecidedWithJournal known old new names journal count
-IsDoneAs known old new (blocks names workers engine) (report.DecidedBlocks count) =
-    AreBlocksDecided known old new names count.blocks count.messages
+IsDoneAs known old new (serial names strictness) (report.Decided count) =
+    IsDecided known old new names count × Admits strictness count
+IsDoneAs known old new (run names workers engine strictness) (report.Decided count) =
+    IsDecided known old new names count × Admits strictness count
+IsDoneAs known old new (run_with_journal names workers journal strictness) (report.Decided count) =
+    IsDecidedWithJournal known old new names journal count × Admits strictness count
+IsDoneAs known old new (blocks names workers engine strictness) (report.DecidedBlocks count) =
+    AreBlocksDecided known old new names count.blocks count.messages × Admits strictness count.messages
 IsDoneAs known old new (audit names None) (report.Audited found text) =
     IsAudited known old names found × (text.items ≡ audit_text found)
 IsDoneAs known old new (audit names (Some journal)) (report.Audited found text) =
@@ -89,50 +96,57 @@ IsDoneAs known old new (show file) (report.Lines text) = (known → IsThere old 
 IsDoneAs known old new (pack text batch) (report.Packed count) = IsPacked known old new text batch count
 IsDoneAs known old new what told = ⊥
 
--- Some first blocks are kept, so many, and the files hold what these come to; behind them this fault came.
-abbrev pub IsHaltedAs : Type 0 → Holding → Holding → Type 0 → Asked → JobFault → ℕ → Type 0
-IsHaltedAs known old new writing (blocks names workers engine) fault kept =
-    (why : BatchFault) × (fault ≡ Batch why) × AreBlocksKept known old new names writing why kept
-IsHaltedAs known old new writing what fault kept = ⊥
+-- Some first blocks are kept, so many, and the files hold what these come to; behind them this fault came. None are where they may be
+-- refused.
+abbrev pub IsHaltedAs : Type 0 → Holding → Holding → Failing → Asked → JobFault → ℕ → Type 0
+IsHaltedAs known old new devices (blocks names workers engine strictness) fault kept =
+    (strictness ≡ Lenient) × (why : BatchFault) × (fault ≡ Batch why) × AreBlocksKept known old new names (devices.writing names.replies) why kept
+IsHaltedAs known old new devices what fault kept = ⊥
 
 -- the file of this name is none of those that are written for what is asked for
 abbrev pub Spares : Asked → List ℕ → Type 0
-Spares (serial names) file = (file ≢ names.replies) × (file ≢ names.new_book)
-Spares (run names workers engine) file = (file ≢ names.replies) × (file ≢ names.new_book)
-Spares (run_with_journal names workers journal) file = (file ≢ names.replies) × (file ≢ names.new_book) × (file ≢ journal)
-Spares (blocks names workers engine) file = (file ≢ names.replies) × (file ≢ names.new_book)
+Spares (serial names strictness) file = (file ≢ names.replies) × (file ≢ names.new_book)
+Spares (run names workers engine strictness) file = (file ≢ names.replies) × (file ≢ names.new_book)
+Spares (run_with_journal names workers journal strictness) file = (file ≢ names.replies) × (file ≢ names.new_book) × (file ≢ journal)
+Spares (blocks names workers engine strictness) file = (file ≢ names.replies) × (file ≢ names.new_book)
 Spares (pack text batch) file = file ≢ batch
 Spares what file = Unit {0}
 
--- what may fail of files: a call of one that is read, or of one that is written; a name is refused; or another run has claimed it
-pub record Failing : Type 1 where
-  pub reading : Type 0
-  pub writing : Type 0
-  pub refused : Type 0
-  pub in_use : Type 0
-
--- that a call failed, and that a name is refused or claimed, is known so
-abbrev pub failing : {I O X : Type 0} → (I → Bool) → (O → Bool) → (X → List ℕ → Type 0) → (X → List ℕ → Type 0) → Failing
-failing inputs outputs refuses is_in_use =
-    record { reading = HasFailed inputs; writing = HasFailed outputs; refused = HasRefused refuses; in_use = HasRefused is_in_use }
-
--- Why what is asked for is not done, as the files were: the first fault of what they held, in the order of reading; a call that failed;
--- or out of memory.
+-- Why what is asked for is not done, as the files were: the first fault of what they held, in the order of reading; a call that failed, on a
+-- file of which calls may fail; or out of memory.
 abbrev pub IsJobFault : Holding → Failing → Asked → JobFault → Type 0
 IsJobFault old devices (help text) fault = ⊥
 IsJobFault old devices version fault = ⊥
 IsJobFault old devices (one body) fault = ⊥
-IsJobFault old devices (serial names) fault = IsDecidingFault old names devices.reading devices.writing devices.refused fault
-IsJobFault old devices (run names workers engine) fault = IsDecidingFault old names devices.reading devices.writing devices.refused fault
-IsJobFault old devices (run_with_journal names workers journal) fault =
-    IsDecidingFault old names devices.reading devices.writing devices.refused fault
-IsJobFault old devices (blocks names workers engine) fault = IsBlocksFault old names devices.reading devices.writing devices.refused fault
-IsJobFault old devices (audit names None) fault = IsAuditingFault old names devices.reading fault
-IsJobFault old devices (audit names (Some journal)) fault =
-    IsJournalAuditingFault old names journal devices.reading fault
-IsJobFault old devices (audit_blocks names) fault = IsBlockAuditingFault old names devices.reading fault
-IsJobFault old devices (show file) fault = IsShowingFault old file devices.reading fault
-IsJobFault old devices (pack text batch) fault = IsPackingFault old text devices.reading devices.writing devices.refused fault
+IsJobFault old devices (serial names strictness) fault = IsDecidingFault strictness old devices names fault
+IsJobFault old devices (run names workers engine strictness) fault = IsDecidingFault strictness old devices names fault
+IsJobFault old devices (run_with_journal names workers journal strictness) fault =
+    IsDecidingFaultWithJournal strictness old devices names journal fault
+IsJobFault old devices (blocks names workers engine strictness) fault = IsBlocksFault strictness old devices names fault
+IsJobFault old devices (audit names None) fault = IsAuditingFault old devices names fault
+IsJobFault old devices (audit names (Some journal)) fault = IsJournalAuditingFault old devices names journal fault
+IsJobFault old devices (audit_blocks names) fault = IsBlockAuditingFault old devices names fault
+IsJobFault old devices (show file) fault = IsShowingFault old devices file fault
+IsJobFault old devices (pack text batch) fault = IsPackingFault old devices text batch fault
+
+-- of the files that a batch's answer is put in, one is in use
+abbrev pub IsAnswerInUse : (List ℕ → Type 0) → Names → Type 0
+IsAnswerInUse in_use names = in_use names.replies ⊎ in_use names.new_book
+
+-- of the files that an audit looks at and a run writes, one is in use
+abbrev pub IsAuditedInUse : (List ℕ → Type 0) → Names → Type 0
+IsAuditedInUse in_use names = in_use names.book ⊎ IsAnswerInUse in_use names
+
+-- of the files that are claimed for what is asked for, one is in use
+abbrev pub IsOneInUse : (List ℕ → Type 0) → Asked → Type 0
+IsOneInUse in_use (serial names strictness) = IsAnswerInUse in_use names
+IsOneInUse in_use (run names workers engine strictness) = IsAnswerInUse in_use names
+IsOneInUse in_use (run_with_journal names workers journal strictness) = IsAnswerInUse in_use names ⊎ in_use journal
+IsOneInUse in_use (blocks names workers engine strictness) = IsAnswerInUse in_use names
+IsOneInUse in_use (audit names journal) = IsAuditedInUse in_use names
+IsOneInUse in_use (audit_blocks names) = IsAuditedInUse in_use names
+IsOneInUse in_use (pack text batch) = in_use batch
+IsOneInUse in_use what = ⊥
 
 -- why files are not claimed: another run has claimed one, or memory ran out
 abbrev pub IsClaimFault : Type 0 → Fault → Type 0
@@ -146,8 +160,23 @@ abbrev pub IsFaultIn : Type 0 → Holding → Holding → Failing → Asked → 
 IsFaultIn known old new devices what (Usage text) = AreAsTheyWere old new × (known → HasOneFile (names_apart what))
 IsFaultIn known old new devices what OutOfMemory = AreAsTheyWere old new
 IsFaultIn known old new devices what (Job fault) =
-    AreAsTheyWere old new × (IsJobFault old devices what fault ⊎ IsClaimFault devices.in_use (Job fault))
-IsFaultIn known old new devices what (Halted fault kept) = IsHaltedAs known old new devices.writing what fault kept × IsJobFault old devices what fault
+    AreAsTheyWere old new × (IsJobFault old devices what fault ⊎ IsClaimFault (IsOneInUse devices.in_use what) (Job fault))
+IsFaultIn known old new devices what (Halted fault kept) = IsHaltedAs known old new devices what fault kept × IsJobFault old devices what fault
+
+-- the line is what a person is told of the fault of a job: the name of one of the files, and the reason
+abbrev pub IsToldOfJob : Holding → Asked → JobFault → List ℕ → Type 0
+IsToldOfJob holds what fault line = (name : List ℕ) × (reason : Reason) × Tells holds what fault name reason × (line ≡ told_line name reason)
+
+-- only of faults of jobs something is told
+abbrev pub IsTold : Holding → Asked → Fault → List ℕ → Type 0
+IsTold holds what (Job fault) line = IsToldOfJob holds what fault line
+IsTold holds what (Halted fault kept) line = IsToldOfJob holds what fault line
+IsTold holds what _ line = ⊥
+
+-- what is asked for has this fault, and what is told is told of what the files hold now
+abbrev pub IsRefusalIn : Type 0 → Holding → Holding → Failing → Asked → Refusal → Type 0
+IsRefusalIn known old new devices what refusal =
+    IsFaultIn known old new devices what refusal.fault × IfSome refusal.words (λ line. IsTold new what refusal.fault line.items)
 
 -- the words alone have this fault
 abbrev pub IsFaultOfWords : List (List ℕ) → Fault → Type 0
@@ -163,6 +192,15 @@ IsAskedFor known old new words told = (what : Asked) × Asks words what × (know
 abbrev pub IsFaultOf : Type 0 → Holding → Holding → Failing → List (List ℕ) → Fault → Type 0
 IsFaultOf known old new devices words fault =
     (AreAsTheyWere old new × IsFaultOfWords words fault) ⊎ ((what : Asked) × Asks words what × IsFaultIn known old new devices what fault)
+
+-- of what the words ask for this is told
+abbrev pub IsToldFor : Holding → List (List ℕ) → Fault → List ℕ → Type 0
+IsToldFor holds words fault line = (what : Asked) × Asks words what × IsTold holds what fault line
+
+-- the words have this fault, and what is told is told of what they ask for
+abbrev pub IsRefusalOf : Type 0 → Holding → Holding → Failing → List (List ℕ) → Refusal → Type 0
+IsRefusalOf known old new devices words refusal =
+    IsFaultOf known old new devices words refusal.fault × IfSome refusal.words (λ line. IsToldFor new words refusal.fault line.items)
 
 -- the file of this name is none of those that are written for what the words ask for
 abbrev pub AreSparing : List (List ℕ) → List ℕ → Type 0
@@ -191,12 +229,15 @@ pub record IsUnreported (known : Type 0) (old_files new_files : Holding) (words 
   pub err : PrintsLine old.err new.err (codes "output 1")
   pub failed : status ≡ 1
 
--- the fault is a line of standard error, or two, nothing goes to standard output, and the status is the fault's
+-- The fault is a line of standard error, or two, and behind it may stand one more line, which tells a person the name of one of the files,
+-- the place and the reason; nothing goes to standard output, and the status is the fault's.
 pub record IsRefused (known : Type 0) (old_files new_files : Holding) (devices : Failing) (words : List (List ℕ)) (old new : Pages) (status : ℕ) : Type 0 where
   pub fault : Fault
   pub has : IsFaultOf known old_files new_files devices words fault
+  pub told : Option (Vec ℕ)
+  pub tells : IfSome told (λ line. IsToldFor new_files words fault line.items)
   pub out : new.out ≡ old.out
-  pub err : PrintsLine old.err new.err (text_of fault)
+  pub err : PrintsLine old.err new.err (text_of fault ++ behind (option_map (λ line. line.items) told))
   pub by_fault : status ≡ status_of fault
 
 -- the words are done, with or without a report, or refused

@@ -15,10 +15,10 @@ journal_apart names journal = (journal, names.replies) ∷ (journal, names.new_b
 
 -- the pairs of names that have to be of two files, for what is asked for
 abbrev pub names_apart : Asked → List (List ℕ × List ℕ)
-names_apart (serial names) = batch_apart names
-names_apart (run names workers engine) = batch_apart names
-names_apart (run_with_journal names workers journal) = journal_apart names journal ++ batch_apart names
-names_apart (blocks names workers engine) = batch_apart names
+names_apart (serial names strictness) = batch_apart names
+names_apart (run names workers engine strictness) = batch_apart names
+names_apart (run_with_journal names workers journal strictness) = journal_apart names journal ++ batch_apart names
+names_apart (blocks names workers engine strictness) = batch_apart names
 names_apart (pack text batch) = (batch, text) ∷ []
 names_apart what = []
 

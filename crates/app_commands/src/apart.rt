@@ -17,9 +17,9 @@ pub(crate) fn check_names<F: Files>(
     ensures fault { IfErr result (IsApartFault (F.is_known files.now) (names_apart (asked_of command.now))) }
 {
     match command {
-        Command::Serial(names) | Command::Run { names, .. } | Command::Blocks { names, .. } => {
-            check_batch(alloc, files, names)
-        }
+        Command::Serial { names, .. }
+        | Command::Run { names, .. }
+        | Command::Blocks { names, .. } => { check_batch(alloc, files, names) }
         Command::RunWithJournal { names, journal, .. } => {
             check_journal(alloc, files, names, journal.as_str())?;
             check_batch(alloc, files, names)

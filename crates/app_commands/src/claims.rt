@@ -1,6 +1,6 @@
 ghost use Rattle.std.specs.Prelude.{◌≡◌, IfErr};
-ghost use Rattle.file_devices.specs.Failing.{HasRefused};
-ghost use Rattle.app_commands.specs.Answered.{IsClaimFault};
+ghost use Rattle.app_arguments.specs.Asked.{asked_of, names_of};
+ghost use Rattle.app_commands.specs.Answered.{IsAnswerInUse, IsAuditedInUse, IsClaimFault, IsOneInUse};
 
 use crate::fault::Fault;
 use app_arguments::Command;
@@ -15,12 +15,12 @@ pub(crate) fn claim_files<F: Files>(
     files: &F,
     command: &Command,
 ) -> Result<Vec<F::Claim>, Fault>
-    ensures { IfErr result (IsClaimFault (HasRefused F.is_in_use)) }
+    ensures { IfErr result (IsClaimFault (IsOneInUse (F.failing files.now).in_use (asked_of command.now))) }
 {
     match command {
-        Command::Serial(names) | Command::Run { names, .. } | Command::Blocks { names, .. } => {
-            claim_answer(alloc, files, names)
-        }
+        Command::Serial { names, .. }
+        | Command::Run { names, .. }
+        | Command::Blocks { names, .. } => { claim_answer(alloc, files, names) }
         Command::RunWithJournal { names, journal, .. } => {
             let mut claims = claim_answer(alloc, files, names)?;
             claims.push(claim(files, journal.as_str())?)?;
@@ -44,7 +44,7 @@ fn claim_answer<F: Files>(
     files: &F,
     names: &BatchNames,
 ) -> Result<Vec<F::Claim>, Fault>
-    ensures { IfErr result (IsClaimFault (HasRefused F.is_in_use)) }
+    ensures { IfErr result (IsClaimFault (IsAnswerInUse (F.failing files.now).in_use (names_of names.now))) }
 {
     let mut claims = Vec::new(alloc);
     claims.push(claim(files, names.replies.as_str())?)?;
@@ -58,7 +58,7 @@ fn claim_audited<F: Files>(
     files: &F,
     names: &BatchNames,
 ) -> Result<Vec<F::Claim>, Fault>
-    ensures { IfErr result (IsClaimFault (HasRefused F.is_in_use)) }
+    ensures { IfErr result (IsClaimFault (IsAuditedInUse (F.failing files.now).in_use (names_of names.now))) }
 {
     let mut claims = Vec::new(alloc);
     claims.push(claim_to_read(files, names.book.as_str())?)?;
@@ -69,7 +69,7 @@ fn claim_audited<F: Files>(
 
 // Claims a file, to write it.
 fn claim<F: Files>(files: &F, name: &str) -> Result<F::Claim, Fault>
-    ensures { IfErr result (IsClaimFault (HasRefused F.is_in_use)) }
+    ensures { IfErr result (IsClaimFault ((F.failing files.now).in_use name.now)) }
 {
     match files.claim(name) {
         Ok(claim) => Ok(claim),
@@ -79,7 +79,7 @@ fn claim<F: Files>(files: &F, name: &str) -> Result<F::Claim, Fault>
 
 // Claims a file, to read it.
 fn claim_to_read<F: Files>(files: &F, name: &str) -> Result<F::Claim, Fault>
-    ensures { IfErr result (IsClaimFault (HasRefused F.is_in_use)) }
+    ensures { IfErr result (IsClaimFault ((F.failing files.now).in_use name.now)) }
 {
     match files.claim_to_read(name) {
         Ok(claim) => Ok(claim),

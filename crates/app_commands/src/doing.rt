@@ -1,20 +1,23 @@
-ghost use Rattle.std.specs.Prelude.{◌≡◌, MatchResult, OnOk, ℕ, List, None, Some, option_map, string_bytes};
+ghost use Rattle.std.specs.Prelude.{◌≡◌, IfSome, MatchResult, OnOk, ℕ, List, None, Some, option_map, string_bytes};
 ghost use Rattle.app_arguments.specs.Asked.{asked_of, audit, audit_blocks, blocks, names_of, one, pack, run, run_with_journal, serial, show};
 ghost use Rattle.file_devices.specs.Holding.{IsAsItWas};
 ghost use Rattle.app_commands.specs.Apart.{AreApart, names_apart};
-ghost use Rattle.app_commands.specs.Answered.{IsDoneAs, IsFaultIn, Spares, failing};
+ghost use Rattle.app_commands.specs.Answered.{IsDoneAs, IsFaultIn, IsRefusalIn, IsTold, Spares};
 
 use crate::apart::check_names;
 use crate::claims::claim_files;
 use crate::fault::Fault;
+use crate::refusal::Refusal;
 use crate::report::Report;
 use app_arguments::Command;
 use app_audit::{audit_text, block_audit_text};
 use app_jobs::{
     audit_batch, audit_batch_with_journal, audit_block_files, pack_batch, serial_batch, show_file,
 };
+use app_reasons::words_of;
 use app_runs::{decide_one, run_batch, run_batch_with_journal, run_blocks};
 use engine_workers::{Engine, Workers};
+use file_batch::Strictness;
 use file_devices::{BatchNames, Files};
 use std::alloc::Global;
 use std::sync::Wait;
@@ -26,17 +29,35 @@ pub(crate) fn done<R: Clock + Threads + Wait + Sync, F: Files>(
     rt: &R,
     alloc: Global,
     files: &mut F,
-    command: Command,
-) -> Result<Report, Fault>
-    ensures apart { OnOk result (F.is_known files.old → AreApart (names_apart (asked_of command))) }
+    command: &Command,
+) -> Result<Report, Refusal>
+    ensures apart { OnOk result (F.is_known files.old → AreApart (names_apart (asked_of command.now))) }
     ensures done { MatchResult result
-        (IsDoneAs (F.is_known files.old) (F.holds files.old) (F.holds files.new) (asked_of command))
-        (IsFaultIn (F.is_known files.old) (F.holds files.old) (F.holds files.new) (failing F.Input.has_failed F.Output.has_failed F.refuses F.is_in_use) (asked_of command)) }
-    ensures others { (other : List ℕ) → Spares (asked_of command) other → IsAsItWas (F.holds files.old) (F.holds files.new) other }
+        (IsDoneAs (F.is_known files.old) (F.holds files.old) (F.holds files.new) (asked_of command.now))
+        (IsRefusalIn (F.is_known files.old) (F.holds files.old) (F.holds files.new) (F.failing files.old) (asked_of command.now)) }
+    ensures others { (other : List ℕ) → Spares (asked_of command.now) other → IsAsItWas (F.holds files.old) (F.holds files.new) other }
 {
-    check_names(alloc, files, &command)?;
-    let _claims = claim_files(alloc, files, &command)?;
-    act_on(rt, alloc, files, command)
+    check_names(alloc, files, command)?;
+    let _claims = match claim_files(alloc, files, command) {
+        Ok(claims) => claims,
+        Err(fault) => return Err(explained(alloc, files, command, fault)),
+    };
+    match act_on(rt, alloc, files, command) {
+        Ok(report) => Ok(report),
+        Err(fault) => Err(explained(alloc, files, command, fault)),
+    }
+}
+
+// The fault, and what is told of it. What was claimed still is.
+fn explained<F: Files>(alloc: Global, files: &F, command: &Command, fault: Fault) -> Refusal
+    ensures fault { result.fault ≡ fault }
+    ensures words { IfSome result.words (λ line. IsTold (F.holds files.now) (asked_of command.now) fault line.items) }
+{
+    let words = match &fault {
+        Fault::Job(job) | Fault::Halted(job, _) => words_of(alloc, files, command, job),
+        Fault::Usage(_) | Fault::OutOfMemory => None,
+    };
+    Refusal { fault, words }
 }
 
 // Does what the command asks for.
@@ -44,38 +65,49 @@ fn act_on<R: Clock + Threads + Wait + Sync, F: Files>(
     rt: &R,
     alloc: Global,
     files: &mut F,
-    command: Command,
+    command: &Command,
 ) -> Result<Report, Fault>
     ensures done { MatchResult result
-        (IsDoneAs (F.is_known files.old) (F.holds files.old) (F.holds files.new) (asked_of command))
-        (IsFaultIn (F.is_known files.old) (F.holds files.old) (F.holds files.new) (failing F.Input.has_failed F.Output.has_failed F.refuses F.is_in_use) (asked_of command)) }
-    ensures others { (other : List ℕ) → Spares (asked_of command) other → IsAsItWas (F.holds files.old) (F.holds files.new) other }
+        (IsDoneAs (F.is_known files.old) (F.holds files.old) (F.holds files.new) (asked_of command.now))
+        (IsFaultIn (F.is_known files.old) (F.holds files.old) (F.holds files.new) (F.failing files.old) (asked_of command.now)) }
+    ensures others { (other : List ℕ) → Spares (asked_of command.now) other → IsAsItWas (F.holds files.old) (F.holds files.new) other }
 {
     match command {
-        Command::Help(text) => Ok(Report::Help(text)),
+        Command::Help(text) => Ok(Report::Help(String::from_str(alloc, text.as_str())?)),
         Command::Version => Ok(Report::Version),
-        Command::One(body) => Ok(Report::Answer(decide_one(rt, alloc, &body)?)),
-        Command::Serial(names) => serial(rt, alloc, files, &names),
+        Command::One(body) => Ok(Report::Answer(decide_one(rt, alloc, body)?)),
+        Command::Serial { names, strictness } => serial(rt, alloc, files, names, *strictness),
         Command::Run {
             names,
             workers,
             engine,
-        } => run(rt, alloc, files, &names, workers, engine),
+            strictness,
+        } => run(rt, alloc, files, names, *workers, *engine, *strictness),
         Command::RunWithJournal {
             names,
             workers,
             journal,
-        } => run_with_journal(rt, alloc, files, &names, workers, journal.as_str()),
+            strictness,
+        } => run_with_journal(
+            rt,
+            alloc,
+            files,
+            names,
+            *workers,
+            journal.as_str(),
+            *strictness,
+        ),
         Command::Blocks {
             names,
             workers,
             engine,
-        } => blocks(rt, alloc, files, &names, workers, engine),
+            strictness,
+        } => blocks(rt, alloc, files, names, *workers, *engine, *strictness),
         Command::Audit { names, journal } => match journal {
-            Some(journal) => audited_with_journal(rt, alloc, files, &names, journal.as_str()),
-            None => audited(rt, alloc, files, &names),
+            Some(journal) => audited_with_journal(rt, alloc, files, names, journal.as_str()),
+            None => audited(rt, alloc, files, names),
         },
-        Command::AuditBlocks(names) => audited_blocks(rt, alloc, files, &names),
+        Command::AuditBlocks(names) => audited_blocks(rt, alloc, files, names),
         Command::Show(file) => show(alloc, files, file.as_str()),
         Command::Pack { text, batch } => pack(alloc, files, text.as_str(), batch.as_str()),
     }
@@ -87,13 +119,14 @@ fn serial<R: Threads + Wait + Sync, F: Files>(
     alloc: Global,
     files: &mut F,
     names: &BatchNames,
+    strictness: Strictness,
 ) -> Result<Report, Fault>
     ensures done { MatchResult result
-        (IsDoneAs (F.is_known files.old) (F.holds files.old) (F.holds files.new) (serial (names_of names.now)))
-        (IsFaultIn (F.is_known files.old) (F.holds files.old) (F.holds files.new) (failing F.Input.has_failed F.Output.has_failed F.refuses F.is_in_use) (serial (names_of names.now))) }
-    ensures others { (other : List ℕ) → Spares (serial (names_of names.now)) other → IsAsItWas (F.holds files.old) (F.holds files.new) other }
+        (IsDoneAs (F.is_known files.old) (F.holds files.old) (F.holds files.new) (serial (names_of names.now) strictness))
+        (IsFaultIn (F.is_known files.old) (F.holds files.old) (F.holds files.new) (F.failing files.old) (serial (names_of names.now) strictness)) }
+    ensures others { (other : List ℕ) → Spares (serial (names_of names.now) strictness) other → IsAsItWas (F.holds files.old) (F.holds files.new) other }
 {
-    let count = serial_batch(rt, alloc, files, names)?;
+    let count = serial_batch(rt, alloc, files, names, strictness)?;
     Ok(Report::Decided(count))
 }
 
@@ -105,13 +138,14 @@ fn run<R: Clock + Threads + Wait + Sync, F: Files>(
     names: &BatchNames,
     workers: Workers,
     engine: Engine,
+    strictness: Strictness,
 ) -> Result<Report, Fault>
     ensures done { MatchResult result
-        (IsDoneAs (F.is_known files.old) (F.holds files.old) (F.holds files.new) (run (names_of names.now) workers engine))
-        (IsFaultIn (F.is_known files.old) (F.holds files.old) (F.holds files.new) (failing F.Input.has_failed F.Output.has_failed F.refuses F.is_in_use) (run (names_of names.now) workers engine)) }
-    ensures others { (other : List ℕ) → Spares (run (names_of names.now) workers engine) other → IsAsItWas (F.holds files.old) (F.holds files.new) other }
+        (IsDoneAs (F.is_known files.old) (F.holds files.old) (F.holds files.new) (run (names_of names.now) workers engine strictness))
+        (IsFaultIn (F.is_known files.old) (F.holds files.old) (F.holds files.new) (F.failing files.old) (run (names_of names.now) workers engine strictness)) }
+    ensures others { (other : List ℕ) → Spares (run (names_of names.now) workers engine strictness) other → IsAsItWas (F.holds files.old) (F.holds files.new) other }
 {
-    let count = run_batch(rt, alloc, files, names, workers, engine)?;
+    let count = run_batch(rt, alloc, files, names, workers, engine, strictness)?;
     Ok(Report::Decided(count))
 }
 
@@ -123,13 +157,14 @@ fn run_with_journal<R: Clock + Threads + Wait + Sync, F: Files>(
     names: &BatchNames,
     workers: Workers,
     journal: &str,
+    strictness: Strictness,
 ) -> Result<Report, Fault>
     ensures done { MatchResult result
-        (IsDoneAs (F.is_known files.old) (F.holds files.old) (F.holds files.new) (run_with_journal (names_of names.now) workers journal.now))
-        (IsFaultIn (F.is_known files.old) (F.holds files.old) (F.holds files.new) (failing F.Input.has_failed F.Output.has_failed F.refuses F.is_in_use) (run_with_journal (names_of names.now) workers journal.now)) }
-    ensures others { (other : List ℕ) → Spares (run_with_journal (names_of names.now) workers journal.now) other → IsAsItWas (F.holds files.old) (F.holds files.new) other }
+        (IsDoneAs (F.is_known files.old) (F.holds files.old) (F.holds files.new) (run_with_journal (names_of names.now) workers journal.now strictness))
+        (IsFaultIn (F.is_known files.old) (F.holds files.old) (F.holds files.new) (F.failing files.old) (run_with_journal (names_of names.now) workers journal.now strictness)) }
+    ensures others { (other : List ℕ) → Spares (run_with_journal (names_of names.now) workers journal.now strictness) other → IsAsItWas (F.holds files.old) (F.holds files.new) other }
 {
-    let count = run_batch_with_journal(rt, alloc, files, names, workers, journal)?;
+    let count = run_batch_with_journal(rt, alloc, files, names, workers, journal, strictness)?;
     Ok(Report::Decided(count))
 }
 
@@ -141,13 +176,14 @@ fn blocks<R: Clock + Threads + Wait + Sync, F: Files>(
     names: &BatchNames,
     workers: Workers,
     engine: Engine,
+    strictness: Strictness,
 ) -> Result<Report, Fault>
     ensures done { MatchResult result
-        (IsDoneAs (F.is_known files.old) (F.holds files.old) (F.holds files.new) (blocks (names_of names.now) workers engine))
-        (IsFaultIn (F.is_known files.old) (F.holds files.old) (F.holds files.new) (failing F.Input.has_failed F.Output.has_failed F.refuses F.is_in_use) (blocks (names_of names.now) workers engine)) }
-    ensures others { (other : List ℕ) → Spares (blocks (names_of names.now) workers engine) other → IsAsItWas (F.holds files.old) (F.holds files.new) other }
+        (IsDoneAs (F.is_known files.old) (F.holds files.old) (F.holds files.new) (blocks (names_of names.now) workers engine strictness))
+        (IsFaultIn (F.is_known files.old) (F.holds files.old) (F.holds files.new) (F.failing files.old) (blocks (names_of names.now) workers engine strictness)) }
+    ensures others { (other : List ℕ) → Spares (blocks (names_of names.now) workers engine strictness) other → IsAsItWas (F.holds files.old) (F.holds files.new) other }
 {
-    let count = run_blocks(rt, alloc, files, names, workers, engine)?;
+    let count = run_blocks(rt, alloc, files, names, workers, engine, strictness)?;
     Ok(Report::DecidedBlocks(count))
 }
 
@@ -160,7 +196,7 @@ fn audited<R: Threads, F: Files>(
 ) -> Result<Report, Fault>
     ensures { MatchResult result
         (IsDoneAs (F.is_known files.now) (F.holds files.now) (F.holds files.now) (audit (names_of names.now) None))
-        (IsFaultIn (F.is_known files.now) (F.holds files.now) (F.holds files.now) (failing F.Input.has_failed F.Output.has_failed F.refuses F.is_in_use) (audit (names_of names.now) None)) }
+        (IsFaultIn (F.is_known files.now) (F.holds files.now) (F.holds files.now) (F.failing files.now) (audit (names_of names.now) None)) }
 {
     let found = audit_batch(rt, alloc, files, names)?;
     let text = audit_text(alloc, &found)?;
@@ -177,7 +213,7 @@ fn audited_with_journal<R: Threads, F: Files>(
 ) -> Result<Report, Fault>
     ensures { MatchResult result
         (IsDoneAs (F.is_known files.now) (F.holds files.now) (F.holds files.now) (audit (names_of names.now) (Some journal.now)))
-        (IsFaultIn (F.is_known files.now) (F.holds files.now) (F.holds files.now) (failing F.Input.has_failed F.Output.has_failed F.refuses F.is_in_use) (audit (names_of names.now) (Some journal.now))) }
+        (IsFaultIn (F.is_known files.now) (F.holds files.now) (F.holds files.now) (F.failing files.now) (audit (names_of names.now) (Some journal.now))) }
 {
     let found = audit_batch_with_journal(rt, alloc, files, names, journal)?;
     let text = audit_text(alloc, &found)?;
@@ -193,7 +229,7 @@ fn audited_blocks<R: Threads, F: Files>(
 ) -> Result<Report, Fault>
     ensures { MatchResult result
         (IsDoneAs (F.is_known files.now) (F.holds files.now) (F.holds files.now) (audit_blocks (names_of names.now)))
-        (IsFaultIn (F.is_known files.now) (F.holds files.now) (F.holds files.now) (failing F.Input.has_failed F.Output.has_failed F.refuses F.is_in_use) (audit_blocks (names_of names.now))) }
+        (IsFaultIn (F.is_known files.now) (F.holds files.now) (F.holds files.now) (F.failing files.now) (audit_blocks (names_of names.now))) }
 {
     let found = audit_block_files(rt, alloc, files, names)?;
     let text = block_audit_text(alloc, &found)?;
@@ -204,7 +240,7 @@ fn audited_blocks<R: Threads, F: Files>(
 fn show<F: Files>(alloc: Global, files: &F, file: &str) -> Result<Report, Fault>
     ensures { MatchResult result
         (IsDoneAs (F.is_known files.now) (F.holds files.now) (F.holds files.now) (show file.now))
-        (IsFaultIn (F.is_known files.now) (F.holds files.now) (F.holds files.now) (failing F.Input.has_failed F.Output.has_failed F.refuses F.is_in_use) (show file.now)) }
+        (IsFaultIn (F.is_known files.now) (F.holds files.now) (F.holds files.now) (F.failing files.now) (show file.now)) }
 {
     let text = show_file(alloc, files, file)?;
     Ok(Report::Lines(text))
@@ -214,7 +250,7 @@ fn show<F: Files>(alloc: Global, files: &F, file: &str) -> Result<Report, Fault>
 fn pack<F: Files>(alloc: Global, files: &mut F, text: &str, batch: &str) -> Result<Report, Fault>
     ensures done { MatchResult result
         (IsDoneAs (F.is_known files.old) (F.holds files.old) (F.holds files.new) (pack text.now batch.now))
-        (IsFaultIn (F.is_known files.old) (F.holds files.old) (F.holds files.new) (failing F.Input.has_failed F.Output.has_failed F.refuses F.is_in_use) (pack text.now batch.now)) }
+        (IsFaultIn (F.is_known files.old) (F.holds files.old) (F.holds files.new) (F.failing files.old) (pack text.now batch.now)) }
     ensures others { (other : List ℕ) → Spares (pack text.now batch.now) other → IsAsItWas (F.holds files.old) (F.holds files.new) other }
 {
     let count = pack_batch(alloc, files, text, batch)?;

@@ -1,7 +1,11 @@
-ghost use Rattle.std.specs.Prelude.{◌≡◌, ◌++◌, ◌∷◌, [], None, OnOk, decimal, if◌then◌else◌};
+ghost use Rattle.std.specs.Prelude.{◌≡◌, ◌++◌, ◌∷◌, codes, [], None, OnOk, decimal, option_map, if◌then◌else◌};
 ghost use Rattle.std.specs.Io.KnownBytes.{Appends};
-ghost use Rattle.app_commands.specs.Printed.{decided_in_blocks, numbered, printed, Prints, PrintsLine};
+ghost use Rattle.app_commands.specs.Fault.{text_of};
+ghost use Rattle.app_commands.specs.Printed.{behind, count_unreadable, decided, decided_in_blocks, numbered, printed, unreadable, Prints, PrintsLine};
 
+use crate::fault::Fault;
+use app_jobs::BlockCount;
+use file_batch::BodyCount;
 use itoa::Buffer;
 use std::io;
 use std::io::Write;
@@ -51,22 +55,31 @@ impl<W: Write> Printer<W> {
         }
     }
 
-    /// Prints a line of a word, a space and a number, and another such line.
-    pub fn numbered_twice(&mut self, first: (&str, u64), second: (&str, u64))
-        ensures { PrintsLine (printed W.contents self.old) (printed W.contents self.new)
-            (numbered first.entry.0.now first.entry.1 ++ 10 ∷ numbered second.entry.0.now second.entry.1) }
+    /// Prints the line of a fault, or its two lines: what it is of and its number there, or what is wrong with the words; and behind it
+    /// what a person is told of it, if there is something.
+    pub fn fault(&mut self, fault: &Fault, words: Option<&[u8]>)
+        ensures { PrintsLine (printed W.contents self.old) (printed W.contents self.new) (text_of fault.now ++ behind (option_map (λ words. words.now) words.entry)) }
     {
         if !self.is_stuck {
-            self.is_stuck = write_twice(&mut self.writer, first, second).is_err();
+            self.is_stuck = write_refusal(&mut self.writer, fault, words).is_err();
         }
     }
 
-    /// Prints the line `decided N in M blocks`, for so many messages in so many blocks.
-    pub fn decided(&mut self, messages: u64, blocks: u64)
-        ensures { PrintsLine (printed W.contents self.old) (printed W.contents self.new) (decided_in_blocks messages blocks) }
+    /// Prints the line `decided N`, for so many bodies, and how many of them are unreadable, where some are.
+    pub fn decided(&mut self, count: BodyCount)
+        ensures { PrintsLine (printed W.contents self.old) (printed W.contents self.new) (decided count) }
     {
         if !self.is_stuck {
-            self.is_stuck = write_decided(&mut self.writer, messages, blocks).is_err();
+            self.is_stuck = write_decided(&mut self.writer, count).is_err();
+        }
+    }
+
+    /// Prints the line `decided N in M blocks`, for so many bodies in so many blocks, and how many of them are unreadable, where some are.
+    pub fn decided_in_blocks(&mut self, count: BlockCount)
+        ensures { PrintsLine (printed W.contents self.old) (printed W.contents self.new) (decided_in_blocks count) }
+    {
+        if !self.is_stuck {
+            self.is_stuck = write_decided_in_blocks(&mut self.writer, count).is_err();
         }
     }
 
@@ -101,23 +114,75 @@ fn write_numbered<W: Write>(writer: &mut W, word: &str, number: u64) -> io::Resu
     end_line(writer)
 }
 
-fn write_twice<W: Write>(writer: &mut W, first: (&str, u64), second: (&str, u64)) -> io::Result<()>
-    ensures { OnOk result (Appends (W.contents writer.old) (W.contents writer.new)
-        ((numbered first.entry.0.now first.entry.1 ++ 10 ∷ numbered second.entry.0.now second.entry.1) ++ 10 ∷ [])) }
+// The line of a fault, or its two lines.
+fn write_fault<W: Write>(writer: &mut W, fault: &Fault) -> io::Result<()>
+    ensures { OnOk result (Appends (W.contents writer.old) (W.contents writer.new) (text_of fault.now ++ 10 ∷ [])) }
 {
-    write_numbered(writer, first.0, first.1)?;
-    write_numbered(writer, second.0, second.1)
+    match fault {
+        Fault::Usage(text) => write_line(writer, text.as_bytes()),
+        Fault::OutOfMemory => write_line(writer, b"memory 1"),
+        Fault::Job(fault) => write_numbered(writer, fault.part(), fault.number() as u64),
+        Fault::Halted(fault, kept) => {
+            write_numbered(writer, fault.part(), fault.number() as u64)?;
+            write_numbered(writer, "kept", u64::from(*kept))
+        }
+    }
 }
 
-fn write_decided<W: Write>(writer: &mut W, messages: u64, blocks: u64) -> io::Result<()>
-    ensures { OnOk result (Appends (W.contents writer.old) (W.contents writer.new) (decided_in_blocks messages blocks ++ 10 ∷ [])) }
+// The line of a fault, and what is told behind it.
+fn write_refusal<W: Write>(writer: &mut W, fault: &Fault, words: Option<&[u8]>) -> io::Result<()>
+    ensures { OnOk result (Appends (W.contents writer.old) (W.contents writer.new)
+        ((text_of fault.now ++ behind (option_map (λ words. words.now) words.entry)) ++ 10 ∷ [])) }
+{
+    write_fault(writer, fault)?;
+    match words {
+        Some(words) => write_line(writer, words),
+        None => Ok(()),
+    }
+}
+
+fn write_decided<W: Write>(writer: &mut W, count: BodyCount) -> io::Result<()>
+    ensures { OnOk result (Appends (W.contents writer.old) (W.contents writer.new) (decided count ++ 10 ∷ [])) }
 {
     writer.write_all(b"decided ")?;
-    write_number(writer, messages)?;
-    writer.write_all(b" in ")?;
-    write_number(writer, blocks)?;
-    writer.write_all(b" blocks")?;
+    write_number(writer, u64::from(count.bodies))?;
+    write_unreadable(writer, count.unreadable)?;
     end_line(writer)
+}
+
+fn write_decided_in_blocks<W: Write>(writer: &mut W, count: BlockCount) -> io::Result<()>
+    ensures { OnOk result (Appends (W.contents writer.old) (W.contents writer.new) (decided_in_blocks count ++ 10 ∷ [])) }
+{
+    writer.write_all(b"decided ")?;
+    write_number(writer, u64::from(count.messages.bodies))?;
+    writer.write_all(b" in ")?;
+    write_number(writer, u64::from(count.blocks))?;
+    writer.write_all(b" blocks")?;
+    write_unreadable(writer, count.messages.unreadable)?;
+    end_line(writer)
+}
+
+fn write_unreadable<W: Write>(writer: &mut W, count: u32) -> io::Result<()>
+    ensures { OnOk result (Appends (W.contents writer.old) (W.contents writer.new) (unreadable count)) }
+{
+    if count == 0 {
+        return Ok(());
+    }
+    write_count_unreadable(writer, count)
+}
+
+fn write_count_unreadable<W: Write>(writer: &mut W, count: u32) -> io::Result<()>
+    ensures { OnOk result (Appends (W.contents writer.old) (W.contents writer.new) (count_unreadable count)) }
+{
+    writer.write_all(b", ")?;
+    write_number(writer, u64::from(count))?;
+    write_word_unreadable(writer)
+}
+
+fn write_word_unreadable<W: Write>(writer: &mut W) -> io::Result<()>
+    ensures { OnOk result (Appends (W.contents writer.old) (W.contents writer.new) (codes " unreadable")) }
+{
+    writer.write_all(b" unreadable")
 }
 
 fn write_number<W: Write>(writer: &mut W, number: u64) -> io::Result<()>

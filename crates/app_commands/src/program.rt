@@ -1,17 +1,16 @@
-ghost use Rattle.std.specs.Prelude.{◌≡◌, ◌≤◌, ℕ, List, map, MatchResult, string_bytes};
-ghost use Rattle.app_commands.specs.Answered.{AreSparing, IsActed, IsAskedFor, IsFaultOf, failing, status_of_report, text_of_report};
+ghost use Rattle.std.specs.Prelude.{◌≡◌, ◌≤◌, ◌++◌, ℕ, List, map, MatchResult, option_map, string_bytes};
+ghost use Rattle.app_commands.specs.Answered.{AreSparing, IsActed, IsAskedFor, IsRefusalOf, status_of_report, text_of_report};
 ghost use Rattle.app_commands.specs.Fault.{text_of};
-ghost use Rattle.app_commands.specs.declared.fault.Fault.TheVariants.{Halted};
-ghost use Rattle.app_commands.specs.Printed.{printed, Prints, PrintsLine};
+ghost use Rattle.app_commands.specs.Printed.{behind, printed, Prints, PrintsLine};
 ghost use Rattle.file_devices.specs.Holding.{IsAsItWas};
 
 use crate::doing::done;
 use crate::fault::Fault;
 use crate::printer::Printer;
+use crate::refusal::Refusal;
 use crate::report::Report;
 use app_arguments::read_arguments;
 use app_audit::{Audit, BlockAudit};
-use app_jobs::JobFault;
 use file_devices::Files;
 use std::alloc::Global;
 use std::io::Write;
@@ -20,8 +19,9 @@ use std::thread::Threads;
 use std::time::Clock;
 
 /// Does what the words say over these files, and returns the exit status: 0 done, 1 fault, 2 words that are no command or two names of
-/// one file, 3 an audit that found a difference. What is asked for goes to the first printer, a fault's text to the second. Where the
-/// first writer doesn't take all, that is a fault, too; what the second doesn't take is dropped.
+/// one file, 3 an audit that found a difference. What is asked for goes to the first printer, a fault's text to the second, and behind it
+/// the name of the file that has the fault, the place and the reason, where these are found. Where the first writer doesn't take all, that
+/// is a fault, too; what the second doesn't take is dropped.
 pub fn act<R: Clock + Threads + Wait + Sync, F: Files, O: Write, E: Write>(
     rt: &R,
     alloc: Global,
@@ -31,7 +31,7 @@ pub fn act<R: Clock + Threads + Wait + Sync, F: Files, O: Write, E: Write>(
     err: &mut Printer<E>,
 ) -> u8
     ensures status { result ≤ 3 }
-    ensures acted { IsActed (F.is_known files.old) (F.holds files.old) (F.holds files.new) (failing F.Input.has_failed F.Output.has_failed F.refuses F.is_in_use) (map string_bytes words.now)
+    ensures acted { IsActed (F.is_known files.old) (F.holds files.old) (F.holds files.new) (F.failing files.old) (map string_bytes words.now)
         (record { out = printed O.contents out.old; err = printed E.contents err.old; is_lost = out.old.is_stuck })
         (record { out = printed O.contents out.new; err = printed E.contents err.new; is_lost = out.new.is_stuck }) result }
     // A file that is none of those that are written for what the words ask for stays as it was.
@@ -46,9 +46,9 @@ pub fn act<R: Clock + Threads + Wait + Sync, F: Files, O: Write, E: Write>(
             }
             status_of(&report)
         }
-        Err(fault) => {
-            print_fault(&fault, err);
-            fault.status()
+        Err(refusal) => {
+            print_refusal(&refusal, err);
+            refusal.fault.status()
         }
     }
 }
@@ -59,14 +59,14 @@ fn answer<R: Clock + Threads + Wait + Sync, F: Files>(
     alloc: Global,
     files: &mut F,
     words: &[String],
-) -> Result<Report, Fault>
+) -> Result<Report, Refusal>
     ensures answered { MatchResult result
         (IsAskedFor (F.is_known files.old) (F.holds files.old) (F.holds files.new) (map string_bytes words.now))
-        (IsFaultOf (F.is_known files.old) (F.holds files.old) (F.holds files.new) (failing F.Input.has_failed F.Output.has_failed F.refuses F.is_in_use) (map string_bytes words.now)) }
+        (IsRefusalOf (F.is_known files.old) (F.holds files.old) (F.holds files.new) (F.failing files.old) (map string_bytes words.now)) }
     ensures others { (other : List ℕ) → AreSparing (map string_bytes words.now) other → IsAsItWas (F.holds files.old) (F.holds files.new) other }
 {
     let command = read_arguments(alloc, words)?;
-    done(rt, alloc, files, command)
+    done(rt, alloc, files, &command)
 }
 
 // 0 where the words are done, 3 for an audit that found a difference.
@@ -86,13 +86,21 @@ fn print_report<W: Write>(report: &Report, out: &mut Printer<W>)
     match report {
         Report::Help(text) | Report::Answer(text) => out.line(text.as_bytes()),
         Report::Version => out.line(b"switch 0.1.0"),
-        Report::Decided(count) => out.numbered("decided", *count as u64),
-        Report::DecidedBlocks(count) => {
-            out.decided(u64::from(count.messages), u64::from(count.blocks));
-        }
+        Report::Decided(count) => out.decided(*count),
+        Report::DecidedBlocks(count) => out.decided_in_blocks(*count),
         Report::Packed(count) => out.numbered("packed", *count as u64),
         Report::Audited(_, text) | Report::AuditedBlocks(_, text) => out.line(text),
         Report::Lines(text) => out.text(text),
+    }
+}
+
+// The line of the fault, or its two lines, and what is told behind it.
+fn print_refusal<W: Write>(refusal: &Refusal, err: &mut Printer<W>)
+    ensures { PrintsLine (printed W.contents err.old) (printed W.contents err.new) (text_of refusal.now.fault ++ behind (option_map (λ line. line.items) refusal.now.words)) }
+{
+    match &refusal.words {
+        Some(words) => err.fault(&refusal.fault, Some(words.as_slice())),
+        None => err.fault(&refusal.fault, None),
     }
 }
 
@@ -100,18 +108,5 @@ fn print_report<W: Write>(report: &Report, out: &mut Printer<W>)
 pub fn print_fault<W: Write>(fault: &Fault, err: &mut Printer<W>)
     ensures { PrintsLine (printed W.contents err.old) (printed W.contents err.new) (text_of fault.now) }
 {
-    match fault {
-        Fault::Usage(text) => err.line(text.as_bytes()),
-        Fault::OutOfMemory => err.line(b"memory 1"),
-        Fault::Job(fault) => err.numbered(fault.part(), fault.number() as u64),
-        Fault::Halted(fault, kept) => print_halt(fault, *kept, err),
-    }
-}
-
-// The line of a fault, and how many blocks are kept.
-fn print_halt<W: Write>(fault: &JobFault, kept: u32, err: &mut Printer<W>)
-    ensures { PrintsLine (printed W.contents err.old) (printed W.contents err.new) (text_of (Halted fault.now kept)) }
-{
-    let kept = ("kept", u64::from(kept));
-    err.numbered_twice((fault.part(), fault.number() as u64), kept);
+    err.fault(fault, None);
 }

@@ -1,18 +1,19 @@
 use app_audit::{Audit, BlockAudit};
 use app_jobs::BlockCount;
+use file_batch::BodyCount;
 
-/// What the program says of what it did.
+/// What the program says of what it did, as its contract has it.
 #[derive(Drop)]
-pub(crate) enum Report {
+pub enum Report {
     /// This help.
     Help(String),
     /// Its version.
     Version,
     /// This answer to one body.
     Answer(String),
-    /// So many messages were decided.
-    Decided(usize),
-    /// So many messages were decided in so many blocks.
+    /// A batch of so many bodies was decided.
+    Decided(BodyCount),
+    /// So many blocks were decided.
     DecidedBlocks(BlockCount),
     /// So many bodies were packed.
     Packed(usize),

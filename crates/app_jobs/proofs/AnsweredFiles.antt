@@ -1,31 +1,32 @@
 -- From what a batch came to, and that it is put in place, to files that are decided.
-use Rattle.std.proofs.Common.{◌≡◌, ◌⊎◌, ℕ, List, [], ◌∷◌, ◌∙◌, inl, inr, sym, string_bytes, Result, Ok, Err}
+use Rattle.std.proofs.Common.{◌≡◌, ◌⊎◌, ◌<◌, ℕ, List, [], ◌∷◌, ◌∙◌, ap, inl, inr, sym, string_bytes, Result, Ok, Err}
+use Rattle.file_batch.specs.Counting.{Admits, count_of}
+use Rattle.file_batch.specs.declared.body_count.BodyCount.{BodyCount}
+use Rattle.file_batch.specs.declared.strictness.Strictness.{Strictness}
+use Rattle.file_batch.specs.declared.strictness.Strictness.TheVariants.{Strict}
+use Rattle.file_batch_laws.specs.Blocks.{IsBlockFileOf, all_messages}
+use Rattle.file_batch_laws.specs.Frames.{IsBatchOf}
 use Rattle.file_devices.specs.BatchNames.{Names}
-use Rattle.file_devices.specs.Holding.{AreAsTheyWere, ArePlaced, IsAsItWas, IsNoneNamed, IsThere}
+use Rattle.file_devices.specs.Failing.{Failing}
+use Rattle.file_devices.specs.Holding.{AreAsTheyWere, ArePlaced, HasOneNamed, IsAsItWas, IsNoneNamed, IsThere}
+use Rattle.file_devices.specs.declared.write_fault.WriteFault.{WriteFault}
+use Rattle.file_devices.specs.declared.write_fault.WriteFault.TheVariants as write
 use Rattle.file_devices.specs.declared.written.Written.{Written}
-use Rattle.file_devices.proofs.Placing.{none_of_two, placed_two}
+use Rattle.file_devices.proofs.Placing.{none_of_two, one_of_two, placed_two}
 use Rattle.issuer_rows.specs.Fold.{Rows}
+use Rattle.issuer_rows.specs.declared.frame.Frame.{Frame}
+use Rattle.app_jobs.specs.BlockFaults.{IsStrictBlocksFault}
 use Rattle.app_jobs.specs.Decided.{Holding, IsAnswered, IsBookOf}
 use Rattle.app_jobs.specs.Deciding.{DecidesFiles, PutsAnswer}
-use Rattle.app_jobs.specs.Faults.{IsAnsweringFault, IsBookFault, IsPuttingFault}
+use Rattle.app_jobs.specs.Faults.{IsAnsweringFault, IsBookFault, IsStrictFault, MayBeRefused, MayNotBePut}
+use Rattle.app_jobs.specs.JobFault.{fault_of_write}
+use Rattle.app_jobs.proofs.Faults.{answering_more, putting_more, unput_file}
 use Rattle.app_jobs.specs.declared.job_fault.JobFault.{JobFault}
-use Rattle.app_jobs.specs.declared.job_fault.JobFault.TheVariants.{Unwritable, OutOfMemory}
+use Rattle.app_jobs.specs.declared.job_fault.JobFault.TheVariants.{Bodies}
 
 -- files that nobody touches stay as they are
 pub untouched : (old : Holding) → AreAsTheyWere old old
 untouched old name = record { kept = λ bytes h. h; no_other = λ bytes h. h }
-
--- a name that is refused is why a file is not written, too
-pub of_refused : (put_failed refused : Type 0) (fault : JobFault) → IsPuttingFault refused fault → IsPuttingFault (put_failed ⊎ refused) fault
-of_refused put_failed refused Unwritable h = inr h
-of_refused put_failed refused OutOfMemory h = tt
-of_refused put_failed refused _ h = absurd h
-
--- and so is a call that failed
-pub of_failed : (put_failed refused : Type 0) (fault : JobFault) → IsPuttingFault put_failed fault → IsPuttingFault (put_failed ⊎ refused) fault
-of_failed put_failed refused Unwritable h = inl h
-of_failed put_failed refused OutOfMemory h = tt
-of_failed put_failed refused _ h = absurd h
 
 -- replies and the book after them, put in place one behind the other
 pub answer_placed : {F O : Type 0} (is_known : F → Type 0) (holds : F → Holding) (is_known_output : O → Type 0) (written : O → List ℕ) (refused : Type 0)
@@ -50,11 +51,27 @@ answer_placed is_known holds is_known_output written refused old new names a b r
   known = known;
 }
 
+-- replies and the book after them, which are not put in place
+pub answer_unput : {F O : Type 0} (is_known : F → Type 0) (holds : F → Holding) (failing : Failing)
+    (old new : F) (names : Names) (a b : Written O) (files : List (Written O)) (replied booked : Type 0) (e : WriteFault) → files ≡ a ∷ b ∷ []
+    → string_bytes a.name ≡ names.replies → string_bytes b.name ≡ names.new_book
+    → AreAsTheyWere (holds old) (holds new) → (e ≡ write.Unwritable → HasOneNamed failing.refused files) → (is_known old → is_known new)
+    → PutsAnswer is_known holds (MayBeRefused failing names) old new names replied booked (Err (fault_of_write e))
+answer_unput is_known holds failing old new names a b files replied booked e are first second kept refused known = record {
+  replies = tt;
+  book = tt;
+  kept = kept;
+  fault = unput_file (MayBeRefused failing names) e (λ is. rw (first, second) at (one_of_two failing.refused a b (rw are at (refused is))));
+  others = λ other apart further. kept other;
+  known = known;
+}
+
 -- the book has a fault
-pub unopened : {F : Type 0} (is_known : F → Type 0) (holds : F → Holding) (read_failed put_failed refused : Type 0) (old : F) (names : Names) (fault : JobFault)
-    → IsBookFault (holds old) names.book read_failed fault → DecidesFiles is_known holds read_failed put_failed refused old old names (Err fault)
-unopened is_known holds read_failed put_failed refused old names fault h = record {
+pub unopened : {F : Type 0} (is_known : F → Type 0) (holds : F → Holding) (failing : F → Failing) (strictness : Strictness) (old : F) (names : Names) (fault : JobFault)
+    → IsBookFault (holds old) (failing old) names.book fault → DecidesFiles is_known holds failing strictness old old names (Err fault)
+unopened is_known holds failing strictness old names fault h = record {
   decided = tt;
+  admitted = tt;
   fault = inl h;
   kept = untouched (holds old);
   others = λ other replies book. untouched (holds old) other;
@@ -62,39 +79,70 @@ unopened is_known holds read_failed put_failed refused old names fault h = recor
 }
 
 -- behind a book, the batch is not answered
-pub unanswered : {F : Type 0} (is_known : F → Type 0) (holds : F → Holding) (read_failed put_failed refused : Type 0) (old : F) (names : Names) (rows : Rows) (fault : JobFault)
-    → IsBookOf (holds old) names.book rows → IsAnsweringFault (holds old) names.batch read_failed put_failed refused fault
-    → DecidesFiles is_known holds read_failed put_failed refused old old names (Err fault)
-unanswered is_known holds read_failed put_failed refused old names rows fault opening h = record {
+pub unanswered : {F : Type 0} (is_known : F → Type 0) (holds : F → Holding) (failing : F → Failing) (strictness : Strictness) (old : F) (names : Names) (rows : Rows) (fault : JobFault)
+    → IsBookOf (holds old) names.book rows → IsAnsweringFault (holds old) (failing old) names (MayNotBePut (failing old) names.new_book) fault
+    → DecidesFiles is_known holds failing strictness old old names (Err fault)
+unanswered is_known holds failing strictness old names rows fault opening h = record {
   decided = tt;
-  fault = inr ((rows, opening), h);
+  admitted = tt;
+  fault = inr ((rows, opening), inl (answering_more (holds old) (failing old) names _ _ fault (λ f. inl f) h));
+  kept = untouched (holds old);
+  others = λ other replies book. untouched (holds old) other;
+  known = λ k. k;
+}
+
+-- where a batch is strict, and some of its bodies are no message, it is refused
+pub is_strict : (strictness : Strictness) (old : Holding) (batch : List ℕ) (frames : List Frame) (count : BodyCount) (fault : JobFault)
+    → (strictness ≡ Strict) × (0 < count.unreadable) × (fault ≡ Bodies count.unreadable) → count ≡ count_of frames
+    → ((bytes : List ℕ) → old batch bytes → IsBatchOf bytes frames) → IsStrictFault strictness old batch fault
+is_strict strictness old batch frames count fault refused counted messages =
+    rw (refused.0, refused.2) (refused.1, frames, ap (λ (c : BodyCount). c.unreadable) counted, messages)
+
+-- so are blocks
+pub are_strict : (strictness : Strictness) (old : Holding) (batch : List ℕ) (blocks : List (List Frame)) (count : BodyCount) (fault : JobFault)
+    → (strictness ≡ Strict) × (0 < count.unreadable) × (fault ≡ Bodies count.unreadable) → count ≡ count_of (all_messages blocks)
+    → ((bytes : List ℕ) → old batch bytes → IsBlockFileOf bytes blocks) → IsStrictBlocksFault strictness old batch fault
+are_strict strictness old batch blocks count fault refused counted messages =
+    rw (refused.0, refused.2) (refused.1, blocks, ap (λ (c : BodyCount). c.unreadable) counted, messages)
+
+-- such a batch leaves all files as they are
+pub refused : {F O : Type 0} (is_known : F → Type 0) (holds : F → Holding) (is_known_output : O → Type 0) (written : O → List ℕ) (failing : F → Failing) (strictness : Strictness)
+    (old : F) (names : Names) (rows : Rows) (count : BodyCount) (replies new_book : O) (fault : JobFault)
+    → IsBookOf (holds old) names.book rows → IsAnswered is_known_output written (is_known old) (holds old) names.batch rows count replies new_book
+    → (strictness ≡ Strict) × (0 < count.unreadable) × (fault ≡ Bodies count.unreadable)
+    → DecidesFiles is_known holds failing strictness old old names (Err fault)
+refused is_known holds is_known_output written failing strictness old names rows count replies new_book fault opening answered why = record {
+  decided = tt;
+  admitted = tt;
+  fault = inr ((rows, opening), inr (is_strict strictness (holds old) names.batch answered.frames count fault why answered.counted answered.messages));
   kept = untouched (holds old);
   others = λ other replies book. untouched (holds old) other;
   known = λ k. k;
 }
 
 -- what it comes to is not put in place
-pub unput : {F O : Type 0} (is_known : F → Type 0) (holds : F → Holding) (is_known_output : O → Type 0) (written : O → List ℕ) (read_failed put_failed refused : Type 0)
-    (old new : F) (names : Names) (rows : Rows) (count : ℕ) (replies new_book : O) (replied booked : Type 0) (fault : JobFault)
+pub unput : {F O : Type 0} (is_known : F → Type 0) (holds : F → Holding) (is_known_output : O → Type 0) (written : O → List ℕ) (failing : F → Failing) (strictness : Strictness)
+    (old new : F) (names : Names) (rows : Rows) (count : BodyCount) (replies new_book : O) (replied booked : Type 0) (fault : JobFault)
     → IsBookOf (holds old) names.book rows → IsAnswered is_known_output written (is_known old) (holds old) names.batch rows count replies new_book
-    → PutsAnswer is_known holds refused old new names replied booked (Err fault) → DecidesFiles is_known holds read_failed put_failed refused old new names (Err fault)
-unput is_known holds is_known_output written read_failed put_failed refused old new names rows count replies new_book replied booked fault opening answered put = record {
+    → PutsAnswer is_known holds (MayBeRefused (failing old) names) old new names replied booked (Err fault) → DecidesFiles is_known holds failing strictness old new names (Err fault)
+unput is_known holds is_known_output written failing strictness old new names rows count replies new_book replied booked fault opening answered put = record {
   decided = tt;
-  fault = inr ((rows, opening), inr ((answered.frames, answered.messages), of_refused put_failed refused fault put.fault));
+  admitted = tt;
+  fault = inr ((rows, opening), inl (inr ((answered.frames, answered.messages), putting_more _ _ fault (λ f. inr f) put.fault)));
   kept = put.kept;
   others = put.others;
   known = put.known;
 }
 
 -- what it comes to is put in place
-pub put : {F O : Type 0} (is_known : F → Type 0) (holds : F → Holding) (is_known_output : O → Type 0) (written : O → List ℕ) (read_failed put_failed refused : Type 0)
-    (old new : F) (names : Names) (rows : Rows) (count : ℕ) (replies new_book : O)
+pub put : {F O : Type 0} (is_known : F → Type 0) (holds : F → Holding) (is_known_output : O → Type 0) (written : O → List ℕ) (failing : F → Failing) (strictness : Strictness)
+    (old new : F) (names : Names) (rows : Rows) (count : BodyCount) (replies new_book : O)
     → (is_known old → IsThere (holds old) names.book) → IsBookOf (holds old) names.book rows
     → IsAnswered is_known_output written (is_known old) (holds old) names.batch rows count replies new_book
-    → PutsAnswer is_known holds refused old new names (is_known_output replies → holds new names.replies (written replies))
+    → PutsAnswer is_known holds (MayBeRefused (failing old) names) old new names (is_known_output replies → holds new names.replies (written replies))
     (is_known_output new_book → holds new names.new_book (written new_book)) (Ok tt)
-    → DecidesFiles is_known holds read_failed put_failed refused old new names (Ok count)
-put is_known holds is_known_output written read_failed put_failed refused old new names rows count replies new_book there opening answered placed = record {
+    → Admits strictness count → DecidesFiles is_known holds failing strictness old new names (Ok count)
+put is_known holds is_known_output written failing strictness old new names rows count replies new_book there opening answered placed admits = record {
   decided = record {
     rows = rows;
     frames = answered.frames;
@@ -112,6 +160,7 @@ put is_known holds is_known_output written read_failed put_failed refused old ne
         let text = answered.replied k in
         rw (← text.1) (placed.replies k apart text.0);
   };
+  admitted = admits;
   fault = tt;
   kept = tt;
   others = placed.others;

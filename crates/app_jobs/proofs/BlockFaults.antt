@@ -1,16 +1,16 @@
 -- Faults of block files.
-use Rattle.std.proofs.Common.{◌≡◌, ◌⊎◌, ◌||◌, ℕ, Bool, false, List, inl, inr, refl}
+use Rattle.std.proofs.Common.{◌≡◌, ◌⊎◌, ℕ, List, inl, inr, refl}
 use Rattle.std.specs.Prelude.{IsTrue}
 use Rattle.file_blocks.specs.Blocks.{StopsBefore, StopsInHead, StopsInBlocks}
-use Rattle.file_batch_laws.specs.BatchFault.{failed_at, is_of_bytes}
+use Rattle.file_batch_laws.specs.BatchFault.{is_of_bytes}
 use Rattle.file_batch_laws.specs.declared.batch_fault.BatchFault.{BatchFault}
-use Rattle.file_devices.specs.Failing.{HasFailed}
+use Rattle.file_batch_laws.specs.declared.batch_fault.BatchFault.TheVariants.{Device}
+use Rattle.file_devices.specs.BatchNames.{Names}
+use Rattle.file_devices.specs.Failing.{Failing}
 use Rattle.issuer_rows.specs.Fold.{Rows}
 use Rattle.app_jobs.specs.Decided.{Holding}
 use Rattle.app_jobs.specs.declared.job_fault.JobFault.TheVariants.{Batch}
-use Rattle.app_jobs.proofs.Faults.{one_failed}
-use Rattle.app_jobs.proofs.FirstBlocks.{device_alone}
-use Rattle.app_jobs.specs.BlockFaults.{FailsAsBlocks, IsBlockFileFault}
+use Rattle.app_jobs.specs.BlockFaults.{FailsAsBlocks, IsBlocksReplyingFault}
 
 -- where blocks stop for what the bytes are, that is the bytes' first fault
 pub first_fault : (rows after : Rows) (count : ℕ) (reads : Type 0) (bytes : List ℕ) (puts : Type 0) (start written : List ℕ) (fault : BatchFault) (same failed : Type 0)
@@ -24,18 +24,22 @@ first_fault rows after count reads bytes puts start written fault same failed de
     let kept = behind.3.kept in
     inr (behind.0, behind.1, behind.2 r, (kept.blocks, behind.3.left, kept.read r, rw kept.number (behind.3.fails r t)))
 
--- why blocks stop, where both devices had not failed before
-pub stopped : (old : Holding) (batch : List ℕ) {X Y : Type 0} (reading : X → Bool) (putting : Y → Bool) (refused : Type 0)
+-- a block file is read and replies are written: the fault of both is the block file's or the replies'
+pub unreplied_blocks : (old : Holding) (failing : Failing) (names : Names) (fault : BatchFault)
+    → ((bytes : List ℕ) → old names.batch bytes → IsTrue (is_of_bytes fault) → FailsAsBlocks bytes fault)
+    → (fault ≡ Device → failing.reading names.batch ⊎ failing.writing names.replies) → IsBlocksReplyingFault old failing names (Batch fault)
+unreplied_blocks old failing names Device first device = elim (device refl) [ inl r ↦ inl (first, λ d. r) | inr w ↦ inr ((λ t. absurd cc), λ d. w) ]
+unreplied_blocks old failing names _ first device = inl (first, λ d. absurd cc)
+
+-- why blocks stop
+pub stopped : (old : Holding) (failing : Failing) (names : Names)
     (rows after : Rows) (count : ℕ) (reads : Type 0) (bytes : List ℕ) (puts : Type 0) (start written : List ℕ) (fault : BatchFault) (same failed : Type 0)
-    (x : X) (y : Y) → (reading x || putting y) ≡ failed_at fault false → (failed → IsTrue (putting y))
-    → ((held : List ℕ) → old batch held → reads × (bytes ≡ held))
+    → (failed → ¬ IsTrue (is_of_bytes fault)) → (fault ≡ Device → failing.reading names.batch ⊎ failing.writing names.replies)
+    → ((held : List ℕ) → old names.batch held → reads × (bytes ≡ held))
     → StopsBefore rows after count reads bytes fault same
     ⊎ (StopsInHead rows after count reads bytes puts start written failed ⊎ StopsInBlocks rows after count reads bytes puts start written fault failed)
-    → IsBlockFileFault old batch (HasFailed reading) (HasFailed putting) refused (Batch fault)
-stopped old batch reading putting refused rows after count reads bytes puts start written fault same failed x y sum alone opened h = (
-  (λ held o t. rw (← (opened held o).1) (first_fault rows after count reads bytes puts start written fault same failed
-      (λ f. device_alone fault (reading x) (putting y) sum (alone f)) h (opened held o).0 t)),
-  (λ d.
-      let failing = rw d at sum in
-      one_failed reading putting refused x y failing),
-)
+    → IsBlocksReplyingFault old failing names (Batch fault)
+stopped old failing names rows after count reads bytes puts start written fault same failed alone device opened h =
+    unreplied_blocks old failing names fault
+    (λ held o t. rw (← (opened held o).1) (first_fault rows after count reads bytes puts start written fault same failed alone h (opened held o).0 t))
+    device

@@ -1,28 +1,53 @@
 -- Faults of the parts of a job.
-use Rattle.std.proofs.Common.{◌≡◌, ◌⊎◌, ◌||◌, ℕ, Bool, true, List, inl, inr, refl}
-use Rattle.std.proofs.lemmas.Bool.{or_cases}
-use Rattle.file_devices.specs.Failing.{HasFailed}
+use Rattle.std.proofs.Common.{◌≡◌, ◌⊎◌, ℕ, List, inl, inr, refl}
+use Rattle.std.specs.Prelude.{Err, IsTrue}
+use Rattle.file_batch_laws.specs.BatchFault.{is_of_bytes}
+use Rattle.file_batch_laws.specs.Reading.{bodies_of, batch_magic}
+use Rattle.file_batch_laws.specs.declared.batch_fault.BatchFault.{BatchFault}
+use Rattle.file_batch_laws.specs.declared.batch_fault.BatchFault.TheVariants.{Device}
+use Rattle.file_devices.specs.BatchNames.{Names}
+use Rattle.file_devices.specs.Failing.{Failing}
 use Rattle.file_devices.specs.declared.write_fault.WriteFault.{WriteFault}
 use Rattle.file_devices.specs.declared.write_fault.WriteFault.TheVariants as write
 use Rattle.app_jobs.specs.Decided.{Holding}
-use Rattle.app_jobs.specs.Faults.{IsBatchFault, IsRepliesFault, IsPuttingFault}
+use Rattle.app_jobs.specs.Faults.{IsAnsweringFault, IsReplyingFault, IsWritingFault, IsPuttingFault}
 use Rattle.app_jobs.specs.JobFault.{fault_of_write}
 use Rattle.app_jobs.specs.declared.job_fault.JobFault.{JobFault}
-use Rattle.app_jobs.specs.declared.job_fault.JobFault.TheVariants.{Batch, OutOfMemory}
+use Rattle.app_jobs.specs.declared.job_fault.JobFault.TheVariants.{Batch, Unwritable, OutOfMemory}
 
 -- a file that isn't put in its place
-pub unput : (refused : Type 0) (e : WriteFault) → (e ≡ write.Unwritable → refused) → IsPuttingFault refused (fault_of_write e)
-unput refused write.Unwritable h = h refl
-unput refused write.OutOfMemory h = tt
+pub unput_file : (may_fail : Type 0) (e : WriteFault) → (e ≡ write.Unwritable → may_fail) → IsPuttingFault may_fail (fault_of_write e)
+unput_file may_fail write.Unwritable h = h refl
+unput_file may_fail write.OutOfMemory h = tt
 
--- of two devices one failed, for a fault of a batch
-pub one_failed : {X Y : Type 0} (reading : X → Bool) (putting : Y → Bool) (refused : Type 0) (x : X) (y : Y) → (reading x || putting y) ≡ true
-    → HasFailed reading ⊎ (HasFailed putting ⊎ refused)
-one_failed reading putting refused x y failed = elim (or_cases (reading x) (putting y) failed) [ inl a ↦ inl (x, a) | inr b ↦ inr (inl (y, b)) ]
+-- a file that isn't made
+pub unmade_file : (may_fail refused : Type 0) (e : WriteFault) → (e ≡ write.Unwritable → refused) → IsWritingFault may_fail refused (fault_of_write e)
+unmade_file may_fail refused write.Unwritable h = h refl
+unmade_file may_fail refused write.OutOfMemory h = tt
 
--- that replies are not written to their file is a fault of the batch
-pub of_replies : (old : Holding) (name : List ℕ) (read_failed put_failed refused : Type 0) (e : JobFault)
-    → IsRepliesFault put_failed refused e → IsBatchFault old name read_failed put_failed refused e
-of_replies old name read_failed put_failed refused (Batch fault) h = (λ bytes o t. absurd (h.0 t), λ d. inr (h.1 d))
-of_replies old name read_failed put_failed refused OutOfMemory h = tt
-of_replies old name read_failed put_failed refused _ h = absurd h
+-- why a file is not put may be one of several reasons
+pub putting_more : (may_fail others : Type 0) (fault : JobFault) → (may_fail → others) → IsPuttingFault may_fail fault → IsPuttingFault others fault
+putting_more may_fail others Unwritable more h = more h
+putting_more may_fail others OutOfMemory more h = tt
+putting_more may_fail others _ more h = absurd h
+
+-- the same of why a file is not written
+pub writing_more : (may_fail others refused refusing : Type 0) (fault : JobFault) → (may_fail → others) → (refused → refusing)
+    → IsWritingFault may_fail refused fault → IsWritingFault others refusing fault
+writing_more may_fail others refused refusing (Batch fault) more further h = (h.0, λ d. more (h.1 d))
+writing_more may_fail others refused refusing Unwritable more further h = further h
+writing_more may_fail others refused refusing OutOfMemory more further h = tt
+writing_more may_fail others refused refusing _ more further h = absurd h
+
+-- the same of why what a batch comes to is not put
+pub answering_more : (old : Holding) (failing : Failing) (names : Names) (may_fail others : Type 0) (fault : JobFault) → (may_fail → others)
+    → IsAnsweringFault old failing names may_fail fault → IsAnsweringFault old failing names others fault
+answering_more old failing names may_fail others fault more (inl h) = inl h
+answering_more old failing names may_fail others fault more (inr (some, h)) = inr (some, putting_more may_fail others fault more h)
+
+-- a batch is read and replies are written: the fault of both is the batch's or the replies'
+pub unreplied : (old : Holding) (failing : Failing) (names : Names) (fault : BatchFault)
+    → ((bytes : List ℕ) → old names.batch bytes → IsTrue (is_of_bytes fault) → bodies_of batch_magic bytes ≡ Err fault)
+    → (fault ≡ Device → failing.reading names.batch ⊎ failing.writing names.replies) → IsReplyingFault old failing names (Batch fault)
+unreplied old failing names Device first device = elim (device refl) [ inl r ↦ inl (first, λ d. r) | inr w ↦ inr ((λ t. absurd cc), λ d. w) ]
+unreplied old failing names _ first device = inl (first, λ d. absurd cc)

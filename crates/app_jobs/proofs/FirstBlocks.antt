@@ -101,7 +101,7 @@ device_alone _ reading putting failed alone of_bytes =
     let none : putting ≡ false = (or_parts reading putting failed).1 in
     absurd (cc (none, alone))
 
--- what follows from two facts of an error
-pub from_both : {T E : Type 0} (r : Result T E) (P Q S : E → Type 0) → ((e : E) → P e → Q e → S e) → IfErr r P → IfErr r Q → IfErr r S
-from_both (Ok x) P Q S follows p q = tt
-from_both (Err e) P Q S follows p q = follows e p q
+-- what follows from three facts of an error
+pub from_three : {T E : Type 0} (r : Result T E) (P Q R S : E → Type 0) → ((e : E) → P e → Q e → R e → S e) → IfErr r P → IfErr r Q → IfErr r R → IfErr r S
+from_three (Ok x) P Q R S follows p q h = tt
+from_three (Err e) P Q R S follows p q h = follows e p q h

@@ -9,11 +9,7 @@ use Rattle.hex.specs.Hex.{decode_of}
 use Rattle.hex.specs.declared.FromHexError.{FromHexError}
 use Rattle.file_batch.specs.Bodies.{bytes_of}
 use Rattle.file_batch_laws.specs.Files.{AreBodies, IsBody}
-use Rattle.file_devices.specs.declared.write_fault.WriteFault.{WriteFault}
-use Rattle.file_devices.specs.declared.write_fault.WriteFault.TheVariants as write
 use Rattle.file_listing.specs.Bodies.{alone, body_of, bodies_from, bodies_of, fitting, line_bodies, lines_of, then_bodies}
-use Rattle.app_jobs.specs.JobFault.{fault_of_write}
-use Rattle.app_jobs.specs.Packed.{IsUnwritten}
 
 some_is : {A : Type 0} (x y : A) → Path (Option A) (Some x) (Some y) → x ≡ y
 some_is x y h = cc
@@ -69,8 +65,3 @@ lines_fit n (line ∷ lines) bodies is =
 pub text_fits : (bytes : List ℕ) (bodies : List (Vec ℕ)) → bodies_of bytes ≡ Ok (map (λ body. body.items) bodies) → length bodies ≤ 65536
     → AreBodies (bytes_of bodies)
 text_fits bytes bodies is few = (rw length-map few, lines_fit 1 (lines_of bytes) (bytes_of bodies) is)
-
--- a batch that can't be made
-pub unmade_batch : (put_failed refused : Type 0) (e : WriteFault) → (e ≡ write.Unwritable → refused) → IsUnwritten put_failed refused (fault_of_write e)
-unmade_batch put_failed refused write.Unwritable h = h refl
-unmade_batch put_failed refused write.OutOfMemory h = tt

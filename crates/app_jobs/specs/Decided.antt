@@ -2,7 +2,9 @@
 use Rattle.file_devices.specs.BatchNames.{Names}
 pub use Rattle.file_devices.specs.Holding.{Holding}
 use Rattle.file_devices.specs.Holding.{IsThere}
-use Rattle.std.specs.Prelude.{◌≡◌, ◌≢◌, ℕ, List, Ok, length}
+use Rattle.std.specs.Prelude.{◌≡◌, ◌≢◌, ℕ, List, Ok}
+use Rattle.file_batch.specs.Counting.{count_of}
+use Rattle.file_batch.specs.declared.body_count.BodyCount.{BodyCount}
 use Rattle.file_batch_laws.specs.Files.{replies_text}
 use Rattle.file_batch_laws.specs.Frames.{IsBatchOf}
 use Rattle.file_batch_laws.specs.Replies.{AreReplyBodies}
@@ -17,11 +19,11 @@ IsBookOf old name rows = (bytes : List ℕ) → old name bytes → IsAnswer (rea
 
 -- The book and the batch that the files held were decided one after another. Where it is known what files hold, both were there, the file
 -- of the new book holds the text of the book after that, which is read again as that book, and the file of the replies, where it is
--- another, theirs, which are such as a reply file can have. So many messages were decided.
-pub record IsDecided (known : Type 0) (old new : Holding) (names : Names) (count : ℕ) : Type 0 where
+-- another, theirs, which are such as a reply file can have. It has so many bodies.
+pub record IsDecided (known : Type 0) (old new : Holding) (names : Names) (count : BodyCount) : Type 0 where
   pub rows : Rows
   pub frames : List Frame
-  pub counted : count ≡ length (replies_to rows frames)
+  pub counted : count ≡ count_of frames
   pub book_there : known → IsThere old names.book
   pub batch_there : known → IsThere old names.batch
   pub opening : IsBookOf old names.book rows
@@ -31,11 +33,11 @@ pub record IsDecided (known : Type 0) (old new : Holding) (names : Names) (count
   pub after : known → new names.new_book (book_text (rows_after rows frames))
   pub answered : known → names.replies ≢ names.new_book → new names.replies (replies_text (replies_to rows frames))
 
--- The batch of this name was decided on these rows, so many messages. Where it is known what files hold, it was there; replies and the
+-- The batch of this name, so many bodies, was decided on these rows. Where it is known what files hold, it was there; replies and the
 -- book after them were written to outputs of their own, whose bytes are known then. The book's text is read again as the book.
-pub record IsAnswered {O : Type 0} (is_known_output : O → Type 0) (written : O → List ℕ) (known : Type 0) (old : Holding) (batch : List ℕ) (rows : Rows) (count : ℕ) (replies new_book : O) : Type 0 where
+pub record IsAnswered {O : Type 0} (is_known_output : O → Type 0) (written : O → List ℕ) (known : Type 0) (old : Holding) (batch : List ℕ) (rows : Rows) (count : BodyCount) (replies new_book : O) : Type 0 where
   pub frames : List Frame
-  pub counted : count ≡ length (replies_to rows frames)
+  pub counted : count ≡ count_of frames
   pub batch_there : known → IsThere old batch
   pub messages : (bytes : List ℕ) → old batch bytes → IsBatchOf bytes frames
   pub replied : known → is_known_output replies × (written replies ≡ replies_text (replies_to rows frames))

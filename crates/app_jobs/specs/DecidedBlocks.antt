@@ -1,9 +1,12 @@
 -- What files hold after the blocks of a block file were decided, all of them or some.
 use Rattle.std.specs.Prelude.{◌≡◌, ◌≢◌, ◌⊎◌, ℕ, List, [], ◌++◌, length, Ok, Err, IsTrue}
+use Rattle.file_batch.specs.Counting.{count_of}
+use Rattle.file_batch.specs.declared.body_count.BodyCount.{BodyCount}
 use Rattle.file_batch_laws.specs.BatchFault.{is_of_bytes}
-use Rattle.file_batch_laws.specs.Blocks.{AreBlocks, IsBlock, IsBlockFileOf, FailsBehind, block_head_at, blocks_magic, block_replies_magic, block_replies_text, blocks_text, block_text, messages_in, rows_after_blocks, replies_to_blocks}
+use Rattle.file_batch_laws.specs.Blocks.{AreBlocks, AreBlocksOfReplies, IsBlock, IsBlockFileOf, FailsBehind, block_head_at, blocks_magic, block_replies_magic, block_replies_text, blocks_text, block_text, all_messages, rows_after_blocks, replies_to_blocks}
 use Rattle.file_batch_laws.specs.Files.{head_text}
 use Rattle.file_batch_laws.specs.declared.batch_fault.BatchFault.{BatchFault}
+use Rattle.book_laws.specs.Reading.{reading}
 use Rattle.book_laws.specs.Text.{book_text}
 use Rattle.issuer_rows.specs.Fold.{Rows, replies_to}
 use Rattle.issuer_rows.specs.declared.frame.Frame.{Frame}
@@ -12,17 +15,20 @@ use Rattle.file_devices.specs.Holding.{IsThere}
 use Rattle.app_jobs.specs.Decided.{Holding, IsBookOf}
 
 -- The book and the blocks that the files held were decided, each block on the book after those before it. Where it is known what files
--- hold, both files were there, the file of the new book holds the text of the book after all blocks, and the file of the replies, where it is another, theirs.
--- So many blocks and messages were decided.
-pub record AreBlocksDecided (known : Type 0) (old new : Holding) (names : Names) (count messages : ℕ) : Type 0 where
+-- hold, both files were there, the file of the new book holds the text of the book after all blocks, which is read again as that book, and
+-- the file of the replies, where it is another, theirs, which are such as a file of replies can have. They are so many, and have so many
+-- bodies.
+pub record AreBlocksDecided (known : Type 0) (old new : Holding) (names : Names) (count : ℕ) (messages : BodyCount) : Type 0 where
   pub rows : Rows
   pub blocks : List (List Frame)
   pub number : count ≡ length blocks
-  pub all : messages ≡ messages_in blocks
+  pub all : messages ≡ count_of (all_messages blocks)
   pub book_there : known → IsThere old names.book
   pub blocks_there : known → IsThere old names.batch
   pub opening : IsBookOf old names.book rows
   pub read : (bytes : List ℕ) → old names.batch bytes → IsBlockFileOf bytes blocks
+  pub back : reading (book_text (rows_after_blocks rows blocks)) ≡ Ok (rows_after_blocks rows blocks)
+  pub bodies : AreBlocksOfReplies (replies_to_blocks rows blocks)
   pub after : known → new names.new_book (book_text (rows_after_blocks rows blocks))
   pub answered : known → names.replies ≢ names.new_book → new names.replies (block_replies_text (replies_to_blocks rows blocks))
 
@@ -62,13 +68,14 @@ abbrev pub AreRepliesSoFar : Holding → List ℕ → ℕ → Rows → List (Lis
 AreRepliesSoFar old batch total rows blocks failed held =
     IsBegunHead total blocks held ⊎ AreBegunReplies total rows blocks failed (IsNextOf old batch total blocks) held
 
--- The blocks that the file of this name held were decided on these rows, all of them, and come to these other rows. Where it is known
--- what files hold, their replies were written.
-pub record AreBlocksAnswered (known : Type 0) (old : Holding) (batch : List ℕ) (rows after : Rows) (count messages : ℕ) (written : List ℕ) : Type 0 where
+-- The blocks that the file of this name held were decided on these rows, all of them, and come to these other rows. Their replies are such
+-- as a file can have, and where it is known what files hold, they were written.
+pub record AreBlocksAnswered (known : Type 0) (old : Holding) (batch : List ℕ) (rows after : Rows) (count : ℕ) (messages : BodyCount) (written : List ℕ) : Type 0 where
   pub blocks : List (List Frame)
   pub number : count ≡ length blocks
-  pub all : messages ≡ messages_in blocks
+  pub all : messages ≡ count_of (all_messages blocks)
   pub book : after ≡ rows_after_blocks rows blocks
+  pub bodies : AreBlocksOfReplies (replies_to_blocks rows blocks)
   pub read : (bytes : List ℕ) → old batch bytes → IsBlockFileOf bytes blocks
   pub replied : known → written ≡ block_replies_text (replies_to_blocks rows blocks)
 

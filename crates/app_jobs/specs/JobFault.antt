@@ -13,7 +13,7 @@ use Rattle.file_listing.specs.declared.listing_fault.ListingFault.{ListingFault}
 use Rattle.file_listing.specs.declared.listing_fault.ListingFault.TheVariants as text
 use Rattle.stm_journal_text.specs.ReplayFault.{number_of_replay_fault}
 use Rattle.app_jobs.specs.declared.job_fault.JobFault.{JobFault}
-use Rattle.app_jobs.specs.declared.job_fault.JobFault.TheVariants.{Unreadable, Unwritable, InUse, Book, Batch, Journal, Text, OutOfMemory}
+use Rattle.app_jobs.specs.declared.job_fault.JobFault.TheVariants.{Unreadable, Unwritable, InUse, Book, Batch, Journal, Text, Bodies, OutOfMemory}
 
 abbrev pub part_of : JobFault → List ℕ
 part_of Unreadable = codes "file"
@@ -23,6 +23,7 @@ part_of (Book fault) = codes "book"
 part_of (Batch fault) = codes "batch"
 part_of (Journal fault) = codes "journal"
 part_of (Text line) = codes "text"
+part_of (Bodies count) = codes "unreadable"
 part_of OutOfMemory = codes "memory"
 
 abbrev pub number_of : JobFault → ℕ
@@ -33,6 +34,7 @@ number_of (Book fault) = number_of_json_fault fault
 number_of (Batch fault) = number_of_fault fault
 number_of (Journal fault) = number_of_replay_fault fault
 number_of (Text line) = line
+number_of (Bodies count) = count
 number_of OutOfMemory = 1
 
 -- a file that isn't read is unreadable, or memory ran out

@@ -10,6 +10,7 @@ use Rattle.issuer_rows.specs.Fold.{Rows}
 use Rattle.issuer_rows.specs.declared.frame.Frame.{Frame}
 use Rattle.stm_core_laws.specs.Play.{opening_play}
 use Rattle.file_devices.specs.BatchNames.{Names}
+use Rattle.file_devices.specs.Failing.{Failing}
 use Rattle.app_jobs.specs.Decided.{Holding, IsBookOf}
 use Rattle.app_jobs.specs.Faults.{IsFaultInOrder}
 use Rattle.app_jobs.specs.declared.job_fault.JobFault.{JobFault}
@@ -22,10 +23,10 @@ IsWrongJournal held (replay.Unlogged n) = ⊥
 IsWrongJournal held replay.OutOfMemory = Unit {0}
 
 -- Why the file of this name gives no journal: its first wrong line; a call on it failed; or memory ran out.
-abbrev pub IsJournalFault : Holding → List ℕ → Type 0 → JobFault → Type 0
-IsJournalFault old name read_failed (Journal fault) = IsWrongJournal (old name) fault
-IsJournalFault old name read_failed Unreadable = (bytes : List ℕ) → old name bytes → read_failed
-IsJournalFault old name read_failed OutOfMemory = Unit {0}
+abbrev pub IsJournalFault : Holding → Failing → List ℕ → JobFault → Type 0
+IsJournalFault old failing name (Journal fault) = IsWrongJournal (old name) fault
+IsJournalFault old failing name Unreadable = (bytes : List ℕ) → old name bytes → failing.reading name
+IsJournalFault old failing name OutOfMemory = Unit {0}
 IsJournalFault _ _ _ _ = ⊥
 
 -- Played on the book and the batch, the entry of this number is the journal's first whose decision asks for a row that wasn't logged.
@@ -51,7 +52,6 @@ IsPlayingFault _ _ _ _ = ⊥
 
 -- Why an audit with a journal finds nothing: what an audit may lack, in its order; then the first wrong line of the journal, or a call
 -- on its file that failed; then that it isn't played.
-abbrev pub IsJournalAuditingFault : Holding → Names → List ℕ → Type 0 → JobFault → Type 0
-IsJournalAuditingFault old names journal read_failed fault =
-    IsFaultInOrder old names read_failed
-    (IsJournalFault old journal read_failed fault ⊎ IsPlayingFault old names journal fault) fault
+abbrev pub IsJournalAuditingFault : Holding → Failing → Names → List ℕ → JobFault → Type 0
+IsJournalAuditingFault old failing names journal fault =
+    IsFaultInOrder old failing names (IsJournalFault old failing journal fault ⊎ IsPlayingFault old names journal fault) fault

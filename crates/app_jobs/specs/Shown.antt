@@ -8,6 +8,7 @@ use Rattle.file_batch_laws.specs.declared.batch_fault.BatchFault.{BatchFault}
 use Rattle.file_listing.specs.Lines.{frame_line, reply_line}
 use Rattle.issuer_rows.specs.declared.frame.Frame.{Frame}
 use Rattle.issuer_rows.specs.declared.reply_body.ReplyBody.{ReplyBody}
+use Rattle.file_devices.specs.Failing.{Failing}
 use Rattle.app_jobs.specs.Decided.{Holding}
 use Rattle.app_jobs.specs.declared.job_fault.JobFault.{JobFault}
 use Rattle.app_jobs.specs.declared.job_fault.JobFault.TheVariants.{Unreadable, Batch, OutOfMemory}
@@ -38,8 +39,8 @@ FailsAsShown bytes fault =
     (BeginsAsReplies bytes × FailsAsReplies bytes fault) ⊎ (¬ BeginsAsReplies bytes × (bodies_of batch_magic bytes ≡ Err fault))
 
 -- Why the file of this name is not shown: its first fault; a call on it failed; or memory ran out.
-abbrev pub IsShowingFault : Holding → List ℕ → Type 0 → JobFault → Type 0
-IsShowingFault old name read_failed (Batch fault) = IsTrue (is_of_bytes fault) × ((bytes : List ℕ) → old name bytes → FailsAsShown bytes fault)
-IsShowingFault old name read_failed Unreadable = (bytes : List ℕ) → old name bytes → read_failed
-IsShowingFault old name read_failed OutOfMemory = Unit {0}
+abbrev pub IsShowingFault : Holding → Failing → List ℕ → JobFault → Type 0
+IsShowingFault old failing name (Batch fault) = IsTrue (is_of_bytes fault) × ((bytes : List ℕ) → old name bytes → FailsAsShown bytes fault)
+IsShowingFault old failing name Unreadable = (bytes : List ℕ) → old name bytes → failing.reading name
+IsShowingFault old failing name OutOfMemory = Unit {0}
 IsShowingFault _ _ _ _ = ⊥

@@ -1,7 +1,6 @@
 ghost use Rattle.std.specs.Prelude.{◌≡◌, ◌≤◌, IfOk, IfErr, length};
 ghost use Rattle.app_audit.specs.Finding.{Finds};
 ghost use Rattle.file_devices.specs.BatchNames.{names_of};
-ghost use Rattle.file_devices.specs.Failing.{HasFailed};
 ghost use Rattle.issuer_rows.specs.Fold.{replies_to, rows_after};
 ghost use Rattle.app_jobs.specs.Audited.{AreAnswers, AreDecided, AreHeld, IsAudited};
 ghost use Rattle.app_jobs.specs.Faults.{IsAnswersFault, IsAuditingFault, IsOpeningFault, IsFaultInOrder};
@@ -26,8 +25,8 @@ pub fn audit_batch<R: Threads, F: Files>(
 ) -> Result<Audit, JobFault>
     ensures audited { IfOk result (IsAudited (F.is_known files.now) (F.holds files.now)
         (names_of names.now)) }
-    ensures fault { IfErr result (IsAuditingFault (F.holds files.now)
-        (names_of names.now) (HasFailed F.Input.has_failed)) }
+    ensures fault { IfErr result (IsAuditingFault (F.holds files.now) (F.failing files.now)
+        (names_of names.now)) }
 {
     let run = open_run(rt, alloc, files, names)?;
     audit_run(alloc, &run)
@@ -54,8 +53,8 @@ pub fn audit_batch_with_journal<R: Threads, F: Files>(
 ) -> Result<Audit, JobFault>
     ensures audited { IfOk result (IsAuditedWithJournal (F.is_known files.now) (F.holds files.now)
         (names_of names.now) journal.now) }
-    ensures fault { IfErr result (IsJournalAuditingFault (F.holds files.now)
-        (names_of names.now) journal.now (HasFailed F.Input.has_failed)) }
+    ensures fault { IfErr result (IsJournalAuditingFault (F.holds files.now) (F.failing files.now)
+        (names_of names.now) journal.now) }
 {
     let run = open_run(rt, alloc, files, names)?;
     let entries = open_journal(alloc, files, journal)?;
@@ -92,8 +91,8 @@ fn open_run<R: Threads, F: Files>(
         (names_of names.now)
         run.book run.frames.items run.replies.items run.after) }
     ensures count { IfOk result (λ run. length run.frames.items ≤ 65536) }
-    ensures fault { IfErr result (IsFaultInOrder (F.holds files.now)
-        (names_of names.now) (HasFailed F.Input.has_failed) ⊥) }
+    ensures fault { IfErr result (IsFaultInOrder (F.holds files.now) (F.failing files.now)
+        (names_of names.now) ⊥) }
 {
     let (book, frames) = open_decided(rt, alloc, files, names)?;
     let (replies, after) = open_answers(rt, alloc, files, names)?;
@@ -114,7 +113,7 @@ fn open_decided<R: Threads, F: Files>(
 ) -> Result<(Book, Vec<Frame>), JobFault>
     ensures held { IfOk result (λ decided. AreDecided (F.is_known files.now) (F.holds files.now) (names_of names.now) decided.0 decided.1.items) }
     ensures count { IfOk result (λ decided. length decided.1.items ≤ 65536) }
-    ensures fault { IfErr result (IsOpeningFault (F.holds files.now) (names_of names.now) (HasFailed F.Input.has_failed)) }
+    ensures fault { IfErr result (IsOpeningFault (F.holds files.now) (F.failing files.now) (names_of names.now)) }
 {
     let book = open_book(rt, alloc, files, names.book.as_str())?;
     let frames = open_batch(alloc, files, names.batch.as_str())?;
@@ -129,7 +128,7 @@ fn open_answers<R: Threads, F: Files>(
     names: &BatchNames,
 ) -> Result<(Vec<ReplyBody>, Book), JobFault>
     ensures held { IfOk result (λ answers. AreAnswers (F.is_known files.now) (F.holds files.now) (names_of names.now) answers.0.items answers.1) }
-    ensures fault { IfErr result (IsAnswersFault (F.holds files.now) (names_of names.now) (HasFailed F.Input.has_failed)) }
+    ensures fault { IfErr result (IsAnswersFault (F.holds files.now) (F.failing files.now) (names_of names.now)) }
 {
     let replies = open_replies(alloc, files, names.replies.as_str())?;
     let after = open_book(rt, alloc, files, names.new_book.as_str())?;

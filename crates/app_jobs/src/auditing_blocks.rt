@@ -3,7 +3,6 @@ ghost use Rattle.std.specs.List.{All};
 ghost use Rattle.file_blocks.specs.BlockFiles.{frames_of, replies_of};
 ghost use Rattle.file_batch_laws.specs.Blocks.{IsBlockFileOf, IsBlockReplyFileOf};
 ghost use Rattle.file_devices.specs.BatchNames.{names_of};
-ghost use Rattle.file_devices.specs.Failing.{HasFailed};
 ghost use Rattle.file_devices.specs.Holding.{IsThere};
 ghost use Rattle.app_jobs.specs.AuditedBlocks.{AreAnswersAudited, AreBlocksAudited};
 ghost use Rattle.app_jobs.specs.BlockFaults.{IsBlockAnswersFault, IsBlockAuditingFault, IsBlockFileFault, IsBlockRepliesFault};
@@ -29,8 +28,8 @@ pub fn audit_block_files<R: Threads, F: Files>(
 ) -> Result<BlockAudit, JobFault>
     ensures audited { IfOk result (AreBlocksAudited (F.is_known files.now) (F.holds files.now)
         (names_of names.now)) }
-    ensures fault { IfErr result (IsBlockAuditingFault (F.holds files.now)
-        (names_of names.now) (HasFailed F.Input.has_failed)) }
+    ensures fault { IfErr result (IsBlockAuditingFault (F.holds files.now) (F.failing files.now)
+        (names_of names.now)) }
 {
     let book = open_book(rt, alloc, files, names.book.as_str())?;
     let blocks = open_blocks(alloc, files, names.batch.as_str())?;
@@ -49,7 +48,7 @@ fn audit_answers<R: Threads, F: Files>(
     requires count { length blocks.now ≤ 1000 }
     requires each { All (λ block. length block.items ≤ 65536) blocks.now }
     ensures audited { IfOk result (AreAnswersAudited (F.is_known files.now) (F.holds files.now) (names_of names.now) book.now (frames_of blocks.now)) }
-    ensures fault { IfErr result (IsBlockAnswersFault (F.holds files.now) (names_of names.now) (HasFailed F.Input.has_failed)) }
+    ensures fault { IfErr result (IsBlockAnswersFault (F.holds files.now) (F.failing files.now) (names_of names.now)) }
 {
     let replies = open_block_replies(alloc, files, names.replies.as_str())?;
     let after = open_book(rt, alloc, files, names.new_book.as_str())?;
@@ -61,7 +60,7 @@ fn open_blocks<F: Files>(alloc: Global, files: &F, name: &str) -> Result<Vec<Vec
     ensures count { IfOk result (λ blocks. length blocks.items ≤ 1000) }
     ensures each { IfOk result (λ blocks. All (λ block. length block.items ≤ 65536) blocks.items) }
     ensures there { OnOk result (F.is_known files.now → IsThere (F.holds files.now) name.now) }
-    ensures fault { IfErr result (IsBlockFileFault (F.holds files.now) name.now (HasFailed F.Input.has_failed) ⊥ ⊥) }
+    ensures fault { IfErr result (IsBlockFileFault (F.holds files.now) (F.failing files.now) name.now) }
     ensures blocks { (bytes : List ℕ) → F.holds files.now name.now bytes → IfOk result (λ blocks. IsBlockFileOf bytes (frames_of blocks.items)) }
 {
     let mut input = files.open(name)?;
@@ -78,7 +77,7 @@ fn open_block_replies<F: Files>(
     name: &str,
 ) -> Result<Vec<Vec<ReplyBody>>, JobFault>
     ensures there { OnOk result (F.is_known files.now → IsThere (F.holds files.now) name.now) }
-    ensures fault { IfErr result (IsBlockRepliesFault (F.holds files.now) name.now (HasFailed F.Input.has_failed)) }
+    ensures fault { IfErr result (IsBlockRepliesFault (F.holds files.now) (F.failing files.now) name.now) }
     ensures replies { (bytes : List ℕ) → F.holds files.now name.now bytes → IfOk result (λ replies. IsBlockReplyFileOf bytes (replies_of replies.items)) }
 {
     let mut input = files.open(name)?;

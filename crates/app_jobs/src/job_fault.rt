@@ -28,12 +28,14 @@ pub enum JobFault {
     Journal(ReplayFault),
     /// The line of this number, from 1, of a text of bodies is none.
     Text(usize),
+    /// So many bodies are no message, where each has to be one.
+    Bodies(u32),
     /// Memory ran out.
     OutOfMemory,
 }
 
 impl JobFault {
-    /// What the fault is of: `file`, `book`, `batch`, `journal`, `text` or `memory`.
+    /// What the fault is of: `file`, `book`, `batch`, `journal`, `text`, `unreadable` (bodies) or `memory`.
     pub fn part(&self) -> &'static str
         ensures { result.now ≡ part_of self.now }
     {
@@ -43,11 +45,12 @@ impl JobFault {
             JobFault::Batch(_) => "batch",
             JobFault::Journal(_) => "journal",
             JobFault::Text(_) => "text",
+            JobFault::Bodies(_) => "unreadable",
             JobFault::OutOfMemory => "memory",
         }
     }
 
-    /// The fault's number there; of a text the number of its wrong line, from 1.
+    /// The fault's number there; of a text the number of its wrong line, from 1; of bodies how many are no message.
     pub fn number(&self) -> usize
         ensures { result ≡ number_of self.now }
     {
@@ -59,6 +62,7 @@ impl JobFault {
             JobFault::Batch(fault) => usize::from(fault.number()),
             JobFault::Journal(fault) => usize::from(fault.number()),
             JobFault::Text(line) => *line,
+            JobFault::Bodies(count) => *count as usize,
         }
     }
 }

@@ -1,6 +1,7 @@
 //! What is done with the files of a book and its batches, from their bytes to their bytes.
 #![tactic(auto)]
 
+mod admitting;
 mod auditing;
 mod auditing_blocks;
 mod block_count;
@@ -16,6 +17,7 @@ mod showing;
 mod writing;
 mod written_answer;
 
+pub use admitting::admit;
 pub use auditing::{audit_batch, audit_batch_with_journal};
 pub use auditing_blocks::audit_block_files;
 pub use block_count::BlockCount;

@@ -1,7 +1,6 @@
 ghost use Rattle.std.specs.Prelude.{◌≡◌, ◌≤◌, ℕ, List, IfOk, IfErr, OnOk, length};
 ghost use Rattle.file_batch_laws.specs.Frames.{IsBatchOf};
 ghost use Rattle.file_batch_laws.specs.Replies.{IsReplyFileOf};
-ghost use Rattle.file_devices.specs.Failing.{HasFailed};
 ghost use Rattle.file_devices.specs.Holding.{IsThere};
 ghost use Rattle.stm_journal_text.specs.Journal.{AreEntries, journal_text};
 ghost use Rattle.app_jobs.specs.Decided.{IsBookOf};
@@ -26,7 +25,7 @@ pub fn open_book<R: Threads, F: Files>(
 ) -> Result<Book, JobFault>
     ensures book { IfOk result (IsBookOf (F.holds files.now) name.now) }
     ensures there { OnOk result (F.is_known files.now → IsThere (F.holds files.now) name.now) }
-    ensures fault { IfErr result (IsBookFault (F.holds files.now) name.now (HasFailed F.Input.has_failed)) }
+    ensures fault { IfErr result (IsBookFault (F.holds files.now) (F.failing files.now) name.now) }
 {
     let text = read_file(alloc, files, name)?;
     match read_book(rt, alloc, &text) {
@@ -43,7 +42,7 @@ pub(crate) fn open_batch<F: Files>(
 ) -> Result<Vec<Frame>, JobFault>
     ensures count { IfOk result (λ frames. length frames.items ≤ 65536) }
     ensures there { OnOk result (F.is_known files.now → IsThere (F.holds files.now) name.now) }
-    ensures fault { IfErr result (IsBatchFault (F.holds files.now) name.now (HasFailed F.Input.has_failed) ⊥ ⊥) }
+    ensures fault { IfErr result (IsBatchFault (F.holds files.now) (F.failing files.now) name.now) }
     ensures frames { (bytes : List ℕ) → F.holds files.now name.now bytes → IfOk result (λ frames. IsBatchOf bytes frames.items) }
 {
     let mut input = files.open(name)?;
@@ -60,7 +59,7 @@ pub(crate) fn open_replies<F: Files>(
     name: &str,
 ) -> Result<Vec<ReplyBody>, JobFault>
     ensures there { OnOk result (F.is_known files.now → IsThere (F.holds files.now) name.now) }
-    ensures fault { IfErr result (IsReplyFileFault (F.holds files.now) name.now (HasFailed F.Input.has_failed)) }
+    ensures fault { IfErr result (IsReplyFileFault (F.holds files.now) (F.failing files.now) name.now) }
     ensures replies { (bytes : List ℕ) → F.holds files.now name.now bytes → IfOk result (λ replies. IsReplyFileOf bytes replies.items) }
 {
     let mut input = files.open(name)?;
@@ -79,7 +78,7 @@ pub(crate) fn open_journal<F: Files>(
 ) -> Result<Vec<Entry>, JobFault>
     ensures are { IfOk result (λ entries. AreEntries entries.items) }
     ensures there { OnOk result (F.is_known files.now → IsThere (F.holds files.now) name.now) }
-    ensures fault { IfErr result (IsJournalFault (F.holds files.now) name.now (HasFailed F.Input.has_failed)) }
+    ensures fault { IfErr result (IsJournalFault (F.holds files.now) (F.failing files.now) name.now) }
     ensures entries { (bytes : List ℕ) → F.holds files.now name.now bytes → IfOk result (λ entries. bytes ≡ journal_text entries.items) }
 {
     let text = read_file(alloc, files, name)?;

@@ -1,10 +1,10 @@
 ghost use Rattle.std.specs.Prelude.{◌≡◌, ◌≢◌, ℕ, List, Ok, IfOk, IfErr, OnOk, OnErr};
 ghost use Rattle.file_batch.specs.Bodies.{bytes_of};
 ghost use Rattle.file_batch_laws.specs.Files.{AreBodies, batch_text};
-ghost use Rattle.file_devices.specs.Failing.{HasFailed, HasRefused};
 ghost use Rattle.file_devices.specs.Holding.{AreAsTheyWere, IsAsItWas, IsThere};
 ghost use Rattle.file_listing.specs.Bodies.{bodies_of};
-ghost use Rattle.app_jobs.specs.Packed.{IsPacked, IsPackingFault, IsTextFault, IsUnwritten};
+ghost use Rattle.app_jobs.specs.Faults.{IsWritingFaultOf};
+ghost use Rattle.app_jobs.specs.Packed.{IsPacked, IsPackingFault, IsTextFault};
 
 use crate::job_fault::JobFault;
 use crate::placing::{alone, written};
@@ -23,7 +23,7 @@ pub fn pack_batch<F: Files>(
     batch: &str,
 ) -> Result<usize, JobFault>
     ensures packed { IfOk result (IsPacked (F.is_known files.old) (F.holds files.old) (F.holds files.new) text.now batch.now) }
-    ensures fault { IfErr result (IsPackingFault (F.holds files.old) text.now (HasFailed F.Input.has_failed) (HasFailed F.Output.has_failed) (HasRefused F.refuses)) }
+    ensures fault { IfErr result (IsPackingFault (F.holds files.old) (F.failing files.old) text.now batch.now) }
     ensures kept { OnErr result (AreAsTheyWere (F.holds files.old) (F.holds files.new)) }
     // Other files stay as they were.
     ensures others { (other : List ℕ) → other ≢ batch.now → IsAsItWas (F.holds files.old) (F.holds files.new) other }
@@ -38,7 +38,7 @@ pub fn pack_batch<F: Files>(
 fn open_text<F: Files>(alloc: Global, files: &F, name: &str) -> Result<Vec<Vec<u8>>, JobFault>
     ensures fit { IfOk result (λ bodies. AreBodies (bytes_of bodies.items)) }
     ensures there { OnOk result (F.is_known files.now → IsThere (F.holds files.now) name.now) }
-    ensures fault { IfErr result (IsTextFault (F.holds files.now) name.now (HasFailed F.Input.has_failed)) }
+    ensures fault { IfErr result (IsTextFault (F.holds files.now) (F.failing files.now) name.now) }
     ensures bodies { IfOk result (λ bodies. (bytes : List ℕ) → F.holds files.now name.now bytes → bodies_of bytes ≡ Ok (bytes_of bodies.items)) }
 {
     let lines = read_file(alloc, files, name)?;
@@ -55,7 +55,7 @@ fn put_batch<F: Files>(
 ) -> Result<(), JobFault>
     requires { AreBodies (bytes_of bodies.now) }
     ensures put { OnOk result (F.is_known files.old → F.holds files.new name.now (batch_text (bytes_of bodies.now))) }
-    ensures fault { IfErr result (IsUnwritten (HasFailed F.Output.has_failed) (HasRefused F.refuses)) }
+    ensures fault { IfErr result (IsWritingFaultOf (F.failing files.old) name.now) }
     ensures kept { OnErr result (AreAsTheyWere (F.holds files.old) (F.holds files.new)) }
     ensures others { (other : List ℕ) → other ≢ name.now → IsAsItWas (F.holds files.old) (F.holds files.new) other }
     ensures known { F.is_known files.old → F.is_known files.new }
@@ -75,7 +75,7 @@ fn write_bodies<F: Files>(
 ) -> Result<F::Output, JobFault>
     requires { AreBodies (bytes_of bodies.now) }
     ensures written { IfOk result (λ output. F.is_known files.now → F.Output.is_known output × (F.Output.written output ≡ batch_text (bytes_of bodies.now))) }
-    ensures fault { IfErr result (IsUnwritten (HasFailed F.Output.has_failed) (HasRefused F.refuses)) }
+    ensures fault { IfErr result (IsWritingFaultOf (F.failing files.now) name.now) }
 {
     let mut output = files.create(name)?;
     match write_batch(alloc, bodies, &mut output) {

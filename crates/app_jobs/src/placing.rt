@@ -1,7 +1,7 @@
 ghost use Rattle.std.specs.Prelude.{◌≡◌, [], ◌∷◌, IfOk, string_bytes};
 ghost use Rattle.file_devices.specs.BatchNames.{names_of};
-ghost use Rattle.file_devices.specs.Failing.{HasRefused};
 ghost use Rattle.app_jobs.specs.Deciding.{PutsAnswer};
+ghost use Rattle.app_jobs.specs.Faults.{MayBeRefused};
 
 use crate::job_fault::JobFault;
 use file_devices::{BatchNames, Files, Written};
@@ -15,7 +15,7 @@ pub(crate) fn put_answer<F: Files>(
     replies: F::Output,
     new_book: F::Output,
 ) -> Result<(), JobFault>
-    ensures puts { PutsAnswer F.is_known F.holds (HasRefused F.refuses) files.old files.new (names_of names.now)
+    ensures puts { PutsAnswer F.is_known F.holds (MayBeRefused (F.failing files.old) (names_of names.now)) files.old files.new (names_of names.now)
         (F.Output.is_known replies → F.holds files.new (string_bytes names.now.replies) (F.Output.written replies))
         (F.Output.is_known new_book → F.holds files.new (string_bytes names.now.new_book) (F.Output.written new_book)) result }
 {

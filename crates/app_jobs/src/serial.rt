@@ -4,19 +4,19 @@ ghost use Rattle.book_laws.specs.Reading.{reading};
 ghost use Rattle.book_laws.specs.Text.{book_text};
 ghost use Rattle.book_text.specs.Back.{IsReadAsBook};
 ghost use Rattle.file_devices.specs.BatchNames.{names_of};
-ghost use Rattle.file_devices.specs.Failing.{HasFailed, HasRefused};
 ghost use Rattle.issuer_rows.specs.Fold.{Rows};
 ghost use Rattle.app_jobs.specs.Decided.{IsAnswered};
 ghost use Rattle.app_jobs.specs.Deciding.{DecidesFiles};
-ghost use Rattle.app_jobs.specs.Faults.{IsAnsweringFault, IsPuttingFault, IsRepliesFault};
+ghost use Rattle.app_jobs.specs.Faults.{IsAnsweringFault, IsPuttingFault, IsWritingFault, MayNotBePut};
 
+use crate::admitting::admit;
 use crate::job_fault::JobFault;
 use crate::opening::open_book;
 use crate::placing::put_answer;
 use crate::writing::write_rows;
 use crate::written_answer::WrittenAnswer;
 use book_writer::{BookWriter, OfRows, Sorting};
-use file_batch::{Answered, decide_in_order, put_all};
+use file_batch::{Answered, BodyCount, Strictness, decide_in_order, put_all};
 use file_devices::{BatchNames, Files, Sink};
 use issuer_rows::Book;
 use issuer_rules::Shipped;
@@ -26,19 +26,20 @@ use std::sync::Wait;
 use std::thread::{Threads, join_mut};
 
 /// Decides a batch one message after another, files to files. Messages are decided while the next ones are read, and the new book's rows
-/// are sorted while the replies are written. Returns how many messages were decided. Its faults are those of
+/// are sorted while the replies are written. Returns how many bodies the batch has. Its faults are those of
 /// [`decide_batch`](crate::decide_batch).
 pub fn serial_batch<R: Threads + Wait + Sync, F: Files>(
     rt: &R,
     alloc: Global,
     files: &mut F,
     names: &BatchNames,
-) -> Result<usize, JobFault>
-    ensures decides { DecidesFiles F.is_known F.holds (HasFailed F.Input.has_failed) (HasFailed F.Output.has_failed) (HasRefused F.refuses)
-        files.old files.new (names_of names.now) result }
+    strictness: Strictness,
+) -> Result<BodyCount, JobFault>
+    ensures decides { DecidesFiles F.is_known F.holds F.failing strictness files.old files.new (names_of names.now) result }
 {
     let book = open_book(rt, alloc, files, names.book.as_str())?;
     let answer = answer_in_order(rt, alloc, files, names, book)?;
+    admit(strictness, answer.count)?;
     put_answer(alloc, files, names, answer.replies, answer.new_book)?;
     Ok(answer.count)
 }
@@ -53,8 +54,8 @@ fn answer_in_order<R: Threads + Wait + Sync, F: Files>(
 ) -> Result<WrittenAnswer<F::Output>, JobFault>
     ensures answered { IfOk result (λ answer. IsAnswered F.Output.is_known F.Output.written (F.is_known files.now) (F.holds files.now)
         (string_bytes names.now.batch) book answer.count answer.replies answer.new_book) }
-    ensures fault { IfErr result (IsAnsweringFault (F.holds files.now) (string_bytes names.now.batch)
-        (HasFailed F.Input.has_failed) (HasFailed F.Output.has_failed) (HasRefused F.refuses)) }
+    ensures fault { IfErr result (IsAnsweringFault (F.holds files.now) (F.failing files.now) (names_of names.now)
+        (MayNotBePut (F.failing files.now) (string_bytes names.now.new_book))) }
 {
     let mut batch = files.open(names.batch.as_str())?;
     let mut replies = files.create(names.replies.as_str())?;
@@ -65,7 +66,7 @@ fn answer_in_order<R: Threads + Wait + Sync, F: Files>(
     let mut new_book = files.create(names.new_book.as_str())?;
     write_answered(rt, alloc, &answered, &mut replies, &mut new_book)?;
     Ok(WrittenAnswer {
-        count: answered.decided.messages as usize,
+        count: answered.decided.count,
         replies,
         new_book,
     })
@@ -83,7 +84,7 @@ fn write_answered<R: Threads + Wait + Sync, W: Sink>(
     ensures book { OnOk result (W.is_known new_book.old → W.is_known new_book.new
         × (W.written new_book.new ≡ W.written new_book.old ++ book_text answered.now.decided.book)) }
     ensures back { OnOk result (reading (book_text answered.now.decided.book) ≡ Ok answered.now.decided.book) }
-    ensures fault { IfErr result (λ fault. IsRepliesFault (HasFailed W.has_failed) ⊥ fault ⊎ IsPuttingFault (HasFailed W.has_failed) fault) }
+    ensures fault { IfErr result (λ fault. IsWritingFault (W.may_fail replies.old) ⊥ fault ⊎ IsPuttingFault (W.may_fail new_book.old) fault) }
 {
     write_both::<Brand, R, W>(rt, alloc, answered, replies, new_book)
 }
@@ -101,7 +102,7 @@ fn write_both<B: OfRows + Send + Sync, R: Threads + Wait + Sync, W: Sink>(
     ensures book { OnOk result (W.is_known new_book.old → W.is_known new_book.new
         × (W.written new_book.new ≡ W.written new_book.old ++ book_text answered.now.decided.book)) }
     ensures back { OnOk result (reading (book_text answered.now.decided.book) ≡ Ok answered.now.decided.book) }
-    ensures fault { IfErr result (λ fault. IsRepliesFault (HasFailed W.has_failed) ⊥ fault ⊎ IsPuttingFault (HasFailed W.has_failed) fault) }
+    ensures fault { IfErr result (λ fault. IsWritingFault (W.may_fail replies.old) ⊥ fault ⊎ IsPuttingFault (W.may_fail new_book.old) fault) }
 {
     let sorting: Sorting<'_, B> = Sorting::new(alloc, &answered.decided.book);
     let writer = BookWriter::new(&sorting)?;
@@ -121,7 +122,7 @@ fn write_helped<B: OfRows + Send + Sync, R: Threads + Wait + Sync, W: Sink>(
     ensures book { OnOk result ((book : Rows) → B.rows ≡ map.entries book → W.is_known new_book.old
         → W.is_known new_book.new × (W.written new_book.new ≡ W.written new_book.old ++ book_text book)) }
     ensures back { OnOk result (IsReadAsBook B.rows) }
-    ensures fault { IfErr result (λ fault. IsRepliesFault (HasFailed W.has_failed) ⊥ fault ⊎ IsPuttingFault (HasFailed W.has_failed) fault) }
+    ensures fault { IfErr result (λ fault. IsWritingFault (W.may_fail replies.old) ⊥ fault ⊎ IsPuttingFault (W.may_fail new_book.old) fault) }
 {
     let helpers = writer.helpers(rt);
     if helpers == 0 {
@@ -135,7 +136,7 @@ fn write_helped<B: OfRows + Send + Sync, R: Threads + Wait + Sync, W: Sink>(
             ensures book { OnOk result ((book : Rows) → B.rows ≡ map.entries book → W.is_known new_book.entry.now
                 → W.is_known new_book.exit.now × (W.written new_book.exit.now ≡ W.written new_book.entry.now ++ book_text book)) }
             ensures back { OnOk result (IsReadAsBook B.rows) }
-            ensures fault { IfErr result (λ fault. IsRepliesFault (HasFailed W.has_failed) ⊥ fault ⊎ IsPuttingFault (HasFailed W.has_failed) fault) }
+            ensures fault { IfErr result (λ fault. IsWritingFault (W.may_fail replies.entry.now) ⊥ fault ⊎ IsPuttingFault (W.may_fail new_book.entry.now) fault) }
         {
             let written = write_in_turn(rt, text, replies, new_book, writer);
             writer.close();
@@ -157,7 +158,7 @@ fn write_in_turn<B: OfRows, R: Wait, W: Sink>(
     ensures book { OnOk result ((book : Rows) → B.rows ≡ map.entries book → W.is_known new_book.old
         → W.is_known new_book.new × (W.written new_book.new ≡ W.written new_book.old ++ book_text book)) }
     ensures back { OnOk result (IsReadAsBook B.rows) }
-    ensures fault { IfErr result (λ fault. IsRepliesFault (HasFailed W.has_failed) ⊥ fault ⊎ IsPuttingFault (HasFailed W.has_failed) fault) }
+    ensures fault { IfErr result (λ fault. IsWritingFault (W.may_fail replies.old) ⊥ fault ⊎ IsPuttingFault (W.may_fail new_book.old) fault) }
 {
     if let Err(fault) = put_all(replies, text) {
         return Err(JobFault::Batch(fault));

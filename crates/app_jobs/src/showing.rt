@@ -1,6 +1,5 @@
 ghost use Rattle.std.specs.Prelude.{◌≡◌, ◌≢◌, ◌⊎◌, ◌≤◌, ℕ, List, IfOk, IfErr, OnOk, IsTrue, length};
 ghost use Rattle.file_batch_laws.specs.BatchFault.{is_of_bytes};
-ghost use Rattle.file_devices.specs.Failing.{HasFailed};
 ghost use Rattle.file_devices.specs.Holding.{IsThere};
 ghost use Rattle.app_jobs.specs.Shown.{FailsAsShown, IsShowingFault, IsShown, frame_lines, reply_lines};
 
@@ -16,7 +15,7 @@ use std::alloc::{AllocError, Global};
 pub fn show_file<F: Files>(alloc: Global, files: &F, name: &str) -> Result<Vec<u8>, JobFault>
     ensures shown { IfOk result (λ text. (bytes : List ℕ) → F.holds files.now name.now bytes → IsShown bytes text.items) }
     ensures there { OnOk result (F.is_known files.now → IsThere (F.holds files.now) name.now) }
-    ensures fault { IfErr result (IsShowingFault (F.holds files.now) name.now (HasFailed F.Input.has_failed)) }
+    ensures fault { IfErr result (IsShowingFault (F.holds files.now) (F.failing files.now) name.now) }
 {
     let bytes = read_file(alloc, files, name)?;
     match lines_of(alloc, &bytes) {

@@ -1,11 +1,10 @@
-ghost use Rattle.std.specs.Prelude.{◌≡◌, ◌⊎◌, ◌++◌, Ok, IfOk, IfErr, OnOk};
+ghost use Rattle.std.specs.Prelude.{◌≡◌, ◌++◌, Ok, IfOk, IfErr, OnOk};
 ghost use Rattle.std.specs.FinMap as map;
 ghost use Rattle.book_laws.specs.Reading.{reading};
 ghost use Rattle.book_laws.specs.Text.{book_text};
 ghost use Rattle.book_text.specs.Back.{IsReadAsBook};
-ghost use Rattle.file_devices.specs.Failing.{HasFailed, HasRefused};
 ghost use Rattle.issuer_rows.specs.Fold.{Rows};
-ghost use Rattle.app_jobs.specs.Faults.{IsPuttingFault};
+ghost use Rattle.app_jobs.specs.Faults.{IsPuttingFault, MayNotBePut};
 
 use crate::job_fault::JobFault;
 use book_writer::{BookWriter, OfRows, Sorting};
@@ -29,7 +28,7 @@ pub fn write_book<R: Threads + Wait + Sync, F: Files>(
     ensures written { IfOk result (λ output. F.is_known files.now → F.Output.is_known output × (F.Output.written output ≡ book_text book.now)) }
     // It is read again as the book.
     ensures back { OnOk result (reading (book_text book.now) ≡ Ok book.now) }
-    ensures fault { IfErr result (IsPuttingFault (HasFailed F.Output.has_failed ⊎ HasRefused F.refuses)) }
+    ensures fault { IfErr result (IsPuttingFault (MayNotBePut (F.failing files.now) name.now)) }
 {
     let mut output = files.create(name)?;
     write_text::<Brand, R, F::Output>(rt, alloc, book, &mut output)?;
@@ -46,7 +45,7 @@ fn write_text<B: OfRows + Send + Sync, R: Threads + Wait + Sync, W: Sink>(
     requires { map.entries book.now ≡ B.rows }
     ensures written { OnOk result (W.is_known sink.old → W.is_known sink.new × (W.written sink.new ≡ W.written sink.old ++ book_text book.now)) }
     ensures back { OnOk result (reading (book_text book.now) ≡ Ok book.now) }
-    ensures fault { IfErr result (IsPuttingFault (HasFailed W.has_failed)) }
+    ensures fault { IfErr result (IsPuttingFault (W.may_fail sink.old)) }
 {
     let sorting: Sorting<'_, B> = Sorting::new(alloc, book);
     let writer = BookWriter::new(&sorting)?;
@@ -62,7 +61,7 @@ fn write_helped<B: OfRows + Send + Sync, R: Threads + Wait + Sync, W: Sink>(
     ensures written { OnOk result ((book : Rows) → B.rows ≡ map.entries book → W.is_known sink.old
         → W.is_known sink.new × (W.written sink.new ≡ W.written sink.old ++ book_text book)) }
     ensures back { OnOk result (IsReadAsBook B.rows) }
-    ensures fault { IfErr result (IsPuttingFault (HasFailed W.has_failed)) }
+    ensures fault { IfErr result (IsPuttingFault (W.may_fail sink.old)) }
 {
     let helpers = writer.helpers(rt);
     if helpers == 0 {
@@ -75,7 +74,7 @@ fn write_helped<B: OfRows + Send + Sync, R: Threads + Wait + Sync, W: Sink>(
             ensures written { OnOk result ((book : Rows) → B.rows ≡ map.entries book → W.is_known sink.entry.now
                 → W.is_known sink.exit.now × (W.written sink.exit.now ≡ W.written sink.entry.now ++ book_text book)) }
             ensures back { OnOk result (IsReadAsBook B.rows) }
-            ensures fault { IfErr result (IsPuttingFault (HasFailed W.has_failed)) }
+            ensures fault { IfErr result (IsPuttingFault (W.may_fail sink.entry.now)) }
         {
             let written = write_rows(rt, sink, writer);
             writer.close();
@@ -94,7 +93,7 @@ pub(crate) fn write_rows<B: OfRows, R: Wait, W: Sink>(
     ensures written { OnOk result ((book : Rows) → B.rows ≡ map.entries book → W.is_known sink.old
         → W.is_known sink.new × (W.written sink.new ≡ W.written sink.old ++ book_text book)) }
     ensures back { OnOk result (IsReadAsBook B.rows) }
-    ensures fault { IfErr result (IsPuttingFault (HasFailed W.has_failed)) }
+    ensures fault { IfErr result (IsPuttingFault (W.may_fail sink.old)) }
 {
     let mut text = writer.pieces(rt)?;
     write_pieces(sink, &mut text)
@@ -103,15 +102,15 @@ pub(crate) fn write_rows<B: OfRows, R: Wait, W: Sink>(
 /// Writes all pieces that are still to be made.
 pub(crate) fn write_pieces<W: Sink, P: Pieces>(sink: &mut W, pieces: &mut P) -> Result<(), JobFault>
     ensures written { OnOk result (W.is_known sink.old → W.is_known sink.new × (W.written sink.new ≡ W.written sink.old ++ P.rest pieces.old)) }
-    ensures fault { IfErr result (IsPuttingFault (HasFailed W.has_failed)) }
+    ensures fault { IfErr result (IsPuttingFault (W.may_fail sink.old)) }
 {
     for _ in 0..u64::MAX {
         if !pieces.make_next()? {
             return Ok(());
         }
-        if put_all(sink, pieces.piece()).is_err() {
+        let Ok(()) = put_all(sink, pieces.piece()) else {
             return Err(JobFault::Unwritable);
-        }
+        };
     }
     // Nobody waits for so many pieces.
     Err(JobFault::OutOfMemory)

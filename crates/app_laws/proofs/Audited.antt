@@ -25,7 +25,7 @@ no_reply replies right place same differ = differ.here (ap (λ (rs : List ReplyB
 no_row : (book right : Rows) (key : _) → book ≡ right → IsLeastDifference book right key → ⊥
 no_row book right key same differ = differ.here (ap (λ (rows : Rows). map.get rows key) same)
 
-same : (replies right : List ReplyBody) (book after : Rows) (found : Audit) → replies ≡ right → book ≡ after → Finds replies book right after found → found ≡ in_batch.Same
+pub same : (replies right : List ReplyBody) (book after : Rows) (found : Audit) → replies ≡ right → book ≡ after → Finds replies book right after found → found ≡ in_batch.Same
 same replies right book after in_batch.Same r b h = refl
 same replies right book after in_batch.CountDiffers r b h = absurd (h (ap (λ (rs : List ReplyBody). length rs) r))
 same replies right book after (in_batch.ReplyDiffers place) r b h = absurd (no_reply replies right place r h.1)
@@ -46,7 +46,7 @@ no_reply_in replies right block index same d =
     let rest : d.mine ∷ d.my_rest ≡ d.theirs ∷ d.their_rest = append_cancel_left d.front _ _ (sym d.are ∙ same ∙ d.are_right) in
     no_reply d.mine d.theirs index (first_of d.mine d.theirs d.my_rest d.their_rest rest) d.here
 
-same_blocks : (replies right : List (List ReplyBody)) (book after : Rows) (found : BlockAudit) → replies ≡ right → book ≡ after → FindsInBlocks replies book right after found → found ≡ in_blocks.Same
+pub same_blocks : (replies right : List (List ReplyBody)) (book after : Rows) (found : BlockAudit) → replies ≡ right → book ≡ after → FindsInBlocks replies book right after found → found ≡ in_blocks.Same
 same_blocks replies right book after in_blocks.Same r b h = refl
 same_blocks replies right book after in_blocks.CountDiffers r b h = absurd (h (ap (λ (rs : List (List ReplyBody)). counts rs) r))
 same_blocks replies right book after (in_blocks.ReplyDiffers block index) r b h = absurd (no_reply_in replies right block index r h.1)

@@ -1,5 +1,12 @@
+pub mod Acted
 pub mod Audited
+pub mod BlockFiles
+pub mod Books
+pub mod Files
+pub mod JournalFiles
 pub mod NextDay
+pub mod NoFault
 pub mod Once
 pub mod OneReading
+pub mod Repeats
 pub mod RunFiles

@@ -1,30 +1,19 @@
 -- Tomorrow's run opens today's new book, and goes on where today's stopped.
-use Rattle.std.proofs.Common.{◌≡◌, ◌⊎◌, inl, inr, List, Result, Ok, Err, refl, sym, ap, ◌∙◌, true≢false}
+use Rattle.std.proofs.Common.{◌≡◌, ◌⊎◌, inl, inr, List, Result, Ok, Err, refl, sym, ap, ◌∙◌}
 use Rattle.issuer_fold.proofs.FoldLaws.{rows_after-append, replies_to-append}
 use Rattle.issuer_rows.specs.Fold.{Rows, rows_after}
 use Rattle.issuer_rows.specs.declared.frame.Frame.{Frame}
-use Rattle.book_laws.specs.CheckBook.{IsSound, IsFirstFault}
+use Rattle.book_laws.specs.CheckBook.{IsSound}
 use Rattle.book_laws.specs.Reading.{reading, IsAnswer}
 use Rattle.book_laws.specs.Text.{book_text}
-use Rattle.book_laws.specs.declared.book_fault.BookFault.{BookFault}
-use Rattle.book_laws.specs.declared.book_fault.BookFault.TheVariants as wrong
 use Rattle.book_laws.specs.declared.json_fault.JsonFault.{JsonFault}
 use Rattle.book_laws.specs.declared.json_fault.JsonFault.TheVariants as fault
 use Rattle.book_laws.specs.declared.text_fault.TextFault.{TextFault}
 use Rattle.book_laws.specs.declared.text_fault.TextFault.TheVariants as text
 use Rattle.book_changes.proofs.Sound.{stays_sound}
 use Rattle.app_laws.specs.NextDay.{ReadsTodaysBook, AreOneRun}
+use Rattle.app_laws.proofs.Books.{nothing_wrong, no_fault}
 use Rattle.app_laws.proofs.Once.{same_ok, same_book}
-
--- nothing is wrong with a sound book
-nothing_wrong : (rows : Rows) (fault : BookFault) → IsSound rows → IsFirstFault rows fault → ⊥
-nothing_wrong rows wrong.CardNumber sound h = true≢false (sym sound.numbers ∙ h)
-nothing_wrong rows wrong.OriginalWithoutAccount sound h = true≢false (sym sound.payers ∙ h.1)
-nothing_wrong rows wrong.OutOfRange sound h = h.2 sound.backings
-nothing_wrong rows wrong.CardWithoutAccount sound h = true≢false (sym sound.accounts ∙ h.3)
-
-no_fault : (book : Rows) (fault : TextFault) → (let read : Result Rows TextFault = Ok book in read ≡ Err fault) → ⊥
-no_fault book fault e = cc
 
 -- what is answered of a text that is read as a sound book
 answered : (read : Result Rows TextFault) (book : Rows) (answer : Result Rows JsonFault) → IsSound book → read ≡ Ok book → IsAnswer read answer

@@ -1,13 +1,13 @@
 ghost use Rattle.std.specs.Prelude.{◌≤◌, length};
 ghost use Rattle.file_batch.specs.Processing.{AnswersFold};
 ghost use Rattle.file_devices.specs.BatchNames.{names_of};
-ghost use Rattle.file_devices.specs.Failing.{HasFailed, HasRefused};
 ghost use Rattle.app_jobs.specs.Deciding.{DecidesFiles};
 
 use app_jobs::{JobFault, decide_batch};
 use engine_locked::run;
 use engine_split::run_split;
 use engine_workers::{Engine, NoHook, Workers};
+use file_batch::{BodyCount, Strictness};
 use file_devices::{BatchNames, Files};
 use issuer_fold::RunOutcome;
 use issuer_rows::{Book, Frame};
@@ -18,7 +18,7 @@ use std::thread::Threads;
 use std::time::Clock;
 
 /// Decides a batch by so many workers of an engine, files to files. Whatever their number and the engine, the files hold what deciding
-/// one message after another comes to. Returns how many messages were decided. Its faults are those of
+/// one message after another comes to. Returns how many bodies the batch has. Its faults are those of
 /// [`decide_batch`](app_jobs::decide_batch).
 pub fn run_batch<R: Clock + Threads + Wait + Sync, F: Files>(
     rt: &R,
@@ -27,15 +27,15 @@ pub fn run_batch<R: Clock + Threads + Wait + Sync, F: Files>(
     names: &BatchNames,
     workers: Workers,
     engine: Engine,
-) -> Result<usize, JobFault>
-    ensures decides { DecidesFiles F.is_known F.holds (HasFailed F.Input.has_failed) (HasFailed F.Output.has_failed) (HasRefused F.refuses)
-        files.old files.new (names_of names.now) result }
+    strictness: Strictness,
+) -> Result<BodyCount, JobFault>
+    ensures decides { DecidesFiles F.is_known F.holds F.failing strictness files.old files.new (names_of names.now) result }
 {
     let decide = |book: &Book, frames: &[Frame]| -> Result<RunOutcome, AllocError>
         requires { length frames.now ≤ 65536 }
         ensures { AnswersFold book.entry.now frames.entry.now result }
     { decide_by(rt, alloc, book, frames, workers, engine) };
-    decide_batch(rt, alloc, files, names, &decide)
+    decide_batch(rt, alloc, files, names, strictness, &decide)
 }
 
 /// Decides a batch of at most 65,536 bodies on a book by so many workers of an engine. It fails only where memory runs out.

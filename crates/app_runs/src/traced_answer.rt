@@ -1,8 +1,10 @@
+use file_batch::BodyCount;
+
 /// What a batch came to, with the journal of the run, written to files that aren't yet in their places.
 #[derive(Drop)]
 pub(crate) struct TracedAnswer<O> {
-    /// How many messages were decided.
-    pub(crate) count: usize,
+    /// How many bodies the batch has, and how many of them are no message.
+    pub(crate) count: BodyCount,
     /// Their replies.
     pub(crate) replies: O,
     /// The run's journal.

@@ -1,4 +1,5 @@
 ghost use Rattle.std.specs.Prelude.{◌≡◌, ◌≢◌, ◌⊎◌, ◌++◌, [], ◌∷◌, ℕ, List, Ok, Err, IfOk, IfErr, OnErr, IsTrue, string_bytes};
+ghost use Rattle.file_batch.specs.Counting.{Admits, count_of};
 ghost use Rattle.file_batch.specs.Processing.{IsFold};
 ghost use Rattle.file_batch.specs.Device.{UsesDevices};
 ghost use Rattle.file_batch_laws.specs.BatchFault.{is_of_bytes};
@@ -7,19 +8,18 @@ ghost use Rattle.file_batch_laws.specs.Frames.{IsBatchOf};
 ghost use Rattle.file_batch_laws.specs.Reading.{bodies_of, batch_magic};
 ghost use Rattle.file_batch_laws.specs.Replies.{AreReplyBodies};
 ghost use Rattle.file_devices.specs.BatchNames.{names_of};
-ghost use Rattle.file_devices.specs.Failing.{HasFailed, HasRefused};
 ghost use Rattle.file_devices.specs.Holding.{AreAsTheyWere, IsAsItWas, IsThere};
 ghost use Rattle.stm_journal_text.specs.Journal.{AreEntries, journal_text};
 ghost use Rattle.issuer_rows.specs.Fold.{replies_to};
 ghost use Rattle.issuer_rows.specs.declared.frame.Frame.{Frame};
-ghost use Rattle.app_jobs.specs.Faults.{IsAnsweringFault, IsBatchFault, IsDecidingFault, IsPuttingFault};
-ghost use Rattle.app_runs.specs.Journaled.{IsAnsweredWithJournal, IsDecidedWithJournal, IsRunJournal, PutsRun};
+ghost use Rattle.app_jobs.specs.Faults.{IsAnsweringFault, IsPuttingFault, IsReplyingFault, MayNotBePut};
+ghost use Rattle.app_runs.specs.Journaled.{IsAnsweredWithJournal, IsDecidedWithJournal, IsDecidingFaultWithJournal, IsRunJournal, PutsRun};
 
 use crate::traced_answer::TracedAnswer;
-use app_jobs::{JobFault, open_book, write_book, written};
+use app_jobs::{JobFault, admit, open_book, write_book, written};
 use engine_locked::run_traced;
 use engine_workers::{NoHook, Workers};
-use file_batch::{BatchFault, put_all, read_batch, write_replies};
+use file_batch::{BatchFault, BodyCount, Strictness, put_all, read_batch, write_replies};
 use file_devices::{BatchNames, Files, Sink, Source, Written};
 use issuer_fold::RunOutcome;
 use issuer_rows::Book;
@@ -39,11 +39,12 @@ pub fn run_batch_with_journal<R: Clock + Threads + Wait + Sync, F: Files>(
     names: &BatchNames,
     workers: Workers,
     journal: &str,
-) -> Result<usize, JobFault>
+    strictness: Strictness,
+) -> Result<BodyCount, JobFault>
     ensures decided { IfOk result (IsDecidedWithJournal (F.is_known files.old) (F.holds files.old) (F.holds files.new)
         (names_of names.now) journal.now) }
-    ensures fault { IfErr result (IsDecidingFault (F.holds files.old) (names_of names.now)
-        (HasFailed F.Input.has_failed) (HasFailed F.Output.has_failed) (HasRefused F.refuses)) }
+    ensures admitted { IfOk result (Admits strictness) }
+    ensures fault { IfErr result (IsDecidingFaultWithJournal strictness (F.holds files.old) (F.failing files.old) (names_of names.now) journal.now) }
     ensures kept { OnErr result (AreAsTheyWere (F.holds files.old) (F.holds files.new)) }
     ensures others { (other : List ℕ) → other ≢ string_bytes names.now.replies → other ≢ string_bytes names.now.new_book → other ≢ journal.now
         → IsAsItWas (F.holds files.old) (F.holds files.new) other }
@@ -52,6 +53,7 @@ pub fn run_batch_with_journal<R: Clock + Threads + Wait + Sync, F: Files>(
     let book = open_book(rt, alloc, files, names.book.as_str())?;
     let answer = answer_traced(rt, alloc, files, names, &book, workers, journal)?;
     let count = answer.count;
+    admit(strictness, count)?;
     put_run(alloc, files, names, journal, answer)?;
     Ok(count)
 }
@@ -68,14 +70,14 @@ fn answer_traced<R: Clock + Threads + Wait + Sync, F: Files>(
 ) -> Result<TracedAnswer<F::Output>, JobFault>
     ensures answered { IfOk result (IsAnsweredWithJournal F.Output.is_known F.Output.written (F.is_known files.now) (F.holds files.now)
         (string_bytes names.now.batch) book.now) }
-    ensures fault { IfErr result (IsAnsweringFault (F.holds files.now) (string_bytes names.now.batch)
-        (HasFailed F.Input.has_failed) (HasFailed F.Output.has_failed) (HasRefused F.refuses)) }
+    ensures fault { IfErr result (IsAnsweringFault (F.holds files.now) (F.failing files.now) (names_of names.now)
+        (MayNotBePut (F.failing files.now) (string_bytes names.now.new_book) ⊎ MayNotBePut (F.failing files.now) journal.now)) }
 {
     let (run, replies) = reply_traced(rt, alloc, files, names, book, workers)?;
     let new_book = write_book(rt, alloc, files, names.new_book.as_str(), &run.outcome.book)?;
     let journal = log_run(alloc, files, journal, &run.entries)?;
     Ok(TracedAnswer {
-        count: run.outcome.replies.len(),
+        count: run.count,
         replies,
         journal,
         new_book,
@@ -87,6 +89,7 @@ fn answer_traced<R: Clock + Threads + Wait + Sync, F: Files>(
 struct TracedRun {
     outcome: RunOutcome,
     entries: Vec<Entry>,
+    count: BodyCount,
 }
 
 // Decides the batch on a book, and writes the replies; with the journal of the run.
@@ -101,10 +104,10 @@ fn reply_traced<R: Clock + Threads + Wait + Sync, F: Files>(
     ensures there { IfOk result (λ run. F.is_known files.now → IsThere (F.holds files.now) (string_bytes names.now.batch)) }
     ensures bodies { IfOk result (λ run. AreReplyBodies run.0.outcome.replies.items) }
     ensures ok { IfOk result (λ run. (frames : List Frame) × IsFold book.now frames run.0.outcome × IsRunJournal book.now frames run.0.entries.items run.0.outcome.committed
+        × (run.0.count ≡ count_of frames)
         × ((bytes : List ℕ) → F.holds files.now (string_bytes names.now.batch) bytes → IsBatchOf bytes frames)
         × (F.is_known files.now → F.Output.is_known run.1 × (F.Output.written run.1 ≡ replies_text (replies_to book.now frames)))) }
-    ensures fault { IfErr result (IsBatchFault (F.holds files.now) (string_bytes names.now.batch)
-        (HasFailed F.Input.has_failed) (HasFailed F.Output.has_failed) (HasRefused F.refuses)) }
+    ensures fault { IfErr result (IsReplyingFault (F.holds files.now) (F.failing files.now) (names_of names.now)) }
 {
     let mut batch = files.open(names.batch.as_str())?;
     let mut replies = files.create(names.replies.as_str())?;
@@ -124,9 +127,10 @@ fn trace_batch<R: Clock + Threads + Wait + Sync, S: Source, W: Sink>(
     sink: &mut W,
     workers: Workers,
 ) -> Result<TracedRun, BatchFault>
-    ensures devices { UsesDevices S.is_known S.has_failed W.is_known W.has_failed source.old source.new sink.old sink.new result }
+    ensures devices { UsesDevices S.is_known S.has_failed S.may_fail W.is_known W.has_failed W.may_fail source.old source.new sink.old sink.new result }
     ensures bodies { IfOk result (λ run. AreReplyBodies run.outcome.replies.items) }
     ensures ok { IfOk result (λ run. (frames : List Frame) × IsFold book.now frames run.outcome × IsRunJournal book.now frames run.entries.items run.outcome.committed
+        × (run.count ≡ count_of frames)
         × (S.is_known source.old → IsBatchOf (S.remaining source.old) frames)
         × (W.is_known sink.old → W.written sink.new ≡ W.written sink.old ++ replies_text (replies_to book.now frames))) }
     ensures fault { IfErr result (λ e. IsTrue (is_of_bytes e) → S.is_known source.old → bodies_of batch_magic (S.remaining source.old) ≡ Err e) }
@@ -134,7 +138,11 @@ fn trace_batch<R: Clock + Threads + Wait + Sync, S: Source, W: Sink>(
 {
     let frames = read_batch(alloc, source)?;
     let (outcome, entries) = run_traced(rt, alloc, book, &frames, workers, &Shipped, &NoHook)?;
-    let run = TracedRun { outcome, entries };
+    let run = TracedRun {
+        outcome,
+        entries,
+        count: BodyCount::of(&frames),
+    };
     write_replies(alloc, &run.outcome.replies, sink)?;
     Ok(run)
 }
@@ -148,7 +156,7 @@ fn log_run<F: Files>(
 ) -> Result<F::Output, JobFault>
     ensures written { IfOk result (λ output. F.is_known files.now → F.Output.is_known output × (F.Output.written output ≡ journal_text entries.now)) }
     ensures are { IfOk result (λ output. AreEntries entries.now) }
-    ensures fault { IfErr result (IsPuttingFault (HasFailed F.Output.has_failed ⊎ HasRefused F.refuses)) }
+    ensures fault { IfErr result (IsPuttingFault (MayNotBePut (F.failing files.now) name.now)) }
 {
     let text = write_journal(alloc, entries)?;
     let mut output = files.create(name)?;
@@ -166,7 +174,7 @@ fn put_run<F: Files>(
     journal: &str,
     answer: TracedAnswer<F::Output>,
 ) -> Result<(), JobFault>
-    ensures puts { PutsRun F.is_known F.holds F.Output.is_known F.Output.written (HasRefused F.refuses) files.old files.new (names_of names.now) journal.now answer result }
+    ensures puts { PutsRun F.is_known F.holds F.failing F.Output.is_known F.Output.written files.old files.new (names_of names.now) journal.now answer result }
 {
     let TracedAnswer {
         count: _,

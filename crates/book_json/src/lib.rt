@@ -10,4 +10,5 @@ mod written;
 
 pub use book_laws::{JsonFault, Part};
 pub use book_text::write_book;
-pub use reading::read_book;
+pub use lists::{add_entry, has_old_cards};
+pub use reading::{read_book, version_of};

@@ -44,7 +44,7 @@ fn put_old_card(card: &OldCard, book: &mut Book) -> Result<(), TextFault>
 }
 
 /// Whether the list has cards with their own money.
-fn has_old_cards(version: BookVersion, list: RowList) -> bool
+pub fn has_old_cards(version: BookVersion, list: RowList) -> bool
     ensures { result ≡ has_old_cards version list }
 {
     match list {
@@ -54,7 +54,7 @@ fn has_old_cards(version: BookVersion, list: RowList) -> bool
 }
 
 /// Writes an entry's rows to the book.
-fn add_entry(
+pub fn add_entry(
     version: BookVersion,
     list: RowList,
     entry: &Value,

@@ -54,7 +54,7 @@ fn version_of_keys(top: &Value) -> Result<BookVersion, TextFault>
 }
 
 /// The version: the one that is stated is that of the keys.
-fn version_of(top: &Value) -> Result<BookVersion, TextFault>
+pub fn version_of(top: &Value) -> Result<BookVersion, TextFault>
     ensures { result ≡ version_of (view top.now) }
 {
     let version = version_of_keys(top)?;

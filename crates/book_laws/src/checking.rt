@@ -68,8 +68,8 @@ fn have_accounts(book: &Book) -> bool
     true
 }
 
-// Whether the number of a card passes the Luhn test.
-fn has_right_number(key: &RowKey) -> bool
+/// Whether the number of a card passes the Luhn test.
+pub fn has_right_number(key: &RowKey) -> bool
     ensures { result ≡ has_right_number key.now }
 {
     match key {
@@ -78,15 +78,15 @@ fn has_right_number(key: &RowKey) -> bool
     }
 }
 
-// Whether the account has a row.
-fn has_account(book: &Book, id: &AccountId) -> bool
+/// Whether the account has a row.
+pub fn has_account(book: &Book, id: &AccountId) -> bool
     ensures { result ≡ has_account book.now id.now }
 {
     matches!(&book.get(&RowKey::Account(*id)), Some(RowVal::Account(_)))
 }
 
-// Whether the account that paid for an original has a row.
-fn has_paying_account(book: &Book, val: &RowVal) -> bool
+/// Whether the account that paid for an original has a row.
+pub fn has_paying_account(book: &Book, val: &RowVal) -> bool
     ensures { result ≡ has_paying_account book.now val.now }
 {
     let RowVal::Kept(kept) = val else {
@@ -101,8 +101,8 @@ fn has_paying_account(book: &Book, val: &RowVal) -> bool
     }
 }
 
-// Whether the accounts of a card have rows and are not the same.
-fn has_accounts(book: &Book, val: &RowVal) -> bool
+/// Whether the accounts of a card have rows and are not the same.
+pub fn has_accounts(book: &Book, val: &RowVal) -> bool
     ensures { result ≡ has_accounts book.now val.now }
 {
     match val {

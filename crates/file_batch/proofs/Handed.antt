@@ -1,15 +1,19 @@
 -- Pieces that were handed over, one more at a time.
-use Rattle.std.proofs.Common.{◌≡◌, ℕ, ◌+◌, List, [], ◌∷◌, ◌++◌, length, sym, ap, subst, ◌∙◌, append_assoc}
+use Rattle.std.proofs.Common.{◌≡◌, ℕ, ◌+◌, ◌≤◌, List, [], ◌∷◌, ◌++◌, length, sym, ap, subst, ◌∙◌, append_assoc, cond}
+use Rattle.std.specs.Prelude.{count_by}
 use Rattle.std.specs.List.{flat_map, AllByRecursion}
 use Rattle.std.proofs.lemmas.List.{append-nil, length-append, nil_from_length}
 use Rattle.std.proofs.lemmas.List.Concat.{flat_map-append}
+use Rattle.std.proofs.lemmas.List.Sums.{sum_by-append, count_by-le-length}
 use Rattle.file_batch_laws.specs.Files.{framed, reply_text}
 use Rattle.file_batch_laws.specs.Replies.{IsReplyBody}
+use Rattle.file_batch.specs.Counting.{is_unreadable}
 use Rattle.file_batch.specs.InOrder.{texts_of, HasReplies}
-use Rattle.file_batch.specs.Pieces.{frames_in, replies_in}
+use Rattle.file_batch.specs.Pieces.{HasCounted, frames_in, replies_in}
+use Rattle.file_batch.specs.declared.decider.Decider.{Decider}
 use Rattle.file_batch.specs.declared.piece.Piece.{Piece}
 use Rattle.file_batch.proofs.Pieces.{each_more}
-use Rattle.rtrb.specs.Ring.{SameProducer, SameConsumer}
+use Rattle.rtrb.specs.Ring.{SameProducer, SameConsumer, received}
 use Rattle.rtrb.specs.declared.producer.Producer.{Producer}
 use Rattle.rtrb.specs.declared.consumer.Consumer.{Consumer}
 use Rattle.issuer_fold.proofs.FoldLaws.{rows_after-append, replies_to-append}
@@ -56,6 +60,16 @@ pub count_of_one_more : (came : List Piece) (piece : Piece) (count : ℕ) → co
 count_of_one_more came piece count is =
     rw (is, frames_of_one_more came piece) (sym (length-append (frames_in came) piece.frames.items))
 
+-- how many of them are no message
+pub unreadable_of_one_more : (came : List Piece) (piece : Piece) (count : ℕ) → count ≡ count_by is_unreadable (frames_in came)
+    → count + count_by is_unreadable piece.frames.items ≡ count_by is_unreadable (frames_in (came ++ piece ∷ []))
+unreadable_of_one_more came piece count is =
+    rw (is, frames_of_one_more came piece) (sym (sum_by-append (λ frame. cond (is_unreadable frame) 1 0) (frames_in came) piece.frames.items))
+
+-- no more of the bodies are no message than there are
+pub within_count : (decider : Decider) → HasCounted decider → decider.unreadable ≤ decider.prefix.count
+within_count decider has = rw (has.0, has.1) (count_by-le-length is_unreadable (frames_in (received decider.inbound)))
+
 -- a piece that was ahead is the last of those that came
 pub one_moved : (old new ahead rest : List Piece) (piece : Piece) (whole : List Piece) → new ≡ old ++ piece ∷ [] → ahead ≡ piece ∷ rest → old ++ ahead ≡ whole → new ++ rest ≡ whole
 one_moved old new ahead rest piece whole came was all = rw came (append_assoc old (piece ∷ []) rest) ∙ ap (λ (x : List Piece). old ++ x) (sym was) ∙ all
@@ -72,14 +86,13 @@ told_none head out came piece none told =
     subst (λ (x : List ReplyBody). HasReplies head x out) (sym same) told
 
 -- what is decided with one more piece, and handed back
-pub decided_one_more : (book now after : Rows) (count many : ℕ) (came arrived gone back : List Piece) (piece done : Piece)
+pub decided_one_more : (book now after : Rows) (came arrived gone back : List Piece) (piece done : Piece)
     → arrived ≡ came ++ piece ∷ [] → back ≡ gone ++ done ∷ []
-    → after ≡ rows_after now piece.frames.items → many ≡ count + length piece.frames.items → done.replies.items ≡ replies_to now piece.frames.items
-    → now ≡ rows_after book (frames_in came) → count ≡ length (frames_in came) → replies_in gone ≡ replies_to book (frames_in came)
-    → (after ≡ rows_after book (frames_in arrived)) × (many ≡ length (frames_in arrived)) × (replies_in back ≡ replies_to book (frames_in arrived))
-decided_one_more book now after count many came arrived gone back piece done e f g h r b n s = (
+    → after ≡ rows_after now piece.frames.items → done.replies.items ≡ replies_to now piece.frames.items
+    → now ≡ rows_after book (frames_in came) → replies_in gone ≡ replies_to book (frames_in came)
+    → (after ≡ rows_after book (frames_in arrived)) × (replies_in back ≡ replies_to book (frames_in arrived))
+decided_one_more book now after came arrived gone back piece done e f g r b s = (
   g ∙ book_of_one_more book now came piece b ∙ ap (λ (x : List Piece). rows_after book (frames_in x)) (sym e),
-  h ∙ count_of_one_more came piece count n ∙ ap (λ (x : List Piece). length (frames_in x)) (sym e),
   ap replies_in f ∙ replies_of_one_more gone done ∙ rw (r, s) (sym (replies_to_one_more book now came piece b)) ∙ ap (λ (x : List Piece). replies_to book (frames_in x)) (sym e),
 )
 

@@ -7,3 +7,4 @@ pub mod FaultTexts
 pub mod ReadReplies
 pub mod Puts
 pub mod Handed
+pub mod Counting

@@ -1,5 +1,5 @@
 -- A batch that is decided in the order of its messages while it is read.
-use Rattle.std.specs.Prelude.{◌≡◌, List, ◌++◌, ℕ, Result, Ok, Err, IsTrue, length}
+use Rattle.std.specs.Prelude.{◌≡◌, List, ◌++◌, ℕ, Result, Ok, Err, IsTrue}
 use Rattle.std.specs.List.{flat_map, AllByRecursion}
 use Rattle.issuer_rows.specs.Fold.{Rows, rows_after, replies_to}
 use Rattle.issuer_rows.specs.declared.frame.Frame.{Frame}
@@ -10,6 +10,7 @@ use Rattle.file_batch_laws.specs.Frames.{AreFramesOf, IsBatchOf}
 use Rattle.file_batch_laws.specs.Reading.{bodies_of, batch_magic}
 use Rattle.file_batch_laws.specs.Replies.{IsReplyBody, AreReplyBodies}
 use Rattle.file_batch_laws.specs.declared.batch_fault.BatchFault.{BatchFault}
+use Rattle.file_batch.specs.Counting.{count_of}
 use Rattle.file_batch.specs.declared.in_order.Answered.{Answered}
 use Rattle.file_batch.specs.declared.in_order.Decided.{Decided}
 
@@ -26,9 +27,9 @@ texts_of replies = flat_map (λ reply. framed (reply_text reply)) replies
 abbrev pub HasReplies : List ℕ → List ReplyBody → List ℕ → Type 0
 HasReplies head replies text = (text ≡ head ++ texts_of replies) × AllByRecursion IsReplyBody replies
 
--- so many messages and their book are those of deciding the frames one after another on these rows
+-- the count and the book are those of deciding the frames one after another on these rows
 abbrev pub IsDecided : Rows → List Frame → Decided → Type 0
-IsDecided rows frames decided = (decided.book ≡ rows_after rows frames) × (decided.messages ≡ length frames)
+IsDecided rows frames decided = (decided.book ≡ rows_after rows frames) × (decided.count ≡ count_of frames)
 
 -- the same, with the text of the reply file, and the replies are such as a file can have
 abbrev pub IsAnswered : Rows → List Frame → Answered → Type 0

@@ -40,7 +40,7 @@ pub fn write_batch<W: Sink>(
     bodies: &[Vec<u8>],
     sink: &mut W,
 ) -> Result<(), BatchFault>
-    ensures device { UsesDevice W.is_known W.has_failed sink.old sink.new result }
+    ensures device { UsesDevice W.is_known W.has_failed W.may_fail sink.old sink.new result }
     ensures bodies { OnOk result (AreBodies (bytes_of bodies.now)) }
     ensures ok { OnOk result (W.is_known sink.old → W.written sink.new ≡ W.written sink.old ++ batch_text (bytes_of bodies.now)) }
     ensures err { OnErr result (W.is_known sink.old → AppendsPart (W.written sink.old) (W.written sink.new) (batch_text (bytes_of bodies.now))) }

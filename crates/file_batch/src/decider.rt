@@ -1,5 +1,6 @@
 ghost use Rattle.std.specs.Prelude.{◌≡◌, []};
 
+use crate::body_count::BodyCount;
 use crate::handing::{hand_over, wait_for};
 use crate::piece::{OfOneBatch, Piece};
 use crate::signals::Signals;
@@ -17,14 +18,17 @@ pub(crate) struct Decider {
     pub(crate) outbound: Producer<Piece>,
     /// The messages that are decided. Their replies are in the pieces.
     pub(crate) prefix: Prefix,
+    /// How many of them are no message.
+    pub(crate) unreadable: u32,
     ghost no_replies: { prefix.replies.items ≡ [] },
 }
 
 impl Decider {
-    ghost use Rattle.std.specs.Prelude.{◌≡◌, ◌+◌, ◌<◌, ◌^◌, length, OnOk, IfOk};
+    ghost use Rattle.std.specs.Prelude.{◌≡◌, ◌+◌, ◌<◌, ◌≤◌, ◌^◌, length, count_by, OnOk, IfOk};
     ghost use Rattle.issuer_rows.specs.Fold.{Rows, rows_after, replies_to};
     ghost use Rattle.rtrb.specs.Ring.{received, SameProducer, SameConsumer};
-    ghost use Rattle.file_batch.specs.Pieces.{HasDecided, frames_in};
+    ghost use Rattle.file_batch.specs.Counting.{is_unreadable};
+    ghost use Rattle.file_batch.specs.Pieces.{HasCounted, HasDecided};
 
     /// Nothing is decided on this book yet. There is room for the rows of so many messages.
     pub(crate) fn new(
@@ -35,7 +39,7 @@ impl Decider {
         outbound: Producer<Piece>,
     ) -> Result<Decider, AllocError>
         ensures ends { IfOk result (λ decider. (decider.inbound ≡ inbound) × (decider.outbound ≡ outbound)) }
-        ensures count { IfOk result (λ decider. decider.prefix.count ≡ 0) }
+        ensures count { IfOk result (λ decider. (decider.prefix.count ≡ 0) × (decider.unreadable ≡ 0)) }
         ensures book { IfOk result (λ decider. decider.prefix.book ≡ book) }
     {
         let mut prefix = Prefix::new(alloc, book);
@@ -44,6 +48,7 @@ impl Decider {
             inbound,
             outbound,
             prefix,
+            unreadable: 0,
         })
     }
 
@@ -56,7 +61,7 @@ impl Decider {
         decision: &F,
         signals: &Signals,
     ) -> Result<(), AllocError>
-        requires count { self.old.prefix.count ≡ length (frames_in (received self.old.inbound)) }
+        requires counted { HasCounted self.old }
         ensures ends { SameConsumer self.old.inbound self.new.inbound × SameProducer self.old.outbound self.new.outbound }
         ensures decided { (book : Rows) → HasDecided book self.old → OnOk result (HasDecided book self.new) }
     {
@@ -82,9 +87,11 @@ impl Decider {
         piece: &mut Piece,
     ) -> Result<(), AllocError>
         requires few { self.old.prefix.count + length piece.old.frames.items < 2 ^ 32 }
+        requires within { self.old.unreadable ≤ self.old.prefix.count }
         ensures ends { (self.new.inbound ≡ self.old.inbound) × (self.new.outbound ≡ self.old.outbound) }
         ensures frames { piece.new.frames.items ≡ piece.old.frames.items }
         ensures count { OnOk result (self.new.prefix.count ≡ self.old.prefix.count + length piece.old.frames.items) }
+        ensures unreadable { OnOk result (self.new.unreadable ≡ self.old.unreadable + count_by is_unreadable piece.old.frames.items) }
         ensures book { OnOk result (self.new.prefix.book ≡ rows_after self.old.prefix.book piece.old.frames.items) }
         ensures replies { OnOk result (piece.new.replies.items ≡ replies_to self.old.prefix.book piece.old.frames.items) }
     {
@@ -94,7 +101,9 @@ impl Decider {
         mem::swap(&mut self.prefix.replies, &mut piece.replies);
         if decided.is_err() {
             piece.replies.clear();
+            return decided;
         }
-        decided
+        self.unreadable += BodyCount::of(&piece.frames).unreadable;
+        Ok(())
     }
 }

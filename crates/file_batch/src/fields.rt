@@ -12,7 +12,7 @@ impl Window {
     /// Reads the four letters that a file begins with. Others are `Magic`.
     #[tactic(auto, unfolding(file_batch_laws::specs::Reading::magic_at))]
     pub fn read_magic<R: Source>(&mut self, source: &mut R, magic: &[u8]) -> Result<(), BatchFault>
-        ensures device { UsesDevice R.is_known R.has_failed source.old source.new result }
+        ensures device { UsesDevice R.is_known R.has_failed R.may_fail source.old source.new result }
         ensures memory { IfErr result (λ e. e ≡ BatchFault.OutOfMemory → length self.new.field.items < 4) }
         ensures gives { R.is_known source.old → Gives (λ _. magic.now) result
             (ahead self.new (R.remaining source.new)) (magic_at magic.now (ahead self.old (R.remaining source.old))) }
@@ -27,7 +27,7 @@ impl Window {
     // A number of two bytes.
     #[tactic(auto, unfolding(file_batch_laws::specs::Reading::number_at))]
     pub(crate) fn read_short<R: Source>(&mut self, source: &mut R) -> Result<u16, BatchFault>
-        ensures device { UsesDevice R.is_known R.has_failed source.old source.new result }
+        ensures device { UsesDevice R.is_known R.has_failed R.may_fail source.old source.new result }
         ensures memory { IfErr result (λ e. e ≡ BatchFault.OutOfMemory → length self.new.field.items < 2) }
         ensures gives { R.is_known source.old → Gives (λ n. n) result
             (ahead self.new (R.remaining source.new)) (number_at 2 (ahead self.old (R.remaining source.old))) }
@@ -39,7 +39,7 @@ impl Window {
     /// Reads a number of four bytes, the highest first.
     #[tactic(auto, unfolding(file_batch_laws::specs::Reading::number_at))]
     pub fn read_long<R: Source>(&mut self, source: &mut R) -> Result<u32, BatchFault>
-        ensures device { UsesDevice R.is_known R.has_failed source.old source.new result }
+        ensures device { UsesDevice R.is_known R.has_failed R.may_fail source.old source.new result }
         ensures memory { IfErr result (λ e. e ≡ BatchFault.OutOfMemory → length self.new.field.items < 4) }
         ensures gives { R.is_known source.old → Gives (λ n. n) result
             (ahead self.new (R.remaining source.new)) (number_at 4 (ahead self.old (R.remaining source.old))) }
@@ -51,7 +51,7 @@ impl Window {
     /// Reads the version, two bytes. Another than 1 is `Version`.
     #[tactic(auto, unfolding(file_batch_laws::specs::Reading::version_at))]
     pub fn read_version<R: Source>(&mut self, source: &mut R) -> Result<u16, BatchFault>
-        ensures device { UsesDevice R.is_known R.has_failed source.old source.new result }
+        ensures device { UsesDevice R.is_known R.has_failed R.may_fail source.old source.new result }
         ensures memory { IfErr result (λ e. e ≡ BatchFault.OutOfMemory → length self.new.field.items < 2) }
         ensures gives { R.is_known source.old → Gives (λ n. n) result
             (ahead self.new (R.remaining source.new)) (version_at (ahead self.old (R.remaining source.old))) }
@@ -66,7 +66,7 @@ impl Window {
     /// Reads a count, four bytes. More than 65,536 is `Count`.
     #[tactic(auto, unfolding(file_batch_laws::specs::Reading::count_at))]
     pub fn read_count<R: Source>(&mut self, source: &mut R) -> Result<u32, BatchFault>
-        ensures device { UsesDevice R.is_known R.has_failed source.old source.new result }
+        ensures device { UsesDevice R.is_known R.has_failed R.may_fail source.old source.new result }
         ensures memory { IfErr result (λ e. e ≡ BatchFault.OutOfMemory → length self.new.field.items < 4) }
         ensures most { IfOk result (λ n. n ≤ 65536) }
         ensures gives { R.is_known source.old → Gives (λ n. n) result
@@ -86,7 +86,7 @@ impl Window {
         source: &mut R,
         magic: &[u8],
     ) -> Result<u32, BatchFault>
-        ensures device { UsesDevice R.is_known R.has_failed source.old source.new result }
+        ensures device { UsesDevice R.is_known R.has_failed R.may_fail source.old source.new result }
         ensures most { IfOk result (λ n. n ≤ 65536) }
         ensures gives { R.is_known source.old → Gives (λ n. n) result
             (ahead self.new (R.remaining source.new)) (head_at magic.now (ahead self.old (R.remaining source.old))) }
@@ -99,7 +99,7 @@ impl Window {
     // The length of a body.
     #[tactic(auto, unfolding(file_batch_laws::specs::Reading::length_at))]
     pub(crate) fn read_length<R: Source>(&mut self, source: &mut R) -> Result<u16, BatchFault>
-        ensures device { UsesDevice R.is_known R.has_failed source.old source.new result }
+        ensures device { UsesDevice R.is_known R.has_failed R.may_fail source.old source.new result }
         ensures memory { IfErr result (λ e. e ≡ BatchFault.OutOfMemory → length self.new.field.items < 2) }
         ensures gives { R.is_known source.old → Gives (λ n. n) result
             (ahead self.new (R.remaining source.new)) (length_at (ahead self.old (R.remaining source.old))) }
@@ -114,7 +114,7 @@ impl Window {
     // The next body, into the field.
     #[tactic(auto, unfolding(file_batch_laws::specs::Reading::body_at))]
     pub(crate) fn read_body<R: Source>(&mut self, source: &mut R) -> Result<(), BatchFault>
-        ensures device { UsesDevice R.is_known R.has_failed source.old source.new result }
+        ensures device { UsesDevice R.is_known R.has_failed R.may_fail source.old source.new result }
         ensures gives { R.is_known source.old → Gives (λ _. self.new.field.items) result
             (ahead self.new (R.remaining source.new)) (body_at (ahead self.old (R.remaining source.old))) }
     {

@@ -28,7 +28,7 @@ fn frame_of(body: &[u8]) -> Frame
 impl Window {
     /// Sees that nothing is left. A byte that is left is `Trailing`.
     pub fn read_end<R: Source>(&mut self, source: &mut R) -> Result<(), BatchFault>
-        ensures device { UsesDevice R.is_known R.has_failed source.old source.new result }
+        ensures device { UsesDevice R.is_known R.has_failed R.may_fail source.old source.new result }
         ensures gives { R.is_known source.old → GivesWhole (λ _. tt) result (ended (ahead self.old (R.remaining source.old))) }
         ensures end { OnOk result (R.is_known source.old → R.remaining source.new ≡ []) }
     {
@@ -46,7 +46,7 @@ impl Window {
         count: u32,
         frames: &mut Vec<Frame>,
     ) -> Result<(), BatchFault>
-        ensures device { UsesDevice R.is_known R.has_failed source.old source.new result }
+        ensures device { UsesDevice R.is_known R.has_failed R.may_fail source.old source.new result }
         ensures count { OnOk result (vec_len frames.new ≡ count) }
         ensures gives { R.is_known source.old → GivesInto result frames.new.items
             (ahead self.new (R.remaining source.new)) (bodies_at count (ahead self.old (R.remaining source.old))) }
@@ -67,7 +67,7 @@ impl Window {
         source: &mut R,
         count: u32,
     ) -> Result<Vec<Frame>, BatchFault>
-        ensures device { UsesDevice R.is_known R.has_failed source.old source.new result }
+        ensures device { UsesDevice R.is_known R.has_failed R.may_fail source.old source.new result }
         ensures count { IfOk result (λ frames. vec_len frames ≡ count) }
         ensures gives { R.is_known source.old → GivesFrames result
             (ahead self.new (R.remaining source.new)) (bodies_at count (ahead self.old (R.remaining source.old))) }
@@ -83,7 +83,7 @@ impl Window {
 /// source failed; and memory can run out.
 #[tactic(auto, unfolding(file_batch_laws::specs::Reading::bodies_of))]
 pub fn read_batch<R: Source>(alloc: Global, source: &mut R) -> Result<Vec<Frame>, BatchFault>
-    ensures device { UsesDevice R.is_known R.has_failed source.old source.new result }
+    ensures device { UsesDevice R.is_known R.has_failed R.may_fail source.old source.new result }
     ensures count { IfOk result (λ frames. length frames.items ≤ 65536) }
     ensures gives { R.is_known source.old → GivesBatch result (R.remaining source.old) }
     ensures end { OnOk result (R.is_known source.old → R.remaining source.new ≡ []) }

@@ -1,15 +1,17 @@
 //! A batch that is decided in the order of its messages, while it is read.
 
-ghost use Rattle.std.specs.Prelude.{◌≡◌, ℕ, List, [], ◌≤◌, ◌++◌, length, IfOk, OnOk};
+ghost use Rattle.std.specs.Prelude.{◌≡◌, ℕ, List, [], ◌≤◌, ◌++◌, length, count_by, IfOk, OnOk};
 ghost use Rattle.issuer_rows.specs.Fold.{Rows, rows_after, replies_to};
 ghost use Rattle.rtrb.specs.Ring.{sent, received, SameProducer, SameConsumer};
 ghost use Rattle.file_batch.specs.Device.{UsesDevice};
 ghost use Rattle.file_batch_laws.specs.Files.{head_text};
 ghost use Rattle.file_batch_laws.specs.Reading.{bodies_at, replies_magic};
 ghost use Rattle.file_batch.specs.InOrder.{GivesInto, DecidesBodies, DecidesBatch, HasReplies};
-ghost use Rattle.file_batch.specs.Pieces.{AreJoined, HasDecided, HasTold, frames_in};
+ghost use Rattle.file_batch.specs.Counting.{is_unreadable};
+ghost use Rattle.file_batch.specs.Pieces.{AreJoined, HasCounted, HasDecided, HasTold, frames_in};
 ghost use Rattle.file_batch.specs.Window.{ahead};
 
+use crate::body_count::BodyCount;
 use crate::decider::Decider;
 use crate::piece::OfOneBatch;
 use crate::reader::{PIECE, Reader};
@@ -29,8 +31,8 @@ use std::thread::{Threads, join_mut};
 /// What deciding a batch in order came to.
 #[derive(Drop)]
 pub struct Decided {
-    /// How many messages it has.
-    pub messages: u32,
+    /// How many bodies it has, and how many of them are no message.
+    pub count: BodyCount,
     /// The book after them.
     pub book: Book,
 }
@@ -75,10 +77,10 @@ fn work_together<T: Threads + Wait + Sync, R: Source, F: Decide + Sync>(
 ) -> Result<(), BatchFault>
     requires few { count ≤ 65536 }
     requires none { sent reader.old.outbound ≡ [] }
-    requires count { decider.old.prefix.count ≡ length (frames_in (received decider.old.inbound)) }
+    requires counted { HasCounted decider.old }
     ensures reader { SameProducer reader.old.outbound reader.new.outbound × SameConsumer reader.old.inbound reader.new.inbound }
     ensures decider { SameConsumer decider.old.inbound decider.new.inbound × SameProducer decider.old.outbound decider.new.outbound }
-    ensures device { UsesDevice R.is_known R.has_failed source.old source.new result }
+    ensures device { UsesDevice R.is_known R.has_failed R.may_fail source.old source.new result }
     ensures read { OnOk result (length (frames_in (sent reader.new.outbound)) ≡ count) }
     ensures gives { R.is_known source.old → GivesInto result (frames_in (sent reader.new.outbound))
         (ahead window.new (R.remaining source.new)) (bodies_at count (ahead window.old (R.remaining source.old))) }
@@ -89,7 +91,7 @@ fn work_together<T: Threads + Wait + Sync, R: Source, F: Decide + Sync>(
     let (decided, read) = join_mut(
         rt,
         &mut || -> Result<(), AllocError>
-            requires { decider.now.prefix.count ≡ length (frames_in (received decider.now.inbound)) }
+            requires { HasCounted decider.now }
             ensures ends { SameConsumer decider.entry.now.inbound decider.exit.now.inbound × SameProducer decider.entry.now.outbound decider.exit.now.outbound }
             ensures decided { (book : Rows) → HasDecided book decider.entry.now → OnOk result (HasDecided book decider.exit.now) }
         { decider.work(rt, alloc, decision, &signals) },
@@ -97,7 +99,7 @@ fn work_together<T: Threads + Wait + Sync, R: Source, F: Decide + Sync>(
             requires few { count ≤ 65536 }
             requires none { sent reader.now.outbound ≡ [] }
             ensures ends { SameProducer reader.entry.now.outbound reader.exit.now.outbound × SameConsumer reader.entry.now.inbound reader.exit.now.inbound }
-            ensures device { UsesDevice R.is_known R.has_failed source.entry.now source.exit.now result }
+            ensures device { UsesDevice R.is_known R.has_failed R.may_fail source.entry.now source.exit.now result }
             ensures read { OnOk result (length (frames_in (sent reader.exit.now.outbound)) ≡ count) }
             ensures gives { R.is_known source.entry.now → GivesInto result (frames_in (sent reader.exit.now.outbound))
                 (ahead window.exit.now (R.remaining source.exit.now)) (bodies_at count (ahead window.entry.now (R.remaining source.entry.now))) }
@@ -116,8 +118,9 @@ fn decide_rest<F: Decide>(
     decision: &F,
 ) -> Result<(), AllocError>
     requires joined { AreJoined reader.old decider.old }
-    requires count { decider.old.prefix.count ≡ length (frames_in (received decider.old.inbound)) }
+    requires counted { HasCounted decider.old }
     ensures book { (book : Rows) → HasDecided book decider.old → OnOk result (decider.new.prefix.book ≡ rows_after book (frames_in (sent reader.old.outbound))) }
+    ensures unreadable { OnOk result (decider.new.unreadable ≡ count_by is_unreadable (frames_in (sent reader.old.outbound))) }
     ensures told { (book : Rows) (head : List ℕ) → HasDecided book decider.old → HasTold head reader.old
         → OnOk result (HasReplies head (replies_to book (frames_in (sent reader.old.outbound))) reader.new.out.items) }
 {
@@ -143,7 +146,7 @@ fn decide_bodies<T: Threads + Wait + Sync, R: Source, F: Decide + Sync>(
     count: u32,
 ) -> Result<Answered, BatchFault>
     requires few { count ≤ 65536 }
-    ensures device { UsesDevice R.is_known R.has_failed source.old source.new result }
+    ensures device { UsesDevice R.is_known R.has_failed R.may_fail source.old source.new result }
     ensures decides { DecidesBodies book result (R.is_known source.old)
         (ahead window.new (R.remaining source.new)) (bodies_at count (ahead window.old (R.remaining source.old))) }
 {
@@ -160,11 +163,18 @@ fn decide_bodies<T: Threads + Wait + Sync, R: Source, F: Decide + Sync>(
     )?;
     decide_rest(alloc, &mut reader, &mut decider, decision)?;
     let Reader { out, .. } = reader;
-    let Decider { prefix, .. } = decider;
+    let Decider {
+        prefix,
+        unreadable,
+        ..
+    } = decider;
     let Prefix { book, .. } = prefix;
     Ok(Answered {
         decided: Decided {
-            messages: count,
+            count: BodyCount {
+                bodies: count,
+                unreadable,
+            },
             book,
         },
         text: out,
@@ -182,7 +192,7 @@ pub fn decide_in_order<T: Threads + Wait + Sync, R: Source, F: Decide + Sync>(
     source: &mut R,
     decision: &F,
 ) -> Result<Answered, BatchFault>
-    ensures device { UsesDevice R.is_known R.has_failed source.old source.new result }
+    ensures device { UsesDevice R.is_known R.has_failed R.may_fail source.old source.new result }
     ensures decides { DecidesBatch book result (R.is_known source.old) (R.remaining source.old) }
     ensures end { OnOk result (R.is_known source.old → R.remaining source.new ≡ []) }
 {

@@ -2,6 +2,7 @@
 #![tactic(auto)]
 
 mod bodies;
+mod body_count;
 mod decider;
 mod fields;
 mod file_item;
@@ -9,20 +10,25 @@ mod frames;
 mod handing;
 mod in_order;
 mod piece;
+mod processed;
 mod processing;
 mod reader;
 mod replies;
 mod reply_reading;
 mod signals;
+mod strictness;
 mod window;
 mod writing;
 
 pub use bodies::write_batch;
+pub use body_count::BodyCount;
 pub use file_batch_laws::BatchFault;
 pub use frames::read_batch;
 pub use in_order::{Answered, Decided, decide_in_order};
+pub use processed::Processed;
 pub use processing::process;
 pub use replies::{add_replies, write_replies};
 pub use reply_reading::read_replies;
+pub use strictness::Strictness;
 pub use window::Window;
 pub use writing::{add_head, add_long, put_all};

@@ -8,9 +8,12 @@ ghost use Rattle.file_batch_laws.specs.Files.{replies_text};
 ghost use Rattle.file_batch_laws.specs.Frames.{IsBatchOf};
 ghost use Rattle.file_batch_laws.specs.Replies.{AreReplyBodies};
 ghost use Rattle.file_batch.specs.Writing.{AppendsPart};
+ghost use Rattle.file_batch.specs.Counting.{count_of};
 ghost use Rattle.file_batch.specs.Processing.{IsDecider, IsFold};
 
+use crate::body_count::BodyCount;
 use crate::frames::read_batch;
+use crate::processed::Processed;
 use crate::replies::write_replies;
 use file_batch_laws::BatchFault;
 use file_devices::{Sink, Source};
@@ -25,20 +28,24 @@ fn answer<W: Sink, E: Fn(&Book, &[Frame]) -> Result<RunOutcome, AllocError>>(
     frames: &[Frame],
     sink: &mut W,
     decide: &E,
-) -> Result<RunOutcome, BatchFault>
+) -> Result<Processed, BatchFault>
     requires count { length frames.now ≤ 65536 }
     requires decider { IsDecider E.pre E.post (λ rows. rows.now) (λ frames. frames.now) decide.now }
-    ensures device { UsesDevice W.is_known W.has_failed sink.old sink.new result }
-    ensures ok { IfOk result (λ outcome. W.is_known sink.old → W.written sink.new ≡ W.written sink.old ++ replies_text outcome.replies.items) }
-    ensures answered { IfOk result (λ outcome. E.post decide.now book.entry frames.entry (Ok outcome)) }
-    ensures bodies { IfOk result (λ outcome. AreReplyBodies outcome.replies.items) }
+    ensures device { UsesDevice W.is_known W.has_failed W.may_fail sink.old sink.new result }
+    ensures ok { IfOk result (λ done. W.is_known sink.old → W.written sink.new ≡ W.written sink.old ++ replies_text done.outcome.replies.items) }
+    ensures answered { IfOk result (λ done. E.post decide.now book.entry frames.entry (Ok done.outcome)) }
+    ensures counted { IfOk result (λ done. done.count ≡ count_of frames.now) }
+    ensures bodies { IfOk result (λ done. AreReplyBodies done.outcome.replies.items) }
     ensures fault { IfErr result (λ e. ¬ IsTrue (is_of_bytes e)) }
     ensures begun { OnErr result ((sink.new ≡ sink.old) ⊎ ((outcome : _) × E.post decide.now book.entry frames.entry (Ok outcome)
         × (W.is_known sink.old → AppendsPart (W.written sink.old) (W.written sink.new) (replies_text outcome.replies.items)))) }
 {
     let outcome = decide(book, frames)?;
     write_replies(alloc, &outcome.replies, sink)?;
-    Ok(outcome)
+    Ok(Processed {
+        outcome,
+        count: BodyCount::of(frames),
+    })
 }
 
 /// Reads a batch file, decides it on the book and writes the reply file. All of the batch is read and decided before the first byte is
@@ -50,18 +57,18 @@ pub fn process<R: Source, W: Sink, E: Fn(&Book, &[Frame]) -> Result<RunOutcome, 
     source: &mut R,
     sink: &mut W,
     decide: &E,
-) -> Result<RunOutcome, BatchFault>
+) -> Result<Processed, BatchFault>
     // It may be called with a batch, and what it returns is the fold.
     requires decider { IsDecider E.pre E.post (λ rows. rows.now) (λ frames. frames.now) decide.now }
-    ensures devices { UsesDevices R.is_known R.has_failed W.is_known W.has_failed source.old source.new sink.old sink.new result }
-    ensures ok { IfOk result (λ outcome. (frames : List Frame) × IsFold book.now frames outcome
+    ensures devices { UsesDevices R.is_known R.has_failed R.may_fail W.is_known W.has_failed W.may_fail source.old source.new sink.old sink.new result }
+    ensures ok { IfOk result (λ done. (frames : List Frame) × IsFold book.now frames done.outcome × (done.count ≡ count_of frames)
         × (R.is_known source.old → IsBatchOf (R.remaining source.old) frames)
         × (W.is_known sink.old → W.written sink.new ≡ W.written sink.old ++ replies_text (replies_to book.now frames))) }
     // What is returned is what `decide` returned for the batch, how many threads took part too.
-    ensures answered { IfOk result (λ outcome. (frames : _) × E.post decide.now book.entry frames (Ok outcome)
+    ensures answered { IfOk result (λ done. (frames : _) × E.post decide.now book.entry frames (Ok done.outcome)
         × (R.is_known source.old → IsBatchOf (R.remaining source.old) frames.now)) }
     // A file of the replies is read again as these replies, and as no others.
-    ensures bodies { IfOk result (λ outcome. AreReplyBodies outcome.replies.items) }
+    ensures bodies { IfOk result (λ done. AreReplyBodies done.outcome.replies.items) }
     ensures end { OnOk result (R.is_known source.old → R.remaining source.new ≡ []) }
     ensures fault { IfErr result (λ e. IsTrue (is_of_bytes e) → R.is_known source.old → bodies_of batch_magic (R.remaining source.old) ≡ Err e) }
     // Nothing is written unless the source was a batch that was decided, and then a beginning of its text is written.

@@ -73,7 +73,7 @@ impl Reader {
         requires few { count ≤ 65536 }
         requires none { sent self.old.outbound ≡ [] }
         ensures ends { SameProducer self.old.outbound self.new.outbound × SameConsumer self.old.inbound self.new.inbound }
-        ensures device { UsesDevice R.is_known R.has_failed source.old source.new result }
+        ensures device { UsesDevice R.is_known R.has_failed R.may_fail source.old source.new result }
         ensures read { OnOk result (length (frames_in (sent self.new.outbound)) ≡ count) }
         ensures gives { R.is_known source.old → GivesInto result (frames_in (sent self.new.outbound))
             (ahead window.new (R.remaining source.new)) (bodies_at count (ahead window.old (R.remaining source.old))) }
@@ -101,7 +101,7 @@ impl Reader {
         requires few { count ≤ 65536 }
         requires none { sent self.old.outbound ≡ [] }
         ensures ends { SameProducer self.old.outbound self.new.outbound × SameConsumer self.old.inbound self.new.inbound }
-        ensures device { UsesDevice R.is_known R.has_failed source.old source.new result }
+        ensures device { UsesDevice R.is_known R.has_failed R.may_fail source.old source.new result }
         ensures few { length (frames_in (sent self.new.outbound)) ≤ count }
         ensures read { OnOk result (length (frames_in (sent self.new.outbound)) ≡ count) }
         ensures gives { R.is_known source.old → GivesInto result (frames_in (sent self.new.outbound))

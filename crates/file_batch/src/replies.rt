@@ -80,7 +80,7 @@ pub fn write_replies<W: Sink>(
     replies: &[ReplyBody],
     sink: &mut W,
 ) -> Result<(), BatchFault>
-    ensures device { UsesDevice W.is_known W.has_failed sink.old sink.new result }
+    ensures device { UsesDevice W.is_known W.has_failed W.may_fail sink.old sink.new result }
     ensures ok { OnOk result (W.is_known sink.old → W.written sink.new ≡ W.written sink.old ++ replies_text replies.now) }
     ensures err { OnErr result (W.is_known sink.old → AppendsPart (W.written sink.old) (W.written sink.new) (replies_text replies.now)) }
     // What was written is read again as these replies, and as no others.

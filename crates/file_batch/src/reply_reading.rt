@@ -90,7 +90,7 @@ impl Window {
         count: u32,
     ) -> Result<Vec<ReplyBody>, BatchFault>
         requires fits { from + count < 2 ^ 32 }
-        ensures device { UsesDevice R.is_known R.has_failed source.old source.new result }
+        ensures device { UsesDevice R.is_known R.has_failed R.may_fail source.old source.new result }
         ensures count { IfOk result (λ replies. vec_len replies ≡ count) }
         ensures gives { R.is_known source.old → GivesReplies from count (ahead self.old (R.remaining source.old)) result (ahead self.new (R.remaining source.new)) }
     {
@@ -111,7 +111,7 @@ impl Window {
 /// from 0. The source is at its end then. `Device` is the fault exactly where a call of the source failed; and memory can run out.
 #[tactic(auto, unfolding(file_batch_laws::specs::Reading::bodies_of))]
 pub fn read_replies<R: Source>(alloc: Global, source: &mut R) -> Result<Vec<ReplyBody>, BatchFault>
-    ensures device { UsesDevice R.is_known R.has_failed source.old source.new result }
+    ensures device { UsesDevice R.is_known R.has_failed R.may_fail source.old source.new result }
     ensures count { IfOk result (λ replies. length replies.items ≤ 65536) }
     ensures gives { R.is_known source.old → GivesReplyFile (R.remaining source.old) result }
     ensures end { OnOk result (R.is_known source.old → R.remaining source.new ≡ []) }

@@ -43,7 +43,7 @@ impl Window {
 
     // Takes the next piece, where all of the last one was read.
     fn refill<R: Source>(&mut self, source: &mut R) -> Result<(), BatchFault>
-        ensures device { UsesDevice R.is_known R.has_failed source.old source.new result }
+        ensures device { UsesDevice R.is_known R.has_failed R.may_fail source.old source.new result }
         ensures some { OnOk result (self.new.start < self.new.end) }
         ensures bytes { OnOk result (R.is_known source.old → R.remaining source.old ≡ ahead self.new (R.remaining source.new)) }
         ensures ended { IfErr result (λ e. IsTrue (is_of_bytes e) → (e ≡ BatchFault.Ended) × (R.is_known source.old → R.remaining source.old ≡ [])) }
@@ -64,7 +64,7 @@ impl Window {
 
     /// Sees that a byte is there to be read.
     pub(crate) fn make_ready<R: Source>(&mut self, source: &mut R) -> Result<(), BatchFault>
-        ensures device { UsesDevice R.is_known R.has_failed source.old source.new result }
+        ensures device { UsesDevice R.is_known R.has_failed R.may_fail source.old source.new result }
         ensures some { OnOk result (self.new.start < self.new.end) }
         ensures bytes { OnOk result (R.is_known source.old →
             ahead self.old (R.remaining source.old) ≡ ahead self.new (R.remaining source.new)) }
@@ -103,7 +103,7 @@ impl Window {
         source: &mut R,
         size: usize,
     ) -> Result<(), BatchFault>
-        ensures device { UsesDevice R.is_known R.has_failed source.old source.new result }
+        ensures device { UsesDevice R.is_known R.has_failed R.may_fail source.old source.new result }
         ensures size { OnOk result (length self.new.field.items ≡ size) }
         // Only bytes of the field take memory: for a field that is whole memory never runs out.
         ensures memory { IfErr result (λ e. e ≡ BatchFault.OutOfMemory → length self.new.field.items < size) }

@@ -17,7 +17,7 @@ pub(crate) const PIECE: usize = 65_536;
 
 /// Writes all of the bytes. After a fault a beginning of them was written; it is `Device`, exactly where a call of the sink failed.
 pub fn put_all<W: Sink>(sink: &mut W, bytes: &[u8]) -> Result<(), BatchFault>
-    ensures device { UsesDevice W.is_known W.has_failed sink.old sink.new result }
+    ensures device { UsesDevice W.is_known W.has_failed W.may_fail sink.old sink.new result }
     ensures ok { OnOk result (W.is_known sink.old → W.written sink.new ≡ W.written sink.old ++ bytes.now) }
     ensures err { OnErr result (W.is_known sink.old → AppendsPart (W.written sink.old) (W.written sink.new) bytes.now) }
     ensures fault { IfErr result (λ e. e ≡ BatchFault.Device) }
@@ -35,7 +35,7 @@ pub fn put_all<W: Sink>(sink: &mut W, bytes: &[u8]) -> Result<(), BatchFault>
 
 /// Writes the bytes that are about to be written, where they make a piece.
 pub(crate) fn put_piece<W: Sink>(sink: &mut W, out: &mut Vec<u8>) -> Result<(), BatchFault>
-    ensures device { UsesDevice W.is_known W.has_failed sink.old sink.new result }
+    ensures device { UsesDevice W.is_known W.has_failed W.may_fail sink.old sink.new result }
     ensures ok { OnOk result (W.is_known sink.old → Moves (W.written sink.old) (W.written sink.new) out.old.items out.new.items) }
     ensures err { OnErr result (W.is_known sink.old → AppendsPart (W.written sink.old) (W.written sink.new) out.old.items) }
     ensures fault { IfErr result (λ e. e ≡ BatchFault.Device) }
@@ -97,7 +97,7 @@ pub(crate) fn put_items<T: FileItem, W: Sink>(
     requires none { out.old.items ≡ [] }
     requires count { length items.now ≤ 65536 }
     requires each { All T.fits items.now }
-    ensures device { UsesDevice W.is_known W.has_failed sink.old sink.new result }
+    ensures device { UsesDevice W.is_known W.has_failed W.may_fail sink.old sink.new result }
     ensures ok { OnOk result (W.is_known sink.old → W.written sink.new ≡ W.written sink.old ++ items_text T.text magic.now items.now) }
     ensures err { OnErr result (W.is_known sink.old
         → AppendsPart (W.written sink.old) (W.written sink.new) (items_text T.text magic.now items.now)) }

@@ -118,11 +118,6 @@ replies_to_blocks rows (block ∷ blocks) = replies_to rows block ∷ replies_to
 abbrev pub blocks_text : List (List ReplyBody) → List ℕ
 blocks_text replies = flat_map block_text replies
 
--- how many messages there are
-abbrev pub messages_in : List (List Frame) → ℕ
-messages_in [] = 0
-messages_in (block ∷ blocks) = length block + messages_in blocks
-
 -- all messages, in order
 abbrev pub all_messages : List (List Frame) → List Frame
 all_messages blocks = flat_map (λ block. block) blocks

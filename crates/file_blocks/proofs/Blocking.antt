@@ -3,16 +3,20 @@ use Rattle.std.proofs.Common.{◌≡◌, ◌⊎◌, ℕ, suc, ◌+◌, ◌<◌, 
 use Rattle.std.specs.List.{AllByRecursion}
 use Rattle.std.specs.Prelude.{IsTrue}
 use Rattle.std.proofs.lemmas.List.{append-nil, length-append}
+use Rattle.std.proofs.lemmas.List.Concat.{flat_map-append}
 use Rattle.issuer_rows.specs.Fold.{Rows, rows_after, replies_to}
 use Rattle.issuer_rows.specs.declared.frame.Frame.{Frame}
 use Rattle.file_batch_laws.specs.BatchFault.{is_of_bytes}
-use Rattle.file_batch_laws.specs.Blocks.{IsBlock, AreBlocks, block_at, block_head_at, blocks_magic, block_replies_magic, block_text, blocks_text, rows_after_blocks, replies_to_blocks, messages_in}
+use Rattle.file_batch_laws.specs.Blocks.{IsBlock, AreBlocks, block_at, block_head_at, blocks_magic, block_replies_magic, block_text, blocks_text, rows_after_blocks, replies_to_blocks, all_messages}
 use Rattle.file_batch_laws.specs.Files.{head_text}
 use Rattle.file_batch_laws.specs.Reading.{ended}
 use Rattle.file_batch_laws.specs.Replies.{AreReplyBodies}
 use Rattle.file_batch_laws.specs.declared.batch_fault.BatchFault.{BatchFault}
 use Rattle.file_blocks.specs.Blocks.{AreDecided, AreAllDecided, BeginsBlock, StopsBehind, StopsBefore, StopsInHead, StopsInBlocks, IsAnswered}
+use Rattle.file_batch.proofs.Counting.{count_of-append}
+use Rattle.file_batch.specs.Counting.{count_of, plus}
 use Rattle.file_batch.specs.Writing.{AppendsPart}
+use Rattle.file_batch.specs.declared.body_count.BodyCount.{BodyCount}
 use Rattle.file_blocks.proofs.ReadBlocks.{nothing_left, one_more}
 use Rattle.file_blocks.specs.declared.kept_blocks.KeptBlocks.{KeptBlocks}
 
@@ -33,11 +37,13 @@ one_more_holds : (rows : Rows) (blocks : List (List Frame)) (block : List Frame)
 one_more_holds rows [] block h k = (k, tt)
 one_more_holds rows (b ∷ blocks) block h k = (h.0, one_more_holds (rows_after rows b) blocks block h.1 k)
 
-one_more_count : (blocks : List (List Frame)) (block : List Frame) → messages_in (blocks ++ block ∷ []) ≡ messages_in blocks + length block
-one_more_count [] block = omega arith
-one_more_count (b ∷ blocks) block = omega (arith, one_more_count blocks block)
+one_more_list : (blocks : List (List Frame)) (block : List Frame) → all_messages (blocks ++ block ∷ []) ≡ all_messages blocks ++ block
+one_more_list blocks block = flat_map-append (λ (b : List Frame). b) blocks (block ∷ []) ∙ ap (λ (x : List Frame). all_messages blocks ++ x) (append-nil block)
 
-pub starts : (opening : Rows) (reads : Type 0) (bytes : List ℕ) (puts : Type 0) (old : List ℕ) → AreDecided opening opening 0 0 reads bytes bytes puts old old
+one_more_count : (blocks : List (List Frame)) (block : List Frame) → count_of (all_messages (blocks ++ block ∷ [])) ≡ plus (count_of (all_messages blocks)) (count_of block)
+one_more_count blocks block = ap count_of (one_more_list blocks block) ∙ count_of-append (all_messages blocks) block
+
+pub starts : (opening : Rows) (reads : Type 0) (bytes : List ℕ) (puts : Type 0) (old : List ℕ) → AreDecided opening opening 0 (count_of []) reads bytes bytes puts old old
 starts opening reads bytes puts old =
     record { blocks = []; number = refl; all = refl; book = refl; bodies = tt; read = λ known. refl; put = λ known. sym (append-nil old) }
 
@@ -50,7 +56,7 @@ goes_on opening before after reads reads' bytes left left' puts puts' old mid ne
     record {
       blocks = blocks ++ block ∷ [];
       number = omega (arith, length-append blocks (block ∷ []), so_far.number, next.number);
-      all = omega (arith, one_more_count blocks block, so_far.all, next.all);
+      all = one_more_count blocks block ∙ ap (λ (c : BodyCount). plus c (count_of block)) so_far.all ∙ sym next.all;
       book = next.book ∙ ap (λ (r : Rows). rows_after r block) so_far.book ∙ sym (one_more_rows opening blocks block);
       bodies = one_more_holds opening blocks block so_far.bodies (subst (λ (r : Rows). AreReplyBodies (replies_to r block)) so_far.book next.bodies);
       read = λ known. one_more IsBlock bytes blocks left block left' (so_far.read known) (next.read (still_read known));
@@ -63,27 +69,27 @@ pub begun : (rows : Rows) (reads : Type 0) (bytes left : List ℕ) (puts : Type 
 begun rows reads bytes left puts old new failed same block read (inl s) = inl s
 begun rows reads bytes left puts old new failed same block read (inr p) = inr (p.0, block, left, read, p.1)
 
-as_begun : (rows : Rows) (reads reads' : Type 0) (left : List ℕ) (puts puts' : Type 0) (mid new : List ℕ) (failed same : Type 0) → (reads → reads') → (puts → puts') → (same → new ≡ mid)
-    → same ⊎ BeginsBlock rows reads' left puts' mid new failed → (puts → new ≡ mid) ⊎ BeginsBlock rows reads left puts mid new failed
-as_begun rows reads reads' left puts puts' mid new failed same r p eq (inl s) = inl (λ known. eq s)
-as_begun rows reads reads' left puts puts' mid new failed same r p eq (inr b) = inr (b.0, b.1, b.2, λ known. b.3 (r known), λ known. b.4 (p known))
+as_begun : (rows : Rows) (reads reads' : Type 0) (left : List ℕ) (puts puts' : Type 0) (mid new : List ℕ) (failed failed' same : Type 0) → (reads → reads') → (puts → puts') → (failed' → failed)
+    → (same → new ≡ mid) → same ⊎ BeginsBlock rows reads' left puts' mid new failed' → (puts → new ≡ mid) ⊎ BeginsBlock rows reads left puts mid new failed
+as_begun rows reads reads' left puts puts' mid new failed failed' same r p f eq (inl s) = inl (λ known. eq s)
+as_begun rows reads reads' left puts puts' mid new failed failed' same r p f eq (inr b) = inr (f b.0, b.1, b.2, λ known. b.3 (r known), λ known. b.4 (p known))
 
-pub halts : (total : ℕ) (opening : Rows) (before after : KeptBlocks) (reads reads' : Type 0) (bytes left : List ℕ) (puts puts' : Type 0) (old mid new : List ℕ) (e : BatchFault) (failed same : Type 0)
-    → AreDecided opening before.book before.blocks before.messages reads bytes left puts old mid → after ≡ before → before.blocks < total → (reads → reads') → (puts → puts')
-    → (reads' → IsTrue (is_of_bytes e) → block_at left ≡ Err e) → same ⊎ BeginsBlock before.book reads' left puts' mid new failed → (same → new ≡ mid)
+pub halts : (total : ℕ) (opening : Rows) (before after : KeptBlocks) (reads reads' : Type 0) (bytes left : List ℕ) (puts puts' : Type 0) (old mid new : List ℕ) (e : BatchFault) (failed failed' same : Type 0)
+    → AreDecided opening before.book before.blocks before.messages reads bytes left puts old mid → after ≡ before → before.blocks < total → (reads → reads') → (puts → puts') → (failed' → failed)
+    → (reads' → IsTrue (is_of_bytes e) → block_at left ≡ Err e) → same ⊎ BeginsBlock before.book reads' left puts' mid new failed' → (same → new ≡ mid)
     → StopsBehind total opening after.book after.blocks reads bytes puts old new e failed
-halts total opening before after reads reads' bytes left puts puts' old mid new e failed same so_far is lt r p fault next eq =
+halts total opening before after reads reads' bytes left puts puts' old mid new e failed failed' same so_far is lt r p f fault next eq =
     subst (λ (k : KeptBlocks). StopsBehind total opening k.book k.blocks reads bytes puts old new e failed) (sym is) (record {
       messages = before.messages;
       left = left;
       mid = mid;
       kept = so_far;
       fails = λ known of_bytes. inl (lt, fault (r known) of_bytes);
-      begun = as_begun before.book reads reads' left puts puts' mid new failed same r p eq next;
+      begun = as_begun before.book reads reads' left puts puts' mid new failed failed' same r p f eq next;
     })
 
 -- all blocks are kept, and something stands behind them, or it can't be seen
-pub halts_behind : (total : ℕ) (opening rows : Rows) (count messages : ℕ) (reads reads' : Type 0) (bytes left : List ℕ) (puts : Type 0) (old new : List ℕ) (e : BatchFault) (failed : Type 0)
+pub halts_behind : (total : ℕ) (opening rows : Rows) (count : ℕ) (messages : BodyCount) (reads reads' : Type 0) (bytes left : List ℕ) (puts : Type 0) (old new : List ℕ) (e : BatchFault) (failed : Type 0)
     → AreDecided opening rows count messages reads bytes left puts old new → count ≡ total → (reads → reads') → (reads' → IsTrue (is_of_bytes e) → ended left ≡ Err e)
     → StopsBehind total opening rows count reads bytes puts old new e failed
 halts_behind total opening rows count messages reads reads' bytes left puts old new e failed so_far same r fault = record {
@@ -99,7 +105,7 @@ as_many : (rows : Rows) (blocks : List (List Frame)) → length (replies_to_bloc
 as_many rows [] = refl
 as_many rows (block ∷ blocks) = ap suc (as_many (rows_after rows block) blocks)
 
-pub finishes : (opening rows : Rows) (count messages total : ℕ) (reads : Type 0) (bytes behind left : List ℕ) (puts : Type 0) (old mid new : List ℕ)
+pub finishes : (opening rows : Rows) (count : ℕ) (messages : BodyCount) (total : ℕ) (reads : Type 0) (bytes behind left : List ℕ) (puts : Type 0) (old mid new : List ℕ)
     → AreDecided opening rows count messages reads behind left puts mid new → count ≡ total → total ≤ 1000 → (reads → block_head_at blocks_magic bytes ≡ Ok (total, behind)) → (reads → ended left ≡ Ok tt)
     → (puts → mid ≡ old ++ head_text block_replies_magic total) → AreAllDecided opening rows count messages reads bytes puts old new
 finishes opening rows count messages total reads bytes behind left puts old mid new so_far same few head end heading =
@@ -117,7 +123,7 @@ finishes opening rows count messages total reads bytes behind left puts old mid 
     }
 
 -- the same, seen from before the own head
-pub moved : (opening rows : Rows) (count messages : ℕ) (reads reads' : Type 0) (bytes left : List ℕ) (puts puts' : Type 0) (old old' new : List ℕ) → AreDecided opening rows count messages reads' bytes left puts' old' new
+pub moved : (opening rows : Rows) (count : ℕ) (messages : BodyCount) (reads reads' : Type 0) (bytes left : List ℕ) (puts puts' : Type 0) (old old' new : List ℕ) → AreDecided opening rows count messages reads' bytes left puts' old' new
     → (reads → reads') → (puts → puts') → (puts → old' ≡ old) → AreDecided opening rows count messages reads bytes left puts old new
 moved opening rows count messages reads reads' bytes left puts puts' old old' new so_far r p eq = record {
   blocks = so_far.blocks;
@@ -129,21 +135,21 @@ moved opening rows count messages reads reads' bytes left puts puts' old old' ne
   put = λ known. so_far.put (p known) ∙ ap (λ (x : List ℕ). x ++ blocks_text (replies_to_blocks opening so_far.blocks)) (eq known);
 }
 
-moved_begun : (rows : Rows) (reads reads' : Type 0) (left : List ℕ) (puts puts' : Type 0) (mid new : List ℕ) (failed : Type 0) → (reads → reads') → (puts → puts')
-    → (puts' → new ≡ mid) ⊎ BeginsBlock rows reads' left puts' mid new failed → (puts → new ≡ mid) ⊎ BeginsBlock rows reads left puts mid new failed
-moved_begun rows reads reads' left puts puts' mid new failed r p (inl same) = inl (λ known. same (p known))
-moved_begun rows reads reads' left puts puts' mid new failed r p (inr b) = inr (b.0, b.1, b.2, λ known. b.3 (r known), λ known. b.4 (p known))
+moved_begun : (rows : Rows) (reads reads' : Type 0) (left : List ℕ) (puts puts' : Type 0) (mid new : List ℕ) (failed failed' : Type 0) → (reads → reads') → (puts → puts') → (failed' → failed)
+    → (puts' → new ≡ mid) ⊎ BeginsBlock rows reads' left puts' mid new failed' → (puts → new ≡ mid) ⊎ BeginsBlock rows reads left puts mid new failed
+moved_begun rows reads reads' left puts puts' mid new failed failed' r p f (inl same) = inl (λ known. same (p known))
+moved_begun rows reads reads' left puts puts' mid new failed failed' r p f (inr b) = inr (f b.0, b.1, b.2, λ known. b.3 (r known), λ known. b.4 (p known))
 
-pub halts_moved : (total : ℕ) (opening rows : Rows) (count : ℕ) (reads reads' : Type 0) (bytes : List ℕ) (puts puts' : Type 0) (old old' new : List ℕ) (e : BatchFault) (failed : Type 0)
-    → StopsBehind total opening rows count reads' bytes puts' old' new e failed → (reads → reads') → (puts → puts') → (puts → old' ≡ old)
+pub halts_moved : (total : ℕ) (opening rows : Rows) (count : ℕ) (reads reads' : Type 0) (bytes : List ℕ) (puts puts' : Type 0) (old old' new : List ℕ) (e : BatchFault) (failed failed' : Type 0)
+    → StopsBehind total opening rows count reads' bytes puts' old' new e failed' → (reads → reads') → (puts → puts') → (failed' → failed) → (puts → old' ≡ old)
     → StopsBehind total opening rows count reads bytes puts old new e failed
-halts_moved total opening rows count reads reads' bytes puts puts' old old' new e failed stops r p eq = record {
+halts_moved total opening rows count reads reads' bytes puts puts' old old' new e failed failed' stops r p f eq = record {
   messages = stops.messages;
   left = stops.left;
   mid = stops.mid;
   kept = moved opening rows count stops.messages reads reads' bytes stops.left puts puts' old old' stops.mid stops.kept r p eq;
   fails = λ known. stops.fails (r known);
-  begun = moved_begun rows reads reads' stops.left puts puts' stops.mid new failed r p stops.begun;
+  begun = moved_begun rows reads reads' stops.left puts puts' stops.mid new failed failed' r p f stops.begun;
 }
 
 pub halts_in_head : (opening : Rows) (count : ℕ) (reads : Type 0) (bytes : List ℕ) (total : ℕ) (behind : List ℕ) (puts : Type 0) (old new : List ℕ) (e : BatchFault) (failed same : Type 0)

@@ -1,23 +1,25 @@
 -- Blocks that are decided one after another.
-use Rattle.std.specs.Prelude.{◌≡◌, ◌⊎◌, ◌+◌, ℕ, List, ◌++◌, length, Ok, Err, IsTrue}
+use Rattle.std.specs.Prelude.{◌≡◌, ◌⊎◌, ◌+◌, ◌<◌, ◌≤◌, ◌^◌, ℕ, List, ◌++◌, length, Ok, Err, IsTrue}
 use Rattle.std.specs.List.{AllByRecursion}
 use Rattle.issuer_rows.specs.Fold.{Rows, rows_after, replies_to}
 use Rattle.issuer_rows.specs.declared.frame.Frame.{Frame}
 use Rattle.file_batch_laws.specs.BatchFault.{is_of_bytes}
-use Rattle.file_batch_laws.specs.Blocks.{IsBlock, AreBlocks, IsBlockFileOf, AreBlocksOfReplies, FailsBehind, block_replies_text, block_head_at, blocks_magic, block_replies_magic, block_text, blocks_text, rows_after_blocks, replies_to_blocks, messages_in}
+use Rattle.file_batch_laws.specs.Blocks.{IsBlock, AreBlocks, IsBlockFileOf, AreBlocksOfReplies, FailsBehind, block_replies_text, block_head_at, blocks_magic, block_replies_magic, block_text, blocks_text, rows_after_blocks, replies_to_blocks, all_messages}
 use Rattle.file_batch_laws.specs.Files.{head_text}
 use Rattle.file_batch_laws.specs.Replies.{AreReplyBodies}
 use Rattle.file_batch_laws.specs.declared.batch_fault.BatchFault.{BatchFault}
+use Rattle.file_batch.specs.Counting.{count_of, plus}
 use Rattle.file_batch.specs.Writing.{AppendsPart}
+use Rattle.file_batch.specs.declared.body_count.BodyCount.{BodyCount}
 use Rattle.file_blocks.specs.declared.kept_blocks.KeptBlocks.{KeptBlocks}
 
--- These blocks were decided, each on the rows after those before it: so many blocks and messages, and the rows after them. Where the
+-- These blocks were decided, each on the rows after those before it: so many blocks, so many bodies in them, and the rows after them. Where the
 -- bytes are known they were read as these blocks; where it is known what was written, their replies were, and nothing else. Their replies
 -- are such as a file can have.
-pub record AreDecided (opening rows : Rows) (count messages : ℕ) (reads : Type 0) (bytes left : List ℕ) (puts : Type 0) (old new : List ℕ) : Type 0 where
+pub record AreDecided (opening rows : Rows) (count : ℕ) (messages : BodyCount) (reads : Type 0) (bytes left : List ℕ) (puts : Type 0) (old new : List ℕ) : Type 0 where
   pub blocks : List (List Frame)
   pub number : length blocks ≡ count
-  pub all : messages_in blocks ≡ messages
+  pub all : count_of (all_messages blocks) ≡ messages
   pub book : rows ≡ rows_after_blocks opening blocks
   pub bodies : AllByRecursion AreReplyBodies (replies_to_blocks opening blocks)
   pub read : reads → AreBlocks bytes blocks left
@@ -31,7 +33,7 @@ BeginsBlock rows reads bytes puts old new failed =
 -- So many blocks are kept, whose replies were written whole, with the rows after them; then reading stopped with the fault, or memory or
 -- a device failed. Behind their replies nothing was written, or, where the sink failed, a beginning of the next block's replies.
 pub record StopsBehind (total : ℕ) (opening rows : Rows) (count : ℕ) (reads : Type 0) (bytes : List ℕ) (puts : Type 0) (old new : List ℕ) (fault : BatchFault) (failed : Type 0) : Type 0 where
-  pub messages : ℕ
+  pub messages : BodyCount
   pub left : List ℕ
   pub mid : List ℕ
   pub kept : AreDecided opening rows count messages reads bytes left puts old mid
@@ -55,22 +57,30 @@ StopsInBlocks opening rows count reads bytes puts old new fault failed =
     (total : ℕ) × (behind : List ℕ) × (reads → block_head_at blocks_magic bytes ≡ Ok (total, behind))
     × StopsBehind total opening rows count reads behind puts (old ++ head_text block_replies_magic total) new fault failed
 
--- One block was read, decided and answered: one block more is kept, its messages, and the book after it; and its replies were written.
+-- One block was read, decided and answered: one block more is kept, its bodies, and the book after it; and its replies were written.
 pub record IsAnswered (before after : KeptBlocks) (reads : Type 0) (bytes left : List ℕ) (puts : Type 0) (old new : List ℕ) : Type 0 where
   pub block : List Frame
   pub number : after.blocks ≡ before.blocks + 1
-  pub all : after.messages ≡ before.messages + length block
+  pub all : after.messages ≡ plus before.messages (count_of block)
   pub book : after.book ≡ rows_after before.book block
   pub bodies : AreReplyBodies (replies_to before.book block)
   pub read : reads → IsBlock bytes block left
   pub put : puts → new ≡ old ++ block_text (replies_to before.book block)
 
--- All blocks of a block file were read, decided and answered: so many blocks and messages, the rows after them, and a whole reply file.
-pub record AreAllDecided (opening rows : Rows) (count messages : ℕ) (reads : Type 0) (bytes : List ℕ) (puts : Type 0) (old new : List ℕ) : Type 0 where
+-- All blocks of a block file were read, decided and answered: so many blocks, so many bodies in them, the rows after them, and a whole reply file.
+pub record AreAllDecided (opening rows : Rows) (count : ℕ) (messages : BodyCount) (reads : Type 0) (bytes : List ℕ) (puts : Type 0) (old new : List ℕ) : Type 0 where
   pub blocks : List (List Frame)
   pub number : count ≡ length blocks
-  pub all : messages ≡ messages_in blocks
+  pub all : messages ≡ count_of (all_messages blocks)
   pub book : rows ≡ rows_after_blocks opening blocks
   pub bodies : AreBlocksOfReplies (replies_to_blocks opening blocks)
   pub read : reads → IsBlockFileOf bytes blocks
   pub put : puts → new ≡ old ++ block_replies_text (replies_to_blocks opening blocks)
+
+-- the bodies of one block more can be counted, too
+abbrev pub HasRoom : BodyCount → Type 0
+HasRoom messages = (messages.bodies + 65536 < 2 ^ 32) × (messages.unreadable + 65536 < 2 ^ 32)
+
+-- no more came to it than a block has
+abbrev pub IsWithinBlock : BodyCount → BodyCount → Type 0
+IsWithinBlock before after = (after.bodies ≤ before.bodies + 65536) × (after.unreadable ≤ before.unreadable + 65536)

@@ -20,7 +20,7 @@ fn read_blocks_of<R: Source>(
     source: &mut R,
     count: u32,
 ) -> Result<Vec<Vec<Frame>>, BatchFault>
-    ensures device { UsesDevice R.is_known R.has_failed source.old source.new result }
+    ensures device { UsesDevice R.is_known R.has_failed R.may_fail source.old source.new result }
     ensures count { IfOk result (λ blocks. vec_len blocks ≡ count) }
     ensures each { IfOk result (λ blocks. All (λ block. length block.items ≤ 65536) blocks.items) }
     ensures gives { R.is_known source.old → GivesBlocks count (ahead window.old (R.remaining source.old)) result (ahead window.new (R.remaining source.new)) }
@@ -37,7 +37,7 @@ fn read_blocks_of<R: Source>(
 /// order. The source is at its end then. `Device` is the fault exactly where a call of the source failed; and memory
 /// can run out.
 pub fn read_blocks<R: Source>(alloc: Global, source: &mut R) -> Result<Vec<Vec<Frame>>, BatchFault>
-    ensures device { UsesDevice R.is_known R.has_failed source.old source.new result }
+    ensures device { UsesDevice R.is_known R.has_failed R.may_fail source.old source.new result }
     ensures count { IfOk result (λ blocks. length blocks.items ≤ 1000) }
     ensures each { IfOk result (λ blocks. All (λ block. length block.items ≤ 65536) blocks.items) }
     ensures gives { R.is_known source.old → GivesBlockFile (R.remaining source.old) result }

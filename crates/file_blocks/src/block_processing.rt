@@ -4,6 +4,7 @@ ghost use Rattle.file_blocks.specs.Blocks.{AreAllDecided, StopsBefore, StopsInHe
 ghost use Rattle.file_batch.specs.Processing.{IsDecider};
 
 use crate::kept_blocks::KeptBlocks;
+use file_batch::BodyCount;
 use file_batch_laws::BatchFault;
 use file_devices::{Sink, Source};
 use issuer_fold::RunOutcome;
@@ -15,8 +16,8 @@ use std::alloc::{AllocError, Global};
 pub struct BlocksOutcome {
     /// How many blocks it has.
     pub blocks: u32,
-    /// How many messages they have together.
-    pub messages: u32,
+    /// How many bodies they have together, and how many of them are no message.
+    pub messages: BodyCount,
     /// The book after all of them.
     pub book: Book,
 }
@@ -50,6 +51,7 @@ pub fn process_blocks<R: Source, W: Sink, E: Fn(&Book, &[Frame]) -> Result<RunOu
     ensures none_failed { OnOk result ((R.has_failed source.new || W.has_failed sink.new) ≡ (R.has_failed source.old || W.has_failed sink.old)) }
     ensures failed { IfErr result (λ halted.
         (R.has_failed source.new || W.has_failed sink.new) ≡ failed_at halted.fault (R.has_failed source.old || W.has_failed sink.old)) }
+    ensures device { IfErr result (λ halted. halted.fault ≡ BatchFault.Device → R.may_fail source.old ⊎ W.may_fail sink.old) }
     ensures known { W.is_known sink.old → W.is_known sink.new }
     ensures end { OnOk result (R.is_known source.old → R.remaining source.new ≡ []) }
     ensures ok { IfOk result (λ outcome. AreAllDecided book outcome.book outcome.blocks outcome.messages
@@ -58,13 +60,13 @@ pub fn process_blocks<R: Source, W: Sink, E: Fn(&Book, &[Frame]) -> Result<RunOu
     ensures halted { IfErr result (λ halted.
         StopsBefore book halted.book halted.blocks (R.is_known source.old) (R.remaining source.old) halted.fault (sink.new ≡ sink.old)
         ⊎ (StopsInHead book halted.book halted.blocks (R.is_known source.old) (R.remaining source.old)
-        (W.is_known sink.old) (W.written sink.old) (W.written sink.new) (IsTrue (W.has_failed sink.new))
+        (W.is_known sink.old) (W.written sink.old) (W.written sink.new) (IsTrue (W.has_failed sink.new) × W.may_fail sink.old)
         ⊎ StopsInBlocks book halted.book halted.blocks (R.is_known source.old) (R.remaining source.old)
-        (W.is_known sink.old) (W.written sink.old) (W.written sink.new) halted.fault (IsTrue (W.has_failed sink.new)))) }
+        (W.is_known sink.old) (W.written sink.old) (W.written sink.new) halted.fault (IsTrue (W.has_failed sink.new) × W.may_fail sink.old))) }
 {
     let mut kept = KeptBlocks {
         blocks: 0,
-        messages: 0,
+        messages: BodyCount::none(),
         book,
     };
     let processed = kept.process(alloc, source, sink, decide);

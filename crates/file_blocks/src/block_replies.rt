@@ -21,7 +21,7 @@ fn read_reply_block<R: Source>(
     from: u32,
 ) -> Result<Vec<ReplyBody>, BatchFault>
     requires fits { from + 65536 < 2 ^ 32 }
-    ensures device { UsesDevice R.is_known R.has_failed source.old source.new result }
+    ensures device { UsesDevice R.is_known R.has_failed R.may_fail source.old source.new result }
     ensures count { IfOk result (λ block. vec_len block ≤ 65536) }
     ensures gives { R.is_known source.old → GivesReplyBlock from (ahead window.old (R.remaining source.old)) result (ahead window.new (R.remaining source.new)) }
 {
@@ -37,7 +37,7 @@ fn read_reply_blocks<R: Source>(
     count: u32,
 ) -> Result<Vec<Vec<ReplyBody>>, BatchFault>
     requires most { count ≤ 1000 }
-    ensures device { UsesDevice R.is_known R.has_failed source.old source.new result }
+    ensures device { UsesDevice R.is_known R.has_failed R.may_fail source.old source.new result }
     ensures count { IfOk result (λ blocks. vec_len blocks ≡ count) }
     ensures each { IfOk result (λ blocks. All (λ block. length block.items ≤ 65536) blocks.items) }
     ensures gives { R.is_known source.old → GivesReplyBlocks count (ahead window.old (R.remaining source.old)) result (ahead window.new (R.remaining source.new)) }
@@ -60,7 +60,7 @@ pub fn read_block_replies<R: Source>(
     alloc: Global,
     source: &mut R,
 ) -> Result<Vec<Vec<ReplyBody>>, BatchFault>
-    ensures device { UsesDevice R.is_known R.has_failed source.old source.new result }
+    ensures device { UsesDevice R.is_known R.has_failed R.may_fail source.old source.new result }
     ensures count { IfOk result (λ blocks. length blocks.items ≤ 1000) }
     ensures each { IfOk result (λ blocks. All (λ block. length block.items ≤ 65536) blocks.items) }
     ensures gives { R.is_known source.old → GivesBlockReplyFile (R.remaining source.old) result }

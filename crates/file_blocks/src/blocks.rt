@@ -19,7 +19,7 @@ use std::alloc::{AllocError, Global};
 // The number of blocks.
 #[tactic(auto, unfolding(file_batch_laws::specs::Blocks::block_count_at))]
 fn read_block_count<R: Source>(window: &mut Window, source: &mut R) -> Result<u32, BatchFault>
-    ensures device { UsesDevice R.is_known R.has_failed source.old source.new result }
+    ensures device { UsesDevice R.is_known R.has_failed R.may_fail source.old source.new result }
     ensures memory { IfErr result (λ e. e ≡ BatchFault.OutOfMemory → length window.new.field.items < 4) }
     ensures most { IfOk result (λ n. n ≤ 1000) }
     ensures gives { R.is_known source.old → Gives (λ n. n) result
@@ -39,7 +39,7 @@ pub(crate) fn read_block_head<R: Source>(
     source: &mut R,
     magic: &[u8],
 ) -> Result<u32, BatchFault>
-    ensures device { UsesDevice R.is_known R.has_failed source.old source.new result }
+    ensures device { UsesDevice R.is_known R.has_failed R.may_fail source.old source.new result }
     ensures most { IfOk result (λ n. n ≤ 1000) }
     ensures gives { R.is_known source.old → Gives (λ n. n) result
         (ahead window.new (R.remaining source.new)) (block_head_at magic.now (ahead window.old (R.remaining source.old))) }
@@ -56,7 +56,7 @@ pub(crate) fn read_block<R: Source>(
     alloc: Global,
     source: &mut R,
 ) -> Result<Vec<Frame>, BatchFault>
-    ensures device { UsesDevice R.is_known R.has_failed source.old source.new result }
+    ensures device { UsesDevice R.is_known R.has_failed R.may_fail source.old source.new result }
     ensures count { IfOk result (λ frames. vec_len frames ≤ 65536) }
     ensures gives { R.is_known source.old → GivesFrames result
         (ahead window.new (R.remaining source.new)) (block_at (ahead window.old (R.remaining source.old))) }
@@ -85,9 +85,9 @@ pub(crate) fn write_block<W: Sink>(
     sink: &mut W,
 ) -> Result<(), BatchFault>
     requires many { length replies.now ≤ 65536 }
-    ensures device { UsesDevice W.is_known W.has_failed sink.old sink.new result }
+    ensures device { UsesDevice W.is_known W.has_failed W.may_fail sink.old sink.new result }
     ensures ok { OnOk result (W.is_known sink.old → W.written sink.new ≡ W.written sink.old ++ block_text replies.now) }
-    ensures err { OnErr result ((sink.new ≡ sink.old) ⊎ ((IsTrue (W.has_failed sink.new))
+    ensures err { OnErr result ((sink.new ≡ sink.old) ⊎ ((IsTrue (W.has_failed sink.new) × W.may_fail sink.old)
         × (W.is_known sink.old → AppendsPart (W.written sink.old) (W.written sink.new) (block_text replies.now)))) }
     ensures fault { IfErr result (λ e. ¬ IsTrue (is_of_bytes e)) }
     ensures bodies { OnOk result (AreReplyBodies replies.now) }

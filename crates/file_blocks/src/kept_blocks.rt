@@ -6,13 +6,14 @@ ghost use Rattle.file_batch.specs.Device.{UsesDevice, UsesDevices};
 ghost use Rattle.file_batch_laws.specs.Blocks.{block_text, block_at, block_replies_magic};
 ghost use Rattle.file_batch_laws.specs.Files.{head_text};
 ghost use Rattle.file_batch_laws.specs.Replies.{AreReplyBodies};
-ghost use Rattle.file_blocks.specs.Blocks.{AreDecided, AreAllDecided, BeginsBlock, StopsBehind, StopsBefore, StopsInHead, StopsInBlocks, IsAnswered};
+ghost use Rattle.file_blocks.specs.Blocks.{AreDecided, AreAllDecided, BeginsBlock, StopsBehind, StopsBefore, StopsInHead, StopsInBlocks, IsAnswered, HasRoom, IsWithinBlock};
+ghost use Rattle.file_batch.specs.Counting.{count_of, plus};
 ghost use Rattle.file_batch.specs.Writing.{AppendsPart};
 ghost use Rattle.file_batch.specs.Processing.{IsDecider};
 ghost use Rattle.file_batch.specs.Window.{ahead};
 
 use crate::blocks::{read_block, read_block_head, write_block};
-use file_batch::{Window, add_head, put_all};
+use file_batch::{BodyCount, Window, add_head, put_all};
 use file_batch_laws::BatchFault;
 use file_devices::{Sink, Source};
 use issuer_fold::RunOutcome;
@@ -24,17 +25,17 @@ use std::alloc::{AllocError, Global};
 pub(crate) struct KeptBlocks {
     /// How many they are.
     pub(crate) blocks: u32,
-    /// How many messages they have.
-    pub(crate) messages: u32,
+    /// How many bodies they have, and how many of them are no message.
+    pub(crate) messages: BodyCount,
     /// The book after them.
     pub(crate) book: Book,
 }
 
 // Writes the head of the replies. Its text is made before the first byte is written.
 fn write_head<W: Sink>(alloc: Global, count: u32, sink: &mut W) -> Result<(), BatchFault>
-    ensures device { UsesDevice W.is_known W.has_failed sink.old sink.new result }
+    ensures device { UsesDevice W.is_known W.has_failed W.may_fail sink.old sink.new result }
     ensures ok { OnOk result (W.is_known sink.old → W.written sink.new ≡ W.written sink.old ++ head_text block_replies_magic count) }
-    ensures err { OnErr result ((sink.new ≡ sink.old) ⊎ ((IsTrue (W.has_failed sink.new))
+    ensures err { OnErr result ((sink.new ≡ sink.old) ⊎ ((IsTrue (W.has_failed sink.new) × W.may_fail sink.old)
         × (W.is_known sink.old → AppendsPart (W.written sink.old) (W.written sink.new) (head_text block_replies_magic count)))) }
     ensures fault { IfErr result (λ e. ¬ IsTrue (is_of_bytes e)) }
 {
@@ -44,17 +45,19 @@ fn write_head<W: Sink>(alloc: Global, count: u32, sink: &mut W) -> Result<(), Ba
 }
 
 impl KeptBlocks {
-    // Keeps a block of so many messages, whose replies were written.
-    fn keep(&mut self, outcome: RunOutcome, messages: u32)
+    // Keeps a block of these bodies, whose replies were written.
+    fn keep(&mut self, outcome: RunOutcome, frames: &[Frame])
+        requires count { length frames.now ≤ 65536 }
         requires blocks { self.old.blocks + 1 < 2 ^ 32 }
-        requires messages { self.old.messages + messages < 2 ^ 32 }
+        requires room { HasRoom self.old.messages }
         ensures blocks { self.new.blocks ≡ self.old.blocks + 1 }
-        ensures messages { self.new.messages ≡ self.old.messages + messages }
+        ensures messages { self.new.messages ≡ plus self.old.messages (count_of frames.now) }
+        ensures within { IsWithinBlock self.old.messages self.new.messages }
         ensures book { self.new.book ≡ outcome.book }
     {
         self.book = outcome.book;
         self.blocks += 1;
-        self.messages += messages;
+        self.messages = self.messages.plus(BodyCount::of(frames));
     }
 
     // Decides a block on the book and writes its replies. After a fault what is kept is as it was.
@@ -68,21 +71,22 @@ impl KeptBlocks {
         requires count { length frames.now ≤ 65536 }
         requires decider { IsDecider E.pre E.post (λ rows. rows.now) (λ frames. frames.now) decide.now }
         requires blocks { self.old.blocks + 1 < 2 ^ 32 }
-        requires messages { self.old.messages + 65536 < 2 ^ 32 }
-        ensures device { UsesDevice W.is_known W.has_failed sink.old sink.new result }
+        requires room { HasRoom self.old.messages }
+        ensures device { UsesDevice W.is_known W.has_failed W.may_fail sink.old sink.new result }
         ensures number { OnOk result (self.new.blocks ≡ self.old.blocks + 1) }
-        ensures all { OnOk result (self.new.messages ≡ self.old.messages + length frames.now) }
+        ensures all { OnOk result (self.new.messages ≡ plus self.old.messages (count_of frames.now)) }
+        ensures within { OnOk result (IsWithinBlock self.old.messages self.new.messages) }
         ensures book { OnOk result (self.new.book ≡ rows_after self.old.book frames.now) }
         ensures put { OnOk result (W.is_known sink.old → W.written sink.new ≡ W.written sink.old ++ block_text (replies_to self.old.book frames.now)) }
         ensures bodies { OnOk result (AreReplyBodies (replies_to self.old.book frames.now)) }
         ensures kept { OnErr result (self.new ≡ self.old) }
         ensures fault { IfErr result (λ e. ¬ IsTrue (is_of_bytes e)) }
-        ensures err { OnErr result ((sink.new ≡ sink.old) ⊎ ((IsTrue (W.has_failed sink.new))
+        ensures err { OnErr result ((sink.new ≡ sink.old) ⊎ ((IsTrue (W.has_failed sink.new) × W.may_fail sink.old)
             × (W.is_known sink.old → AppendsPart (W.written sink.old) (W.written sink.new) (block_text (replies_to self.old.book frames.now))))) }
     {
         let outcome = decide(&self.book, frames)?;
         write_block(alloc, &outcome.replies, sink)?;
-        self.keep(outcome, frames.len() as u32);
+        self.keep(outcome, frames);
         Ok(())
     }
 
@@ -97,16 +101,16 @@ impl KeptBlocks {
     ) -> Result<(), BatchFault>
         requires decider { IsDecider E.pre E.post (λ rows. rows.now) (λ frames. frames.now) decide.now }
         requires blocks { self.old.blocks + 1 < 2 ^ 32 }
-        requires messages { self.old.messages + 65536 < 2 ^ 32 }
-        ensures devices { UsesDevices R.is_known R.has_failed W.is_known W.has_failed source.old source.new sink.old sink.new result }
-        ensures most { OnOk result (self.new.messages ≤ self.old.messages + 65536) }
+        requires room { HasRoom self.old.messages }
+        ensures devices { UsesDevices R.is_known R.has_failed R.may_fail W.is_known W.has_failed W.may_fail source.old source.new sink.old sink.new result }
+        ensures within { OnOk result (IsWithinBlock self.old.messages self.new.messages) }
         ensures ok { OnOk result (IsAnswered self.old self.new (R.is_known source.old)
             (ahead window.old (R.remaining source.old)) (ahead window.new (R.remaining source.new))
             (W.is_known sink.old) (W.written sink.old) (W.written sink.new)) }
         ensures kept { OnErr result (self.new ≡ self.old) }
         ensures fault { IfErr result (λ e. R.is_known source.old → IsTrue (is_of_bytes e) → block_at (ahead window.old (R.remaining source.old)) ≡ Err e) }
         ensures err { OnErr result ((sink.new ≡ sink.old) ⊎ BeginsBlock self.old.book (R.is_known source.old) (ahead window.old (R.remaining source.old))
-            (W.is_known sink.old) (W.written sink.old) (W.written sink.new) (IsTrue (W.has_failed sink.new))) }
+            (W.is_known sink.old) (W.written sink.old) (W.written sink.new) (IsTrue (W.has_failed sink.new) × W.may_fail sink.old)) }
     {
         let frames = read_block(window, alloc, source)?;
         self.answer(alloc, &frames, sink, decide)
@@ -124,16 +128,16 @@ impl KeptBlocks {
         count: u32,
     ) -> Result<(), BatchFault>
         requires decider { IsDecider E.pre E.post (λ rows. rows.now) (λ frames. frames.now) decide.now }
-        requires none { (self.old.blocks ≡ 0) × (self.old.messages ≡ 0) }
+        requires none { (self.old.blocks ≡ 0) × (self.old.messages ≡ count_of []) }
         requires most { count ≤ 1000 }
-        ensures devices { UsesDevices R.is_known R.has_failed W.is_known W.has_failed source.old source.new sink.old sink.new result }
+        ensures devices { UsesDevices R.is_known R.has_failed R.may_fail W.is_known W.has_failed W.may_fail source.old source.new sink.old sink.new result }
         ensures all { OnOk result (self.new.blocks ≡ count) }
         ensures ok { OnOk result (AreDecided self.old.book self.new.book self.new.blocks self.new.messages
             (R.is_known source.old) (ahead window.old (R.remaining source.old)) (ahead window.new (R.remaining source.new))
             (W.is_known sink.old) (W.written sink.old) (W.written sink.new)) }
         ensures err { IfErr result (λ e. StopsBehind count self.old.book self.new.book self.new.blocks
             (R.is_known source.old) (ahead window.old (R.remaining source.old))
-            (W.is_known sink.old) (W.written sink.old) (W.written sink.new) e (IsTrue (W.has_failed sink.new))) }
+            (W.is_known sink.old) (W.written sink.old) (W.written sink.new) e (IsTrue (W.has_failed sink.new) × W.may_fail sink.old)) }
     {
         for _ in 0..count {
             self.step(alloc, window, source, sink, decide)?;
@@ -148,17 +152,17 @@ impl KeptBlocks {
         E: Fn(&Book, &[Frame]) -> Result<RunOutcome, AllocError>,
     >(&mut self, alloc: Global, source: &mut R, sink: &mut W, decide: &E) -> Result<(), BatchFault>
         requires decider { IsDecider E.pre E.post (λ rows. rows.now) (λ frames. frames.now) decide.now }
-        requires none { (self.old.blocks ≡ 0) × (self.old.messages ≡ 0) }
-        ensures devices { UsesDevices R.is_known R.has_failed W.is_known W.has_failed source.old source.new sink.old sink.new result }
+        requires none { (self.old.blocks ≡ 0) × (self.old.messages ≡ count_of []) }
+        ensures devices { UsesDevices R.is_known R.has_failed R.may_fail W.is_known W.has_failed W.may_fail source.old source.new sink.old sink.new result }
         ensures end { OnOk result (R.is_known source.old → R.remaining source.new ≡ []) }
         ensures ok { OnOk result (AreAllDecided self.old.book self.new.book self.new.blocks self.new.messages
             (R.is_known source.old) (R.remaining source.old) (W.is_known sink.old) (W.written sink.old) (W.written sink.new)) }
         ensures err { IfErr result (λ e.
             StopsBefore self.old.book self.new.book self.new.blocks (R.is_known source.old) (R.remaining source.old) e (sink.new ≡ sink.old)
             ⊎ (StopsInHead self.old.book self.new.book self.new.blocks (R.is_known source.old) (R.remaining source.old)
-            (W.is_known sink.old) (W.written sink.old) (W.written sink.new) (IsTrue (W.has_failed sink.new))
+            (W.is_known sink.old) (W.written sink.old) (W.written sink.new) (IsTrue (W.has_failed sink.new) × W.may_fail sink.old)
             ⊎ StopsInBlocks self.old.book self.new.book self.new.blocks (R.is_known source.old) (R.remaining source.old)
-            (W.is_known sink.old) (W.written sink.old) (W.written sink.new) e (IsTrue (W.has_failed sink.new)))) }
+            (W.is_known sink.old) (W.written sink.old) (W.written sink.new) e (IsTrue (W.has_failed sink.new) × W.may_fail sink.old))) }
     {
         let mut window = Window::new(alloc)?;
         let count = read_block_head(&mut window, source, b"I83M")?;

@@ -1,9 +1,9 @@
 -- Files that are put in place, one after another.
-use Rattle.std.proofs.Common.{◌≡◌, ◌≢◌, ◌<◌, ℕ, List, [], ◌∷◌, length, slice_index_or, remove, string_bytes, refl, Bool, true, false, rules, arith}
+use Rattle.std.proofs.Common.{◌≡◌, ◌≢◌, ◌⊎◌, ◌<◌, ℕ, List, [], ◌∷◌, length, slice_index_or, remove, string_bytes, refl, inl, inr, Bool, true, false, rules, arith}
 use Rattle.std.specs.Str.{bytes_eq}
 use Rattle.std.proofs.lemmas.Slice.Eq.{bytes_eq-Decides}
 use Rattle.std.proofs.lemmas.Bool.Decides.{not_from_Decides}
-use Rattle.file_devices.specs.Holding.{ArePlaced, Holding, IsNoneNamed}
+use Rattle.file_devices.specs.Holding.{ArePlaced, HasOneNamed, Holding, IsNoneNamed}
 use Rattle.file_devices.specs.declared.written.Written.{Written}
 
 -- what is taken from the front of a list, before the rest of it, is the list
@@ -28,6 +28,12 @@ placed_first is_known written new files file rest are first others = rw are (fir
 pub none_placed : {O : Type 0} (is_known : O → Type 0) (written : O → List ℕ) (new : Holding) (files : List (Written O)) → files ≡ [] → ArePlaced is_known written new files
 unfolding ArePlaced
 none_placed is_known written new files are = rw are tt
+
+-- where it holds of all names, one of some files has such a name
+pub one_named : {O : Type 0} (is_such : List ℕ → Type 0) (files : List (Written O)) → 0 < length files → ((name : List ℕ) → is_such name) → HasOneNamed is_such files
+unfolding HasOneNamed
+one_named is_such [] some all = search rules
+one_named is_such (file ∷ files) some all = inl (all (string_bytes file.name))
 
 by_test : {P : Type 0} (xs ys : List ℕ) (same : Bool) → bytes_eq xs ys ≡ same → (xs ≡ ys → P) → (xs ≢ ys → P) → P
 by_test xs ys true is alike apart = alike ((bytes_eq-Decides xs ys).0 is)
@@ -73,3 +79,22 @@ pub none_of_three : {O : Type 0} (name : List ℕ) (a b c : Written O) → strin
     → IsNoneNamed name (a ∷ b ∷ c ∷ [])
 unfolding IsNoneNamed
 none_of_three name a b c first second third = (first, (second, (third, tt)))
+
+pub one_of_one : {O : Type 0} (is_such : List ℕ → Type 0) (a : Written O) → HasOneNamed is_such (a ∷ []) → is_such (string_bytes a.name)
+unfolding HasOneNamed
+one_of_one is_such a (inl first) = first
+one_of_one is_such a (inr none) = absurd none
+
+pub one_of_two : {O : Type 0} (is_such : List ℕ → Type 0) (a b : Written O) → HasOneNamed is_such (a ∷ b ∷ []) → is_such (string_bytes a.name) ⊎ is_such (string_bytes b.name)
+unfolding HasOneNamed
+one_of_two is_such a b (inl first) = inl first
+one_of_two is_such a b (inr (inl second)) = inr second
+one_of_two is_such a b (inr (inr none)) = absurd none
+
+pub one_of_three : {O : Type 0} (is_such : List ℕ → Type 0) (a b c : Written O) → HasOneNamed is_such (a ∷ b ∷ c ∷ [])
+    → is_such (string_bytes a.name) ⊎ (is_such (string_bytes b.name) ⊎ is_such (string_bytes c.name))
+unfolding HasOneNamed
+one_of_three is_such a b c (inl first) = inl first
+one_of_three is_such a b c (inr (inl second)) = inr (inl second)
+one_of_three is_such a b c (inr (inr (inl third))) = inr (inr third)
+one_of_three is_such a b c (inr (inr (inr none))) = absurd none

@@ -1,10 +1,18 @@
--- Files whose devices fail.
-use Rattle.std.specs.Prelude.{ℕ, List, Bool, IsTrue}
+-- What may fail of files.
+use Rattle.std.specs.Prelude.{ℕ, List}
 
--- of some opened file, a call failed
-abbrev pub HasFailed : {X : Type 0} → (X → Bool) → Type 0
-HasFailed {X} has_failed = (file : X) × IsTrue (has_failed file)
+-- By the name of a file: a call on it may fail where it is read, or where it is written; with memory enough it may be refused to be made or
+-- put in place; and another run may have claimed it.
+pub record Failing : Type 1 where
+  pub reading : List ℕ → Type 0
+  pub writing : List ℕ → Type 0
+  pub refused : List ℕ → Type 0
+  pub in_use : List ℕ → Type 0
 
--- files refused some name
-abbrev pub HasRefused : {X : Type 0} → (X → List ℕ → Type 0) → Type 0
-HasRefused {X} refuses = (files : X) × (name : List ℕ) × refuses files name
+-- of every file each may be
+abbrev pub anything : Failing
+anything = record { reading = λ name. Unit {0}; writing = λ name. Unit {0}; refused = λ name. Unit {0}; in_use = λ name. Unit {0} }
+
+-- a call that writes may fail, and nothing else
+abbrev pub writing_alone : Failing
+writing_alone = record { reading = λ name. ⊥; writing = λ name. Unit {0}; refused = λ name. ⊥; in_use = λ name. ⊥ }

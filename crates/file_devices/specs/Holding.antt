@@ -1,5 +1,5 @@
 -- Which file holds which bytes, and what of that stays.
-use Rattle.std.specs.Prelude.{◌≡◌, ◌≢◌, ⊤, ℕ, List, [], ◌∷◌, string_bytes}
+use Rattle.std.specs.Prelude.{◌≡◌, ◌≢◌, ◌⊎◌, ⊤, ℕ, List, [], ◌∷◌, string_bytes}
 use Rattle.file_devices.specs.declared.written.Written.{Written}
 
 -- which file holds which bytes
@@ -23,6 +23,11 @@ AreAsTheyWere old new = (name : List ℕ) → IsAsItWas old new name
 unfoldable pub IsNoneNamed : {O : Type 0} → List ℕ → List (Written O) → Type 0
 IsNoneNamed name [] = ⊤
 IsNoneNamed name (file ∷ files) = (string_bytes file.name ≢ name) × IsNoneNamed name files
+
+-- one of these files has a name of which this holds
+unfoldable pub HasOneNamed : {O : Type 0} → (List ℕ → Type 0) → List (Written O) → Type 0
+HasOneNamed is_such [] = ⊥
+HasOneNamed is_such (file ∷ files) = is_such (string_bytes file.name) ⊎ HasOneNamed is_such files
 
 -- each of these files that is known holds what was written to it, unless a later one has its name
 unfoldable pub ArePlaced : {O : Type 0} → (O → Type 0) → (O → List ℕ) → Holding → List (Written O) → Type 0

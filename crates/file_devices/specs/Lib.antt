@@ -3,3 +3,4 @@ pub mod Devices
 pub mod Failing
 pub mod Held
 pub mod Holding
+pub mod HostReason

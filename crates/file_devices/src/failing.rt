@@ -41,6 +41,8 @@ impl Source for FailingSource<'_> {
 
     ghost has_failed = { λ source. source.has_failed };
 
+    ghost may_fail = { λ _. Unit {0} };
+
     fn take(&mut self, buffer: &mut [u8]) -> Result<usize, Broken> {
         if self.answers == 0 {
             self.has_failed = true;
@@ -112,6 +114,8 @@ impl Sink for FailingSink {
     ghost written = { λ sink. sink.taken.items };
 
     ghost has_failed = { λ sink. sink.has_failed };
+
+    ghost may_fail = { λ _. Unit {0} };
 
     fn put(&mut self, bytes: &[u8]) -> Result<usize, Broken> {
         let taken = self.take_front(bytes);

@@ -1,9 +1,11 @@
 ghost use Rattle.std.specs.Prelude.{◌≡◌, ◌≢◌, ℕ, List, Some, None, Err, IsSome, OnOk, OnErr, IfOk, option_map};
+ghost use Rattle.file_devices.specs.Failing.{writing_alone};
 ghost use Rattle.file_devices.specs.Held.{HeldBy, IsMemory, held, written_to};
-ghost use Rattle.file_devices.specs.Holding.{AreAsTheyWere, ArePlaced, IsAsItWas, IsNoneNamed};
+ghost use Rattle.file_devices.specs.Holding.{AreAsTheyWere, ArePlaced, HasOneNamed, IsAsItWas, IsNoneNamed};
 
 use crate::claim_fault::ClaimFault;
 use crate::files::Files;
+use crate::host_reason::HostReason;
 use crate::memory_input::MemoryInput;
 use crate::read_fault::ReadFault;
 use crate::sink::IntoWrite;
@@ -12,7 +14,8 @@ use crate::written::Written;
 use std::alloc::{AllocError, Global};
 use std::collections::BTreeMap;
 
-/// Files that are kept in memory. A call fails where a file that has no such name is to be read, or memory runs out.
+/// Files that are kept in memory. A call fails where a file that has no such name is to be read, or memory runs out. A file that is there
+/// is read by calls of which none fails.
 #[derive(Drop)]
 pub struct MemoryFiles {
     alloc: Global,
@@ -115,9 +118,7 @@ impl Files for MemoryFiles {
 
     ghost holds = { λ files name bytes. HeldBy files.files name bytes };
 
-    ghost refuses = { λ _ _. ⊥ };
-
-    ghost is_in_use = { λ _ _. ⊥ };
+    ghost failing = { λ _. writing_alone };
 
     fn open(&self, name: &str) -> Result<MemoryInput, ReadFault> {
         match self.files.get(name) {
@@ -133,7 +134,7 @@ impl Files for MemoryFiles {
     fn put_in_place(&mut self, files: Vec<Written<IntoWrite<Vec<u8>>>>) -> Result<(), WriteFault>
         ensures placed { OnOk result (Unit {0} → ArePlaced IsMemory written_to (HeldBy self.new.files) files.items) }
         ensures kept { OnErr result (AreAsTheyWere (HeldBy self.old.files) (HeldBy self.new.files)) }
-        ensures refused { result ≡ Err WriteFault.Unwritable → (name : List ℕ) × ⊥ }
+        ensures refused { result ≡ Err WriteFault.Unwritable → HasOneNamed (λ _. ⊥) files.items }
         ensures known { Unit {0} → Unit {0} }
         ensures others { (other : List ℕ) → IsNoneNamed other files.items → IsAsItWas (HeldBy self.old.files) (HeldBy self.new.files) other }
     {
@@ -150,5 +151,16 @@ impl Files for MemoryFiles {
 
     fn is_one_file(&self, first: &str, second: &str) -> Result<bool, AllocError> {
         Ok(first == second)
+    }
+
+    fn open_again(&self, name: &str) -> Result<Option<MemoryInput>, HostReason> {
+        match self.files.get(name) {
+            Some(bytes) => Ok(self.copied(bytes).ok().map(MemoryInput::new)),
+            None => Err(HostReason::NotFound),
+        }
+    }
+
+    fn why_not_made(&self, _name: &str) -> Option<HostReason> {
+        None
     }
 }

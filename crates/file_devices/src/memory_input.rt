@@ -28,6 +28,8 @@ impl Source for MemoryInput {
 
     ghost has_failed = { λ _. false };
 
+    ghost may_fail = { λ _. ⊥ };
+
     fn take(&mut self, buffer: &mut [u8]) -> Result<usize, Broken> {
         let (_, rest) = self.bytes.split_at(self.at);
         let count = rest.len().min(buffer.len());

@@ -1,8 +1,8 @@
-ghost use Rattle.std.specs.Prelude.{◌≡◌, ◌<◌, ◌++◌, ℕ, List, [], false, length, Err, IfOk, IsTrue, OnOk};
-ghost use Rattle.file_devices.specs.Failing.{HasFailed};
+ghost use Rattle.std.specs.Prelude.{◌≡◌, ◌≢◌, ◌<◌, ◌++◌, ℕ, List, [], false, length, Err, IfErr, IfOk, IfSome, OnOk};
 ghost use Rattle.file_devices.specs.Holding.{IsThere};
 
 use crate::files::Files;
+use crate::host_reason::HostReason;
 use crate::read_fault::ReadFault;
 use crate::source::Source;
 use std::alloc::{AllocError, Global};
@@ -15,16 +15,36 @@ const PIECE: usize = 65_536;
 pub fn read_file<F: Files>(alloc: Global, files: &F, name: &str) -> Result<Vec<u8>, ReadFault>
     ensures read { (bytes : List ℕ) → F.holds files.now name.now bytes → IfOk result (λ read. read.items ≡ bytes) }
     ensures there { OnOk result (F.is_known files.now → IsThere (F.holds files.now) name.now) }
-    ensures unreadable { result ≡ Err ReadFault.Unreadable → (bytes : List ℕ) → F.holds files.now name.now bytes → HasFailed F.Input.has_failed }
+    ensures unreadable { result ≡ Err ReadFault.Unreadable → (bytes : List ℕ) → F.holds files.now name.now bytes → (F.failing files.now).reading name.now }
 {
     let mut input = files.open(name)?;
     read_rest(alloc, &mut input)
 }
 
+/// What the file of this name holds, whole, where it can be opened once more. `None` where it isn't, as it might wait, or memory runs
+/// out. It fails where the file can't be opened, for this reason, or where its device fails.
+pub fn read_again<F: Files>(
+    alloc: Global,
+    files: &F,
+    name: &str,
+) -> Result<Option<Vec<u8>>, HostReason>
+    ensures read { IfOk result (λ again. IfSome again (λ read. (bytes : List ℕ) → F.holds files.now name.now bytes → read.items ≡ bytes)) }
+    ensures absent { IfErr result (λ reason. reason ≢ HostReason.Failed → (bytes : List ℕ) → ¬ F.holds files.now name.now bytes) }
+{
+    let Some(mut input) = files.open_again(name)? else {
+        return Ok(None);
+    };
+    match read_rest(alloc, &mut input) {
+        Ok(read) => Ok(Some(read)),
+        Err(ReadFault::Unreadable) => Err(HostReason::Failed),
+        Err(ReadFault::OutOfMemory) => Ok(None),
+    }
+}
+
 // All that the source still gives.
 fn read_rest<S: Source>(alloc: Global, source: &mut S) -> Result<Vec<u8>, ReadFault>
     ensures read { S.is_known source.old → IfOk result (λ read. read.items ≡ S.remaining source.old) }
-    ensures unreadable { result ≡ Err ReadFault.Unreadable → IsTrue (S.has_failed source.new) }
+    ensures unreadable { result ≡ Err ReadFault.Unreadable → S.may_fail source.old }
 {
     let mut piece = empty_piece(alloc)?;
     let mut read = Vec::new(alloc);
@@ -47,7 +67,7 @@ fn read_pieces<S: Source>(
 ) -> Result<(), ReadFault>
     requires some { 0 < length piece.old }
     ensures read { S.is_known source.old → OnOk result (read.new.items ≡ read.old.items ++ S.remaining source.old) }
-    ensures unreadable { result ≡ Err ReadFault.Unreadable → IsTrue (S.has_failed source.new) }
+    ensures unreadable { result ≡ Err ReadFault.Unreadable → S.may_fail source.old }
 {
     for _ in 0..u64::MAX {
         if !read_piece(source, piece, read)? {
@@ -65,7 +85,8 @@ fn read_piece<S: Source>(
     read: &mut Vec<u8>,
 ) -> Result<bool, ReadFault>
     requires some { 0 < length piece.old }
-    ensures unreadable { result ≡ Err ReadFault.Unreadable → IsTrue (S.has_failed source.new) }
+    ensures unreadable { result ≡ Err ReadFault.Unreadable → S.may_fail source.old }
+    ensures may { S.may_fail source.new → S.may_fail source.old }
     ensures known { S.is_known source.old → S.is_known source.new }
     ensures size { length piece.new ≡ length piece.old }
     ensures bytes { OnOk result (S.is_known source.old →

@@ -1,4 +1,4 @@
-ghost use Rattle.std.specs.Prelude.{◌≡◌, ℕ, ◌≤◌, ◌++◌, List, Bool, false, length, take, IfOk, OnErr, IsSome};
+ghost use Rattle.std.specs.Prelude.{◌≡◌, ℕ, ◌≤◌, ◌++◌, List, Bool, false, length, take, IfOk, OnErr, IsSome, IsTrue};
 ghost use Rattle.file_devices.specs.Devices.{known_bytes, failed_after_put};
 
 use crate::broken::Broken;
@@ -12,11 +12,15 @@ pub trait Sink {
     ghost written: { Self → List ℕ };
     // Whether a call has failed. One that writes no byte counts as one.
     ghost has_failed: { Self → Bool };
+    // A call may fail.
+    ghost may_fail: { Self → Type 0 };
 
     /// Writes a first part of the bytes, and returns how many they are. That it writes none is a failure.
     fn put(&mut self, bytes: &[u8]) -> Result<usize, Broken>
         ensures count { IfOk result (λ n. n ≤ length bytes.now) }
         ensures failed { has_failed self.new ≡ failed_after_put result (has_failed self.old) }
+        ensures device { IsTrue (failed_after_put result false) → may_fail self.old }
+        ensures may { may_fail self.new → may_fail self.old }
         ensures known { is_known self.old → is_known self.new }
         ensures bytes { IfOk result (λ n. is_known self.old → written self.new ≡ written self.old ++ take n bytes.now) }
         ensures kept { OnErr result (is_known self.old → written self.new ≡ written self.old) };
@@ -62,6 +66,8 @@ impl<W: Write> Sink for IntoWrite<W> {
     ghost written = { λ sink. known_bytes (W.contents sink.writer) };
 
     ghost has_failed = { λ sink. sink.has_failed };
+
+    ghost may_fail = { λ _. Unit {0} };
 
     fn put(&mut self, bytes: &[u8]) -> Result<usize, Broken> {
         match self.writer.write(bytes) {

@@ -24,10 +24,12 @@ put after AFTER
 put replies 'I83R
 1 switch audit book batch replies after
 ! batch 5
+! replies: it ends within its head, which has 10 bytes
 put replies REPLIES
 put after
 1 switch audit book batch replies after
 ! book 1
+! after: line 1, column 0: no JSON
 
 # What differs first in blocks is told: the second block has no reply, and another action.
 put book BOOK
@@ -58,18 +60,22 @@ put after AFTER_BOTH
 put book
 1 switch audit-blocks book file replies after
 ! book 1
+! book: line 1, column 0: no JSON
 put book BOOK
 put file
 1 switch audit-blocks book file replies after
 ! batch 5
+! file: it ends within its head, which has 10 bytes
 put file TWO_BLOCKS
 put replies
 1 switch audit-blocks book file replies after
 ! batch 5
+! replies: it ends within its head, which has 10 bytes
 put replies TWO_REPLIES
 put after
 1 switch audit-blocks book file replies after
 ! book 1
+! after: line 1, column 0: no JSON
 put after AFTER_BOTH
 "#;
 
@@ -99,17 +105,20 @@ put after AFTER
 put journal '0 20 'n 0a
 1 switch run book batch replies after --journal journal
 ! book 1
+! book: line 1, column 0: no JSON
 is journal '0 20 'n 0a
 is after AFTER
 put book BOOK
 put batch REPLIES
 1 switch run book batch replies after --journal journal
 ! batch 1
+! batch: it begins with I83R, the letters of replies of a batch, where I83B is to be
 is journal '0 20 'n 0a
 is after AFTER
 put batch 'I83B 000100000001 0062 '1100 7230010100808000 '164111110000000005000000 '000000000100 '0110120000000001260110120000 '10006123456TERM000197
 1 switch run book batch replies after --journal journal
 ! batch 5
+! batch: body 0 at byte 10: the file ends within it, 0 of 1 bodies are whole
 is journal '0 20 'n 0a
 is after AFTER
 
@@ -127,9 +136,11 @@ put journal '0 20 'n 0a
 put journal '0 20 'n 0a '0 20 'x 0a
 1 switch audit book batch replies after --journal journal
 ! journal 1
+! journal: line 2: no entry of a journal
 put journal '0 20 'n 0a '0 20 'f 20 '0.0 0a
 1 switch audit book batch replies after --journal journal
 ! journal 2
+! journal: entry 2: its decision asks for a row that isn't logged
 
 # The journal is read last.
 put book BOOK
@@ -138,10 +149,12 @@ put replies REPLIES
 put after '[
 1 switch audit book batch replies after --journal journal
 ! book 1
+! after: line 1, column 1: no JSON
 put after AFTER
 put journal
 1 switch audit book batch replies after --journal none
 ! file 1
+! none: no such file or directory
 "#;
 
 #[test]

@@ -56,8 +56,10 @@ put wrong '# 20 'none 0a '3g 0a
 is batch BATCH
 1 switch pack wrong none
 ! text 2
+! wrong: line 2: column 2: no hexadecimal digit
 1 switch pack lost none
 ! file 1
+! lost: no such file or directory
 none none
 
 # Files are shown.
@@ -70,8 +72,10 @@ put text TEXT
 > 0 1110 000 000001 000001
 1 switch show text
 ! batch 1
+! text: it doesn't begin with I83B, the letters of a batch
 1 switch show lost
 ! file 1
+! lost: no such file or directory
 "#;
 
 #[test]
@@ -85,10 +89,12 @@ put book BOOK
 put batch BATCH
 1 switch serial none batch replies after
 ! file 1
+! none: no such file or directory
 none replies
 none after
 1 switch serial book none replies after
 ! file 1
+! none: no such file or directory
 none replies
 none after
 
@@ -96,25 +102,33 @@ none after
 put batch BATCH
 1 switch serial book batch replies after
 ! file 1
+! book: no such file or directory
 1 switch run book batch replies after
 ! file 1
+! book: no such file or directory
 1 switch audit book batch replies after
 ! file 1
+! book: no such file or directory
 
 # No batch, then no replies, then no book after it.
 put book BOOK
 1 switch serial book batch replies after
 ! file 1
+! batch: no such file or directory
 1 switch run book batch replies after
 ! file 1
+! batch: no such file or directory
 1 switch audit book batch replies after
 ! file 1
+! batch: no such file or directory
 put batch BATCH
 1 switch audit book batch replies after
 ! file 1
+! replies: no such file or directory
 put replies REPLIES
 1 switch audit book batch replies after
 ! file 1
+! after: no such file or directory
 "#;
 
 #[test]
@@ -128,104 +142,132 @@ put book '[
 put batch BATCH
 1 switch serial book batch replies after
 ! book 1
+! book: line 1, column 1: no JSON
 1 switch run book batch replies after
 ! book 1
+! book: line 1, column 1: no JSON
 1 switch audit book batch replies after
 ! book 1
+! book: line 1, column 1: no JSON
 put after 'older
 1 switch serial book batch replies after
 ! book 1
+! book: line 1, column 1: no JSON
 is after 'older
 1 switch run book batch replies after
 ! book 1
+! book: line 1, column 1: no JSON
 is after 'older
 put after book
 put book BOOK
 put replies REPLIES
 1 switch audit book batch replies after
 ! book 1
+! after: line 1, column 1: no JSON
 
 # No text.
 put book fffe
 put batch BATCH
 1 switch serial book batch replies after
 ! book 1
+! book: line 1, column 1: no JSON
 1 switch run book batch replies after
 ! book 1
+! book: line 1, column 1: no JSON
 1 switch audit book batch replies after
 ! book 1
+! book: line 1, column 1: no JSON
 put after book
 put book BOOK
 put replies REPLIES
 1 switch audit book batch replies after
 ! book 1
+! after: line 1, column 1: no JSON
 
 # Another shape.
 put book '{}
 put batch BATCH
 1 switch serial book batch replies after
 ! book 2
+! book: it has the keys of no version
 1 switch run book batch replies after
 ! book 2
+! book: it has the keys of no version
 1 switch audit book batch replies after
 ! book 2
+! book: it has the keys of no version
 put after 'older
 1 switch serial book batch replies after
 ! book 2
+! book: it has the keys of no version
 is after 'older
 1 switch run book batch replies after
 ! book 2
+! book: it has the keys of no version
 is after 'older
 put after book
 put book BOOK
 put replies REPLIES
 1 switch audit book batch replies after
 ! book 2
+! after: it has the keys of no version
 
 # Another shape: an account that comes twice.
 put book '{"accounts":[{"available":1,"currency":"978","id":"A"},{"available":1,"currency":"978","id":"A"}],"ahead":[],"budgets":[],"cards":[],"days":[],"originals":[],"version":3}
 put batch BATCH
 1 switch serial book batch replies after
 ! book 2
+! book: accounts[1]: an earlier entry has its row
 1 switch run book batch replies after
 ! book 2
+! book: accounts[1]: an earlier entry has its row
 1 switch audit book batch replies after
 ! book 2
+! book: accounts[1]: an earlier entry has its row
 put after book
 put book BOOK
 put replies REPLIES
 1 switch audit book batch replies after
 ! book 2
+! after: accounts[1]: an earlier entry has its row
 
 # An account of a million million too much.
 put book '{"accounts":[{"available":1000000000000001,"currency":"978","id":"A"}],"ahead":[],"budgets":[],"cards":[],"days":[],"originals":[],"version":3}
 put batch BATCH
 1 switch serial book batch replies after
 ! book 3
+! book: accounts[0].available: not a number up to 10^15
 1 switch run book batch replies after
 ! book 3
+! book: accounts[0].available: not a number up to 10^15
 1 switch audit book batch replies after
 ! book 3
+! book: accounts[0].available: not a number up to 10^15
 put after book
 put book BOOK
 put replies REPLIES
 1 switch audit book batch replies after
 ! book 3
+! after: accounts[0].available: not a number up to 10^15
 
 # A card with no account.
 put book '{"accounts":[],"ahead":[],"budgets":[],"cards":[{"account":"A","approvals":0,"day_amount":20000,"day_count":3,"expiry":"2812","pan":"4111110000000005","second":null,"status":"active"}],"days":[],"originals":[],"version":3}
 put batch BATCH
 1 switch serial book batch replies after
 ! book 4
+! book: cards[0].account: this account isn't in the book
 1 switch run book batch replies after
 ! book 4
+! book: cards[0].account: this account isn't in the book
 1 switch audit book batch replies after
 ! book 4
+! book: cards[0].account: this account isn't in the book
 put after book
 put book BOOK
 put replies REPLIES
 1 switch audit book batch replies after
 ! book 4
+! after: cards[0].account: this account isn't in the book
 "#;
 
 #[test]
@@ -240,16 +282,20 @@ put batch 'J
 put after 'older
 1 switch serial book batch replies after
 ! batch 5
+! batch: it ends within its head, which has 10 bytes
 is after 'older
 1 switch run book batch replies after
 ! batch 5
+! batch: it ends within its head, which has 10 bytes
 is after 'older
 put replies REPLIES
 put after AFTER
 1 switch audit book batch replies after
 ! batch 5
+! batch: it ends within its head, which has 10 bytes
 1 switch show batch
 ! batch 5
+! batch: it ends within its head, which has 10 bytes
 
 # Another mark.
 put book BOOK
@@ -257,16 +303,20 @@ put batch 'J83B 000100000000
 put after 'older
 1 switch serial book batch replies after
 ! batch 1
+! batch: it doesn't begin with I83B, the letters of a batch
 is after 'older
 1 switch run book batch replies after
 ! batch 1
+! batch: it doesn't begin with I83B, the letters of a batch
 is after 'older
 put replies REPLIES
 put after AFTER
 1 switch audit book batch replies after
 ! batch 1
+! batch: it doesn't begin with I83B, the letters of a batch
 1 switch show batch
 ! batch 1
+! batch: it doesn't begin with I83B, the letters of a batch
 
 # Another version.
 put book BOOK
@@ -274,16 +324,20 @@ put batch 'I83B 000200000000
 put after 'older
 1 switch serial book batch replies after
 ! batch 2
+! batch: byte 4: version 2, where 1 is read
 is after 'older
 1 switch run book batch replies after
 ! batch 2
+! batch: byte 4: version 2, where 1 is read
 is after 'older
 put replies REPLIES
 put after AFTER
 1 switch audit book batch replies after
 ! batch 2
+! batch: byte 4: version 2, where 1 is read
 1 switch show batch
 ! batch 2
+! batch: byte 4: version 2, where 1 is read
 
 # 65,537 bodies.
 put book BOOK
@@ -291,16 +345,20 @@ put batch 'I83B 000100010001
 put after 'older
 1 switch serial book batch replies after
 ! batch 3
+! batch: byte 6: 65537 bodies, where at most 65536 are allowed
 is after 'older
 1 switch run book batch replies after
 ! batch 3
+! batch: byte 6: 65537 bodies, where at most 65536 are allowed
 is after 'older
 put replies REPLIES
 put after AFTER
 1 switch audit book batch replies after
 ! batch 3
+! batch: byte 6: 65537 bodies, where at most 65536 are allowed
 1 switch show batch
 ! batch 3
+! batch: byte 6: 65537 bodies, where at most 65536 are allowed
 
 # A body of no byte.
 put book BOOK
@@ -308,16 +366,20 @@ put batch 'I83B 000100000001 0000
 put after 'older
 1 switch serial book batch replies after
 ! batch 4
+! batch: body 0 at byte 10: length 0, where 1 to 512 is allowed
 is after 'older
 1 switch run book batch replies after
 ! batch 4
+! batch: body 0 at byte 10: length 0, where 1 to 512 is allowed
 is after 'older
 put replies REPLIES
 put after AFTER
 1 switch audit book batch replies after
 ! batch 4
+! batch: body 0 at byte 10: length 0, where 1 to 512 is allowed
 1 switch show batch
 ! batch 4
+! batch: body 0 at byte 10: length 0, where 1 to 512 is allowed
 
 # A body of 513 bytes.
 put book BOOK
@@ -326,8 +388,10 @@ put replies REPLIES
 put after AFTER
 1 switch audit book batch replies after
 ! batch 4
+! batch: body 0 at byte 10: length 513, where 1 to 512 is allowed
 1 switch show batch
 ! batch 4
+! batch: body 0 at byte 10: length 513, where 1 to 512 is allowed
 
 # A body that ends early.
 put book BOOK
@@ -336,8 +400,10 @@ put replies REPLIES
 put after AFTER
 1 switch audit book batch replies after
 ! batch 5
+! batch: body 0 at byte 10: the file ends within it, 0 of 1 bodies are whole
 1 switch show batch
 ! batch 5
+! batch: body 0 at byte 10: the file ends within it, 0 of 1 bodies are whole
 
 # A byte behind the last body.
 put book BOOK
@@ -345,16 +411,20 @@ put batch 'I83B 000100000000 '!
 put after 'older
 1 switch serial book batch replies after
 ! batch 6
+! batch: byte 10: too many bytes behind the last body: 1
 is after 'older
 1 switch run book batch replies after
 ! batch 6
+! batch: byte 10: too many bytes behind the last body: 1
 is after 'older
 put replies REPLIES
 put after AFTER
 1 switch audit book batch replies after
 ! batch 6
+! batch: byte 10: too many bytes behind the last body: 1
 1 switch show batch
 ! batch 6
+! batch: byte 10: too many bytes behind the last body: 1
 
 # Replies that are none: no byte; a batch; too many; a byte behind the last one; a body that is no reply.
 put book BOOK
@@ -363,20 +433,26 @@ put after AFTER
 put replies
 1 switch audit book batch replies after
 ! batch 5
+! replies: it ends within its head, which has 10 bytes
 put replies 'I83B 000100000000
 1 switch audit book batch replies after
 ! batch 1
+! replies: it begins with I83B, the letters of a batch, where I83R is to be
 put replies 'I83R 000100010001
 1 switch audit book batch replies after
 ! batch 3
+! replies: byte 6: 65537 bodies, where at most 65536 are allowed
 put replies 'I83R 000100000000 '!
 1 switch audit book batch replies after
 ! batch 6
+! replies: byte 10: too many bytes behind the last body: 1
 put replies 'I83R 000100000001 0002 'R!
 1 switch audit book batch replies after
 ! batch 9
+! replies: body 0 at byte 10: the text of no reply and of no fault
 1 switch show replies
 ! batch 9
+! replies: body 0 at byte 10: the text of no reply and of no fault
 "#;
 
 #[test]

@@ -78,6 +78,7 @@ put after 'older
 1 switch blocks book file replies after
 ! batch 10
 ! kept 0
+! file: byte 6: 1001 blocks, where at most 1000 are allowed
 is replies
 is after BOOK
 
@@ -88,6 +89,7 @@ put after 'older
 1 switch blocks book file replies after
 ! batch 1
 ! kept 0
+! file: it begins with I83B, the letters of a batch, where I83M is to be
 is replies
 is after BOOK
 
@@ -98,6 +100,7 @@ put after 'older
 1 switch blocks book file replies after
 ! batch 5
 ! kept 1
+! file: block 1 at byte 114: the file ends within its count, 1 of 2 blocks are whole
 is replies 'I83T 000100000002 00000001 REPLIES+10
 is after AFTER
 
@@ -108,8 +111,34 @@ put after 'older
 1 switch blocks book file replies after
 ! batch 6
 ! kept 2
+! file: byte 218: too many bytes behind the last body: 1
 is replies TWO_REPLIES
 is after AFTER_BOTH
+
+# With --strict no block is kept behind a fault.
+put book BOOK
+put file 'I83M 000100000002 00000001 BATCH+10
+put replies 'yesterday
+put after 'older
+1 switch blocks book file replies after --strict
+! batch 5
+! file: block 1 at byte 114: the file ends within its count, 1 of 2 blocks are whole
+is replies 'yesterday
+is after 'older
+
+# A body of three letters is no message: it is answered and counted, or refused.
+put book BOOK
+put file 'I83M 000100000001 00000001 0003 'abc
+put replies 'yesterday
+put after 'older
+1 switch blocks book file replies after --strict
+! unreadable 1
+is replies 'yesterday
+is after 'older
+0 switch blocks book file replies after
+> decided 1 in 1 blocks, 1 unreadable
+is replies 'I83T 000100000001 00000001 0006 'F01000
+is after BOOK
 
 # Where no block can be begun, no line says how many are kept, and an older book stays: no book, and no file.
 put book '[
@@ -117,11 +146,13 @@ put file TWO_BLOCKS
 put after 'older
 1 switch blocks book file replies after
 ! book 1
+! book: line 1, column 1: no JSON
 none replies
 is after 'older
 put book BOOK
 1 switch blocks book none replies after
 ! file 1
+! none: no such file or directory
 none replies
 is after 'older
 "#;

@@ -108,14 +108,18 @@ put text SECOND_HALF\n\
 0 switch pack text other\n\
 > packed 41\n\
 0 switch serial half-after other other-replies other-after\n\
-> decided 41\n\
+> decided 41, 15 unreadable\n\
 put text FIRST_HALF SECOND_HALF\n\
 0 switch pack text batch\n\
 > packed 82\n\
 is batch 'I83B 000100000052 half+10 other+10\n\
 0 switch serial book batch replies after\n\
-> decided 82\n\
+> decided 82, 15 unreadable\n\
 is replies 'I83R 000100000052 half-replies+10 other-replies+10\n\
+is after other-after\n\
+1 switch serial book batch replies after --strict\n\
+! unreadable 15\n\
+! batch: body 67 at byte 7683: F01000\n\
 is after other-after\n\
 0 switch show replies\n\
 > 0 1110 000 000001 000001\n\
@@ -206,52 +210,52 @@ put block-replies 'I83T 000100000002 00000029 half-replies+10 00000029 other-rep
 put answers\n\
 put later\n\
 0 switch run book batch answers later --engine locked --workers 1\n\
-> decided 82\n\
+> decided 82, 15 unreadable\n\
 is answers replies\n\
 is later after\n\
 put answers\n\
 put later\n\
 0 switch blocks book blocks answers later --engine locked --workers 1\n\
-> decided 82 in 2 blocks\n\
+> decided 82 in 2 blocks, 15 unreadable\n\
 is answers block-replies\n\
 is later after\n\
 \n\
 put answers\n\
 put later\n\
 0 switch run book batch answers later --engine locked --workers 4\n\
-> decided 82\n\
+> decided 82, 15 unreadable\n\
 is answers replies\n\
 is later after\n\
 put answers\n\
 put later\n\
 0 switch blocks book blocks answers later --engine locked --workers 4\n\
-> decided 82 in 2 blocks\n\
+> decided 82 in 2 blocks, 15 unreadable\n\
 is answers block-replies\n\
 is later after\n\
 \n\
 put answers\n\
 put later\n\
 0 switch run book batch answers later --engine split --workers 1\n\
-> decided 82\n\
+> decided 82, 15 unreadable\n\
 is answers replies\n\
 is later after\n\
 put answers\n\
 put later\n\
 0 switch blocks book blocks answers later --engine split --workers 1\n\
-> decided 82 in 2 blocks\n\
+> decided 82 in 2 blocks, 15 unreadable\n\
 is answers block-replies\n\
 is later after\n\
 \n\
 put answers\n\
 put later\n\
 0 switch run book batch answers later --engine split --workers 4\n\
-> decided 82\n\
+> decided 82, 15 unreadable\n\
 is answers replies\n\
 is later after\n\
 put answers\n\
 put later\n\
 0 switch blocks book blocks answers later --engine split --workers 4\n\
-> decided 82 in 2 blocks\n\
+> decided 82 in 2 blocks, 15 unreadable\n\
 is answers block-replies\n\
 is later after\n\
 ";

@@ -120,10 +120,12 @@ put refused/replies 'older
 put refused/after 'older
 1 switch run refused/book refused/batch refused/replies refused/after
 ! batch 1
+! refused/batch: it doesn't begin with I83B, the letters of a batch
 is refused/replies 'older
 is refused/after 'older
 1 switch serial refused/book refused/batch refused/r refused/n
 ! batch 1
+! refused/batch: it doesn't begin with I83B, the letters of a batch
 count 4
 
 # A new book that can't be made leaves the replies as they were: no folder, a folder of its name, a file that may not be written.
@@ -132,16 +134,20 @@ put refused/batch BATCH
 put refused/replies 'older
 1 switch run refused/book refused/batch refused/replies refused/no/after
 ! file 2
+! refused/no/after: no such file or directory
 folder refused/after
 1 switch serial refused/book refused/batch refused/replies refused/after
 ! file 2
+! refused/after: is a directory
 put refused/kept 'older
 mode refused/kept 444
 1 switch run refused/book refused/batch refused/replies refused/kept --engine split
 ! file 2
+! refused/kept: permission denied
 link refused/astray nowhere
 1 switch serial refused/book refused/batch refused/replies refused/astray
 ! file 2
+! refused/astray: no such file or directory
 is refused/replies 'older
 is refused/kept 'older
 count 6
@@ -149,6 +155,7 @@ count 6
 # A file that isn't there, and a folder in place of one.
 1 switch serial refused/none refused/batch refused/replies refused/after
 ! file 1
+! refused/none: no such file or directory
 count 0
 end refused
 "#;
@@ -165,19 +172,25 @@ put claimed/text TEXT
 claim claimed/after
 1 switch serial claimed/book claimed/batch claimed/replies claimed/after
 ! file 3
+! claimed/after: in use by another run
 1 switch run claimed/book claimed/batch claimed/after claimed/book
 ! file 3
+! claimed/after: in use by another run
 1 switch blocks claimed/book claimed/batch claimed/replies claimed/after
 ! file 3
+! claimed/after: in use by another run
 1 switch audit claimed/book claimed/batch claimed/replies claimed/after
 ! file 3
+! claimed/after: in use by another run
 1 switch pack claimed/text claimed/after
 ! file 3
+! claimed/after: in use by another run
 release all
 count 3
 claim claimed/book
 1 switch run claimed/book claimed/batch claimed/replies claimed/book --journal claimed/journal
 ! file 3
+! claimed/book: in use by another run
 release all
 0 switch run claimed/book claimed/batch claimed/replies claimed/book --journal claimed/journal
 > decided 1

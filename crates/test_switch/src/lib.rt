@@ -10,6 +10,7 @@ mod batches;
 #[cfg(test)]
 mod blocks;
 #[cfg(test)]
+#[cfg(test)]
 mod command_lines;
 #[cfg(test)]
 mod day;
@@ -21,3 +22,5 @@ mod host_stage;
 mod script;
 #[cfg(test)]
 mod texts;
+#[cfg(test)]
+mod words;

@@ -8,6 +8,8 @@ mod forms;
 #[cfg(test)]
 mod listings;
 #[cfg(test)]
+mod masks;
+#[cfg(test)]
 mod round_trips;
 #[cfg(test)]
 mod values;

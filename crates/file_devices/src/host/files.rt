@@ -1,11 +1,14 @@
-ghost use Rattle.std.specs.Prelude.{◌≡◌, ℕ, List, [], Err, OnOk, OnErr};
-ghost use Rattle.file_devices.specs.Holding.{AreAsTheyWere, ArePlaced, IsAsItWas, IsNoneNamed};
+ghost use Rattle.std.specs.Prelude.{◌≡◌, ◌<◌, ℕ, List, [], length, Err, OnOk, OnErr};
+ghost use Rattle.file_devices.specs.Failing.{anything};
+ghost use Rattle.file_devices.specs.Holding.{AreAsTheyWere, ArePlaced, HasOneNamed, IsAsItWas, IsNoneNamed};
 
 use crate::claim_fault::ClaimFault;
 use crate::files::Files;
 use crate::host::claim::HostClaim;
 use crate::host::identity::FileIdentity;
 use crate::host::output::HostOutput;
+use crate::host::target::HostTarget;
+use crate::host_reason::HostReason;
 use crate::read_fault::ReadFault;
 use crate::source::FromRead;
 use crate::write_fault::WriteFault;
@@ -37,8 +40,33 @@ impl<R: rt::Files<File = File> + Copy> HostFiles<R> {
         Ok(file)
     }
 
+    // Opens a plain file once more, and nothing else: a device might wait, or have given its bytes already.
+    fn open_plain(&self, name: &str) -> io::Result<Option<File>> {
+        let metadata = fs::metadata(&self.host, name)?;
+        if !metadata.is_file() && !metadata.is_dir() {
+            return Ok(None);
+        }
+        Ok(Some(self.open_file(name)?))
+    }
+
+    // Makes a file that is gone when this returns, unless the name is a device's.
+    fn try_making(&self, name: &str) -> io::Result<()> {
+        match HostTarget::of(&self.host, self.alloc, name)? {
+            HostTarget::Device => Ok(()),
+            _ => {
+                HostOutput::create(self.host, self.alloc, name)?;
+                Ok(())
+            }
+        }
+    }
+
     // Syncs what was written, and then renames each to its target, whose folder is synced before the next one is renamed.
-    fn place(&self, files: &mut [Written<HostOutput<R>>]) -> io::Result<()> {
+    fn place(&self, files: &mut [Written<HostOutput<R>>]) -> io::Result<()>
+        ensures { OnErr result (0 < length files.old) }
+    {
+        if files.is_empty() {
+            return Ok(());
+        }
         for file in files.iter() {
             file.output.sync()?;
         }
@@ -77,9 +105,7 @@ impl<R: rt::Files<File = File> + Copy> Files for HostFiles<R> {
 
     ghost holds = { λ _ _ _. ⊥ };
 
-    ghost refuses = { λ _ _. Unit {0} };
-
-    ghost is_in_use = { λ _ _. Unit {0} };
+    ghost failing = { λ _. anything };
 
     fn open(&self, name: &str) -> Result<FromRead<File>, ReadFault> {
         match self.open_file(name) {
@@ -98,7 +124,7 @@ impl<R: rt::Files<File = File> + Copy> Files for HostFiles<R> {
     fn put_in_place(&mut self, mut files: Vec<Written<HostOutput<R>>>) -> Result<(), WriteFault>
         ensures placed { OnOk result (⊥ → ArePlaced (λ _. ⊥) (λ _. []) (λ _ _. ⊥) files.items) }
         ensures kept { OnErr result (AreAsTheyWere (λ _ _. ⊥) (λ _ _. ⊥)) }
-        ensures refused { result ≡ Err WriteFault.Unwritable → (name : List ℕ) × Unit {0} }
+        ensures refused { result ≡ Err WriteFault.Unwritable → HasOneNamed (λ _. Unit {0}) files.items }
         ensures known { ⊥ → ⊥ }
         ensures others { (other : List ℕ) → IsNoneNamed other files.items → IsAsItWas (λ _ _. ⊥) (λ _ _. ⊥) other }
     {
@@ -122,6 +148,22 @@ impl<R: rt::Files<File = File> + Copy> Files for HostFiles<R> {
             Ok(Some(same)) => Ok(same),
             Ok(None) => Ok(first == second),
             Err(_) => Err(AllocError),
+        }
+    }
+
+    fn open_again(&self, name: &str) -> Result<Option<FromRead<File>>, HostReason> {
+        match self.open_plain(name) {
+            Ok(file) => Ok(file.map(FromRead::new)),
+            Err(error) if error.kind() == ErrorKind::OutOfMemory => Ok(None),
+            Err(error) => Err(HostReason::from(error.kind())),
+        }
+    }
+
+    fn why_not_made(&self, name: &str) -> Option<HostReason> {
+        match self.try_making(name) {
+            Ok(()) => None,
+            Err(error) if error.kind() == ErrorKind::OutOfMemory => None,
+            Err(error) => Some(HostReason::from(error.kind())),
         }
     }
 }

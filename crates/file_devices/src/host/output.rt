@@ -93,6 +93,8 @@ impl<R: rt::Files + Copy> Sink for HostOutput<R> {
 
     ghost has_failed = { λ output. output.sink.has_failed };
 
+    ghost may_fail = { λ _. Unit {0} };
+
     fn put(&mut self, bytes: &[u8]) -> Result<usize, Broken> {
         self.sink.put(bytes)
     }

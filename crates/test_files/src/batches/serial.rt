@@ -62,7 +62,7 @@ fn process_whole<R: Source, W: Sink>(
         ensures { AnswersFold book.entry.now frames.entry.now result }
     { decide_serially(alloc, book, frames) };
     match process(alloc, book, source, sink, &decide) {
-        Ok(outcome) => Ok(outcome.book),
+        Ok(done) => Ok(done.outcome.book),
         Err(fault) => Err(fault),
     }
 }

@@ -1,4 +1,4 @@
-use Rattle.app_arguments.proofs.PlainLemmas.{audit_read, block_audit_read, blocks_read, help, journal_audit_read, journal_read, no_frame, no_word, one_frame, run_read, serial_read, split_blocks_read, split_journal_none, split_read, version}
+use Rattle.app_arguments.proofs.PlainLemmas.{audit_read, block_audit_read, blocks_read, help, journal_audit_read, journal_read, no_frame, no_word, one_frame, run_read, serial_read, split_blocks_read, split_journal_none, split_read, strict_serial_read, version}
 use Rattle.app_arguments.proofs.laws.plain_arguments_are_read.Goals as goal
 
 pub returns : goal.returns
@@ -9,6 +9,7 @@ returns c = record {
   no_frame = no_frame;
   no_word = no_word;
   serial = serial_read;
+  strict_serial = strict_serial_read;
   run = run_read;
   journal = journal_read;
   split = split_read;

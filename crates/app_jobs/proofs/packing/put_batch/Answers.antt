@@ -1,5 +1,8 @@
-use Rattle.std.proofs.Common.{◌∙◌, sym}
-use Rattle.file_devices.proofs.Placing.{none_of_one, placed_one}
+use Rattle.std.proofs.Common.{◌∙◌, ap, sym, Err}
+use Rattle.std.proofs.lemmas.Result.{err_from_is_err_and}
+use Rattle.file_devices.specs.declared.write_fault.WriteFault.{WriteFault}
+use Rattle.file_devices.proofs.Placing.{none_of_one, one_of_one, placed_one}
+use Rattle.app_jobs.proofs.Faults.{unmade_file}
 use Rattle.app_jobs.proofs.packing.put_batch.Goals as goal
 
 pub returns-clause-put : goal.returns-clause-put
@@ -12,3 +15,9 @@ returns-clause-put g c known =
 pub returns-clause-others : goal.returns-clause-others
 returns-clause-others g c other apart =
     c.in_ok-put_in_place.ensures.others other (rw c.in_ok-alone.ensures (none_of_one other c.in_ok-batch.batch (λ same. apart (sym same ∙ c.in_ok-batch.ensures.name))))
+
+pub returns-in_err-put_in_place-clause-fault : goal.returns-in_err-put_in_place-clause-fault
+returns-in_err-put_in_place-clause-fault g c =
+    let p = err_from_is_err_and c.from_residual-in_err-put_in_place.result c.from_residual-in_err-put_in_place.ensures.1 in
+    rw (p.1, p.2) (unmade_file _ _ c.in_err-put_in_place.field-0.0 (λ is. rw c.in_ok-batch.ensures.name at
+    (one_of_one (g.F.Files.failing c.args.files.now).refused c.in_ok-batch.batch (rw c.in_ok-alone.ensures at (c.in_err-put_in_place.ensures.refused (ap (λ (e : WriteFault). Err e) is))))))

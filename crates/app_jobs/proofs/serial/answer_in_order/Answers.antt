@@ -1,6 +1,5 @@
-use Rattle.std.proofs.Common.{◌∙◌, ap, sym}
+use Rattle.std.proofs.Common.{◌∙◌, ap}
 use Rattle.book_laws.specs.Text.{book_text}
-use Rattle.issuer_fold.proofs.FoldLaws.{length-replies_to}
 use Rattle.app_jobs.proofs.Held.{all_written}
 use Rattle.app_jobs.proofs.serial.answer_in_order.Goals as goal
 
@@ -9,7 +8,7 @@ returns-clause-answered g c =
     let decided = c.in-Ok.ensures.decides in
     record {
       frames = decided.0;
-      counted = decided.1.0.1 ∙ sym (length-replies_to c.args.book decided.0);
+      counted = decided.1.0.1;
       batch_there = λ k. rw c.as_str.ensures.value at c.in_ok-batch.ensures.there k;
       messages = λ bytes h.
           let opened = c.in_ok-batch.ensures.bytes bytes (rw c.as_str.ensures.value h) in

@@ -1,4 +1,4 @@
-use Rattle.std.proofs.Common.{◌∙◌, ap, length}
+use Rattle.std.proofs.Common.{◌∙◌, ap}
 use Rattle.book_laws.specs.Text.{book_text}
 use Rattle.app_runs.proofs.tracing.answer_traced.Goals as goal
 
@@ -10,14 +10,14 @@ returns-clause-answered g c =
       frames = decided.0;
       entries = run.entries.items;
       committed = run.outcome.committed;
-      counted = c.len.ensures ∙ run.outcome.replies.ok.0 ∙ ap length decided.1.0;
+      counted = decided.3;
       batch_there = c.in_ok-run.ensures.there;
-      messages = decided.3;
+      messages = decided.4;
       are = rw c.deref.ensures.value at c.in_ok-journal.ensures.are;
       ran = decided.2;
       back = rw decided.1.1 at c.in_ok-new_book.ensures.back;
       bodies = rw decided.1.0 at c.in_ok-run.ensures.bodies;
-      replied = decided.4;
+      replied = decided.5;
       logged = rw c.deref.ensures.value at c.in_ok-journal.ensures.written;
       booked = λ k.
           let text = c.in_ok-new_book.ensures.written k in

@@ -1,6 +1,8 @@
-use Rattle.std.proofs.Common.{◌∙◌}
+use Rattle.std.proofs.Common.{◌∙◌, ap, Err}
+use Rattle.std.proofs.lemmas.Result.{err_from_is_err_and}
 use Rattle.file_devices.specs.BatchNames.{names_of}
-use Rattle.app_runs.proofs.Runs.{run_placed}
+use Rattle.file_devices.specs.declared.write_fault.WriteFault.{WriteFault}
+use Rattle.app_runs.proofs.Runs.{run_placed, run_unput}
 use Rattle.app_runs.proofs.tracing.put_run.Goals as goal
 
 pub returns : goal.returns
@@ -13,4 +15,14 @@ returns g c =
           c.in_ok-log.ensures.name c.in_ok-log.ensures.output
           (c.in_ok-new_book.ensures.name ∙ c.as_str-2.ensures.value) c.in_ok-new_book.ensures.output
           placed.placed placed.known placed.others;
+    }
+
+pub returns-in_err-put_in_place : goal.returns-in_err-put_in_place
+returns-in_err-put_in_place g c =
+    let p = err_from_is_err_and c.from_residual-in_err-put_in_place.result c.from_residual-in_err-put_in_place.ensures.1 in
+    let put = c.in_err-put_in_place.ensures in
+    record {
+      puts = rw (p.1, p.2) (run_unput _ _ g.F.Files.failing _ _ _ _ (names_of c.args.names.now) c.args.journal.now c.args.answer c.in_ok-replies.replies c.in_ok-log.log c.in_ok-new_book.new_book _
+          c.in_err-put_in_place.field-0.0 c.in_ok-run.ensures (c.in_ok-replies.ensures.name ∙ c.as_str.ensures.value) c.in_ok-log.ensures.name (c.in_ok-new_book.ensures.name ∙ c.as_str-2.ensures.value)
+          put.kept (λ is. put.refused (ap (λ (e : WriteFault). Err e) is)) put.known);
     }

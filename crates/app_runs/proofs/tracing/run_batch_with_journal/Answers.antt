@@ -1,20 +1,37 @@
-use Rattle.std.proofs.Common.{inr}
+use Rattle.std.proofs.Common.{inl, inr}
 use Rattle.std.proofs.lemmas.Result.{err_from_is_err_and}
-use Rattle.app_jobs.proofs.AnsweredFiles.{of_refused}
+use Rattle.app_jobs.proofs.AnsweredFiles.{is_strict}
+use Rattle.app_jobs.proofs.Faults.{answering_more, putting_more}
+use Rattle.app_runs.specs.Journaled.{MayBeRefusedWithJournal, MayNotBeAnsweredWithJournal}
+use Rattle.file_devices.specs.BatchNames.{names_of}
 use Rattle.app_runs.proofs.tracing.run_batch_with_journal.Goals as goal
 
 pub returns-in_err-answer-clause-fault : goal.returns-in_err-answer-clause-fault
 returns-in_err-answer-clause-fault g c =
     let p = err_from_is_err_and c.from_residual-in_err-answer.result c.from_residual-in_err-answer.ensures.1 in
     let book = rw c.as_str.ensures.value at c.in_ok-book.ensures.book in
-    rw (p.1, p.2) (inr ((c.in_ok-book.book, book), c.in_err-answer.ensures.fault))
+    rw (p.1, p.2) (inr ((c.in_ok-book.book, book), inl (answering_more (g.F.Files.holds c.args.files.now) (g.F.Files.failing c.args.files.now) (names_of c.args.names.now) _ _ _ (λ f. elim f [ inl book_lost ↦ inl (inl book_lost) | inr journal_lost ↦ inr journal_lost ]) c.in_err-answer.ensures.fault)))
+
+pub returns-in_err-admit-clause-fault : goal.returns-in_err-admit-clause-fault
+returns-in_err-admit-clause-fault g c =
+    let p = err_from_is_err_and c.from_residual-in_err-admit.result c.from_residual-in_err-admit.ensures.1 in
+    let book = rw c.as_str.ensures.value at c.in_ok-book.ensures.book in
+    let answered = c.in_ok-answer.ensures.answered in
+    rw (p.1, p.2) (inr ((c.in_ok-book.book, book), inr (is_strict _ _ _ answered.frames _ _ c.in_err-admit.ensures.refused answered.counted answered.messages)))
 
 pub returns-in_err-put_run-clause-fault : goal.returns-in_err-put_run-clause-fault
 returns-in_err-put_run-clause-fault g c =
     let p = err_from_is_err_and c.from_residual-in_err-put_run.result c.from_residual-in_err-put_run.ensures.1 in
     let book = rw c.as_str.ensures.value at c.in_ok-book.ensures.book in
     let answered = c.in_ok-answer.ensures.answered in
-    rw (p.1, p.2) (inr ((c.in_ok-book.book, book), inr ((answered.frames, answered.messages), of_refused _ _ _ c.in_err-put_run.ensures.puts.fault)))
+    rw (p.1, p.2) (inr (
+      (c.in_ok-book.book, book),
+      inl (inr (
+        (answered.frames, answered.messages),
+        putting_more (MayBeRefusedWithJournal (g.F.Files.failing c.args.files.now) (names_of c.args.names.now) c.args.journal.now)
+            (MayNotBeAnsweredWithJournal (g.F.Files.failing c.args.files.now) (names_of c.args.names.now) c.args.journal.now) _ (λ f. elim f [ inl answer ↦ inl (inr answer) | inr log ↦ inr (inr log) ]) c.in_err-put_run.ensures.puts.fault,
+      )),
+    ))
 
 pub returns-in_err-put_run-clause-kept : goal.returns-in_err-put_run-clause-kept
 returns-in_err-put_run-clause-kept g c =

@@ -9,5 +9,5 @@ returns-in_err-write_replies-clause-fault g c =
     let replies = c.in_ok-outcome.outcome.replies.items in
     let same : length replies ≡ length c.deref.result.now = ap length c.in_ok-outcome.ensures.run.replies ∙ as_many c.args.book.now c.deref.result.now in
     let few : length replies ≤ 65536 = rw (same, c.deref.ensures.value) c.in_ok-frames.ensures.count in
-    let other = (rw c.deref-2.ensures.value at c.in_err-write_replies.ensures.fit) few in
+    let other = (rw c.deref-3.ensures.value at c.in_err-write_replies.ensures.fit) few in
     rw (p.1, p.2) (λ of_bytes known. absurd (other of_bytes))

@@ -1,4 +1,4 @@
-use Rattle.std.proofs.Common.{◌≡◌, ◌++◌, ℕ, length, sym, ap, ◌∙◌}
+use Rattle.std.proofs.Common.{◌≡◌, ◌++◌, ℕ, length, refl, sym, ap, ◌∙◌}
 use Rattle.std.proofs.lemmas.List.{append-nil}
 use Rattle.file_batch_laws.specs.Files.{head_text}
 use Rattle.file_batch_laws.specs.Reading.{replies_magic}
@@ -22,7 +22,7 @@ returns-clause-decides g c =
     let many : c.args.count ≡ length (replies_to c.args.book frames) = all ∙ sym (length-replies_to c.args.book frames) in (
       frames,
       (
-        (c.in_ok-decide_rest.ensures.book c.args.book had, all),
+        (c.in_ok-decide_rest.ensures.book c.args.book had, rw (all, c.in_ok-decide_rest.ensures.unreadable) refl),
         told.0 ∙ ap (λ (n : ℕ). head_text replies_magic n ++ texts_of (replies_to c.args.book frames)) many,
         (rw (sym many) c.requires.few, told.1),
       ),

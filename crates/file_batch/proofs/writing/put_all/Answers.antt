@@ -9,6 +9,8 @@ loop-rest-preserved g c =
     record {
       device = record {
         failed = put.failed ∙ none_failed c.in-Ok.count (g.W.Sink.has_failed c.loop-rest.sink) c.in-Ok.count-test.1 ∙ so_far.device.failed;
+        fault = tt;
+        may = λ may. so_far.device.may (put.may may);
         known = λ known. put.known (so_far.device.known known);
       };
       bytes = λ known. puts_more (g.W.Sink.written c.args.sink.now) (g.W.Sink.written c.loop-rest.sink) (g.W.Sink.written c.put.new.self) c.args.bytes.now c.loop-rest.rest.now c.in-Ok.count

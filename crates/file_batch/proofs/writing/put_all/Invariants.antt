@@ -5,7 +5,7 @@ use Rattle.file_batch.proofs.writing.put_all.Given as goal
 -- what was written, and the rest
 abbrev pub invariant-loop-rest : goal.invariant-loop-rest
 invariant-loop-rest g l = record {
-  device : KeepsDevice g.W.Sink.is_known g.W.Sink.has_failed l.fn.sink l.sink;
+  device : KeepsDevice g.W.Sink.is_known g.W.Sink.has_failed g.W.Sink.may_fail l.fn.sink l.sink;
   bytes : g.W.Sink.is_known l.fn.sink → (front : List ℕ) × (g.W.Sink.written l.sink ≡ g.W.Sink.written l.fn.sink ++ front) × (l.bytes ≡ front ++ l.rest);
 }
 

@@ -9,7 +9,7 @@ use Rattle.file_blocks.proofs.block_files.read_blocks_of.Given as goal
 -- the blocks so far
 abbrev pub invariant-loop : goal.invariant-loop
 invariant-loop g l = record {
-  device : KeepsDevice g.R.Source.is_known g.R.Source.has_failed l.fn.source l.source;
+  device : KeepsDevice g.R.Source.is_known g.R.Source.has_failed g.R.Source.may_fail l.fn.source l.source;
   within : l.counter ≤ l.count;
   count : length l.blocks.items ≡ l.counter;
   each : All (λ block. length block.items ≤ 65536) l.blocks.items;

@@ -11,7 +11,7 @@ use Rattle.file_batch.proofs.reader.Reader.read_all.Given as goal
 abbrev pub invariant-loop-left : goal.invariant-loop-left
 invariant-loop-left g l = record {
   ends : SameProducer l.fn.self.outbound l.self.outbound × SameConsumer l.fn.self.inbound l.self.inbound;
-  device : KeepsDevice g.R.Source.is_known g.R.Source.has_failed l.fn.source l.source;
+  device : KeepsDevice g.R.Source.is_known g.R.Source.has_failed g.R.Source.may_fail l.fn.source l.source;
   count : length (frames_in (sent l.self.outbound)) + l.left ≡ l.count;
   so_far : g.R.Source.is_known l.fn.source → ItemsAt IsFrameOf (l.count - l.left) (ahead l.fn.window (g.R.Source.remaining l.fn.source))
       (frames_in (sent l.self.outbound)) (ahead l.window (g.R.Source.remaining l.source));

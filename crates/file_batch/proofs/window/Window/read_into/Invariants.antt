@@ -7,7 +7,7 @@ use Rattle.file_batch.proofs.window.Window.read_into.Given as goal
 
 abbrev pub invariant-loop : goal.invariant-loop
 invariant-loop g l = record {
-  device : KeepsDevice g.R.Source.is_known g.R.Source.has_failed l.fn.source l.source;
+  device : KeepsDevice g.R.Source.is_known g.R.Source.has_failed g.R.Source.may_fail l.fn.source l.source;
   count : length l.frames.items ≡ l.counter;
   within : l.counter ≤ l.count;
   frames : g.R.Source.is_known l.fn.source → ItemsAt IsFrameOf l.counter (ahead l.fn.self (g.R.Source.remaining l.fn.source))

@@ -12,8 +12,8 @@ returns-in_err-step-clause-err g c =
     rw (p.1, p.2) (halts c.args.count c.args.self.now.book c.loop.self c.step.new.self (g.R.Source.is_known c.args.source.now) (g.R.Source.is_known c.loop.source)
     (ahead c.args.window.now (g.R.Source.remaining c.args.source.now)) (ahead c.loop.window (g.R.Source.remaining c.loop.source))
     (g.W.Sink.is_known c.args.sink.now) (g.W.Sink.is_known c.loop.sink) (sink c.args.sink.now) (sink c.loop.sink) (sink c.step.new.sink) c.in_err-step.field-0.0
-    (IsTrue (g.W.Sink.has_failed c.step.new.sink)) (c.step.new.sink ≡ c.loop.sink)
-    before.so_far c.in_err-step.ensures.kept (omega (arith, before.count, c.loop-test.true)) before.source.known before.sink.known c.in_err-step.ensures.fault c.in_err-step.ensures.err
+    (IsTrue (g.W.Sink.has_failed c.step.new.sink) × g.W.Sink.may_fail c.args.sink.now) (IsTrue (g.W.Sink.has_failed c.step.new.sink) × g.W.Sink.may_fail c.loop.sink) (c.step.new.sink ≡ c.loop.sink)
+    before.so_far c.in_err-step.ensures.kept (omega (arith, before.count, c.loop-test.true)) before.source.known before.sink.known (λ f. (f.0, before.sink.may f.1)) c.in_err-step.ensures.fault c.in_err-step.ensures.err
     (λ same. ap sink same))
 
 pub loop-preserved : goal.loop-preserved
@@ -24,7 +24,10 @@ loop-preserved g c =
       sink = search rules;
       within = omega (arith, c.loop-test.true);
       count = omega (arith, c.in_ok-step.ensures.ok.number, before.count);
-      most = omega (arith, c.in_ok-step.ensures.most, before.most);
+      most = (
+        omega (arith, c.in_ok-step.ensures.within.0, before.most.0),
+        omega (arith, c.in_ok-step.ensures.within.1, before.most.1),
+      );
       so_far = goes_on c.args.self.now.book c.loop.self c.step.new.self (g.R.Source.is_known c.args.source.now) (g.R.Source.is_known c.loop.source)
           (ahead c.args.window.now (g.R.Source.remaining c.args.source.now)) (ahead c.loop.window (g.R.Source.remaining c.loop.source)) (ahead c.step.new.window (g.R.Source.remaining c.step.new.source))
           (g.W.Sink.is_known c.args.sink.now) (g.W.Sink.is_known c.loop.sink) (g.W.Sink.written c.args.sink.now) (g.W.Sink.written c.loop.sink) (g.W.Sink.written c.step.new.sink)

@@ -14,7 +14,7 @@ returns-in_err-write_head-clause-err g c =
     let behind = ahead c.read_block_head.new.window (g.R.Source.remaining c.read_block_head.new.source) in
     rw (p.1, p.2) (halts_in_head c.args.self.now.book c.args.self.now.blocks (g.R.Source.is_known source) (g.R.Source.remaining source) c.in_ok-count.count behind
     (g.W.Sink.is_known sink) (g.W.Sink.written sink) (g.W.Sink.written c.write_head.new.sink) c.in_err-write_head.field-0.0
-    (IsTrue (g.W.Sink.has_failed c.write_head.new.sink)) (c.write_head.new.sink ≡ sink)
+    (IsTrue (g.W.Sink.has_failed c.write_head.new.sink) × g.W.Sink.may_fail sink) (c.write_head.new.sink ≡ sink)
     c.requires.none.0 (λ known. rw c.in_ok-window.ensures at (c.in_ok-count.ensures.gives known)) c.in_err-write_head.ensures.fault c.in_err-write_head.ensures.err)
 
 pub returns-in_err-decide_blocks-clause-err : goal.returns-in_err-decide_blocks-clause-err
@@ -30,8 +30,8 @@ returns-in_err-decide_blocks-clause-err g c =
       λ known. rw c.in_ok-window.ensures at (c.in_ok-count.ensures.gives known),
       halts_moved c.in_ok-count.count c.args.self.now.book c.decide_blocks.new.self.book c.decide_blocks.new.self.blocks (g.R.Source.is_known source) (g.R.Source.is_known c.read_block_head.new.source) behind
           (g.W.Sink.is_known sink) (g.W.Sink.is_known after) (g.W.Sink.written sink ++ head_text block_replies_magic c.in_ok-count.count) (g.W.Sink.written after) (g.W.Sink.written c.decide_blocks.new.sink)
-          c.in_err-decide_blocks.field-0.0 (IsTrue (g.W.Sink.has_failed c.decide_blocks.new.sink))
-          c.in_err-decide_blocks.ensures.err (λ known. c.in_ok-count.ensures.device.known known) (λ known. c.in_ok-write_head.ensures.device.known known) (λ known. c.in_ok-write_head.ensures.ok known),
+          c.in_err-decide_blocks.field-0.0 (IsTrue (g.W.Sink.has_failed c.decide_blocks.new.sink) × g.W.Sink.may_fail sink) (IsTrue (g.W.Sink.has_failed c.decide_blocks.new.sink) × g.W.Sink.may_fail after)
+          c.in_err-decide_blocks.ensures.err (λ known. c.in_ok-count.ensures.device.known known) (λ known. c.in_ok-write_head.ensures.device.known known) (λ f. (f.0, c.in_ok-write_head.ensures.device.may f.1)) (λ known. c.in_ok-write_head.ensures.ok known),
     )))
 
 pub returns-in_err-read_end-clause-err : goal.returns-in_err-read_end-clause-err
@@ -44,7 +44,7 @@ returns-in_err-read_end-clause-err g c =
     let after = c.write_head.new.sink in
     let self = c.decide_blocks.new.self in
     let heading = g.W.Sink.written sink ++ head_text block_replies_magic c.in_ok-count.count in
-    let failed = IsTrue (g.W.Sink.has_failed c.decide_blocks.new.sink) in
+    let failed = IsTrue (g.W.Sink.has_failed c.decide_blocks.new.sink) × g.W.Sink.may_fail sink in
     rw (p.1, p.2) (inr (inr (
       c.in_ok-count.count,
       behind,

@@ -1,0 +1,4 @@
+pub mod OneLine
+pub mod Says
+pub mod Tells
+pub mod Words

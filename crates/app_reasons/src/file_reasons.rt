@@ -1,0 +1,102 @@
+//! What is told of one file, which is read once more.
+
+ghost use Rattle.std.specs.Prelude.{IfSome};
+ghost use Rattle.app_arguments.specs.Asked.{show};
+ghost use Rattle.app_reasons.specs.Tells.{IsFileFor, IsOfLine, TellsOfBook, TellsOfFile, TellsUnread, TellsUnreadable};
+
+use crate::file_kind::FileKind;
+use crate::line_reason::reason_of_line;
+use crate::reason::Reason;
+use book_laws::JsonFault;
+use book_places::place_in_book;
+use file_batch_laws::BatchFault;
+use file_devices::{Files, read_again};
+use std::alloc::Global;
+
+/// Why the file isn't read.
+pub(crate) fn unread_reason<F: Files>(alloc: Global, files: &F, name: &str) -> Option<Reason>
+    ensures { IfSome result (TellsUnread (F.holds files.now) name.now) }
+{
+    match read_again(alloc, files, name) {
+        Ok(_) => None,
+        Err(reason) => Some(Reason::Host(reason)),
+    }
+}
+
+/// Why the first body of a batch that is no message is none.
+pub(crate) fn unreadable_reason<F: Files>(alloc: Global, files: &F, name: &str) -> Option<Reason>
+    ensures { IfSome result (TellsUnreadable (F.holds files.now) name.now) }
+{
+    let file = read_again(alloc, files, name).ok()??;
+    match Reason::of_unread(&file) {
+        Some(reason) => Some(reason),
+        None => None,
+    }
+}
+
+/// Where a fault of this number is the first of the file as a book.
+pub(crate) fn book_reason<F: Files>(
+    alloc: Global,
+    files: &F,
+    name: &str,
+    fault: &JsonFault,
+) -> Option<Reason>
+    ensures { IfSome result (TellsOfBook (F.holds files.now) fault.now name.now) }
+{
+    let text = read_again(alloc, files, name).ok()??;
+    let Ok(Some(wrong)) = place_in_book(alloc, &text) else {
+        return None;
+    };
+    if wrong.fault.number() == fault.number() {
+        Some(Reason::Book(wrong.place))
+    } else {
+        None
+    }
+}
+
+/// Where a fault of this number is the first of the file as one of this kind.
+pub(crate) fn file_reason<F: Files>(
+    alloc: Global,
+    files: &F,
+    name: &str,
+    kind: FileKind,
+    fault: &BatchFault,
+) -> Option<Reason>
+    ensures { IfSome result (TellsOfFile (F.holds files.now) fault.now kind name.now) }
+{
+    let file = read_again(alloc, files, name).ok()??;
+    let Some((found, reason)) = Reason::of_file(kind, &file) else {
+        return None;
+    };
+    if found.number() == fault.number() {
+        Some(reason)
+    } else {
+        None
+    }
+}
+
+/// As what the file is shown, as it begins.
+pub(crate) fn shown_kind<F: Files>(alloc: Global, files: &F, name: &str) -> Option<FileKind>
+    ensures { IfSome result (IsFileFor (show name.now) name.now) }
+{
+    let file = read_again(alloc, files, name).ok()??;
+    if file.starts_with(b"I83R") {
+        Some(FileKind::Replies)
+    } else {
+        Some(FileKind::Batch)
+    }
+}
+
+/// Why the line of this number, from 1, of the file is no body.
+pub(crate) fn text_reason<F: Files>(
+    alloc: Global,
+    files: &F,
+    name: &str,
+    line: usize,
+) -> Option<Reason>
+    ensures { IfSome result (IsOfLine line) }
+{
+    let text = read_again(alloc, files, name).ok()??;
+    let wrong = text.split(|byte| *byte == b'\n').nth(line.checked_sub(1)?)?;
+    Some(Reason::TextLine(line, reason_of_line(wrong)?))
+}

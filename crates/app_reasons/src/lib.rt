@@ -1,0 +1,25 @@
+//! What a person is told of a fault, in one line: the file's name, the place and the reason.
+#![tactic(auto)]
+
+mod block_words;
+mod body_words;
+mod command_files;
+mod explaining;
+mod file_kind;
+mod file_reasons;
+mod head_words;
+mod line_reason;
+mod one_line;
+mod reason;
+mod told;
+mod unread_words;
+
+pub use block_words::BlockWords;
+pub use body_words::BodyWords;
+pub use explaining::{told_of, words_of};
+pub use file_kind::FileKind;
+pub use head_words::HeadWords;
+pub use line_reason::{LineReason, reason_of_line};
+pub use reason::Reason;
+pub use told::Told;
+pub use unread_words::UnreadWords;

@@ -1,0 +1,4 @@
+pub mod Found
+pub mod OldRows
+pub mod OneMore
+pub mod Values

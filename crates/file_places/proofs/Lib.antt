@@ -1,0 +1,3 @@
+pub mod FaultTexts
+pub mod Faults
+pub mod OneMore
