@@ -10,6 +10,7 @@ mod batches;
 #[cfg(test)]
 mod blocks;
 #[cfg(test)]
+mod broken_files;
 #[cfg(test)]
 mod command_lines;
 #[cfg(test)]
