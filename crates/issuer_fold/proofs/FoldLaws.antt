@@ -1,7 +1,7 @@
 -- One more row that is written, and one more body that is decided.
 use Rattle.std.proofs.Common.{◌≡◌, ℕ, suc, ◌+◌, ◌-◌, ◌<◌, List, [], ◌∷◌, ◌++◌, take, drop, length, get_or, slice_get, Some, refl, sym, ap, ◌∙◌, add-one, take-append-drop, arith}
 use Rattle.std.proofs.lemmas.List.{take_all, length-drop}
-use Rattle.std.proofs.Math.Seq.{drop-cons}
+use Rattle.std.proofs.Math.Seq.{drop-cons, take-suc}
 use Rattle.std.proofs.lemmas.Option.{slice_get_within, get_or_from_slice_get}
 use Rattle.std.specs.FinMap as map
 use Rattle.issuer_view.specs.Words.{Frame, RowKey, RowVal, Rows, Writes, overlay, replies_to}
@@ -40,6 +40,20 @@ rows_of_both rows frames k = sym (rows_after-append rows (take k frames) (drop k
 pub replies_of_both : (rows : Rows) (frames : List Frame) (k : ℕ)
     → replies_to rows (take k frames) ++ replies_to (rows_after rows (take k frames)) (drop k frames) ≡ replies_to rows frames
 replies_of_both rows frames k = sym (replies_to-append rows (take k frames) (drop k frames)) ∙ ap (replies_to rows) (take-append-drop k frames)
+
+-- one body more behind the first ones
+first_and_next : (frames : List Frame) (i : ℕ) (frame : Frame) → i < length frames → frame ≡ get_or frames i frame → take (i + 1) frames ≡ take i frames ++ frame ∷ []
+first_and_next frames i frame lt at = rw add-one (take-suc frames i frame lt ∙ ap (λ next. take i frames ++ next ∷ []) (sym at))
+
+pub rows_of_one_more : (rows : Rows) (frames : List Frame) (i : ℕ) (frame : Frame) → i < length frames → frame ≡ get_or frames i frame
+    → rows_after_one (rows_after rows (take i frames)) frame ≡ rows_after rows (take (i + 1) frames)
+rows_of_one_more rows frames i frame lt at =
+    sym (rows_after-append rows (take i frames) (frame ∷ [])) ∙ ap (rows_after rows) (sym (first_and_next frames i frame lt at))
+
+pub replies_of_one_more : (rows : Rows) (frames : List Frame) (i : ℕ) (frame : Frame) → i < length frames → frame ≡ get_or frames i frame
+    → replies_to rows (take i frames) ++ reply_of (rows_after rows (take i frames)) frame ∷ [] ≡ replies_to rows (take (i + 1) frames)
+replies_of_one_more rows frames i frame lt at =
+    sym (replies_to-append rows (take i frames) (frame ∷ [])) ∙ ap (replies_to rows) (sym (first_and_next frames i frame lt at))
 
 -- one reply for each body
 pub length-replies_to : (rows : Rows) (frames : List Frame) → length (replies_to rows frames) ≡ length frames

@@ -1,3 +1,4 @@
+pub mod Begun
 pub mod Former
 pub mod Run
 pub mod There

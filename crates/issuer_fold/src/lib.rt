@@ -10,6 +10,6 @@ mod serial;
 
 pub use frames::are_same_frames;
 pub use plain_rows::PlainRows;
-pub use prefix::{Prefix, put_all};
+pub use prefix::Prefix;
 pub use run_outcome::RunOutcome;
 pub use serial::decide_all_by;

@@ -88,7 +88,8 @@ impl Prefix {
         Ok(())
     }
 
-    // One more body, as it was decided by rows that are those of the book. What was read is for the clauses alone.
+    // One more body, as it was decided by rows that are those of the book. After an error nothing is changed. What was read is for the
+    // clauses alone.
     pub(crate) fn append(
         &mut self,
         frame: &Frame,
@@ -104,12 +105,13 @@ impl Prefix {
         ensures count { OnOk result (self.new.count ≡ self.old.count + 1) }
         ensures book { OnOk result (self.new.book ≡ rows_after_one self.old.book frame.now) }
         ensures replies { OnOk result (self.new.replies.items ≡ self.old.replies.items ++ reply_of self.old.book frame.now ∷ []) }
+        ensures kept { OnErr result ((self.new.count ≡ self.old.count) × (self.new.book ≡ self.old.book) × (self.new.replies.items ≡ self.old.replies.items)) }
     {
         let _ = reads;
         match decided {
             Ok(reply) => {
                 self.replies.reserve(1)?;
-                put_near(&mut self.book, writes, places)?;
+                put_all_or_none(&mut self.book, writes, places)?;
                 push_copy(&mut self.replies, reply);
                 self.cards.note(frame, places);
                 self.count += 1;
@@ -127,24 +129,4 @@ fn push_copy<T: Copy>(items: &mut Vec<T>, item: &T)
     ensures { items.new.items ≡ items.old.items ++ item.now ∷ [] }
 {
     items.push_reserved(*item);
-}
-
-/// The book with these rows written, one after another. It fails only where memory runs out, and the book is gone then.
-pub fn put_all(book: Book, writes: &WriteSet) -> Result<Book, AllocError>
-    ensures { IfOk result (λ after. after ≡ overlay book writes.now) }
-{
-    let mut after = book;
-    put_near(&mut after, writes, &mut Places::new())?;
-    Ok(after)
-}
-
-// Writes these rows, one after another, each where it was found.
-fn put_near(book: &mut Book, writes: &WriteSet, places: &mut Places) -> Result<(), AllocError>
-    ensures { OnOk result (book.new ≡ overlay book.old writes.now) }
-{
-    for index in 0..writes.len() {
-        let (key, row) = writes.row(index);
-        book.put_copy_near(key, row, places)?;
-    }
-    Ok(())
 }

@@ -1,4 +1,5 @@
-ghost use Rattle.std.specs.Prelude.{◌≡◌, ◌+◌, ◌<◌, ◌≤◌, ◌^◌, ◌∷◌, [], ◌++◌, drop, length, IfOk, OnOk};
+ghost use Rattle.std.specs.Prelude.{◌≡◌, ◌+◌, ◌<◌, ◌≤◌, ◌^◌, ◌∷◌, [], ◌++◌, ℕ, drop, length, IfOk, OnOk, OnErr};
+ghost use Rattle.issuer_fold.specs.Begun.{AreDecided};
 ghost use Rattle.issuer_rows.specs.Fold.{rows_after, replies_to, rows_after_one, reply_of};
 
 use crate::plain_rows::PlainRows;
@@ -11,8 +12,9 @@ use std::alloc::{AllocError, Global};
 const AHEAD: usize = 16;
 
 impl Prefix {
-    // Decides one more body, whose rows may stand at these places, over the memory of two sets, which are handed back.
-    fn decide_one<F: Decide>(
+    /// Decides one more body, whose rows may stand at these places, by any local decision. It goes over the memory of two sets, which are
+    /// handed back with the rows that were read and written. It fails only where memory runs out, and nothing is changed then.
+    pub fn decide_one<F: Decide>(
         &mut self,
         frame: &Frame,
         decision: &F,
@@ -24,6 +26,7 @@ impl Prefix {
         ensures count { OnOk result (self.new.count ≡ self.old.count + 1) }
         ensures book { OnOk result (self.new.book ≡ rows_after_one self.old.book frame.now) }
         ensures replies { OnOk result (self.new.replies.items ≡ self.old.replies.items ++ reply_of self.old.book frame.now ∷ []) }
+        ensures kept { OnErr result ((self.new.count ≡ self.old.count) × (self.new.book ≡ self.old.book) × (self.new.replies.items ≡ self.old.replies.items)) }
     {
         let mut recorder = Recorder::over(PlainRows::near(&self.book, places), reads, writes);
         let decided = decision.decide(frame, &mut recorder);
@@ -33,8 +36,8 @@ impl Prefix {
         Ok((reads, writes))
     }
 
-    /// Decides these bodies too, one after another, by any local decision. It fails only where memory runs out, and the prefix is of no
-    /// use then.
+    /// Decides these bodies too, one after another, by any local decision. It fails only where memory runs out, and the prefix is then
+    /// that of the bodies before the one at which it did.
     pub fn decide_each<F: Decide>(
         &mut self,
         alloc: Global,
@@ -45,6 +48,7 @@ impl Prefix {
         ensures count { OnOk result (self.new.count ≡ self.old.count + length frames.now) }
         ensures book { OnOk result (self.new.book ≡ rows_after self.old.book frames.now) }
         ensures replies { OnOk result (self.new.replies.items ≡ self.old.replies.items ++ replies_to self.old.book frames.now) }
+        ensures kept { OnErr result ((decided : ℕ) × AreDecided self.old self.new frames.now decided) }
     {
         self.make_ready(frames.len())?;
         self.replies.reserve(frames.len())?;

@@ -4,7 +4,6 @@ ghost use Rattle.split_ledger.specs.declared.commit_outcome.CommitOutcome.TheVar
 
 use crate::agreement::agrees;
 use crate::commit_outcome::CommitOutcome;
-use crate::deciding::decide_on;
 use crate::frames::is_at;
 use issuer_fold::{Prefix, are_same_frames};
 use issuer_rows::{Book, Frame, Places};
@@ -116,7 +115,9 @@ impl<'a> Ledger<'a> {
         ensures otherwise { OnErr result (self.new ≡ self.old) }
     {
         let frame = &self.frames[self.prefix.count as usize];
-        decide_on(&mut self.prefix, frame, decision, reads, writes)
+        let places = self.prefix.places_of(frame);
+        self.prefix
+            .decide_one(frame, decision, places, reads, writes)
     }
 
     // Whether the execution is that of the next message, and each row is as it was read. Where they stand is noted.

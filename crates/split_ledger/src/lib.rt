@@ -4,7 +4,6 @@
 mod agreement;
 mod commit_outcome;
 mod cursors;
-mod deciding;
 mod frames;
 mod ledger;
 mod published;

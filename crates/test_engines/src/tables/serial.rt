@@ -1,8 +1,8 @@
 //! The serial answer beside its batches: the longest one, a prefix that is gone on with, and a book as a source.
 
 use crate::tables::answers::begin_with;
-use issuer_fold::{PlainRows, Prefix, decide_all_by, put_all};
-use issuer_rows::{Book, Frame, RowKey};
+use issuer_fold::{PlainRows, Prefix, decide_all_by};
+use issuer_rows::{Book, Frame, Places, RowKey};
 use issuer_rules::{Shipped, decide_all};
 use issuer_view::{RowSource, execute};
 use std::alloc::Global;
@@ -74,8 +74,9 @@ fn a_book_is_a_source(rt: HostRuntime) -> Result<(), Fail> {
 fn book_after(alloc: Global, book: &Book, line: &str) -> Option<Book> {
     let frame = body(line)?;
     let execution = execute(alloc, &frame, PlainRows::new(book), &Shipped).ok()?;
-    let copy = book.copy().ok()?;
-    put_all(copy, execution.writes()).ok()
+    let mut after = Prefix::new(alloc, book.copy().ok()?);
+    after.extend(&execution, &mut Places::new()).ok()?;
+    Some(after.book)
 }
 
 // Whether the rows of a decision are written to a copy of its book, and the book itself stays.
