@@ -150,7 +150,7 @@ stays_over rows frame v (Some (OriginalRow.Ahead mark)) e over = behind (puts_or
         ]
 
 -- the conditions before those that may change
-abbrev lasting_conditions : Reversal → ReversalFacts → Conditions
+abbrev pub lasting_conditions : Reversal → ReversalFacts → Conditions
 lasting_conditions v f =
     (DecisionRule.NoOriginal, is_none f.seen)
     ∷ (DecisionRule.MarkedBefore, has is_mark f.seen)
@@ -162,7 +162,7 @@ lasting_conditions v f =
     ∷ []
 
 -- those that may change
-abbrev passing_conditions : Bool → Bool → Bool → Bool → Conditions
+abbrev pub passing_conditions : Bool → Bool → Bool → Bool → Conditions
 passing_conditions payer day balance short =
     (DecisionRule.NoPayer, payer) ∷ (DecisionRule.NoDay, day) ∷ (DecisionRule.BalanceTooGreat, balance) ∷ (DecisionRule.DayTooShort, short) ∷ []
 
@@ -238,9 +238,9 @@ unposted_400 : (rows : Rows) (v : Reversal) (k : KeptOriginal) → original_of r
 unfolding decision
 unposted_400 rows v k e named unreversed unposted =
     let reply = ap (λ (o : Option OriginalRow). (carried_out (on_reversed v o) (finite.get rows)).reply) e
-        ∙ ap (λ (b : Bool). (carried_out (if b then on_reversal v k (reversal_of_outcome k.outcome) else unchanged v 914) (finite.get rows)).reply) named
-        ∙ ap (λ (o : Option Identity). (carried_out (on_reversal v k o) (finite.get rows)).reply) unreversed
-        ∙ ap (λ (p : Option Payment). (carried_out (on_payment v k p) (finite.get rows)).reply) unposted in
+    ∙ ap (λ (b : Bool). (carried_out (if b then on_reversal v k (reversal_of_outcome k.outcome) else unchanged v 914) (finite.get rows)).reply) named
+    ∙ ap (λ (o : Option Identity). (carried_out (on_reversal v k o) (finite.get rows)).reply) unreversed
+    ∙ ap (λ (p : Option Payment). (carried_out (on_payment v k p) (finite.get rows)).reply) unposted in
     subst (HasAction 400) (sym reply) refl
 
 -- a reversal that was decided, and not refused for now
