@@ -42,7 +42,7 @@ use Rattle.book_changes.proofs.Sound.{is_kept, kept_backed, stays_sound}
 use Rattle.book_changes.specs.Reversible.{has_budget, is_budget_there, CanReverse, IsRightReversal, IsDone}
 
 -- where no condition holds, the last rule decides
-none_holds : (cs : Conditions) (last : DecisionRule) → AllByRecursion (λ c. c.1 ≡ false) cs → first_of cs last ≡ last
+pub none_holds : (cs : Conditions) (last : DecisionRule) → AllByRecursion (λ c. c.1 ≡ false) cs → first_of cs last ≡ last
 none_holds [] last h = refl
 none_holds (c ∷ cs) last h = ap (λ (b : Bool). if◌then◌else◌ {A = DecisionRule} b c.0 (first_of cs last)) h.0 ∙ none_holds cs last h.1
 
@@ -164,7 +164,7 @@ day_conditions rows days v k payment at posted unreversed OriginalKind.Request e
           ∙ not_short v.scope spent.day.count spent.day.sum (given_back v k) spent.count (omega (arith, spent.sum, back_within v k))),
     )
 
-conditions_fail : (rows : Rows) → CanReverse rows → (v : Reversal) → IsRightReversal rows v → AllByRecursion (λ c. c.1 ≡ false) (reversal_conditions v (reversal_facts_of rows v))
+pub conditions_fail : (rows : Rows) → CanReverse rows → (v : Reversal) → IsRightReversal rows v → AllByRecursion (λ c. c.1 ≡ false) (reversal_conditions v (reversal_facts_of rows v))
 conditions_fail rows h v r =
     let k = r.kept in
     let at = is_kept (map.get rows (RowKey.Original v.original.identity)) r.kept r.stands in
@@ -221,7 +221,7 @@ reversal_done rows v h r =
     let ends = subst (λ (x : DecisionRule). ReversalEnds v (reversal_facts_of rows v) x decided.0) rule decided.1 in
     subst (HasAction 400) (sym (ap (λ (p : ReplyBody × Writes). p.0) decided.2)) (given_is_400 v (kind_of_outcome ends.0.outcome) ends.0 ends.1 _ decided.0 (map.get rows) ends.4)
 
-can_still : (frames : List Frame) (rows : Rows) → CanReverse rows → CanReverse (rows_after rows frames)
+pub can_still : (frames : List Frame) (rows : Rows) → CanReverse rows → CanReverse (rows_after rows frames)
 can_still frames rows h = record { sound = stays_sound frames rows h.sound; days = stays_covered frames rows h.days; budgets = budgets_stay frames rows h.budgets }
 
 -- whatever was decided before it

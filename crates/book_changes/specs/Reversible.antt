@@ -14,6 +14,7 @@ use Rattle.issuer_rows.specs.declared.original_row.OriginalRow.{OriginalRow}
 use Rattle.issuer_rows.specs.declared.payer.Payer.{Payer}
 use Rattle.issuer_rows.specs.declared.payment.Payment.{Payment}
 use Rattle.issuer_rows.specs.declared.row_key.RowKey.{RowKey}
+use Rattle.issuer_laws.specs.Again.{NoneForNow, WritesNothingAgain}
 use Rattle.issuer_laws.specs.Covered.{AreDaysCovered}
 use Rattle.issuer_laws.specs.Messages.{reversal_frame, HasAction}
 use Rattle.book_laws.specs.CheckBook.{IsSound}
@@ -52,3 +53,11 @@ pub record IsRightReversal (rows : Rows) (v : Reversal) : Type 0 where
 abbrev pub IsDone : Rows → List Frame → Reversal → Type 0
 IsDone rows before v =
     CanReverse rows → IsRightReversal (rows_after rows before) v → HasAction 400 (reply_of (rows_after rows before) (reversal_frame v))
+
+-- no reversal of a batch is refused for what may come later
+abbrev pub RefusesNoneForNow : Rows → List Frame → Type 0
+RefusesNoneForNow rows frames = CanReverse rows → NoneForNow rows frames
+
+-- so a batch that is sent once more as repeats, its reversals too, writes nothing
+abbrev pub IsAgainNothing : Rows → List Frame → Type 0
+IsAgainNothing rows frames = CanReverse rows → WritesNothingAgain rows frames

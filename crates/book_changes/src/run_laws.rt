@@ -2,7 +2,7 @@ ghost use Rattle.std.specs.Prelude.{List};
 ghost use Rattle.iso8583.specs.declared.reversal.Reversal.{Reversal};
 ghost use Rattle.issuer_rows.specs.Fold.{Rows};
 ghost use Rattle.issuer_rows.specs.declared.frame.Frame.{Frame};
-ghost use Rattle.book_changes.specs.Reversible.{IsDone};
+ghost use Rattle.book_changes.specs.Reversible.{IsAgainNothing, IsDone, RefusesNoneForNow};
 ghost use Rattle.book_changes.specs.Runs.{StaysSound};
 
 /// Nothing is wrong with a book behind any batch where nothing was wrong with it before: no row is lost, each card keeps its number and
@@ -16,4 +16,11 @@ pub fn a_book_stays_a_book()
 /// is one, is answered 400, whatever came before it.
 pub fn a_right_reversal_is_done()
     ensures { (rows : Rows) (before : List Frame) (v : Reversal) → IsDone rows before v }
+{}
+
+/// On such a book no reversal of any batch is refused for want of a row of a payer or a day, nor because one of these has too much or too
+/// little; so a batch that is sent once more, its requests, advices and reversals as repeats, changes nothing.
+pub fn a_batch_of_such_a_book_again_changes_nothing()
+    ensures refused { (rows : Rows) (frames : List Frame) → RefusesNoneForNow rows frames }
+    ensures again { (rows : Rows) (frames : List Frame) → IsAgainNothing rows frames }
 {}

@@ -29,9 +29,9 @@ use Rattle.issuer_laws.specs.Messages.{reversal_frame, HasAction}
 use Rattle.issuer_laws.specs.Permanent.{IsKeptAt, Continues}
 
 -- the original of this identity, which has this reversal, stands in the book
-record HasReversal (rows : Rows) (identity : Identity) (k : KeptOriginal) (by : Identity) : Type 0 where
-  stands : IsKeptAt rows identity k
-  reversal : reversal_of_outcome k.outcome ≡ Some by
+pub record HasReversal (rows : Rows) (identity : Identity) (k : KeptOriginal) (by : Identity) : Type 0 where
+  pub stands : IsKeptAt rows identity k
+  pub reversal : reversal_of_outcome k.outcome ≡ Some by
 
 -- one that has a reversal isn't reversed again
 as_before : (k later : KeptOriginal) (by : Identity) → reversal_of_outcome k.outcome ≡ Some by → Continues k later → later ≡ k
@@ -68,9 +68,9 @@ other_identity a b apart =
     ] refl
 
 -- what a reversal that is answered 400 leaves
-record WasReversed (rows : Rows) (v : Reversal) (k : KeptOriginal) : Type 0 where
-  has : HasReversal rows v.original.identity k (identity_of v.transaction)
-  named : is_named v k ≡ true
+pub record WasReversed (rows : Rows) (v : Reversal) (k : KeptOriginal) : Type 0 where
+  pub has : HasReversal rows v.original.identity k (identity_of v.transaction)
+  pub named : is_named v k ≡ true
 
 not_400 : (v : Reversal) (action : ℕ) (reply : ReplyBody) → action ≢ 400 → reply ≡ reply_to_reversal v action → HasAction 400 reply → ⊥
 not_400 v action reply other e h = other (subst (HasAction 400) e h)
@@ -83,7 +83,7 @@ settled_stands rows v k n writes rest named e fresh = record {
 }
 
 -- where a reversal is answered 400, the original has it as its reversal
-was_reversed : (rows : Rows) (v : Reversal) (reply : ReplyBody) (writes : Writes) → IsReversalDecided v (map.get rows) reply writes → HasAction 400 reply → (k : KeptOriginal) × WasReversed (overlay rows writes) v k
+pub was_reversed : (rows : Rows) (v : Reversal) (reply : ReplyBody) (writes : Writes) → IsReversalDecided v (map.get rows) reply writes → HasAction 400 reply → (k : KeptOriginal) × WasReversed (overlay rows writes) v k
 was_reversed rows v reply writes (inl w) h = absurd (not_400 v w.action reply w.refused w.reply h)
 was_reversed rows v reply writes (inr (inl w)) h = absurd (not_400 v 914 reply (λ e. absurd (omega arith)) w.reply h)
 was_reversed rows v reply writes (inr (inr (inl w))) h =

@@ -13,6 +13,7 @@ pub mod Echoed
 pub mod Funding
 pub mod Keys
 pub mod Needed
+pub mod Order
 pub mod Parts
 pub mod Permanent
 pub mod Reconciled

@@ -26,7 +26,7 @@ needs_no_other opening before frame =
 
 -- ---- a decision on rows that agree
 
-each_of : {A : Type 0} (P Q : A → Type 0) (xs : List A) → ((x : A) → P x → Q x) → AllByRecursion P xs → AllByRecursion Q xs
+pub each_of : {A : Type 0} (P Q : A → Type 0) (xs : List A) → ((x : A) → P x → Q x) → AllByRecursion P xs → AllByRecursion Q xs
 each_of P Q [] f h = tt
 each_of P Q (x ∷ xs) f h = (f x h.0, each_of P Q xs f h.1)
 
@@ -37,12 +37,12 @@ same_plan (Look key next) one other h =
     ap (after_look key) (same_plan (next (one key)) one other h.1)
     ∙ ap (λ (row : Option RowVal). after_look key (carried_out (next row) other)) h.0
 
-same_decision : (frame : Frame) (one other : Lookup) → AllByRecursion (λ k. one k ≡ other k) (decision one frame).needs → decision one frame ≡ decision other frame
+pub same_decision : (frame : Frame) (one other : Lookup) → AllByRecursion (λ k. one k ≡ other k) (decision one frame).needs → decision one frame ≡ decision other frame
 unfolding decision
 same_decision frame one other h = same_plan (plan_of frame) one other h
 
 -- rows that agree under a key agree there behind the same rows that are written
-same_behind : (one other : Rows) (ws : Writes) (k : RowKey) → map.get one k ≡ map.get other k → map.get (overlay one ws) k ≡ map.get (overlay other ws) k
+pub same_behind : (one other : Rows) (ws : Writes) (k : RowKey) → map.get one k ≡ map.get other k → map.get (overlay one ws) k ≡ map.get (overlay other ws) k
 same_behind one other [] k h = h
 same_behind one other (w ∷ ws) k h =
     same_behind (map.insert one w.0 w.1) (map.insert other w.0 w.1) ws k (elim (same_or_other k w.0) [
@@ -51,7 +51,7 @@ same_behind one other (w ∷ ws) k h =
     ])
 
 -- a key that isn't written keeps its row
-unwritten : (rows : Rows) (ws : Writes) (k : RowKey) → AllByRecursion (λ w. k ≢ w.0) ws → map.get (overlay rows ws) k ≡ map.get rows k
+pub unwritten : (rows : Rows) (ws : Writes) (k : RowKey) → AllByRecursion (λ w. k ≢ w.0) ws → map.get (overlay rows ws) k ≡ map.get rows k
 unwritten rows [] k h = refl
 unwritten rows (w ∷ ws) k h = unwritten (map.insert rows w.0 w.1) ws k h.1 ∙ get-other rows w.0 w.1 k h.0
 

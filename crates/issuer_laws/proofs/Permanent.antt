@@ -37,11 +37,11 @@ pub record Reverses (k : KeptOriginal) (v : RowVal) : Type 0 where
   pub stay : ℕ
   pub value : v ≡ RowVal.Kept (settled k by stay)
 
--- what is written where an original's row stands: anything over none, over a mark what is kept of its message, and over what is kept its
--- reversal alone
+-- what is written where an original's row stands: anything over none, over a mark what is kept of its message, with the mark's reversal, and
+-- over what is kept its reversal alone
 abbrev pub Succeeds : Option OriginalRow → RowVal → Type 0
 Succeeds None v = Unit {0}
-Succeeds (Some (OriginalRow.Ahead mark)) v = (k : KeptOriginal) × (v ≡ RowVal.Kept k)
+Succeeds (Some (OriginalRow.Ahead mark)) v = (k : KeptOriginal) × (v ≡ RowVal.Kept k) × (reversal_of_outcome k.outcome ≡ Some mark.reversal)
 Succeeds (Some (OriginalRow.Kept k)) v = Reverses k v
 
 -- nothing is written; or the row of an original, and rows of other kinds
@@ -64,7 +64,7 @@ request_puts look r None e =
     ]
 request_puts look r (Some (OriginalRow.Ahead mark)) e =
     either look (is_marked mark r.transaction OriginalKind.Request) _ _
-    (one_original look (identity_of r.transaction) (kept_of_request r (OriginalOutcome.Declined 914 (Some mark.reversal))) [] _ (Some (OriginalRow.Ahead mark)) refl tt e (_, refl)) (inl refl)
+    (one_original look (identity_of r.transaction) (kept_of_request r (OriginalOutcome.Declined 914 (Some mark.reversal))) [] _ (Some (OriginalRow.Ahead mark)) refl tt e (_, refl, refl)) (inl refl)
 request_puts look r (Some (OriginalRow.Kept k)) e = either look (r.repeat && is_of_same k r.transaction OriginalKind.Request) _ _ (inl refl) (inl refl)
 
 advice_puts : (look : Lookup) (a : Advice) (row : Option OriginalRow) → original_in (look (RowKey.Original (identity_of a.transaction))) ≡ row → PutsOriginal look (carried_out (advice_on_original a row) look).writes
@@ -75,7 +75,7 @@ advice_puts look a None e =
     ]
 advice_puts look a (Some (OriginalRow.Ahead mark)) e =
     either look (is_marked mark a.transaction OriginalKind.Advice) _ _
-    (one_original look (identity_of a.transaction) (kept_of_advice a (OriginalOutcome.Acknowledged 900 (Some mark.reversal))) [] _ (Some (OriginalRow.Ahead mark)) refl tt e (_, refl)) (inl refl)
+    (one_original look (identity_of a.transaction) (kept_of_advice a (OriginalOutcome.Acknowledged 900 (Some mark.reversal))) [] _ (Some (OriginalRow.Ahead mark)) refl tt e (_, refl, refl)) (inl refl)
 advice_puts look a (Some (OriginalRow.Kept k)) e = either look (a.repeat && is_of_same k a.transaction OriginalKind.Advice) _ _ (inl refl) (inl refl)
 
 -- of the rows that a reversal writes, the original alone is of its kind

@@ -5,6 +5,7 @@ pub mod Covered
 pub mod Duplicate
 pub mod Echoed
 pub mod Messages
+pub mod Order
 pub mod Parts
 pub mod Permanent
 pub mod Reconciled

@@ -17,7 +17,10 @@ pub use limit_laws::{
 pub use money_laws::{
     a_full_reversal_undoes_its_original, every_decision_keeps_backing, totals_of_replies_reconcile,
 };
-pub use part_laws::{a_message_needs_no_other_row, parts_are_decided_alone};
+pub use part_laws::{
+    a_message_needs_no_other_row, messages_that_share_no_row_take_any_order,
+    parts_are_decided_alone,
+};
 pub use repeat_laws::{
     a_batch_again_changes_nothing, a_repeat_is_answered_alike, a_second_reversal_is_a_duplicate,
     an_original_is_kept_for_good, each_reply_repeats_its_message,

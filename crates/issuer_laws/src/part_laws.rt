@@ -1,7 +1,13 @@
 ghost use Rattle.std.specs.Prelude.{ℕ, List};
 ghost use Rattle.issuer_rows.specs.Fold.{Rows};
 ghost use Rattle.issuer_rows.specs.declared.frame.Frame.{Frame};
+ghost use Rattle.issuer_laws.specs.Order.{ShareNoRow, TakeAnyOrder};
 ghost use Rattle.issuer_laws.specs.Parts.{AreApart, HasPart, IsDecidedAlone, LeavesOthers, NeedsNoOther, Parted};
+
+/// Two messages, of which neither writes a row that the other needs: their order changes neither the reply to one of them nor the book.
+pub fn messages_that_share_no_row_take_any_order()
+    ensures { (rows : Rows) (one other : Frame) → ShareNoRow rows one other → TakeAnyOrder rows one other }
+{}
 
 /// Which rows a message may need follows from the message and the opening book alone: whatever is decided before it in its batch, it
 /// looks at no other row, but for the budget of a prefix that has none, and writes no other.

@@ -6,7 +6,7 @@ ghost use Rattle.iso8583.specs.declared.reversal.Reversal.{Reversal};
 ghost use Rattle.issuer_rows.specs.Fold.{Rows, replies_to};
 ghost use Rattle.issuer_rows.specs.Kept.{KeptOriginal};
 ghost use Rattle.issuer_rows.specs.declared.frame.Frame.{Frame};
-ghost use Rattle.issuer_laws.specs.Again.{WritesNothingAgain};
+ghost use Rattle.issuer_laws.specs.Again.{RequestsWriteNothingAgain, ReversalsWriteNothingAgain};
 ghost use Rattle.issuer_laws.specs.Duplicate.{SecondIsDuplicate};
 ghost use Rattle.issuer_laws.specs.Echoed.{EchoEach};
 ghost use Rattle.issuer_laws.specs.Permanent.{Continues, IsSameOriginal, StaysKept};
@@ -38,8 +38,10 @@ pub fn each_reply_repeats_its_message()
     ensures { (rows : Rows) (frames : List Frame) → EchoEach frames (replies_to rows frames) }
 {}
 
-/// A batch without reversals that is sent once more, its requests as 1101 and its advices as 1121, changes nothing. (With reversals it
-/// may: one that was answered 909 may be done the second time.)
+/// A batch that is sent once more, its requests as 1101, its advices as 1121 and its reversals as 1421, changes nothing: where it has no
+/// reversals, and where none of them was refused for what may come later, a payer or a day without a row (914), or one of them with too
+/// much or too little (909).
 pub fn a_batch_again_changes_nothing()
-    ensures { (rows : Rows) (frames : List Frame) → WritesNothingAgain rows frames }
+    ensures requests { (rows : Rows) (frames : List Frame) → RequestsWriteNothingAgain rows frames }
+    ensures reversals { (rows : Rows) (frames : List Frame) → ReversalsWriteNothingAgain rows frames }
 {}

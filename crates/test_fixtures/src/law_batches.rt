@@ -34,6 +34,31 @@ has card A 2812 active 1 3 20000 A -
 has day A 260110 1 100
 rows 7
 
+# a batch with reversals again changes nothing
+body 1100 000001 A 100 = 000/000001
+body 1420 000002 A 40 request=000001 all=100 = 400
+body 1420 000003 A 100 request=000009 = 914
+body 1101 000001 A 100 = 000/000001
+body 1421 000002 A 40 request=000001 all=100 = 400
+body 1421 000003 A 100 request=000009 = 914
+has account A 9960 978
+has day A 260110 1 40
+has approved 000001 A 100 000001 A 000002 40
+has ahead 000009 A request 000003
+rows 7
+
+# a reversal that was refused for its short day is done the second time
+put approved 000001 A 100 000001 A
+put day A 260110 0 100
+body 1420 000003 A 100 request=000001 = 909
+body 1100 000002 A 1 = 000/000001
+body 1421 000003 A 100 request=000001 = 400
+body 1101 000002 A 1 = 000/000001
+has account A 10099 978
+has day A 260110 0 1
+has approved 000001 A 100 000001 A 000003 0
+rows 7
+
 # a card stays, but for the number of its approvals
 body 1100 000001 A 100 = 000/000001
 body 1100 000002 A 100 account=B = 119
@@ -96,6 +121,33 @@ has day A 260110 0 0
 has day B 260110 1 100
 has approved 000001 A 100 000001 A 000003 0
 has approved 000002 B 100 000001 B
+rows 8
+
+# messages that share no row take any order: the request of B before that of A
+body 1100 000002 B 100 = 000/000001
+body 1100 000001 A 100 = 000/000001
+body 1101 000002 B 100 = 000/000001
+body 1420 000003 A 100 request=000001 = 400
+has account A 10000 978
+has account B 400 978
+has day A 260110 0 0
+has day B 260110 1 100
+has approved 000001 A 100 000001 A 000003 0
+has approved 000002 B 100 000001 B
+rows 8
+
+# two cards whose prefix has a budget share its row: the first one is paid
+put budget 411111 standin 400 500
+body 1100 000001 A 300 = 000/000001
+body 1100 000002 B 300 = 907
+has budget 411111 standin 400 200
+rows 8
+
+# in the other order the other one is
+put budget 411111 standin 400 500
+body 1100 000002 B 300 = 000/000001
+body 1100 000001 A 300 = 907
+has budget 411111 standin 400 200
 rows 8
 
 # the part of the first of them is decided alone
