@@ -1,0 +1,5 @@
+pub mod Bodies
+pub mod Device
+pub mod Ahead
+pub mod Reads
+pub mod Writes
