@@ -1,3 +1,4 @@
 pub mod Fronts
 pub mod Parts
+pub mod Puts
 pub mod Runs

@@ -7,6 +7,7 @@ mod front;
 mod link_fault;
 mod reader;
 mod replies;
+mod writing;
 
 pub use front::{Front, front_of};
 pub use link_fault::LinkFault;

@@ -1,6 +1,6 @@
 use crate::link_fault::LinkFault;
+use crate::writing::put_all;
 use byteorder::{BigEndian, ByteOrder};
-use file_batch::put_all;
 use file_devices::Sink;
 use iso_encoder::encode_reply;
 use iso8583::Reply;
@@ -20,9 +20,8 @@ impl ReplyWriter {
     ghost use Rattle.std.specs.Prelude.{◌≡◌, ◌⊎◌, ◌++◌, IfErr, OnOk, OnErr};
     ghost use Rattle.iso_laws.specs.Replies.{reply_spelling};
     ghost use Rattle.file_batch_laws.specs.Files.{framed};
-    ghost use Rattle.file_batch.specs.Writing.{AppendsPart};
     ghost use Rattle.link_frames.specs.LinkFault.{Writes};
-    ghost use Rattle.link_frames.specs.Replies.{reply_frame, reply_frames};
+    ghost use Rattle.link_frames.specs.Replies.{reply_frame, reply_frames, AppendsPart};
 
     /// It takes memory once there are replies.
     pub fn new(alloc: Global) -> ReplyWriter {
@@ -77,9 +76,6 @@ impl ReplyWriter {
         ensures kinds { IfErr result (λ e. (e ≡ LinkFault.Unwritable) ⊎ (e ≡ LinkFault.OutOfMemory)) }
     {
         self.make(replies)?;
-        if put_all(sink, &self.out).is_err() {
-            return Err(LinkFault::Unwritable);
-        }
-        Ok(())
+        put_all(sink, &self.out)
     }
 }

@@ -1,0 +1,214 @@
+-- Entries that are served one after another, and how it stops.
+use Rattle.std.proofs.Common.{◌≡◌, ◌⊎◌, inl, inr, ℕ, List, [], ◌∷◌, ◌++◌, refl, sym, ap, subst, ◌∙◌, append_assoc}
+use Rattle.std.specs.List.{flat_map, AllZip}
+use Rattle.std.proofs.lemmas.List.{append-nil}
+use Rattle.std.proofs.lemmas.List.Concat.{flat_map-append}
+use Rattle.issuer_rows.specs.Fold.{Rows, rows_after, replies_to}
+use Rattle.issuer_rows.specs.declared.frame.Frame.{Frame}
+use Rattle.issuer_rows.specs.declared.reply_body.ReplyBody.{ReplyBody}
+use Rattle.issuer_fold.proofs.FoldLaws.{rows_after-append, replies_to-append}
+use Rattle.file_batch_laws.specs.Frames.{IsFrameOf, AreFramesOf}
+use Rattle.link_frames.specs.Link.{AreFrames, HasFault}
+use Rattle.link_frames.specs.Replies.{AppendsPart, reply_frame, reply_frames}
+use Rattle.log_file.specs.Writes.{HasLog, IsCutOff}
+use Rattle.log_file.specs.declared.log_writer.LogWriter.{LogWriter}
+use Rattle.log_laws.specs.Reading.{AreEntries}
+use Rattle.log_laws.specs.declared.log_fault.LogFault.{LogFault}
+use Rattle.log_laws.specs.declared.log_fault.LogFault.TheVariants.{NoLog, Version, OtherBook, InUse, Broken, Failed, OutOfMemory as NoMemory}
+use Rattle.host_serving.specs.Deciding.{Decides, answers_to}
+use Rattle.host_serving.specs.Entering.{book_of, Grows, BreaksOff, Enters, StopsAnswering, StopsAppending, StopsDeciding, StopsEntering}
+use Rattle.host_serving.specs.Entries.{all_bodies, AreMessagesOf}
+use Rattle.host_serving.specs.Serving.{BookAfter, FaultFits, StopsReading, LogAfter, Served, Stopped, EntersNext, StopsInEntry}
+use Rattle.host_serving.specs.declared.host.Host.{Host}
+use Rattle.host_serving.specs.declared.host_fault.HostFault.{HostFault}
+use Rattle.host_serving.specs.declared.host_fault.HostFault.TheVariants.{Link, Log, OutOfMemory}
+use Rattle.host_serving.proofs.Takes.{frames_more, both_are}
+
+abbrev Entries : Type 0
+Entries = List (List (List ℕ))
+
+bodies_more : (entries : Entries) (bodies : List (List ℕ)) → all_bodies (entries ++ bodies ∷ []) ≡ all_bodies entries ++ bodies
+bodies_more entries bodies = flat_map-append (λ (x : List (List ℕ)). x) entries (bodies ∷ []) ∙ ap (λ (x : List (List ℕ)). all_bodies entries ++ x) (append-nil bodies)
+
+pub answers_more : (book : Rows) (some more : List Frame) → answers_to book (some ++ more) ≡ answers_to book some ++ answers_to (rows_after book some) more
+answers_more book some more = ap reply_frames (replies_to-append book some more) ∙ flat_map-append reply_frame (replies_to book some) (replies_to (rows_after book some) more)
+
+-- what was answered before, and more
+answered_more : (before mid after : List ℕ) (book other : Rows) (some more : List Frame) → other ≡ rows_after book some → mid ≡ before ++ answers_to book some → after ≡ mid ++ answers_to other more
+    → after ≡ before ++ answers_to book (some ++ more)
+answered_more before mid after book other some more here so_far next =
+    next ∙ ap (λ (x : List ℕ). x ++ answers_to other more) so_far ∙ append_assoc before (answers_to book some) (answers_to other more)
+    ∙ ap (λ (rows : Rows). before ++ (answers_to book some ++ answers_to rows more)) here ∙ ap (λ (x : List ℕ). before ++ x) (sym (answers_more book some more))
+
+-- a part of what is answered next
+part_more : (before mid after : List ℕ) (book other : Rows) (some more : List Frame) → other ≡ rows_after book some → mid ≡ before ++ answers_to book some → AppendsPart mid after (answers_to other more)
+    → AppendsPart before after (answers_to book (some ++ more))
+part_more before mid after book other some more here so_far part = (
+    answers_to book some ++ part.0,
+    part.1,
+    part.2 ∙ ap (λ (x : List ℕ). x ++ part.0) so_far ∙ append_assoc before (answers_to book some) part.0,
+    answers_more book some more ∙ ap (λ (rows : Rows). answers_to book some ++ answers_to rows more) (sym here) ∙ ap (λ (x : List ℕ). answers_to book some ++ x) part.3
+    ∙ sym (append_assoc (answers_to book some) part.0 part.1),
+  )
+
+-- all that was answered
+whole : (before after text : List ℕ) → after ≡ before ++ text → AppendsPart before after text
+whole before after text is = (text, [], is, sym (append-nil text))
+
+module _ {G : Type 0} (is_known : G → Type 0) (synced unsynced : G → List ℕ) where
+  pub grows_none : (log : LogWriter G) → Grows is_known synced unsynced log log []
+  grows_none log digest had has = subst (λ (entries : Entries). HasLog is_known synced unsynced digest entries log) (sym (append-nil had)) has
+
+  grows_more : (old mid new : LogWriter G) (some more : Entries) → Grows is_known synced unsynced old mid some → Grows is_known synced unsynced mid new more → Grows is_known synced unsynced old new (some ++ more)
+  grows_more old mid new some more front back digest had has =
+      subst (λ (entries : Entries). HasLog is_known synced unsynced digest entries new) (append_assoc had some more) (back digest (had ++ some) (front digest had has))
+
+  grows_to : (old mid new : LogWriter G) (some : Entries) → Grows is_known synced unsynced old mid some → Grows is_known synced unsynced mid new [] → Grows is_known synced unsynced old new some
+  grows_to old mid new some front back digest had has =
+      subst (λ (entries : Entries). HasLog is_known synced unsynced digest entries new) (append-nil (had ++ some)) (back digest (had ++ some) (front digest had has))
+
+  breaks : (old mid new : LogWriter G) (some : Entries) (bodies : List (List ℕ)) → Grows is_known synced unsynced old mid some → BreaksOff is_known synced unsynced mid new [] bodies
+      → BreaksOff is_known synced unsynced old new some bodies
+  breaks old mid new some bodies front back digest had has =
+      subst (λ (entries : Entries). IsCutOff is_known synced unsynced digest entries bodies new.file) (append-nil (had ++ some)) (back digest (had ++ some) (front digest had has))
+
+  pub served_none : (host : Host G) (reads : Type 0) (bytes : List ℕ) (puts : Type 0) (text : List ℕ) → Served is_known synced unsynced host host reads bytes bytes puts text text
+  served_none host reads bytes puts text = record {
+    entries = [];
+    messages = [];
+    came = λ _. (tt, refl);
+    read = tt;
+    log = grows_none host.log;
+    book = refl;
+    answered = λ _. sym (append-nil text);
+  }
+
+  pub served_more : (old mid new : Host G) (reads reads' : Type 0) (bytes left left' : List ℕ) (puts puts' : Type 0) (before text after : List ℕ) → (reads → reads') → (puts → puts')
+      → Served is_known synced unsynced old mid reads bytes left puts before text → EntersNext is_known synced unsynced mid new reads' left left' puts' text after
+      → Served is_known synced unsynced old new reads bytes left' puts before after
+  served_more old mid new reads reads' bytes left left' puts puts' before text after r p s e =
+      let n = e.entered in
+      record {
+        entries = s.entries ++ e.bodies ∷ [];
+        messages = s.messages ++ n.messages;
+        came = λ known. subst (λ (x : List (List ℕ)). AreFrames bytes x left') (sym (bodies_more s.entries e.bodies)) (frames_more bytes left left' (all_bodies s.entries) e.bodies (s.came known) (e.came (r known)));
+        read = subst (λ (x : List (List ℕ)). AreFramesOf x (s.messages ++ n.messages)) (sym (bodies_more s.entries e.bodies)) (both_are (all_bodies s.entries) e.bodies s.messages n.messages s.read n.read);
+        log = grows_more old.log mid.log new.log s.entries (e.bodies ∷ []) s.log n.log;
+        book = n.book ∙ ap (λ (rows : Rows). rows_after rows n.messages) s.book ∙ sym (rows_after-append (book_of old) s.messages n.messages);
+        answered = λ known. answered_more before text after (book_of old) (book_of mid) s.messages n.messages s.book (s.answered known) (n.answered (p known));
+      }
+
+  pub stopped_reading : (fault : HostFault) (old mid : Host G) (reads reads' : Type 0) (bytes left : List ℕ) (puts : Type 0) (before after : List ℕ) → (reads → reads')
+      → Served is_known synced unsynced old mid reads bytes left puts before after → StopsReading fault reads' left → Stopped is_known synced unsynced fault old mid reads bytes puts before after
+  stopped_reading (Link f) old mid reads reads' bytes left puts before after r s stops = record {
+    entries = s.entries;
+    messages = s.messages;
+    left = left;
+    came = s.came;
+    read = s.read;
+    log = s.log;
+    book = s.book;
+    answered = λ known. whole before after (answers_to (book_of old) s.messages) (s.answered known);
+    fits = λ known. stops (r known);
+  }
+  stopped_reading (Log f) old mid reads reads' bytes left puts before after r s stops = absurd stops
+  stopped_reading OutOfMemory old mid reads reads' bytes left puts before after r s stops = record {
+    entries = s.entries;
+    messages = s.messages;
+    left = left;
+    came = s.came;
+    read = s.read;
+    log = s.log;
+    book = tt;
+    answered = λ known. whole before after (answers_to (book_of old) s.messages) (s.answered known);
+    fits = tt;
+  }
+
+  -- the log didn't fail, and memory ran out before a byte was written
+  same_log : (old new : LogWriter G) → new.file ≡ old.file → new.digest ≡ old.digest → new.entries ≡ old.entries → Grows is_known synced unsynced old new []
+  same_log old new file digest count book had has = record {
+    are = subst (λ (x : Entries). AreEntries x) (sym (append-nil had)) has.are;
+    known = subst is_known (sym file) has.known;
+    text = rw (append-nil had) (ap synced file ∙ has.text);
+    nothing = ap unsynced file ∙ has.nothing;
+    digest = rw (append-nil had) (digest ∙ has.digest);
+    count = rw (append-nil had) (count ∙ has.count);
+  }
+
+  pub stops_appending : (fault : LogFault) (bodies : List (List ℕ)) (old new : Host G) (puts : Type 0) (before after : List ℕ) (replies : List ReplyBody)
+      → Decides bodies (book_of old) (book_of new) replies
+      → ((digest : List ℕ) (had : Entries) → HasLog is_known synced unsynced digest had old.log → IsCutOff is_known synced unsynced digest had bodies new.log.file)
+      → (fault ≡ NoMemory → (new.log.file ≡ old.log.file) × (new.log.digest ≡ old.log.digest) × (new.log.entries ≡ old.log.entries))
+      → (fault ≡ Failed) ⊎ (fault ≡ NoMemory) → after ≡ before → StopsEntering is_known synced unsynced (Log fault) bodies old new puts before after
+  stops_appending fault bodies old new puts before after replies d cut memory (inl failed) same =
+      subst (λ (f : LogFault). StopsEntering is_known synced unsynced (Log f) bodies old new puts before after) (sym failed) record {
+        messages = d.messages;
+        read = d.read;
+        log = λ digest had has. subst (λ (x : Entries). IsCutOff is_known synced unsynced digest x bodies new.log.file) (sym (append-nil had)) (cut digest had has);
+        book = d.book;
+        unanswered = λ _. same;
+      }
+  stops_appending fault bodies old new puts before after replies d cut memory (inr none) same =
+      subst (λ (f : LogFault). StopsEntering is_known synced unsynced (Log f) bodies old new puts before after) (sym none) record {
+        log = same_log old.log new.log (memory none).0 (memory none).1 (memory none).2;
+        unanswered = λ _. same;
+      }
+
+  -- it stopped in an entry behind those that were served
+  stopped_memory : (fault : HostFault) (old mid new : Host G) (reads : Type 0) (bytes left : List ℕ) (puts puts' : Type 0) (before text after : List ℕ) → (puts → puts')
+      → LogAfter is_known synced unsynced fault old.log new.log ≡ Grows is_known synced unsynced old.log new.log → ((messages : List Frame) → BookAfter fault (book_of old) messages reads left (book_of new)) → FaultFits fault reads left
+      → Served is_known synced unsynced old mid reads bytes left puts before text → StopsDeciding is_known synced unsynced mid new puts' text after
+      → Stopped is_known synced unsynced fault old new reads bytes puts before after
+  stopped_memory fault old mid new reads bytes left puts puts' before text after p is_log is_book fits s stops = record {
+    entries = s.entries;
+    messages = s.messages;
+    left = left;
+    came = s.came;
+    read = s.read;
+    log = subst (λ (P : Entries → Type 0). P s.entries) (sym is_log) (grows_to old.log mid.log new.log s.entries s.log stops.log);
+    book = is_book s.messages;
+    answered = λ known. whole before after (answers_to (book_of old) s.messages) (stops.unanswered (p known) ∙ s.answered known);
+    fits = fits;
+  }
+
+  pub stopped_in_entry : (fault : HostFault) (old mid new : Host G) (reads reads' : Type 0) (bytes left : List ℕ) (puts puts' : Type 0) (before text after : List ℕ) → (reads → reads') → (puts → puts')
+      → Served is_known synced unsynced old mid reads bytes left puts before text → StopsInEntry is_known synced unsynced fault mid new reads' left puts' text after
+      → Stopped is_known synced unsynced fault old new reads bytes puts before after
+  stopped_in_entry (Link f) old mid new reads reads' bytes left puts puts' before text after r p s e =
+      let n = e.stops.0 in
+      record {
+        entries = s.entries ++ e.bodies ∷ [];
+        messages = s.messages ++ n.messages;
+        left = e.left;
+        came = λ known. subst (λ (x : List (List ℕ)). AreFrames bytes x e.left) (sym (bodies_more s.entries e.bodies)) (frames_more bytes left e.left (all_bodies s.entries) e.bodies (s.came known) (e.came (r known)));
+        read = subst (λ (x : List (List ℕ)). AreFramesOf x (s.messages ++ n.messages)) (sym (bodies_more s.entries e.bodies)) (both_are (all_bodies s.entries) e.bodies s.messages n.messages s.read n.read);
+        log = grows_more old.log mid.log new.log s.entries (e.bodies ∷ []) s.log n.log;
+        book = n.book ∙ ap (λ (rows : Rows). rows_after rows n.messages) s.book ∙ sym (rows_after-append (book_of old) s.messages n.messages);
+        answered = λ known. part_more before text after (book_of old) (book_of mid) s.messages n.messages s.book (s.answered known) (n.answered (p known));
+        fits = λ _. e.stops.1 e.left;
+      }
+  stopped_in_entry (Log Failed) old mid new reads reads' bytes left puts puts' before text after r p s e = record {
+    entries = s.entries;
+    messages = s.messages;
+    left = left;
+    came = s.came;
+    read = s.read;
+    log = (e.bodies, breaks old.log mid.log new.log s.entries e.bodies s.log e.stops.log);
+    book = (
+      e.bodies,
+      e.stops.messages,
+      e.left,
+      λ known. e.came (r known),
+      e.stops.read,
+      e.stops.book ∙ ap (λ (rows : Rows). rows_after rows e.stops.messages) s.book ∙ sym (rows_after-append (book_of old) s.messages e.stops.messages),
+    );
+    answered = λ known. whole before after (answers_to (book_of old) s.messages) (e.stops.unanswered (p known) ∙ s.answered known);
+    fits = tt;
+  }
+  stopped_in_entry (Log NoLog) old mid new reads reads' bytes left puts puts' before text after r p s e = stopped_memory (Log NoLog) old mid new reads bytes left puts puts' before text after p refl (λ _. tt) tt s e.stops
+  stopped_in_entry (Log Version) old mid new reads reads' bytes left puts puts' before text after r p s e = stopped_memory (Log Version) old mid new reads bytes left puts puts' before text after p refl (λ _. tt) tt s e.stops
+  stopped_in_entry (Log OtherBook) old mid new reads reads' bytes left puts puts' before text after r p s e = stopped_memory (Log OtherBook) old mid new reads bytes left puts puts' before text after p refl (λ _. tt) tt s e.stops
+  stopped_in_entry (Log InUse) old mid new reads reads' bytes left puts puts' before text after r p s e = stopped_memory (Log InUse) old mid new reads bytes left puts puts' before text after p refl (λ _. tt) tt s e.stops
+  stopped_in_entry (Log (Broken k)) old mid new reads reads' bytes left puts puts' before text after r p s e = stopped_memory (Log (Broken k)) old mid new reads bytes left puts puts' before text after p refl (λ _. tt) tt s e.stops
+  stopped_in_entry (Log NoMemory) old mid new reads reads' bytes left puts puts' before text after r p s e = stopped_memory (Log NoMemory) old mid new reads bytes left puts puts' before text after p refl (λ _. tt) tt s e.stops
+  stopped_in_entry OutOfMemory old mid new reads reads' bytes left puts puts' before text after r p s e = stopped_memory OutOfMemory old mid new reads bytes left puts puts' before text after p refl (λ _. tt) tt s e.stops
