@@ -212,3 +212,14 @@ module _ {G : Type 0} (is_known : G → Type 0) (synced unsynced : G → List �
   stopped_in_entry (Log (Broken k)) old mid new reads reads' bytes left puts puts' before text after r p s e = stopped_memory (Log (Broken k)) old mid new reads bytes left puts puts' before text after p refl (λ _. tt) tt s e.stops
   stopped_in_entry (Log NoMemory) old mid new reads reads' bytes left puts puts' before text after r p s e = stopped_memory (Log NoMemory) old mid new reads bytes left puts puts' before text after p refl (λ _. tt) tt s e.stops
   stopped_in_entry OutOfMemory old mid new reads reads' bytes left puts puts' before text after r p s e = stopped_memory OutOfMemory old mid new reads bytes left puts puts' before text after p refl (λ _. tt) tt s e.stops
+
+  -- it stopped behind those that were served: while frames were read, or in an entry
+  pub stopped_next : (fault : HostFault) (old mid new : Host G) (reads reads' : Type 0) (bytes left : List ℕ) (puts puts' same : Type 0) (before text after : List ℕ) → (reads → reads') → (puts → puts')
+      → (same → after ≡ text) → Served is_known synced unsynced old mid reads bytes left puts before text
+      → ((new ≡ mid) × same × StopsReading fault reads' left) ⊎ StopsInEntry is_known synced unsynced fault mid new reads' left puts' text after
+      → Stopped is_known synced unsynced fault old new reads bytes puts before after
+  stopped_next fault old mid new reads reads' bytes left puts puts' same before text after r p is s (inl stops) =
+      subst (λ (host : Host G). Stopped is_known synced unsynced fault old host reads bytes puts before after) (sym stops.0)
+      (stopped_reading fault old mid reads reads' bytes left puts before after r (subst (λ (x : List ℕ). Served is_known synced unsynced old mid reads bytes left puts before x) (sym (is stops.1)) s) stops.2)
+  stopped_next fault old mid new reads reads' bytes left puts puts' same before text after r p is s (inr stops) =
+      stopped_in_entry fault old mid new reads reads' bytes left puts puts' before text after r p s stops
