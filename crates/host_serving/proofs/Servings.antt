@@ -1,11 +1,10 @@
 -- Entries that are served one after another, and how it stops.
-use Rattle.std.proofs.Common.{◌≡◌, ◌⊎◌, inl, inr, ℕ, List, [], ◌∷◌, ◌++◌, refl, sym, ap, subst, ◌∙◌, append_assoc}
+use Rattle.std.proofs.Common.{◌≡◌, ◌⊎◌, ◌+◌, ◌<◌, inl, inr, ℕ, length, take, get_or, List, [], ◌∷◌, ◌++◌, refl, sym, ap, subst, ◌∙◌, append_assoc}
 use Rattle.std.specs.List.{flat_map, AllZip}
-use Rattle.std.proofs.lemmas.List.{append-nil}
+use Rattle.std.proofs.lemmas.List.{append-nil, take_more}
 use Rattle.std.proofs.lemmas.List.Concat.{flat_map-append}
 use Rattle.issuer_rows.specs.Fold.{Rows, rows_after, replies_to}
 use Rattle.issuer_rows.specs.declared.frame.Frame.{Frame}
-use Rattle.issuer_rows.specs.declared.reply_body.ReplyBody.{ReplyBody}
 use Rattle.issuer_fold.proofs.FoldLaws.{rows_after-append, replies_to-append}
 use Rattle.file_batch_laws.specs.Frames.{IsFrameOf, AreFramesOf}
 use Rattle.link_frames.specs.Link.{AreFrames, HasFault}
@@ -15,11 +14,14 @@ use Rattle.log_file.specs.declared.log_writer.LogWriter.{LogWriter}
 use Rattle.log_laws.specs.Reading.{AreEntries}
 use Rattle.log_laws.specs.declared.log_fault.LogFault.{LogFault}
 use Rattle.log_laws.specs.declared.log_fault.LogFault.TheVariants.{NoLog, Version, OtherBook, InUse, Broken, Failed, OutOfMemory as NoMemory}
-use Rattle.host_serving.specs.Deciding.{Decides, answers_to}
+use Rattle.host_serving.specs.Deciding.{Decides, Follows, answers_to}
 use Rattle.host_serving.specs.Entering.{book_of, Grows, BreaksOff, Enters, StopsAnswering, StopsAppending, StopsDeciding, StopsEntering}
 use Rattle.host_serving.specs.Entries.{all_bodies, AreMessagesOf}
 use Rattle.host_serving.specs.Serving.{BookAfter, FaultFits, StopsReading, LogAfter, Served, Stopped, EntersNext, StopsInEntry}
+use Rattle.host_serving.specs.Tally.{counted, counted_one}
+use Rattle.host_serving.specs.declared.decider.Decider.{Decider}
 use Rattle.host_serving.specs.declared.host.Host.{Host}
+use Rattle.host_serving.specs.declared.tally.Tally.{Tally}
 use Rattle.host_serving.specs.declared.host_fault.HostFault.{HostFault}
 use Rattle.host_serving.specs.declared.host_fault.HostFault.TheVariants.{Link, Log, OutOfMemory}
 use Rattle.host_serving.proofs.Takes.{frames_more, both_are}
@@ -55,6 +57,29 @@ part_more before mid after book other some more here so_far part = (
 whole : (before after text : List ℕ) → after ≡ before ++ text → AppendsPart before after text
 whole before after text is = (text, [], is, sym (append-nil text))
 
+tallies_more : (tally : Tally) (some more : List Frame) → counted tally (some ++ more) ≡ counted (counted tally some) more
+tallies_more tally [] more = refl
+tallies_more tally (x ∷ some) more = tallies_more (counted_one tally x) some more
+
+-- messages, and messages behind them
+pub follows_more : (old mid new : Decider) (some more : List Frame) → Follows old mid some → Follows mid new more → Follows old new (some ++ more)
+follows_more old mid new some more front back = record {
+  book = back.book ∙ ap (λ (rows : Rows). rows_after rows more) front.book ∙ sym (rows_after-append old.prefix.book some more);
+  tally = back.tally ∙ ap (λ (tally : Tally). counted tally more) front.tally ∙ sym (tallies_more old.tally some more);
+}
+
+-- one entry more is decided
+pub replayed : (entries : Entries) (i : ℕ) (bodies : List (List ℕ)) (old mid new : Decider) → i < length entries → bodies ≡ get_or entries i bodies
+    → ((messages : List Frame) × AreMessagesOf (take i entries) messages × Follows old mid messages) → Decides bodies mid new
+    → (messages : List Frame) × AreMessagesOf (take (i + 1) entries) messages × Follows old new messages
+replayed entries i bodies old mid new lt at so_far d =
+    let more : take (i + 1) entries ≡ take i entries ++ bodies ∷ [] = take_more entries i bodies lt ∙ ap (λ (x : List (List ℕ)). take i entries ++ x ∷ []) (sym at) in
+    let all : all_bodies (take (i + 1) entries) ≡ all_bodies (take i entries) ++ bodies = ap all_bodies more ∙ bodies_more (take i entries) bodies in (
+      so_far.0 ++ d.messages,
+      subst (λ (x : List (List ℕ)). AreFramesOf x (so_far.0 ++ d.messages)) (sym all) (both_are (all_bodies (take i entries)) bodies so_far.0 d.messages so_far.1 d.read),
+      follows_more old mid new so_far.0 d.messages so_far.2 d.after,
+    )
+
 module _ {G : Type 0} (is_known : G → Type 0) (synced unsynced : G → List ℕ) where
   pub grows_none : (log : LogWriter G) → Grows is_known synced unsynced log log []
   grows_none log digest had has = subst (λ (entries : Entries). HasLog is_known synced unsynced digest entries log) (sym (append-nil had)) has
@@ -79,7 +104,7 @@ module _ {G : Type 0} (is_known : G → Type 0) (synced unsynced : G → List �
     came = λ _. (tt, refl);
     read = tt;
     log = grows_none host.log;
-    book = refl;
+    after = record { book = refl; tally = refl };
     answered = λ _. sym (append-nil text);
   }
 
@@ -94,8 +119,8 @@ module _ {G : Type 0} (is_known : G → Type 0) (synced unsynced : G → List �
         came = λ known. subst (λ (x : List (List ℕ)). AreFrames bytes x left') (sym (bodies_more s.entries e.bodies)) (frames_more bytes left left' (all_bodies s.entries) e.bodies (s.came known) (e.came (r known)));
         read = subst (λ (x : List (List ℕ)). AreFramesOf x (s.messages ++ n.messages)) (sym (bodies_more s.entries e.bodies)) (both_are (all_bodies s.entries) e.bodies s.messages n.messages s.read n.read);
         log = grows_more old.log mid.log new.log s.entries (e.bodies ∷ []) s.log n.log;
-        book = n.book ∙ ap (λ (rows : Rows). rows_after rows n.messages) s.book ∙ sym (rows_after-append (book_of old) s.messages n.messages);
-        answered = λ known. answered_more before text after (book_of old) (book_of mid) s.messages n.messages s.book (s.answered known) (n.answered (p known));
+        after = follows_more old.decider mid.decider new.decider s.messages n.messages s.after n.after;
+        answered = λ known. answered_more before text after (book_of old) (book_of mid) s.messages n.messages s.after.book (s.answered known) (n.answered (p known));
       }
 
   pub stopped_reading : (fault : HostFault) (old mid : Host G) (reads reads' : Type 0) (bytes left : List ℕ) (puts : Type 0) (before after : List ℕ) → (reads → reads')
@@ -107,7 +132,7 @@ module _ {G : Type 0} (is_known : G → Type 0) (synced unsynced : G → List �
     came = s.came;
     read = s.read;
     log = s.log;
-    book = s.book;
+    after = s.after;
     answered = λ known. whole before after (answers_to (book_of old) s.messages) (s.answered known);
     fits = λ known. stops (r known);
   }
@@ -119,7 +144,7 @@ module _ {G : Type 0} (is_known : G → Type 0) (synced unsynced : G → List �
     came = s.came;
     read = s.read;
     log = s.log;
-    book = tt;
+    after = tt;
     answered = λ known. whole before after (answers_to (book_of old) s.messages) (s.answered known);
     fits = tt;
   }
@@ -135,20 +160,20 @@ module _ {G : Type 0} (is_known : G → Type 0) (synced unsynced : G → List �
     count = rw (append-nil had) (count ∙ has.count);
   }
 
-  pub stops_appending : (fault : LogFault) (bodies : List (List ℕ)) (old new : Host G) (puts : Type 0) (before after : List ℕ) (replies : List ReplyBody)
-      → Decides bodies (book_of old) (book_of new) replies
+  pub stops_appending : (fault : LogFault) (bodies : List (List ℕ)) (old new : Host G) (puts : Type 0) (before after : List ℕ)
+      → Decides bodies old.decider new.decider
       → ((digest : List ℕ) (had : Entries) → HasLog is_known synced unsynced digest had old.log → IsCutOff is_known synced unsynced digest had bodies new.log.file)
       → (fault ≡ NoMemory → (new.log.file ≡ old.log.file) × (new.log.digest ≡ old.log.digest) × (new.log.entries ≡ old.log.entries))
       → (fault ≡ Failed) ⊎ (fault ≡ NoMemory) → after ≡ before → StopsEntering is_known synced unsynced (Log fault) bodies old new puts before after
-  stops_appending fault bodies old new puts before after replies d cut memory (inl failed) same =
+  stops_appending fault bodies old new puts before after d cut memory (inl failed) same =
       subst (λ (f : LogFault). StopsEntering is_known synced unsynced (Log f) bodies old new puts before after) (sym failed) record {
         messages = d.messages;
         read = d.read;
         log = λ digest had has. subst (λ (x : Entries). IsCutOff is_known synced unsynced digest x bodies new.log.file) (sym (append-nil had)) (cut digest had has);
-        book = d.book;
+        after = d.after;
         unanswered = λ _. same;
       }
-  stops_appending fault bodies old new puts before after replies d cut memory (inr none) same =
+  stops_appending fault bodies old new puts before after d cut memory (inr none) same =
       subst (λ (f : LogFault). StopsEntering is_known synced unsynced (Log f) bodies old new puts before after) (sym none) record {
         log = same_log old.log new.log (memory none).0 (memory none).1 (memory none).2;
         unanswered = λ _. same;
@@ -156,7 +181,7 @@ module _ {G : Type 0} (is_known : G → Type 0) (synced unsynced : G → List �
 
   -- it stopped in an entry behind those that were served
   stopped_memory : (fault : HostFault) (old mid new : Host G) (reads : Type 0) (bytes left : List ℕ) (puts puts' : Type 0) (before text after : List ℕ) → (puts → puts')
-      → LogAfter is_known synced unsynced fault old.log new.log ≡ Grows is_known synced unsynced old.log new.log → ((messages : List Frame) → BookAfter fault (book_of old) messages reads left (book_of new)) → FaultFits fault reads left
+      → LogAfter is_known synced unsynced fault old.log new.log ≡ Grows is_known synced unsynced old.log new.log → ((messages : List Frame) → BookAfter fault old.decider messages reads left new.decider) → FaultFits fault reads left
       → Served is_known synced unsynced old mid reads bytes left puts before text → StopsDeciding is_known synced unsynced mid new puts' text after
       → Stopped is_known synced unsynced fault old new reads bytes puts before after
   stopped_memory fault old mid new reads bytes left puts puts' before text after p is_log is_book fits s stops = record {
@@ -166,7 +191,7 @@ module _ {G : Type 0} (is_known : G → Type 0) (synced unsynced : G → List �
     came = s.came;
     read = s.read;
     log = subst (λ (P : Entries → Type 0). P s.entries) (sym is_log) (grows_to old.log mid.log new.log s.entries s.log stops.log);
-    book = is_book s.messages;
+    after = is_book s.messages;
     answered = λ known. whole before after (answers_to (book_of old) s.messages) (stops.unanswered (p known) ∙ s.answered known);
     fits = fits;
   }
@@ -183,8 +208,8 @@ module _ {G : Type 0} (is_known : G → Type 0) (synced unsynced : G → List �
         came = λ known. subst (λ (x : List (List ℕ)). AreFrames bytes x e.left) (sym (bodies_more s.entries e.bodies)) (frames_more bytes left e.left (all_bodies s.entries) e.bodies (s.came known) (e.came (r known)));
         read = subst (λ (x : List (List ℕ)). AreFramesOf x (s.messages ++ n.messages)) (sym (bodies_more s.entries e.bodies)) (both_are (all_bodies s.entries) e.bodies s.messages n.messages s.read n.read);
         log = grows_more old.log mid.log new.log s.entries (e.bodies ∷ []) s.log n.log;
-        book = n.book ∙ ap (λ (rows : Rows). rows_after rows n.messages) s.book ∙ sym (rows_after-append (book_of old) s.messages n.messages);
-        answered = λ known. part_more before text after (book_of old) (book_of mid) s.messages n.messages s.book (s.answered known) (n.answered (p known));
+        after = follows_more old.decider mid.decider new.decider s.messages n.messages s.after n.after;
+        answered = λ known. part_more before text after (book_of old) (book_of mid) s.messages n.messages s.after.book (s.answered known) (n.answered (p known));
         fits = λ _. e.stops.1 e.left;
       }
   stopped_in_entry (Log Failed) old mid new reads reads' bytes left puts puts' before text after r p s e = record {
@@ -194,13 +219,13 @@ module _ {G : Type 0} (is_known : G → Type 0) (synced unsynced : G → List �
     came = s.came;
     read = s.read;
     log = (e.bodies, breaks old.log mid.log new.log s.entries e.bodies s.log e.stops.log);
-    book = (
+    after = (
       e.bodies,
       e.stops.messages,
       e.left,
       λ known. e.came (r known),
       e.stops.read,
-      e.stops.book ∙ ap (λ (rows : Rows). rows_after rows e.stops.messages) s.book ∙ sym (rows_after-append (book_of old) s.messages e.stops.messages),
+      follows_more old.decider mid.decider new.decider s.messages e.stops.messages s.after e.stops.after,
     );
     answered = λ known. whole before after (answers_to (book_of old) s.messages) (e.stops.unanswered (p known) ∙ s.answered known);
     fits = tt;

@@ -1,7 +1,6 @@
 -- What serving a link comes to: the entries that the log has more, the book after them, and what was written on the link.
 use Rattle.std.specs.Prelude.{◌≡◌, ◌⊎◌, ⊤, ℕ, List, [], ◌∷◌, ◌++◌}
 use Rattle.std.specs.List.{flat_map, AllByRecursion}
-use Rattle.issuer_rows.specs.Fold.{Rows, rows_after}
 use Rattle.issuer_rows.specs.declared.frame.Frame.{Frame}
 use Rattle.file_batch_laws.specs.Files.{framed, IsBody}
 use Rattle.file_batch_laws.specs.Frames.{AreFramesOf}
@@ -9,19 +8,20 @@ use Rattle.link_frames.specs.Replies.{AppendsPart}
 use Rattle.link_frames.specs.Link.{AreFrames, HasFault}
 use Rattle.log_file.specs.declared.log_writer.LogWriter.{LogWriter}
 use Rattle.log_laws.specs.declared.log_fault.LogFault.TheVariants.{Failed}
-use Rattle.host_serving.specs.Deciding.{answers_to}
+use Rattle.host_serving.specs.Deciding.{Follows, answers_to}
 use Rattle.host_serving.specs.Entering.{book_of, Grows, BreaksOff, Enters, StopsEntering}
 use Rattle.host_serving.specs.Entries.{all_bodies, AreMessagesOf}
+use Rattle.host_serving.specs.declared.decider.Decider.{Decider}
 use Rattle.host_serving.specs.declared.host.Host.{Host}
 use Rattle.host_serving.specs.declared.host_fault.HostFault.{HostFault}
 use Rattle.host_serving.specs.declared.host_fault.HostFault.TheVariants.{Link, Log, OutOfMemory}
 
 -- The book after a fault: that after these messages. Where a call on the log failed, the messages of the frames that came next are decided
 -- too, and not answered; where memory ran out it is of no use.
-abbrev pub BookAfter : HostFault → Rows → List Frame → Type 0 → List ℕ → Rows → Type 0
-BookAfter (Link fault) old messages reads left new = new ≡ rows_after old messages
+abbrev pub BookAfter : HostFault → Decider → List Frame → Type 0 → List ℕ → Decider → Type 0
+BookAfter (Link fault) old messages reads left new = Follows old new messages
 BookAfter (Log Failed) old messages reads left new =
-    (bodies : List (List ℕ)) × (next : List Frame) × (rest : List ℕ) × (reads → AreFrames left bodies rest) × AreFramesOf bodies next × (new ≡ rows_after old (messages ++ next))
+    (bodies : List (List ℕ)) × (next : List Frame) × (rest : List ℕ) × (reads → AreFrames left bodies rest) × AreFramesOf bodies next × Follows old new (messages ++ next)
 BookAfter fault old messages reads left new = ⊤
 
 -- a fault of the link's bytes is that of the bytes that are left
@@ -45,37 +45,37 @@ module _ {G : Type 0} (is_known : G → Type 0) (synced unsynced : G → List �
 
   -- All frames that came on a link, up to the bytes that are left, were served: their bodies stand in the log, each entry synced; the book
   -- is the one after their messages, decided in order; and all their replies were written.
-  pub record Served (old new : Host G) (reads : Type 0) (bytes left : List ℕ) (puts : Type 0) (before after : List ℕ) : Type 0 where
+  pub record Served (old new : Host G) (reads : Type 0) (bytes left : List ℕ) (puts : Type 0) (had has : List ℕ) : Type 0 where
     pub entries : List (List (List ℕ))
     pub messages : List Frame
     pub came : reads → AreFrames bytes (all_bodies entries) left
     pub read : AreMessagesOf entries messages
     pub log : Grows is_known synced unsynced old.log new.log entries
-    pub book : book_of new ≡ rows_after (book_of old) messages
-    pub answered : puts → after ≡ before ++ answers_to (book_of old) messages
+    pub after : Follows old.decider new.decider messages
+    pub answered : puts → has ≡ had ++ answers_to (book_of old) messages
 
   -- Serving a link stopped with a fault. The log has entries more, all synced, whose bodies are a beginning of the frames that came. What
   -- was written is a beginning of the replies to their messages: nothing was answered, not even in part, that isn't in the log.
-  pub record Stopped (fault : HostFault) (old new : Host G) (reads : Type 0) (bytes : List ℕ) (puts : Type 0) (before after : List ℕ) : Type 0 where
+  pub record Stopped (fault : HostFault) (old new : Host G) (reads : Type 0) (bytes : List ℕ) (puts : Type 0) (had has : List ℕ) : Type 0 where
     pub entries : List (List (List ℕ))
     pub messages : List Frame
     pub left : List ℕ
     pub came : reads → AreFrames bytes (all_bodies entries) left
     pub read : AreMessagesOf entries messages
     pub log : LogAfter fault old.log new.log entries
-    pub book : BookAfter fault (book_of old) messages reads left (book_of new)
-    pub answered : puts → AppendsPart before after (answers_to (book_of old) messages)
+    pub after : BookAfter fault old.decider messages reads left new.decider
+    pub answered : puts → AppendsPart had has (answers_to (book_of old) messages)
     pub fits : FaultFits fault reads left
 
   -- the frames that had come became one entry, and these bytes are left
-  pub record EntersNext (old new : Host G) (reads : Type 0) (bytes left : List ℕ) (puts : Type 0) (before after : List ℕ) : Type 0 where
+  pub record EntersNext (old new : Host G) (reads : Type 0) (bytes left : List ℕ) (puts : Type 0) (had has : List ℕ) : Type 0 where
     pub bodies : List (List ℕ)
     pub came : reads → AreFrames bytes bodies left
-    pub entered : Enters is_known synced unsynced bodies old new puts before after
+    pub entered : Enters is_known synced unsynced bodies old new puts had has
 
   -- the same, but that it stopped in the entry
-  pub record StopsInEntry (fault : HostFault) (old new : Host G) (reads : Type 0) (bytes : List ℕ) (puts : Type 0) (before after : List ℕ) : Type 0 where
+  pub record StopsInEntry (fault : HostFault) (old new : Host G) (reads : Type 0) (bytes : List ℕ) (puts : Type 0) (had has : List ℕ) : Type 0 where
     pub bodies : List (List ℕ)
     pub left : List ℕ
     pub came : reads → AreFrames bytes bodies left
-    pub stops : StopsEntering is_known synced unsynced fault bodies old new puts before after
+    pub stops : StopsEntering is_known synced unsynced fault bodies old new puts had has

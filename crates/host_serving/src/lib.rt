@@ -8,8 +8,10 @@ mod host;
 mod host_fault;
 mod serving;
 mod taking;
+mod tally;
 
 pub use answering::answer;
 pub use decider::Decider;
 pub use host::Host;
 pub use host_fault::HostFault;
+pub use tally::Tally;
