@@ -99,7 +99,7 @@ number_fits (a ∷ b ∷ c ∷ []) long all = absurd (omega (arith, long))
 number_fits (a ∷ b ∷ c ∷ d ∷ more) long all = omega (arith, all.0, all.1.0, all.1.1.0, all.1.1.1.0)
 
 -- a head says the number that it begins with
-its_number : (left : List ℕ) (size : ℕ) → size < 2 ^ 32 → take 8 left ≡ entry_head size → big_number 4 left ≡ size
+pub its_number : (left : List ℕ) (size : ℕ) → size < 2 ^ 32 → take 8 left ≡ entry_head size → big_number 4 left ≡ size
 its_number left size fits head = ap (big_number 4) (behind_head left size head) ∙ number_in_head size (drop 8 left) fits
 
 next_of_eight : (before left : List ℕ) → AreBytes left → 8 ≤ length left → Next before left
