@@ -1,4 +1,4 @@
-ghost use Rattle.std.specs.Prelude.{◌≡◌, ℕ, ◌+◌, ◌<◌, ◌≤◌, ◌++◌, List, [], Bool, false, length, take, drop, IfOk, OnOk, OnErr, IsTrue};
+ghost use Rattle.std.specs.Prelude.{◌≡◌, ℕ, ◌+◌, ◌<◌, ◌≤◌, ◌^◌, ◌++◌, List, [], Bool, false, length, take, drop, IfOk, OnOk, OnErr, IsTrue};
 ghost use Rattle.file_devices.specs.Devices.{failed_after_put};
 ghost use Rattle.log_devices.specs.Growing.{AddsPart, Begins, failed_after_call};
 
@@ -21,6 +21,7 @@ pub trait GrowingFile {
     /// Reads bytes from this place on into the buffer, and returns how many; 0 for a buffer that isn't empty is the end.
     fn read_at(&self, at: u64, buffer: &mut [u8]) -> Result<usize, Broken>
         ensures count { IfOk result (λ n. n ≤ length buffer.new) }
+        ensures place { IfOk result (λ n. at + n < 2 ^ 64) }
         ensures device { OnErr result (may_fail self.now) }
         ensures bytes { IfOk result (λ n. is_known self.now
             → drop at (synced self.now ++ unsynced self.now) ≡ take n buffer.new ++ drop (at + n) (synced self.now ++ unsynced self.now)) }

@@ -33,19 +33,14 @@ impl<G: GrowingFile> Source for LogInput<'_, G> {
 
     ghost has_failed = { λ input. input.has_failed };
 
-    ghost may_fail = { λ _. Unit {0} };
+    ghost may_fail = { λ input. G.may_fail input.file.now };
 
     fn take(&mut self, buffer: &mut [u8]) -> Result<usize, Broken> {
-        let read = self.file.read_at(self.at, buffer);
-        let Ok(count) = read else {
+        let Ok(count) = self.file.read_at(self.at, buffer) else {
             self.has_failed = true;
             return Err(Broken);
         };
-        let Some(next) = self.at.checked_add(count as u64) else {
-            self.has_failed = true;
-            return Err(Broken);
-        };
-        self.at = next;
+        self.at += count as u64;
         Ok(count)
     }
 }

@@ -1,3 +1,6 @@
+ghost use Rattle.std.specs.Prelude.{◌≡◌, ◌<◌, ◌^◌, ◌++◌, length, take, OnOk};
+ghost use Rattle.file_batch_laws.specs.Files.{framed};
+
 use crate::body_iter::BodyIter;
 use crate::splitting::{is_framed, split_count};
 use std::alloc::{AllocError, Global};
@@ -119,8 +122,12 @@ impl Bodies {
     }
 }
 
-// Appends a body behind its length.
-fn add_framed(text: &mut Vec<u8>, body: &[u8]) -> Result<(), AllocError> {
+// Appends a body behind its length. Where memory runs out, a beginning of it may be there.
+fn add_framed(text: &mut Vec<u8>, body: &[u8]) -> Result<(), AllocError>
+    requires { length body.now < 2 ^ 16 }
+    ensures ok { OnOk result (text.new.items ≡ text.old.items ++ framed body.now) }
+    ensures kept { take (length text.old.items) text.new.items ≡ text.old.items }
+{
     text.extend_from_slice(&(body.len() as u16).to_be_bytes())?;
     text.extend_from_slice(body)
 }

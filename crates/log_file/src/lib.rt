@@ -11,9 +11,12 @@ mod log_end;
 mod log_reader;
 mod log_step;
 mod log_writer;
+mod part;
+mod part_reading;
 mod reading;
 mod splitting;
 mod synced;
+mod unbegun;
 
 pub use begun::Begun;
 pub use bodies::Bodies;

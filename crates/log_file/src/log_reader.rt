@@ -1,9 +1,13 @@
-use crate::bodies::Bodies;
+ghost use Rattle.std.specs.Prelude.{◌≡◌, ◌≤◌, ◌++◌, ℕ, List, length, drop, Err, IfErr, OnOk};
+ghost use Rattle.log_laws.specs.Reading.{IsReading};
+ghost use Rattle.log_laws.specs.Texts.{header_text};
+
 use crate::chain::digest_of;
 use crate::input::Input;
 use crate::log_end::LogEnd;
 use crate::log_step::LogStep;
-use crate::splitting::payload_size;
+use crate::part::Part;
+use crate::part_reading::read_part;
 use file_devices::Source;
 use log_laws::LogFault;
 use std::alloc::Global;
@@ -38,7 +42,7 @@ impl<R: Source + Drop> LogReader<R> {
         if !input.fill(38)? {
             return Err(LogFault::NoLog);
         }
-        check_header(&input.held()[..38], book)?;
+        check_header(input.held(), book)?;
         input.skip(38);
         Ok(LogReader {
             digest: digest_of(b"I83L\x00\x01", book),
@@ -59,19 +63,46 @@ impl<R: Source + Drop> LogReader<R> {
         ensures fault { R.is_known self.old.input.source → (book bytes : List ℕ) (entries : List (List (List ℕ)))
             → HasRead R.remaining book bytes entries self.old → IfErr result (λ e. IsTrue (is_of_bytes e) → IsReading book bytes (Err e)) }
     {
-        Err(LogFault::OutOfMemory)
+        match read_part(self.alloc, &mut self.input, &self.digest)? {
+            Part::Entry(entry) => {
+                let (Some(at), Some(entries)) =
+                    (self.at.checked_add(entry.size), self.entries.checked_add(1))
+                else {
+                    // No memory can hold so many bytes.
+                    return Err(LogFault::OutOfMemory);
+                };
+                self.at = at;
+                self.entries = entries;
+                self.digest = entry.digest;
+                Ok(LogStep::Entry(entry.bodies))
+            }
+            Part::Torn(tail) => Ok(LogStep::End(LogEnd {
+                at: self.at,
+                digest: self.digest,
+                entries: self.entries,
+                tail,
+            })),
+            Part::Broken => Err(LogFault::Broken(self.entries)),
+        }
     }
 }
 
-// Whether the header is a log's, of this version and this book.
-fn check_header(header: &[u8], book: &[u8; 32]) -> Result<(), LogFault> {
-    if &header[..4] != b"I83L".as_slice() {
+// Whether the bytes begin with the header of a log of this book, whose text has this digest.
+fn check_header(bytes: &[u8], book: &[u8; 32]) -> Result<(), LogFault>
+    requires { 38 ≤ length bytes.now }
+    ensures ok { OnOk result (bytes.now ≡ header_text book.now ++ drop 38 bytes.now) }
+    ensures fault { IfErr result (λ e. (more : List ℕ) → IsReading book.now (bytes.now ++ more) (Err e)) }
+{
+    let (letters, rest) = bytes.split_at(4);
+    if letters != b"I83L".as_slice() {
         return Err(LogFault::NoLog);
     }
-    if &header[4..6] != [0, 1].as_slice() {
+    let (version, rest) = rest.split_at(2);
+    if version != [0, 1].as_slice() {
         return Err(LogFault::Version);
     }
-    if &header[6..] != book.as_slice() {
+    let (own, _) = rest.split_at(32);
+    if own != book.as_slice() {
         return Err(LogFault::OtherBook);
     }
     Ok(())

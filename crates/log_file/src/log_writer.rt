@@ -1,9 +1,10 @@
-use crate::appending::put_all;
+use crate::appending::{cut_and_sync, make_entry, put_and_sync};
 use crate::begun::Begun;
 use crate::bodies::Bodies;
 use crate::chain::digest_of;
 use crate::log_end::LogEnd;
 use crate::synced::Synced;
+use crate::unbegun::{is_unbegun, make_header};
 use log_devices::GrowingFile;
 use log_laws::LogFault;
 use std::alloc::{AllocError, Global};
@@ -32,7 +33,20 @@ impl<G: GrowingFile + Drop> LogWriter<G> {
         ensures begun { IfOk result (λ begun. IsBegun G.is_known G.synced G.unsynced book.now file begun) }
         ensures may { IfErr result (λ e. e ≡ LogFault.Failed → G.may_fail file) }
     {
-        Err(LogFault::OutOfMemory)
+        let mut file = file;
+        let header = make_header(alloc, book)?;
+        if !is_unbegun(alloc, &file, book)? {
+            return Ok(Begun::Old(file));
+        }
+        cut_and_sync(&mut file, 0)?;
+        put_and_sync(&mut file, &header)?;
+        Ok(Begun::New(LogWriter {
+            file,
+            digest: digest_of(&header, &[]),
+            text: header,
+            entries: 0,
+            has_failed: false,
+        }))
     }
 
     /// Goes on behind the whole entries of a log that was read up to this end: cuts the torn tail, and syncs what stands before it.
@@ -46,7 +60,15 @@ impl<G: GrowingFile + Drop> LogWriter<G> {
         ensures fresh { IfOk result (λ writer. writer.has_failed ≡ false) }
         ensures may { IfErr result (λ e. e ≡ LogFault.Failed → G.may_fail file) }
     {
-        Err(LogFault::OutOfMemory)
+        let mut file = file;
+        cut_and_sync(&mut file, end.at)?;
+        Ok(LogWriter {
+            file,
+            text: Vec::new(alloc),
+            digest: end.digest,
+            entries: end.entries,
+            has_failed: false,
+        })
     }
 
     /// Writes one entry of these bodies behind the others, and syncs it. After `Failed` the file has some beginning of the entry behind
@@ -68,7 +90,22 @@ impl<G: GrowingFile + Drop> LogWriter<G> {
         ensures fault { IfErr result (λ e. (e ≡ LogFault.Failed) ⊎ (e ≡ LogFault.OutOfMemory)) }
         ensures may { IfErr result (λ e. e ≡ LogFault.Failed → (self.old.has_failed ≡ true) ⊎ G.may_fail self.old.file) }
     {
-        Err(LogFault::OutOfMemory)
+        if self.has_failed {
+            return Err(LogFault::Failed);
+        }
+        let number = self.entries;
+        let Some(entries) = number.checked_add(1) else {
+            // No memory can hold so many entries.
+            return Err(LogFault::OutOfMemory);
+        };
+        let digest = make_entry(&mut self.text, &self.digest, &bodies)?;
+        if let Err(fault) = put_and_sync(&mut self.file, &self.text) {
+            self.has_failed = true;
+            return Err(fault);
+        }
+        self.digest = digest;
+        self.entries = entries;
+        Ok(Synced::new(bodies, number))
     }
 
     /// Whether a call on its file has failed, so that nothing more is written.

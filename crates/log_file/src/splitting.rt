@@ -7,15 +7,21 @@ ghost use Rattle.file_batch_laws.specs.Files.{AreBodies, IsBody, framed};
 ghost use Rattle.log_laws.specs.Texts.{entry_head};
 ghost use Rattle.log_file.specs.Bodies.{IsFramed};
 
+use byteorder::{BigEndian, ByteOrder};
+
 /// How many bytes the payload of an entry with this head has. `None` where it is no head.
+#[tactic(auto, unfolding(log_laws::specs::Texts::entry_head))]
 pub(crate) fn payload_size(head: &[u8]) -> Option<u32>
     requires { 8 ≤ length head.now }
     ensures some { IfSome result (λ size. take 8 head.now ≡ entry_head size) }
     ensures none { IfNone result ((size : ℕ) → size < 2 ^ 32 → take 8 head.now ≢ entry_head size) }
 {
-    let size = u32::from_be_bytes([head[0], head[1], head[2], head[3]]);
-    let turned = u32::from_be_bytes([head[4], head[5], head[6], head[7]]);
-    if turned == u32::MAX - size {
+    let size = BigEndian::read_u32(head);
+    let mut own = [0u8; 8];
+    BigEndian::write_u32(&mut own, size);
+    BigEndian::write_u32(&mut own[4..], u32::MAX - size);
+    let (front, _) = head.split_at(8);
+    if front == own.as_slice() {
         Some(size)
     } else {
         None

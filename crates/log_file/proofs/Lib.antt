@@ -1,0 +1,3 @@
+pub mod Puts
+pub mod Framing
+pub mod Headers
