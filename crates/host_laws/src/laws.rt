@@ -22,7 +22,8 @@ pub fn a_host_stays_behind_its_log<G: GrowingFile + Drop>(old: &Host<G>, new: &H
         → Grows G.is_known G.synced G.unsynced old.now.log new.now.log more → AreMessagesOf more others → Follows old.now.decider new.now.decider others
         → StandsBehind G.is_known G.synced G.unsynced opening digest (entries ++ more) (messages ++ others) new.now }
 {
-    let _ = (old, new);
+    let _ = old;
+    let _ = new;
 }
 
 /// The replies to messages that come behind those of a log are the fold's, on the opening book: however often the host was started again.
