@@ -1,3 +1,4 @@
 pub mod Puts
 pub mod Framing
 pub mod Headers
+pub mod Ahead

@@ -43,3 +43,8 @@ fails old new new' bytes rest put part = (
 -- a call that wrote nothing did, too
 pub halts : (old new new' bytes rest : List ℕ) → IsPut old new bytes rest → new' ≡ new ++ take 0 rest → AddsPart old new' bytes
 halts old new new' bytes rest put none = fails old new new' bytes rest put ([], (rest, refl), none)
+
+-- all of the bytes were added
+pub all_added : (synced unsynced bytes synced' unsynced' whole : List ℕ) → synced' ≡ synced → unsynced' ≡ unsynced ++ bytes → whole ≡ synced' ++ unsynced' → AddsPart (synced ++ unsynced) whole bytes
+all_added synced unsynced bytes synced' unsynced' whole s u w =
+    (bytes, ([], sym (append-nil bytes)), w ∙ rw (s, u) (sym (append_assoc synced unsynced bytes)))

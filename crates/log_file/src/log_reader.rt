@@ -44,10 +44,11 @@ impl<R: Source + Drop> LogReader<R> {
         }
         check_header(input.held(), book)?;
         input.skip(38);
+        let digest = digest_of(b"I83L\x00\x01", book);
         Ok(LogReader {
-            digest: digest_of(b"I83L\x00\x01", book),
             input,
             alloc,
+            digest,
             entries: 0,
             at: 38,
         })
@@ -71,17 +72,21 @@ impl<R: Source + Drop> LogReader<R> {
                     // No memory can hold so many bytes.
                     return Err(LogFault::OutOfMemory);
                 };
+                let digest = entry.digest;
                 self.at = at;
                 self.entries = entries;
-                self.digest = entry.digest;
+                self.digest = digest;
                 Ok(LogStep::Entry(entry.bodies))
             }
-            Part::Torn(tail) => Ok(LogStep::End(LogEnd {
-                at: self.at,
-                digest: self.digest,
-                entries: self.entries,
-                tail,
-            })),
+            Part::Torn(tail) => {
+                let digest = self.digest;
+                Ok(LogStep::End(LogEnd {
+                    at: self.at,
+                    digest,
+                    entries: self.entries,
+                    tail,
+                }))
+            }
             Part::Broken => Err(LogFault::Broken(self.entries)),
         }
     }
