@@ -2,3 +2,4 @@ pub mod Puts
 pub mod Framing
 pub mod Headers
 pub mod Ahead
+pub mod Stepping

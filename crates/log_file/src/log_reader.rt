@@ -1,4 +1,5 @@
-ghost use Rattle.std.specs.Prelude.{◌≡◌, ◌≤◌, ◌++◌, ℕ, List, length, drop, Err, IfErr, OnOk};
+ghost use Rattle.std.specs.Prelude.{◌≡◌, ◌≤◌, ◌++◌, ℕ, List, length, drop, Err, IfErr, IsTrue, OnOk};
+ghost use Rattle.log_laws.specs.LogFault.{is_of_bytes};
 ghost use Rattle.log_laws.specs.Reading.{IsReading};
 ghost use Rattle.log_laws.specs.Texts.{header_text};
 
@@ -96,6 +97,7 @@ impl<R: Source + Drop> LogReader<R> {
 fn check_header(bytes: &[u8], book: &[u8; 32]) -> Result<(), LogFault>
     requires { 38 ≤ length bytes.now }
     ensures ok { OnOk result (bytes.now ≡ header_text book.now ++ drop 38 bytes.now) }
+    ensures of_bytes { IfErr result (λ e. IsTrue (is_of_bytes e)) }
     ensures fault { IfErr result (λ e. (more : List ℕ) → IsReading book.now (bytes.now ++ more) (Err e)) }
 {
     let (letters, rest) = bytes.split_at(4);
