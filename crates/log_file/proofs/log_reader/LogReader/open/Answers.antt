@@ -37,6 +37,6 @@ returns-clause-read g c = λ known.
     let whole : c.held.result.now ++ rem c.fill.new.self.source ≡ rem c.args.source =
         ap (λ (x : List ℕ). x ++ rem c.fill.new.self.source) c.held.ensures ∙ c.in_ok-fill.ensures.bytes known1 ∙ start in
     let behind : ahead rem next ≡ drop 38 c.held.result.now ++ rem c.fill.new.self.source = rw (c.skip.ensures.held, c.skip.ensures.source, c.held.ensures) refl in
-    let len : length c.args.book.now ≡ 32 = first_of (search rules, omega arith, c.fits-book, c.told-book) in
+    let len : length c.args.book.now ≡ 32 = first_of (search rules, omega arith) in
     let o = opened c.args.book.now (rem c.args.source) c.held.result.now (rem c.fill.new.self.source) (ahead rem next) c.digest_of-digest.result len whole c.in_ok-check_header.ensures.ok behind c.digest_of-digest.ensures in
     record { stands = o.stands; digest = o.digest_is; count = refl; place = o.place }
