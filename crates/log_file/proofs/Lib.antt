@@ -1,3 +1,5 @@
 pub mod Puts
 pub mod Framing
 pub mod Headers
+pub mod Ahead
+pub mod Stepping

@@ -1,6 +1,7 @@
 -- One more call that wrote a part of the rest.
-use Rattle.std.proofs.Common.{◌≡◌, ◌≢◌, ℕ, zero, suc, ◌-◌, List, [], ◌++◌, length, take, drop, Ok, Bool, true, refl, sym, ap, ◌∙◌, append_assoc, arith}
+use Rattle.std.proofs.Common.{◌≡◌, ◌≢◌, ℕ, zero, suc, ◌-◌, List, [], ◌++◌, length, take, drop, Result, Ok, Err, Bool, true, refl, sym, ap, ◌∙◌, append_assoc, arith}
 use Rattle.std.proofs.lemmas.List.{append-nil, length-drop, take-append-drop, take_all, nil_from_length}
+use Rattle.std.specs.Prelude.{OnErr}
 use Rattle.std.specs.Bool.{◌==◌}
 use Rattle.file_devices.specs.Devices.{failed_after_put}
 use Rattle.log_devices.specs.Growing.{AddsPart}
@@ -43,3 +44,12 @@ fails old new new' bytes rest put part = (
 -- a call that wrote nothing did, too
 pub halts : (old new new' bytes rest : List ℕ) → IsPut old new bytes rest → new' ≡ new ++ take 0 rest → AddsPart old new' bytes
 halts old new new' bytes rest put none = fails old new new' bytes rest put ([], (rest, refl), none)
+
+-- all of the bytes were added
+pub all_added : (synced unsynced bytes synced' unsynced' whole : List ℕ) → synced' ≡ synced → unsynced' ≡ unsynced ++ bytes → whole ≡ synced' ++ unsynced' → AddsPart (synced ++ unsynced) whole bytes
+all_added synced unsynced bytes synced' unsynced' whole s u w =
+    (bytes, ([], sym (append-nil bytes)), w ∙ rw (s, u) (sym (append_assoc synced unsynced bytes)))
+
+pub always_err : {T E P : Type 0} (r : Result T E) → P → OnErr r P
+always_err (Ok x) p = tt
+always_err (Err e) p = p

@@ -20,7 +20,8 @@ pub(crate) struct Input<R> {
 }
 
 impl<R: Source + Drop> Input<R> {
-    ghost use Rattle.std.specs.Prelude.{◌≡◌, ◌+◌, ◌<◌, ◌≤◌, ◌++◌, [], false, true, length, drop, IfOk, OnOk, Ok};
+    ghost use Rattle.std.specs.Prelude.{◌≡◌, ◌+◌, ◌<◌, ◌≤◌, ◌++◌, [], false, true, length, drop, IfOk, IfErr, IsTrue, OnOk, Ok};
+    ghost use Rattle.log_laws.specs.LogFault.{is_of_bytes};
     ghost use Rattle.log_file.specs.Ahead.{ahead, held};
     ghost use Rattle.log_file.specs.Device.{UsesFile};
 
@@ -57,6 +58,7 @@ impl<R: Source + Drop> Input<R> {
     // Takes more bytes, and returns whether there were some.
     fn take_more(&mut self) -> Result<bool, LogFault>
         ensures file { UsesFile R.is_known R.has_failed R.may_fail self.old.source self.new.source result }
+        ensures fault { IfErr result (λ e. ¬ IsTrue (is_of_bytes e)) }
         ensures bytes { IfOk result (λ some. R.is_known self.old.source → ahead R.remaining self.new ≡ ahead R.remaining self.old) }
         ensures more { result ≡ Ok true → length (held self.old) < length (held self.new) }
         ensures end { result ≡ Ok false → R.is_known self.old.source → R.remaining self.new.source ≡ [] }
@@ -76,6 +78,7 @@ impl<R: Source + Drop> Input<R> {
     /// Takes bytes until so many are held, or the source is at its end. Returns whether they are.
     pub(crate) fn fill(&mut self, wanted: usize) -> Result<bool, LogFault>
         ensures file { UsesFile R.is_known R.has_failed R.may_fail self.old.source self.new.source result }
+        ensures fault { IfErr result (λ e. ¬ IsTrue (is_of_bytes e)) }
         ensures bytes { OnOk result (R.is_known self.old.source → ahead R.remaining self.new ≡ ahead R.remaining self.old) }
         ensures enough { result ≡ Ok true → wanted ≤ length (held self.new) }
         ensures less { result ≡ Ok false → length (held self.new) < wanted }

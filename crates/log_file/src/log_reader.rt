@@ -1,4 +1,5 @@
-ghost use Rattle.std.specs.Prelude.{◌≡◌, ◌≤◌, ◌++◌, ℕ, List, length, drop, Err, IfErr, OnOk};
+ghost use Rattle.std.specs.Prelude.{◌≡◌, ◌≤◌, ◌++◌, ℕ, List, length, drop, Err, IfErr, IsTrue, OnOk};
+ghost use Rattle.log_laws.specs.LogFault.{is_of_bytes};
 ghost use Rattle.log_laws.specs.Reading.{IsReading};
 ghost use Rattle.log_laws.specs.Texts.{header_text};
 
@@ -44,10 +45,11 @@ impl<R: Source + Drop> LogReader<R> {
         }
         check_header(input.held(), book)?;
         input.skip(38);
+        let digest = digest_of(b"I83L\x00\x01", book);
         Ok(LogReader {
-            digest: digest_of(b"I83L\x00\x01", book),
             input,
             alloc,
+            digest,
             entries: 0,
             at: 38,
         })
@@ -71,17 +73,21 @@ impl<R: Source + Drop> LogReader<R> {
                     // No memory can hold so many bytes.
                     return Err(LogFault::OutOfMemory);
                 };
+                let digest = entry.digest;
                 self.at = at;
                 self.entries = entries;
-                self.digest = entry.digest;
+                self.digest = digest;
                 Ok(LogStep::Entry(entry.bodies))
             }
-            Part::Torn(tail) => Ok(LogStep::End(LogEnd {
-                at: self.at,
-                digest: self.digest,
-                entries: self.entries,
-                tail,
-            })),
+            Part::Torn(tail) => {
+                let digest = self.digest;
+                Ok(LogStep::End(LogEnd {
+                    at: self.at,
+                    digest,
+                    entries: self.entries,
+                    tail,
+                }))
+            }
             Part::Broken => Err(LogFault::Broken(self.entries)),
         }
     }
@@ -91,6 +97,7 @@ impl<R: Source + Drop> LogReader<R> {
 fn check_header(bytes: &[u8], book: &[u8; 32]) -> Result<(), LogFault>
     requires { 38 ≤ length bytes.now }
     ensures ok { OnOk result (bytes.now ≡ header_text book.now ++ drop 38 bytes.now) }
+    ensures of_bytes { IfErr result (λ e. IsTrue (is_of_bytes e)) }
     ensures fault { IfErr result (λ e. (more : List ℕ) → IsReading book.now (bytes.now ++ more) (Err e)) }
 {
     let (letters, rest) = bytes.split_at(4);

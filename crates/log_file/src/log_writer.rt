@@ -40,10 +40,11 @@ impl<G: GrowingFile + Drop> LogWriter<G> {
         }
         cut_and_sync(&mut file, 0)?;
         put_and_sync(&mut file, &header)?;
+        let digest = digest_of(&header, &[]);
         Ok(Begun::New(LogWriter {
             file,
-            digest: digest_of(&header, &[]),
             text: header,
+            digest,
             entries: 0,
             has_failed: false,
         }))
@@ -62,10 +63,11 @@ impl<G: GrowingFile + Drop> LogWriter<G> {
     {
         let mut file = file;
         cut_and_sync(&mut file, end.at)?;
+        let digest = end.digest;
         Ok(LogWriter {
             file,
             text: Vec::new(alloc),
-            digest: end.digest,
+            digest,
             entries: end.entries,
             has_failed: false,
         })

@@ -1,6 +1,7 @@
 //! The next part of a log, as it stands ahead.
 
-ghost use Rattle.std.specs.Prelude.{◌≡◌, ◌≢◌, ◌↔◌, ◌+◌, ◌<◌, ◌≤◌, ◌^◌, ◌++◌, ℕ, length, take, All, IfOk, IsTrue};
+ghost use Rattle.std.specs.Prelude.{◌≡◌, ◌≢◌, ◌↔◌, ◌+◌, ◌<◌, ◌≤◌, ◌^◌, ◌++◌, ℕ, length, take, All, IfOk, IfErr, IsTrue};
+ghost use Rattle.log_laws.specs.LogFault.{is_of_bytes};
 ghost use Rattle.log_laws.specs.Texts.{entry_head};
 ghost use Rattle.log_file.specs.Ahead.{ahead, held};
 ghost use Rattle.log_file.specs.Device.{UsesFile};
@@ -22,6 +23,7 @@ pub(crate) fn read_part<R: Source + Drop>(
     before: &[u8; 32],
 ) -> Result<Part, LogFault>
     ensures file { UsesFile R.is_known R.has_failed R.may_fail input.old.source input.new.source result }
+    ensures fault { IfErr result (λ e. ¬ IsTrue (is_of_bytes e)) }
     ensures part { IfOk result (λ part. R.is_known input.old.source → IsPart before.now (ahead R.remaining input.old) (ahead R.remaining input.new) part) }
 {
     if !input.fill(8)? {
@@ -43,6 +45,7 @@ fn read_entry<R: Source + Drop>(
     requires long { 8 ≤ length (held input.old) }
     requires head { take 8 (held input.old) ≡ entry_head size }
     ensures file { UsesFile R.is_known R.has_failed R.may_fail input.old.source input.new.source result }
+    ensures fault { IfErr result (λ e. ¬ IsTrue (is_of_bytes e)) }
     ensures part { IfOk result (λ part. R.is_known input.old.source → IsPart before.now (ahead R.remaining input.old) (ahead R.remaining input.new) part) }
 {
     let whole = size as usize + 40;
@@ -97,6 +100,7 @@ fn read_zeros<R: Source + Drop>(input: &mut Input<R>) -> Result<Part, LogFault>
     requires long { 8 ≤ length (held input.old) }
     requires head { (size : ℕ) → size < 2 ^ 32 → take 8 (held input.old) ≢ entry_head size }
     ensures file { UsesFile R.is_known R.has_failed R.may_fail input.old.source input.new.source result }
+    ensures fault { IfErr result (λ e. ¬ IsTrue (is_of_bytes e)) }
     ensures part { IfOk result (λ part. (before : _) → R.is_known input.old.source → IsPart before (ahead R.remaining input.old) (ahead R.remaining input.new) part) }
 {
     let mut count: u64 = 0;

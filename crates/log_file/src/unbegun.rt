@@ -1,4 +1,4 @@
-ghost use Rattle.std.specs.Prelude.{◌≡◌, ◌↔◌, ◌++◌, length, IfOk, IfErr, IsTrue};
+ghost use Rattle.std.specs.Prelude.{◌≡◌, ◌↔◌, ◌<◌, ◌++◌, length, take, IfOk, IfErr, IsTrue};
 ghost use Rattle.log_laws.specs.Reading.{IsUnbegun};
 ghost use Rattle.log_laws.specs.Texts.{header_text};
 
@@ -37,6 +37,8 @@ pub(crate) fn is_unbegun<G: GrowingFile>(
 }
 
 // Whether the bytes are a proper beginning of the header.
-fn begins_header(bytes: &[u8], header: &[u8]) -> bool {
+fn begins_header(bytes: &[u8], header: &[u8]) -> bool
+    ensures { IsTrue result ↔ ((length bytes.now < length header.now) × (bytes.now ≡ take (length bytes.now) header.now)) }
+{
     bytes.len() < header.len() && bytes == &header[..bytes.len()]
 }

@@ -25,7 +25,7 @@ last_of [] = inl refl
 last_of (x ∷ xs) = inr (add_first x xs (last_of xs))
 
 -- the digest behind one more entry
-digest_one_more : (before : List ℕ) (front : List (List (List ℕ))) (bodies : List (List ℕ)) → digest_after before (front ++ bodies ∷ []) ≡ next_digest (digest_after before front) bodies
+pub digest_one_more : (before : List ℕ) (front : List (List (List ℕ))) (bodies : List (List ℕ)) → digest_after before (front ++ bodies ∷ []) ≡ next_digest (digest_after before front) bodies
 unfolding digest_after
 digest_one_more before [] bodies = refl
 digest_one_more before (e ∷ front) bodies = digest_one_more (next_digest before e) front bodies
