@@ -46,12 +46,12 @@ answered_more before mid after book other some more here so_far next =
 part_more : (before mid after : List ℕ) (book other : Rows) (some more : List Frame) → other ≡ rows_after book some → mid ≡ before ++ answers_to book some → AppendsPart mid after (answers_to other more)
     → AppendsPart before after (answers_to book (some ++ more))
 part_more before mid after book other some more here so_far part = (
-    answers_to book some ++ part.0,
-    part.1,
-    part.2 ∙ ap (λ (x : List ℕ). x ++ part.0) so_far ∙ append_assoc before (answers_to book some) part.0,
-    answers_more book some more ∙ ap (λ (rows : Rows). answers_to book some ++ answers_to rows more) (sym here) ∙ ap (λ (x : List ℕ). answers_to book some ++ x) part.3
-    ∙ sym (append_assoc (answers_to book some) part.0 part.1),
-  )
+  answers_to book some ++ part.0,
+  part.1,
+  part.2 ∙ ap (λ (x : List ℕ). x ++ part.0) so_far ∙ append_assoc before (answers_to book some) part.0,
+  answers_more book some more ∙ ap (λ (rows : Rows). answers_to book some ++ answers_to rows more) (sym here) ∙ ap (λ (x : List ℕ). answers_to book some ++ x) part.3
+      ∙ sym (append_assoc (answers_to book some) part.0 part.1),
+)
 
 -- all that was answered
 whole : (before after text : List ℕ) → after ≡ before ++ text → AppendsPart before after text

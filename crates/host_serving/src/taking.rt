@@ -6,11 +6,7 @@ use log_file::Bodies;
 use std::alloc::AllocError;
 
 /// Takes the bodies out of so many frames, in place of others. Memory can run out.
-pub(crate) fn take_bodies(
-    bodies: &mut Bodies,
-    frames: &[u8],
-    count: u32,
-) -> Result<(), AllocError>
+pub(crate) fn take_bodies(bodies: &mut Bodies, frames: &[u8], count: u32) -> Result<(), AllocError>
     requires few { count ≤ 65536 }
     requires frames { AreSoMany count frames.now }
     ensures { OnOk result (AreFrames frames.now bodies.new []) }

@@ -95,8 +95,10 @@ fn fails_behind_first(alloc: Global, link: &[u8], fault: LinkFault) -> bool {
 
 #[test]
 fn a_length_of_0_or_over_512_is_a_fault_behind_the_frames_before(rt: HostRuntime) {
-    let none = b"\x00\x621100\x72\x30\x01\x01\x00\x80\x80\x00164111110000000005000000000000000100011012000000000126011012000010006123456TERM0001978\x00\x00\x00\x62";
-    let many = b"\x00\x621100\x72\x30\x01\x01\x00\x80\x80\x00164111110000000005000000000000000100011012000000000126011012000010006123456TERM0001978\x02\x01";
+    let none =
+        b"\x00\x621100\x72\x30\x01\x01\x00\x80\x80\x00164111110000000005000000000000000100011012000000000126011012000010006123456TERM0001978\x00\x00\x00\x62";
+    let many =
+        b"\x00\x621100\x72\x30\x01\x01\x00\x80\x80\x00164111110000000005000000000000000100011012000000000126011012000010006123456TERM0001978\x02\x01";
     assert!(rt; fails_behind_first(rt.alloc(), none, LinkFault::Length));
     assert!(rt; fails_behind_first(rt.alloc(), many, LinkFault::Length));
 }
@@ -122,7 +124,9 @@ fn the_longest_frame_is_one(rt: HostRuntime) {
     let mut bytes = [0x31u8; 514];
     bytes[0] = 2;
     bytes[1] = 0;
-    assert!(rt; matches!(front_of(&bytes), Front::Frame(body, behind) if body.len() == 512 && behind.is_empty()));
+    assert!(rt;
+        matches!(front_of(&bytes), Front::Frame(body, behind) if body.len() == 512 && behind.is_empty())
+    );
     assert!(rt; matches!(front_of(&bytes[..513]), Front::Part));
     assert!(rt; matches!(front_of(REPEAT), Front::Frame(_, _)));
 }

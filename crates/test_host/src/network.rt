@@ -6,12 +6,10 @@ use std::alloc::Global;
 // An echo test, 1804 with elements 11, 12 and 24; and its reply in its frame, 1814 with element 39, too.
 const ECHO: &[u8] = b"1804\x00\x30\x01\x00\x00\x00\x00\x00000007260315080500831";
 
-const ECHO_REPLY: &[u8] =
-    b"\x00\x241814\x00\x30\x01\x00\x02\x00\x00\x00000007260315080500831800";
+const ECHO_REPLY: &[u8] = b"\x00\x241814\x00\x30\x01\x00\x02\x00\x00\x00000007260315080500831800";
 
 // A sign-on with element 7, and its reply.
-const SIGN_ON: &[u8] =
-    b"1804\x02\x30\x01\x00\x00\x00\x00\x000315080501000008260315080501801";
+const SIGN_ON: &[u8] = b"1804\x02\x30\x01\x00\x00\x00\x00\x000315080501000008260315080501801";
 
 const SIGN_ON_REPLY: &[u8] =
     b"\x00\x2e1814\x02\x30\x01\x00\x02\x00\x00\x000315080501000008260315080501801800";

@@ -121,7 +121,16 @@ fn calls_to_begin(alloc: Global, book: &Book) -> u64 {
 // Whether a link in pieces of 100 bytes leaves so many entries and these replies, where its log fails behind so many calls: each entry
 // takes two, one that writes and one that syncs.
 fn logged(alloc: Global, book: &Book, answers: u64, entries: usize, replies: &[u8]) -> bool {
-    match serve(alloc, book, LINK, 100, Answers { log: answers, ..ALL }) {
+    match serve(
+        alloc,
+        book,
+        LINK,
+        100,
+        Answers {
+            log: answers,
+            ..ALL
+        },
+    ) {
         Some(outcome) => {
             outcome.result == Err(HostFault::Log(LogFault::Failed))
                 && outcome.replies.as_slice() == replies
@@ -148,7 +157,16 @@ fn a_log_that_fails_at_any_call_lets_nothing_out(rt: HostRuntime) -> Result<(), 
 
 // Whether a sink that takes 64 bytes a call, and so many calls, has a beginning of the replies, with the entries of all that it has.
 fn is_cut_off(alloc: Global, book: &Book, answers: u64, taken: usize, entries: usize) -> bool {
-    match serve(alloc, book, LINK, 100, Answers { sink: answers, ..ALL }) {
+    match serve(
+        alloc,
+        book,
+        LINK,
+        100,
+        Answers {
+            sink: answers,
+            ..ALL
+        },
+    ) {
         Some(outcome) => {
             outcome.result == Err(HostFault::Link(LinkFault::Unwritable))
                 && Some(outcome.replies.as_slice()) == REPLIES.get(..taken)
@@ -170,7 +188,16 @@ fn a_sink_that_fails_at_any_call_has_what_is_in_the_log(rt: HostRuntime) -> Resu
 
 // Whether a source that fails behind so many calls of 100 bytes leaves these replies and entries.
 fn stops(alloc: Global, book: &Book, answers: u64, replies: &[u8], entries: usize) -> bool {
-    match serve(alloc, book, LINK, 100, Answers { source: answers, ..ALL }) {
+    match serve(
+        alloc,
+        book,
+        LINK,
+        100,
+        Answers {
+            source: answers,
+            ..ALL
+        },
+    ) {
         Some(outcome) => {
             outcome.result == Err(HostFault::Link(LinkFault::Unreadable))
                 && outcome.replies.as_slice() == replies
@@ -194,11 +221,15 @@ fn a_source_that_fails_at_any_call_is_answered_up_to_there(rt: HostRuntime) -> R
 fn a_link_that_stops_within_a_frame_is_answered_up_to_there(rt: HostRuntime) -> Result<(), Fail> {
     let book = first_book_with(rt.alloc(), &[])?;
     let Some(front) = LINK.get(..150) else {
-        unreachable!()
+        return Err(Fail::new("150 bytes"));
     };
     let outcome = serve(rt.alloc(), &book, front, 4096, ALL);
-    assert!(rt; matches!(&outcome, Some(it) if it.result == Err(HostFault::Link(LinkFault::Ended))));
-    assert!(rt; matches!(&outcome, Some(it) if it.replies.as_slice() == FIRST_REPLY && it.bodies == 2));
+    assert!(rt;
+        matches!(&outcome, Some(it) if it.result == Err(HostFault::Link(LinkFault::Ended)))
+    );
+    assert!(rt;
+        matches!(&outcome, Some(it) if it.replies.as_slice() == FIRST_REPLY && it.bodies == 2)
+    );
     Ok(())
 }
 
@@ -207,7 +238,8 @@ fn started_again(alloc: Global, book: &Book, first: &[u8], second: &[u8]) -> Opt
     let mut host = host(alloc, book, 1000)?;
     let mut source = first;
     let mut sink = FailingSink::new(alloc, 4096, 1000);
-    host.serve_link(alloc, &mut source, &mut sink, &Shipped).ok()?;
+    host.serve_link(alloc, &mut source, &mut sink, &Shipped)
+        .ok()?;
     let log = read_log(alloc, host.log().file().synced(), &BOOK).ok()?;
     let mut decider = Decider::new(alloc, book.copy().ok()?);
     decider.replay(alloc, &log.entries, &Shipped).ok()?;
@@ -234,13 +266,19 @@ fn started_again(alloc: Global, book: &Book, first: &[u8], second: &[u8]) -> Opt
 fn a_repeat_behind_a_restart_gets_the_first_reply(rt: HostRuntime) -> Result<(), Fail> {
     let book = first_book_with(rt.alloc(), &[])?;
     let outcome = started_again(rt.alloc(), &book, FIRST, REPEAT);
-    assert!(rt; matches!(&outcome, Some(it) if it.result == Ok(()) && it.replies.as_slice() == FIRST_REPLY));
-    assert!(rt; matches!(&outcome, Some(it) if it.entries == 2 && it.bodies == 2 && it.tally.bodies == 2));
+    assert!(rt;
+        matches!(&outcome, Some(it) if it.result == Ok(()) && it.replies.as_slice() == FIRST_REPLY)
+    );
+    assert!(rt;
+        matches!(&outcome, Some(it) if it.entries == 2 && it.bodies == 2 && it.tally.bodies == 2)
+    );
     Ok(())
 }
 
 #[test]
-fn a_request_behind_a_restart_goes_on_from_the_book_after_the_log(rt: HostRuntime) -> Result<(), Fail> {
+fn a_request_behind_a_restart_goes_on_from_the_book_after_the_log(
+    rt: HostRuntime,
+) -> Result<(), Fail> {
     let book = first_book_with(rt.alloc(), &[])?;
     let outcome = started_again(rt.alloc(), &book, FIRST, SECOND);
     assert!(rt; matches!(&outcome, Some(it) if it.replies.as_slice() == SECOND_REPLY));
@@ -253,7 +291,7 @@ fn a_request_behind_a_restart_goes_on_from_the_book_after_the_log(rt: HostRuntim
 fn the_book_is_that_after_the_link(rt: HostRuntime) -> Result<(), Fail> {
     let book = first_book_with(rt.alloc(), &[])?;
     let Some(mut host) = host(rt.alloc(), &book, 1000) else {
-        unreachable!()
+        return Err(Fail::new("a host"));
     };
     let mut source = LINK;
     let mut sink = FailingSink::new(rt.alloc(), 4096, 1000);
