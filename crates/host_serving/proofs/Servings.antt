@@ -8,6 +8,8 @@ use Rattle.issuer_rows.specs.declared.frame.Frame.{Frame}
 use Rattle.issuer_fold.proofs.FoldLaws.{rows_after-append, replies_to-append}
 use Rattle.file_batch_laws.specs.Frames.{IsFrameOf, AreFramesOf}
 use Rattle.link_frames.specs.Link.{AreFrames, HasFault}
+use Rattle.link_frames.specs.declared.link_fault.LinkFault.{LinkFault}
+use Rattle.link_frames.specs.declared.link_fault.LinkFault.TheVariants as link
 use Rattle.link_frames.specs.Replies.{AppendsPart, reply_frame, reply_frames}
 use Rattle.log_file.specs.Writes.{HasLog, IsCutOff}
 use Rattle.log_file.specs.declared.log_writer.LogWriter.{LogWriter}
@@ -17,7 +19,7 @@ use Rattle.log_laws.specs.declared.log_fault.LogFault.TheVariants.{NoLog, Versio
 use Rattle.host_serving.specs.Deciding.{Decides, Follows, answers_to}
 use Rattle.host_serving.specs.Entering.{book_of, Grows, BreaksOff, Enters, StopsAnswering, StopsAppending, StopsDeciding, StopsEntering}
 use Rattle.host_serving.specs.Entries.{all_bodies, AreMessagesOf}
-use Rattle.host_serving.specs.Serving.{BookAfter, FaultFits, StopsReading, LogAfter, Served, Stopped, EntersNext, StopsInEntry}
+use Rattle.host_serving.specs.Serving.{BookAfter, AnsweredAfter, FaultFits, StopsReading, LogAfter, Served, Stopped, EntersNext, StopsInEntry}
 use Rattle.host_serving.specs.Tally.{counted, counted_one}
 use Rattle.host_serving.specs.declared.decider.Decider.{Decider}
 use Rattle.host_serving.specs.declared.host.Host.{Host}
@@ -56,6 +58,16 @@ part_more before mid after book other some more here so_far part = (
 -- all that was answered
 whole : (before after text : List ℕ) → after ≡ before ++ text → AppendsPart before after text
 whole before after text is = (text, [], is, sym (append-nil text))
+
+-- where all was answered
+all_answered : (fault : HostFault) (had has text : List ℕ) → has ≡ had ++ text → AnsweredAfter fault had has text
+all_answered (Link link.Ended) had has text is = is
+all_answered (Link link.Length) had has text is = is
+all_answered (Link link.Unwritable) had has text is = whole had has text is
+all_answered (Link link.Unreadable) had has text is = is
+all_answered (Link link.OutOfMemory) had has text is = whole had has text is
+all_answered (Log fault) had has text is = is
+all_answered OutOfMemory had has text is = is
 
 tallies_more : (tally : Tally) (some more : List Frame) → counted tally (some ++ more) ≡ counted (counted tally some) more
 tallies_more tally [] more = refl
@@ -133,7 +145,7 @@ module _ {G : Type 0} (is_known : G → Type 0) (synced unsynced : G → List �
     read = s.read;
     log = s.log;
     after = s.after;
-    answered = λ known. whole before after (answers_to (book_of old) s.messages) (s.answered known);
+    answered = λ known. all_answered (Link f) before after (answers_to (book_of old) s.messages) (s.answered known);
     fits = λ known. stops (r known);
   }
   stopped_reading (Log f) old mid reads reads' bytes left puts before after r s stops = absurd stops
@@ -145,7 +157,7 @@ module _ {G : Type 0} (is_known : G → Type 0) (synced unsynced : G → List �
     read = s.read;
     log = s.log;
     after = tt;
-    answered = λ known. whole before after (answers_to (book_of old) s.messages) (s.answered known);
+    answered = λ known. s.answered known;
     fits = tt;
   }
 
@@ -192,26 +204,38 @@ module _ {G : Type 0} (is_known : G → Type 0) (synced unsynced : G → List �
     read = s.read;
     log = subst (λ (P : Entries → Type 0). P s.entries) (sym is_log) (grows_to old.log mid.log new.log s.entries s.log stops.log);
     after = is_book s.messages;
-    answered = λ known. whole before after (answers_to (book_of old) s.messages) (stops.unanswered (p known) ∙ s.answered known);
+    answered = λ known. all_answered fault before after (answers_to (book_of old) s.messages) (stops.unanswered (p known) ∙ s.answered known);
     fits = fits;
+  }
+
+  -- it stopped while the replies of an entry were written
+  stopped_answering : (f : LinkFault) (old mid new : Host G) (reads reads' : Type 0) (bytes left rest : List ℕ) (puts puts' : Type 0) (before text after : List ℕ) (bodies : List (List ℕ)) → (reads → reads') → (puts → puts')
+      → ((had has all : List ℕ) → AppendsPart had has all → AnsweredAfter (Link f) had has all) → HasFault rest f
+      → Served is_known synced unsynced old mid reads bytes left puts before text → (reads' → AreFrames left bodies rest) → StopsAnswering is_known synced unsynced bodies mid new puts' text after
+      → Stopped is_known synced unsynced (Link f) old new reads bytes puts before after
+  stopped_answering f old mid new reads reads' bytes left rest puts puts' before text after bodies r p partly fits s came n = record {
+    entries = s.entries ++ bodies ∷ [];
+    messages = s.messages ++ n.messages;
+    left = rest;
+    came = λ known. subst (λ (x : List (List ℕ)). AreFrames bytes x rest) (sym (bodies_more s.entries bodies)) (frames_more bytes left rest (all_bodies s.entries) bodies (s.came known) (came (r known)));
+    read = subst (λ (x : List (List ℕ)). AreFramesOf x (s.messages ++ n.messages)) (sym (bodies_more s.entries bodies)) (both_are (all_bodies s.entries) bodies s.messages n.messages s.read n.read);
+    log = grows_more old.log mid.log new.log s.entries (bodies ∷ []) s.log n.log;
+    after = follows_more old.decider mid.decider new.decider s.messages n.messages s.after n.after;
+    answered = λ known. partly before after (answers_to (book_of old) (s.messages ++ n.messages))
+        (part_more before text after (book_of old) (book_of mid) s.messages n.messages s.after.book (s.answered known) (n.answered (p known)));
+    fits = λ _. fits;
   }
 
   pub stopped_in_entry : (fault : HostFault) (old mid new : Host G) (reads reads' : Type 0) (bytes left : List ℕ) (puts puts' : Type 0) (before text after : List ℕ) → (reads → reads') → (puts → puts')
       → Served is_known synced unsynced old mid reads bytes left puts before text → StopsInEntry is_known synced unsynced fault mid new reads' left puts' text after
       → Stopped is_known synced unsynced fault old new reads bytes puts before after
-  stopped_in_entry (Link f) old mid new reads reads' bytes left puts puts' before text after r p s e =
-      let n = e.stops.0 in
-      record {
-        entries = s.entries ++ e.bodies ∷ [];
-        messages = s.messages ++ n.messages;
-        left = e.left;
-        came = λ known. subst (λ (x : List (List ℕ)). AreFrames bytes x e.left) (sym (bodies_more s.entries e.bodies)) (frames_more bytes left e.left (all_bodies s.entries) e.bodies (s.came known) (e.came (r known)));
-        read = subst (λ (x : List (List ℕ)). AreFramesOf x (s.messages ++ n.messages)) (sym (bodies_more s.entries e.bodies)) (both_are (all_bodies s.entries) e.bodies s.messages n.messages s.read n.read);
-        log = grows_more old.log mid.log new.log s.entries (e.bodies ∷ []) s.log n.log;
-        after = follows_more old.decider mid.decider new.decider s.messages n.messages s.after n.after;
-        answered = λ known. part_more before text after (book_of old) (book_of mid) s.messages n.messages s.after.book (s.answered known) (n.answered (p known));
-        fits = λ _. e.stops.1 e.left;
-      }
+  stopped_in_entry (Link link.Unwritable) old mid new reads reads' bytes left puts puts' before text after r p s e =
+      stopped_answering link.Unwritable old mid new reads reads' bytes left e.left puts puts' before text after e.bodies r p (λ had has all part. part) tt s e.came e.stops
+  stopped_in_entry (Link link.OutOfMemory) old mid new reads reads' bytes left puts puts' before text after r p s e =
+      stopped_answering link.OutOfMemory old mid new reads reads' bytes left e.left puts puts' before text after e.bodies r p (λ had has all part. part) tt s e.came e.stops
+  stopped_in_entry (Link link.Ended) old mid new reads reads' bytes left puts puts' before text after r p s e = absurd e.stops
+  stopped_in_entry (Link link.Length) old mid new reads reads' bytes left puts puts' before text after r p s e = absurd e.stops
+  stopped_in_entry (Link link.Unreadable) old mid new reads reads' bytes left puts puts' before text after r p s e = absurd e.stops
   stopped_in_entry (Log Failed) old mid new reads reads' bytes left puts puts' before text after r p s e = record {
     entries = s.entries;
     messages = s.messages;
@@ -227,7 +251,7 @@ module _ {G : Type 0} (is_known : G → Type 0) (synced unsynced : G → List �
       e.stops.read,
       follows_more old.decider mid.decider new.decider s.messages e.stops.messages s.after e.stops.after,
     );
-    answered = λ known. whole before after (answers_to (book_of old) s.messages) (e.stops.unanswered (p known) ∙ s.answered known);
+    answered = λ known. e.stops.unanswered (p known) ∙ s.answered known;
     fits = tt;
   }
   stopped_in_entry (Log NoLog) old mid new reads reads' bytes left puts puts' before text after r p s e = stopped_memory (Log NoLog) old mid new reads bytes left puts puts' before text after p refl (λ _. tt) tt s e.stops
@@ -248,3 +272,8 @@ module _ {G : Type 0} (is_known : G → Type 0) (synced unsynced : G → List �
       (stopped_reading fault old mid reads reads' bytes left puts before after r (subst (λ (x : List ℕ). Served is_known synced unsynced old mid reads bytes left puts before x) (sym (is stops.1)) s) stops.2)
   stopped_next fault old mid new reads reads' bytes left puts puts' same before text after r p is s (inr stops) =
       stopped_in_entry fault old mid new reads reads' bytes left puts puts' before text after r p s stops
+
+  pub stops_answering : (f : LinkFault) (bodies : List (List ℕ)) (old new : Host G) (puts : Type 0) (before after : List ℕ)
+      → StopsAnswering is_known synced unsynced bodies old new puts before after → (f ≡ link.Unwritable) ⊎ (f ≡ link.OutOfMemory) → StopsEntering is_known synced unsynced (Link f) bodies old new puts before after
+  stops_answering f bodies old new puts before after stops (inl is) = subst (λ (x : LinkFault). StopsEntering is_known synced unsynced (Link x) bodies old new puts before after) (sym is) stops
+  stops_answering f bodies old new puts before after stops (inr is) = subst (λ (x : LinkFault). StopsEntering is_known synced unsynced (Link x) bodies old new puts before after) (sym is) stops

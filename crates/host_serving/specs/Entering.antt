@@ -1,12 +1,10 @@
 -- One entry: its messages are decided, it is appended to the log and synced, and then its replies are written.
-use Rattle.std.specs.Prelude.{◌≡◌, ⊤, ℕ, List, [], ◌∷◌, ◌++◌}
-use Rattle.std.specs.List.{flat_map, AllByRecursion}
+use Rattle.std.specs.Prelude.{◌≡◌, ℕ, List, [], ◌∷◌, ◌++◌}
 use Rattle.issuer_rows.specs.Fold.{Rows}
 use Rattle.issuer_rows.specs.declared.frame.Frame.{Frame}
-use Rattle.file_batch_laws.specs.Files.{framed, IsBody}
 use Rattle.file_batch_laws.specs.Frames.{AreFramesOf}
 use Rattle.link_frames.specs.Replies.{AppendsPart}
-use Rattle.link_frames.specs.Link.{HasFault}
+use Rattle.link_frames.specs.declared.link_fault.LinkFault.TheVariants as link
 use Rattle.log_file.specs.Writes.{HasLog, IsCutOff}
 use Rattle.log_file.specs.declared.log_writer.LogWriter.{LogWriter}
 use Rattle.log_laws.specs.declared.log_fault.LogFault.TheVariants.{Failed}
@@ -60,8 +58,10 @@ module _ {G : Type 0} (is_known : G → Type 0) (synced unsynced : G → List �
     pub log : Grows old.log new.log []
     pub unanswered : puts → has ≡ had
 
-  -- which of them it is, by the fault; a fault that was met while the replies were written says nothing of the link's bytes
+  -- which of them it is, by the fault
   abbrev pub StopsEntering : HostFault → List (List ℕ) → Host G → Host G → Type 0 → List ℕ → List ℕ → Type 0
-  StopsEntering (Link fault) bodies old new puts had has = StopsAnswering bodies old new puts had has × ((left : List ℕ) → HasFault left fault)
+  StopsEntering (Link link.Unwritable) bodies old new puts had has = StopsAnswering bodies old new puts had has
+  StopsEntering (Link link.OutOfMemory) bodies old new puts had has = StopsAnswering bodies old new puts had has
+  StopsEntering (Link fault) bodies old new puts had has = ⊥
   StopsEntering (Log Failed) bodies old new puts had has = StopsAppending bodies old new puts had has
   StopsEntering fault bodies old new puts had has = StopsDeciding old new puts had has

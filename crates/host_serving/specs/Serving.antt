@@ -1,11 +1,10 @@
 -- What serving a link comes to: the entries that the log has more, the book after them, and what was written on the link.
-use Rattle.std.specs.Prelude.{◌≡◌, ◌⊎◌, ⊤, ℕ, List, [], ◌∷◌, ◌++◌}
-use Rattle.std.specs.List.{flat_map, AllByRecursion}
+use Rattle.std.specs.Prelude.{◌≡◌, ⊤, ℕ, List, ◌++◌}
 use Rattle.issuer_rows.specs.declared.frame.Frame.{Frame}
-use Rattle.file_batch_laws.specs.Files.{framed, IsBody}
 use Rattle.file_batch_laws.specs.Frames.{AreFramesOf}
 use Rattle.link_frames.specs.Replies.{AppendsPart}
 use Rattle.link_frames.specs.Link.{AreFrames, HasFault}
+use Rattle.link_frames.specs.declared.link_fault.LinkFault.TheVariants as link
 use Rattle.log_file.specs.declared.log_writer.LogWriter.{LogWriter}
 use Rattle.log_laws.specs.declared.log_fault.LogFault.TheVariants.{Failed}
 use Rattle.host_serving.specs.Deciding.{Follows, answers_to}
@@ -23,6 +22,12 @@ BookAfter (Link fault) old messages reads left new = Follows old new messages
 BookAfter (Log Failed) old messages reads left new =
     (bodies : List (List ℕ)) × (next : List Frame) × (rest : List ℕ) × (reads → AreFrames left bodies rest) × AreFramesOf bodies next × Follows old new (messages ++ next)
 BookAfter fault old messages reads left new = ⊤
+
+-- What was written after a fault: these replies; where one can't be written, or memory ran out for its bytes, a beginning of them.
+abbrev pub AnsweredAfter : HostFault → List ℕ → List ℕ → List ℕ → Type 0
+AnsweredAfter (Link link.Unwritable) had has text = AppendsPart had has text
+AnsweredAfter (Link link.OutOfMemory) had has text = AppendsPart had has text
+AnsweredAfter fault had has text = has ≡ had ++ text
 
 -- a fault of the link's bytes is that of the bytes that are left
 abbrev pub FaultFits : HostFault → Type 0 → List ℕ → Type 0
@@ -55,7 +60,7 @@ module _ {G : Type 0} (is_known : G → Type 0) (synced unsynced : G → List �
     pub answered : puts → has ≡ had ++ answers_to (book_of old) messages
 
   -- Serving a link stopped with a fault. The log has entries more, all synced, whose bodies are a beginning of the frames that came. What
-  -- was written is a beginning of the replies to their messages: nothing was answered, not even in part, that isn't in the log.
+  -- was written are the replies to their messages, or a beginning of these: nothing was answered, not even in part, that isn't in the log.
   pub record Stopped (fault : HostFault) (old new : Host G) (reads : Type 0) (bytes : List ℕ) (puts : Type 0) (had has : List ℕ) : Type 0 where
     pub entries : List (List (List ℕ))
     pub messages : List Frame
@@ -64,7 +69,7 @@ module _ {G : Type 0} (is_known : G → Type 0) (synced unsynced : G → List �
     pub read : AreMessagesOf entries messages
     pub log : LogAfter fault old.log new.log entries
     pub after : BookAfter fault old.decider messages reads left new.decider
-    pub answered : puts → AppendsPart had has (answers_to (book_of old) messages)
+    pub answered : puts → AnsweredAfter fault had has (answers_to (book_of old) messages)
     pub fits : FaultFits fault reads left
 
   -- the frames that had come became one entry, and these bytes are left

@@ -1,11 +1,10 @@
 -- What no frame begins with.
-use Rattle.std.proofs.Common.{◌≡◌, ℕ, zero, suc, ◌<◌, ◌≤◌, Bool, true, false, cond, ltb, eqb, List, [], ◌∷◌, ◌++◌, length, take, drop, Result, Ok, Err, ◌⊎◌, inl, inr, refl, sym, ap, ◌∙◌, arith}
-use Rattle.std.specs.Prelude.{◌||◌}
+use Rattle.std.proofs.Common.{◌≡◌, ℕ, zero, suc, ◌<◌, ◌≤◌, true, false, ltb, eqb, List, [], ◌∷◌, ◌++◌, length, take, drop, Result, Ok, Err, ◌⊎◌, inl, inr, refl, sym, ap, ◌∙◌, arith}
 use Rattle.std.proofs.lemmas.Bool.{lt-ltb, le-ltb, ltb-true, ltb-false, eqb-true, eqb-false, ne_eqb}
 use Rattle.std.specs.List.{flat_map}
 use Rattle.std.proofs.lemmas.List.{length-drop, append-nil}
 use Rattle.byteorder.specs.Endian.{big_number}
-use Rattle.file_batch_laws.specs.Reading.{◌>>=◌, field_at, number_at, length_at, body_at, bodies_at}
+use Rattle.file_batch_laws.specs.Reading.{field_at, number_at, length_at, body_at, bodies_at}
 use Rattle.file_batch_laws.specs.Files.{framed, IsBody}
 use Rattle.file_batch_laws.proofs.Again.{bodies_again}
 use Rattle.file_batch_laws.specs.declared.batch_fault.BatchFault.{BatchFault}

@@ -1,6 +1,6 @@
 -- A link is read in one way.
 use Rattle.std.proofs.Common.{◌≡◌, ℕ, List, [], ◌∷◌, ◌++◌, Result, Ok, Err, refl, sym, ap, subst, ◌∙◌, append_assoc}
-use Rattle.std.specs.List.{flat_map, AllByRecursion}
+use Rattle.std.specs.List.{flat_map}
 use Rattle.std.proofs.lemmas.List.{append-nil}
 use Rattle.file_batch_laws.specs.Files.{framed, IsBody}
 use Rattle.file_batch_laws.specs.Reading.{bodies_at}

@@ -1,4 +1,4 @@
-use Rattle.std.proofs.Common.{rules, inl, sym, subst, arith}
+use Rattle.std.proofs.Common.{rules, inl, sym, subst}
 use Rattle.std.proofs.lemmas.Result.{err_from_is_err_and}
 use Rattle.link_frames.specs.Link.{HasFrame, HasWrongLength}
 use Rattle.link_frames.specs.Reader.{given, kept}
