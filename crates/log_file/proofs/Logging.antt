@@ -29,7 +29,7 @@ one_more book synced unsynced synced' text entries bodies digest s u d t e =
 pub front_begun : (book bytes : List ℕ) → (length bytes < length (header_text book)) × (bytes ≡ take (length bytes) (header_text book)) → IsUnbegun book bytes
 front_begun book bytes h =
     let whole : header_text book ≡ bytes ++ drop (length bytes) (header_text book) =
-        sym (take-append-drop (length bytes) (header_text book)) ∙ ap (λ (x : List ℕ). x ++ drop (length bytes) (header_text book)) (sym h.1) in
+    sym (take-append-drop (length bytes) (header_text book)) ∙ ap (λ (x : List ℕ). x ++ drop (length bytes) (header_text book)) (sym h.1) in
     inl (drop (length bytes) (header_text book), (λ none. absurd (omega (arith, h.0, ap length whole, ap length none, length-append bytes (drop (length bytes) (header_text book))))), whole)
 
 pub begun_front : (book bytes rest : List ℕ) → rest ≢ [] → header_text book ≡ bytes ++ rest → (length bytes < length (header_text book)) × (bytes ≡ take (length bytes) (header_text book))

@@ -68,9 +68,10 @@ impl<R: Source + Drop> LogReader<R> {
     {
         match read_part(self.alloc, &mut self.input, &self.digest)? {
             Part::Entry(entry) => {
-                let (Some(at), Some(entries)) =
-                    (self.at.checked_add(entry.size), self.entries.checked_add(1))
-                else {
+                let (Some(at), Some(entries)) = (
+                    self.at.checked_add(entry.size),
+                    self.entries.checked_add(1),
+                ) else {
                     // No memory can hold so many bytes.
                     return Err(LogFault::OutOfMemory);
                 };
