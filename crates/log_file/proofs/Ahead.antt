@@ -42,15 +42,15 @@ parts_held bytes old more held left size fits long head is e enough =
     let first : take 8 held ≡ entry_head size = sym (take-append-le 8 held left (omega (arith, enough))) ∙ ap (take 8) (e ∙ sym is) ∙ take-append-le 8 old more long ∙ head in
     let p = parts_at held size fits first (omega (arith, enough)) in
     let rest : drop 32 (drop size (drop 8 held)) ≡ drop (size + 40) held =
-        ap (drop 32) (drop-drop size 8 held) ∙ drop-drop 32 (8 + size) held ∙ ap (λ (n : ℕ). drop n held) (omega arith) in
+    ap (drop 32) (drop-drop size 8 held) ∙ drop-drop 32 (8 + size) held ∙ ap (λ (n : ℕ). drop n held) (omega arith) in
     let payload = payload_held size held in
     let digest = digest_held size held in
     let head' = entry_head (length payload) in
     let whole : bytes ≡ head' ++ (payload ++ (digest ++ (drop (size + 40) held ++ left))) =
-        sym e ∙ ap (λ (x : List ℕ). x ++ left) (p.is ∙ ap (λ (x : List ℕ). head' ++ (payload ++ (digest ++ x))) rest)
-        ∙ append_assoc head' (payload ++ (digest ++ drop (size + 40) held)) left
-        ∙ ap (λ (x : List ℕ). head' ++ x) (append_assoc payload (digest ++ drop (size + 40) held) left)
-        ∙ ap (λ (x : List ℕ). head' ++ (payload ++ x)) (append_assoc digest (drop (size + 40) held) left) in
+    sym e ∙ ap (λ (x : List ℕ). x ++ left) (p.is ∙ ap (λ (x : List ℕ). head' ++ (payload ++ (digest ++ x))) rest)
+    ∙ append_assoc head' (payload ++ (digest ++ drop (size + 40) held)) left
+    ∙ ap (λ (x : List ℕ). head' ++ x) (append_assoc payload (digest ++ drop (size + 40) held) left)
+    ∙ ap (λ (x : List ℕ). head' ++ (payload ++ x)) (append_assoc digest (drop (size + 40) held) left) in
     record { fits = p.fits; is = whole; width = p.width }
 
 -- ---- zeros

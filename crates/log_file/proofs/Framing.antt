@@ -38,9 +38,9 @@ ok_is x y e = cc
 pub framed_apart : (body other rest more : List ℕ) → IsBody body → IsBody other → framed body ++ rest ≡ framed other ++ more → (body ≡ other) × (rest ≡ more)
 framed_apart body other rest more is is' e =
     let one : flat_map framed (body ∷ []) ++ rest ≡ flat_map framed (other ∷ []) ++ more =
-        ap (λ (x : List ℕ). x ++ rest) (append-nil (framed body)) ∙ e ∙ ap (λ (x : List ℕ). x ++ more) (sym (append-nil (framed other))) in
+    ap (λ (x : List ℕ). x ++ rest) (append-nil (framed body)) ∙ e ∙ ap (λ (x : List ℕ). x ++ more) (sym (append-nil (framed other))) in
     let read : Path (Result (List (List ℕ) × List ℕ) BatchFault) (Ok (body ∷ [], rest)) (Ok (other ∷ [], more)) =
-        sym (bodies_again (body ∷ []) rest (is, tt)) ∙ ap (bodies_at 1) one ∙ bodies_again (other ∷ []) more (is', tt) in
+    sym (bodies_again (body ∷ []) rest (is, tt)) ∙ ap (bodies_at 1) one ∙ bodies_again (other ∷ []) more (is', tt) in
     let both = ok_is (body ∷ [], rest) (other ∷ [], more) read in
     (head_is body other (ap (λ (p : List (List ℕ) × List ℕ). p.0) both), ap (λ (p : List (List ℕ) × List ℕ). p.1) both)
 
@@ -169,7 +169,7 @@ pub payload_of : (count : ℕ) (text copy payload : List ℕ) → copy ≡ text 
 payload_of count text copy payload same is e =
     let seen : bodies_in count copy ≡ bodies_in count text = ap (bodies_in count) same in
     let whole : payload ≡ payload_text (bodies_in count text) =
-        e ∙ ap (λ (x : List ℕ). big_bytes 4 count ++ x) is.text_is ∙ ap (λ (n : ℕ). big_bytes 4 n ++ flat_map framed (bodies_in count text)) (sym is.number) ∙ sym (payload_parts (bodies_in count text)) in
+    e ∙ ap (λ (x : List ℕ). big_bytes 4 count ++ x) is.text_is ∙ ap (λ (n : ℕ). big_bytes 4 n ++ flat_map framed (bodies_in count text)) (sym is.number) ∙ sym (payload_parts (bodies_in count text)) in
     (subst AreBodies (sym seen) is.are, whole ∙ ap payload_text (sym seen))
 
 pub clash : (b : Bool) → b ≡ true → b ≡ false → ⊥

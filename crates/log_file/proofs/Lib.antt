@@ -3,3 +3,4 @@ pub mod Framing
 pub mod Headers
 pub mod Ahead
 pub mod Stepping
+pub mod Logging

@@ -38,8 +38,8 @@ pub opened : (book bytes held left next digest : List ℕ) → length book ≡ 3
     → digest ≡ sha256 (header_text book) → Opened book bytes next digest
 opened book bytes held left next digest len e header behind is =
     let whole : bytes ≡ log_text book [] ++ next =
-        sym e ∙ ap (λ (x : List ℕ). x ++ left) header ∙ append_assoc (header_text book) (drop 38 held) left
-        ∙ ap (λ (x : List ℕ). header_text book ++ x) (sym behind) ∙ ap (λ (x : List ℕ). x ++ next) (sym (text_of_none book)) in
+    sym e ∙ ap (λ (x : List ℕ). x ++ left) header ∙ append_assoc (header_text book) (drop 38 held) left
+    ∙ ap (λ (x : List ℕ). header_text book ++ x) (sym behind) ∙ ap (λ (x : List ℕ). x ++ next) (sym (text_of_none book)) in
     record {
       stands = record { are = tt; is = whole };
       digest_is = first_is book digest is;
@@ -77,9 +77,9 @@ pub entered : (book bytes ahead next digest own : List ℕ) (entries : List (Lis
 entered book bytes ahead next digest own entries bodies at size at' count count' s d b o z a a' n n' =
     let text : entry_text digest bodies ≡ entry_text (last_digest book entries) bodies = ap (λ (x : List ℕ). entry_text x bodies) d in
     let whole : bytes ≡ log_text book (entries ++ bodies ∷ []) ++ next =
-        s.is ∙ ap (λ (x : List ℕ). log_text book entries ++ x) (b.is ∙ ap (λ (x : List ℕ). x ++ next) text)
-        ∙ sym (append_assoc (log_text book entries) (entry_text (last_digest book entries) bodies) next)
-        ∙ ap (λ (x : List ℕ). x ++ next) (sym (log_one_more book entries bodies)) in
+    s.is ∙ ap (λ (x : List ℕ). log_text book entries ++ x) (b.is ∙ ap (λ (x : List ℕ). x ++ next) text)
+    ∙ sym (append_assoc (log_text book entries) (entry_text (last_digest book entries) bodies) next)
+    ∙ ap (λ (x : List ℕ). x ++ next) (sym (log_one_more book entries bodies)) in
     record {
       stands = record { are = are_more entries bodies s.are b.are; is = whole };
       digest_is = o ∙ ap (λ (x : List ℕ). next_digest x bodies) d ∙ sym (digest_one_more (first_digest book) entries bodies);

@@ -35,6 +35,7 @@ impl<R: Source + Drop> LogReader<R> {
     pub fn open(alloc: Global, source: R, book: &[u8; 32]) -> Result<LogReader<R>, LogFault>
         ensures failed { IfOk result (λ reader. R.has_failed reader.input.source ≡ R.has_failed source) }
         ensures known { IfOk result (λ reader. R.is_known source → R.is_known reader.input.source) }
+        ensures still { IfOk result (λ reader. R.may_fail reader.input.source → R.may_fail source) }
         ensures may { IfErr result (λ e. e ≡ LogFault.Failed → R.may_fail source) }
         ensures read { IfOk result (λ reader. R.is_known source → HasRead R.remaining book.now (R.remaining source) [] reader) }
         ensures fault { IfErr result (λ e. IsTrue (is_of_bytes e) → R.is_known source → IsReading book.now (R.remaining source) (Err e)) }
@@ -67,9 +68,10 @@ impl<R: Source + Drop> LogReader<R> {
     {
         match read_part(self.alloc, &mut self.input, &self.digest)? {
             Part::Entry(entry) => {
-                let (Some(at), Some(entries)) =
-                    (self.at.checked_add(entry.size), self.entries.checked_add(1))
-                else {
+                let (Some(at), Some(entries)) = (
+                    self.at.checked_add(entry.size),
+                    self.entries.checked_add(1),
+                ) else {
                     // No memory can hold so many bytes.
                     return Err(LogFault::OutOfMemory);
                 };

@@ -1,4 +1,4 @@
-ghost use Rattle.std.specs.Prelude.{◌≡◌, ◌↔◌, ◌<◌, ◌++◌, length, take, IfOk, IfErr, IsTrue};
+ghost use Rattle.std.specs.Prelude.{◌≡◌, ◌↔◌, ◌<◌, ◌++◌, ℕ, List, length, take, IfOk, IfErr, IsTrue};
 ghost use Rattle.log_laws.specs.Reading.{IsUnbegun};
 ghost use Rattle.log_laws.specs.Texts.{header_text};
 
@@ -18,7 +18,7 @@ pub(crate) fn make_header(alloc: Global, book: &[u8; 32]) -> Result<Vec<u8>, All
     Ok(header)
 }
 
-/// Whether no log was begun in the file yet: it has less than this header, as a crash leaves it, or zeros in its place.
+/// Whether no log was begun in the file yet: it has less than the header of this book's, as a crash leaves it, or zeros in its place.
 pub(crate) fn is_unbegun<G: GrowingFile>(
     alloc: Global,
     file: &G,
@@ -32,8 +32,20 @@ pub(crate) fn is_unbegun<G: GrowingFile>(
     if input.fill(39)? {
         return Ok(false);
     }
-    let held = input.held();
-    Ok(begins_header(held, &header) || are_zeros(held) && held.len() <= 38)
+    Ok(is_less(input.held(), &header))
+}
+
+// Whether the bytes are less than this header.
+fn is_less(bytes: &[u8], header: &[u8]) -> bool
+    ensures { (book : List ℕ) → header.now ≡ header_text book → (IsTrue result ↔ IsUnbegun book bytes.now) }
+{
+    if begins_header(bytes, header) {
+        return true;
+    }
+    if bytes.len() > 38 {
+        return false;
+    }
+    are_zeros(bytes)
 }
 
 // Whether the bytes are a proper beginning of the header.

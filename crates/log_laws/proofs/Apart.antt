@@ -47,9 +47,9 @@ first_entries before (bodies ∷ entries) (other ∷ others) behind left are are
     let both = entries_apart before bytes bodies other (entries_text (next_digest before bodies) entries ++ behind) (entries_text (next_digest before other) others ++ left) one two in
     let digests : next_digest before other ≡ next_digest before bodies = ap (next_digest before) (sym both.0) in
     let rest : entries_text (next_digest before bodies) entries ++ behind ≡ entries_text (next_digest before bodies) others ++ left =
-        both.1 ∙ ap (λ (d : List ℕ). entries_text d others ++ left) digests in
+    both.1 ∙ ap (λ (d : List ℕ). entries_text d others ++ left) digests in
     let none' : NoEntry (digest_after (next_digest before bodies) others) left =
-        subst (λ (d : List ℕ). NoEntry (digest_after d others) left) digests (one_after before left other others none) in
+    subst (λ (d : List ℕ). NoEntry (digest_after d others) left) digests (one_after before left other others none) in
     more_first bodies other entries others both.0 (first_entries (next_digest before bodies) entries others behind left are.1 are'.1 rest none')
 
 -- where no entry stands behind them, they are the only ones, and what stands behind them is one
@@ -70,9 +70,9 @@ only_entries before (bodies ∷ entries) (other ∷ others) left rest are are' e
     let both = entries_apart before bytes bodies other (entries_text (next_digest before bodies) entries ++ left) (entries_text (next_digest before other) others ++ rest) one two in
     let digests : next_digest before other ≡ next_digest before bodies = ap (next_digest before) (sym both.0) in
     let behind : entries_text (next_digest before bodies) entries ++ left ≡ entries_text (next_digest before bodies) others ++ rest =
-        both.1 ∙ ap (λ (d : List ℕ). entries_text d others ++ rest) digests in
+    both.1 ∙ ap (λ (d : List ℕ). entries_text d others ++ rest) digests in
     let no_more : NoEntry (digest_after (next_digest before bodies) others) rest =
-        subst (λ (d : List ℕ). NoEntry (digest_after d others) rest) digests (one_after before rest other others none') in
+    subst (λ (d : List ℕ). NoEntry (digest_after d others) rest) digests (one_after before rest other others none') in
     let same = only_entries (next_digest before bodies) entries others left rest are.1 are'.1 behind (one_after before left bodies entries none) no_more in
     (rw (both.0, same.0) refl, same.1)
 

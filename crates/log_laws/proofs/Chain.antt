@@ -88,14 +88,19 @@ both_last book front back bodies other are are' before one =
     let text = last_digest book front ++ payload_text bodies in
     let text' = last_digest book back ++ payload_text other in
     elim (same_or_not text text') [
-      inl same ↦
-        let parts = parts_apart (last_digest book front) (last_digest book back) (payload_text bodies) (payload_text other) (length-last book front ∙ sym (length-last book back)) same in
-        carry book front back bodies other (payloads_apart bodies other are are' parts.1) (before parts.0)
-    | inr differ ↦
-        let c : Collide book (front ++ bodies ∷ []) (back ++ other ∷ []) = record {
-          text = text; other = text'; hashed = last_hashed book front bodies; other_hashed = last_hashed book back other; differ = differ; one_digest = one;
-        } in
-        inr c
+      | inl same ↦
+          let parts = parts_apart (last_digest book front) (last_digest book back) (payload_text bodies) (payload_text other) (length-last book front ∙ sym (length-last book back)) same in
+          carry book front back bodies other (payloads_apart bodies other are are' parts.1) (before parts.0)
+      | inr differ ↦
+          let c : Collide book (front ++ bodies ∷ []) (back ++ other ∷ []) = record {
+            text = text;
+            other = text';
+            hashed = last_hashed book front bodies;
+            other_hashed = last_hashed book back other;
+            differ = differ;
+            one_digest = one;
+          } in
+          inr c
     ]
 
 -- one log has no entry
@@ -133,18 +138,18 @@ by_ends book entries others len are are' one before (inl none) (inl none') = inl
 by_ends book entries others len are are' one before (inl none) (inr last) =
     let all = entries_before last.0 last.1 (subst AreEntries last.2 are') in
     let digests : sha256 (header_text book) ≡ next_digest (last_digest book last.0) last.1 =
-        sym (digest_of_none book) ∙ ap (last_digest book) (sym none) ∙ one ∙ ap (last_digest book) last.2 ∙ digest_one_more (first_digest book) last.0 last.1 in
+    sym (digest_of_none book) ∙ ap (last_digest book) (sym none) ∙ one ∙ ap (last_digest book) last.2 ∙ digest_one_more (first_digest book) last.0 last.1 in
     rw (none, last.2) (inr (none_and_last book last.0 last.1 len all.1 digests))
 by_ends book entries others len are are' one before (inr last) (inl none) =
     let all = entries_before last.0 last.1 (subst AreEntries last.2 are) in
     let digests : next_digest (last_digest book last.0) last.1 ≡ sha256 (header_text book) =
-        sym (digest_one_more (first_digest book) last.0 last.1) ∙ ap (last_digest book) (sym last.2) ∙ one ∙ ap (last_digest book) none ∙ digest_of_none book in
+    sym (digest_one_more (first_digest book) last.0 last.1) ∙ ap (last_digest book) (sym last.2) ∙ one ∙ ap (last_digest book) none ∙ digest_of_none book in
     rw (none, last.2) (inr (last_and_none book last.0 last.1 len all.1 digests))
 by_ends book entries others len are are' one before (inr last) (inr last') =
     let all = entries_before last.0 last.1 (subst AreEntries last.2 are) in
     let all' = entries_before last'.0 last'.1 (subst AreEntries last'.2 are') in
     let digests : next_digest (last_digest book last.0) last.1 ≡ next_digest (last_digest book last'.0) last'.1 =
-        sym (digest_one_more (first_digest book) last.0 last.1) ∙ ap (last_digest book) (sym last.2) ∙ one ∙ ap (last_digest book) last'.2 ∙ digest_one_more (first_digest book) last'.0 last'.1 in
+    sym (digest_one_more (first_digest book) last.0 last.1) ∙ ap (last_digest book) (sym last.2) ∙ one ∙ ap (last_digest book) last'.2 ∙ digest_one_more (first_digest book) last'.0 last'.1 in
     let shorter : length last.0 < length entries = omega (arith, ap length last.2, length-append last.0 (last.1 ∷ [])) in
     rw (last.2, last'.2) (both_last book last.0 last'.0 last.1 last'.1 all.1 all'.1 (before last.0 last'.0 shorter all.0 all'.0) digests)
 

@@ -182,18 +182,18 @@ pub beginning_torn : (before : List ℕ) (bodies : List (List ℕ)) (front rest 
 beginning_torn before bodies front rest are some e =
     let size = length (payload_text bodies) in
     let proper : length front < 8 + size + 32 =
-        let len = ap length e in
-        let more : length rest ≢ 0 = λ none. some (nil_from_length rest none) in
-        omega (arith, len, length-append front rest, length-entry before bodies, more) in
+    let len = ap length e in
+    let more : length rest ≢ 0 = λ none. some (nil_from_length rest none) in
+    omega (arith, len, length-append front rest, length-entry before bodies, more) in
     elim (less_or_not (length front) 8) [
-      inl short ↦ inl short
-    | inr long ↦
-        let same : take 8 front ≡ entry_head size =
-            let one : take 8 (front ++ rest) ≡ take 8 front = take-append-le 8 front rest long in
-            let two : take 8 (entry_text before bodies) ≡ entry_head size =
-                ap (take 8) (append_assoc (entry_head size) (payload_text bodies) (next_digest before bodies)) ∙ front_of_head size (payload_text bodies ++ next_digest before bodies) in
-            sym one ∙ sym (ap (take 8) e) ∙ two in
-        cut_short before front size (payload_fits bodies are) same proper
+      | inl short ↦ inl short
+      | inr long ↦
+          let same : take 8 front ≡ entry_head size =
+          let one : take 8 (front ++ rest) ≡ take 8 front = take-append-le 8 front rest long in
+          let two : take 8 (entry_text before bodies) ≡ entry_head size =
+          ap (take 8) (append_assoc (entry_head size) (payload_text bodies) (next_digest before bodies)) ∙ front_of_head size (payload_text bodies ++ next_digest before bodies) in
+          sym one ∙ sym (ap (take 8) e) ∙ two in
+          cut_short before front size (payload_fits bodies are) same proper
     ]
 
 pub zeros_are : (count : ℕ) → AreZeros (replicate count 0)

@@ -60,11 +60,11 @@ next_unmatched before left payload digest rest p other (inr some) = Broken_here 
 next_of_parts : (before left payload digest rest : List ℕ) → AreBytes payload → Parts left payload digest rest → Next before left
 next_of_parts before left payload digest rest all p =
     elim (same_or_not digest (sha256 (before ++ payload))) [
-      inl same ↦ elim (bodies_or_none payload all) [
-        inl there ↦ Entry_here there.0 rest (entry_here before left payload digest rest there.0 p same there.1 there.2)
-      | inr none ↦ Broken_here (no_payload before left payload digest rest p same none)
+      | inl same ↦ elim (bodies_or_none payload all) [
+        | inl there ↦ Entry_here there.0 rest (entry_here before left payload digest rest there.0 p same there.1 there.2)
+        | inr none ↦ Broken_here (no_payload before left payload digest rest p same none)
       ]
-    | inr other ↦ next_unmatched before left payload digest rest p other (some_or_none rest)
+      | inr other ↦ next_unmatched before left payload digest rest p other (some_or_none rest)
     ]
 
 -- so many bytes behind a head
@@ -76,7 +76,7 @@ parts_at left size fits head long =
     let more = drop size behind in
     let len : length payload ≡ size = length-take-le size behind (omega (arith, length-drop 8 left, long)) in
     let two : behind ≡ payload ++ (take 32 more ++ drop 32 more) =
-        sym (take-append-drop size behind) ∙ ap (λ (x : List ℕ). payload ++ x) (sym (take-append-drop 32 more)) in
+    sym (take-append-drop size behind) ∙ ap (λ (x : List ℕ). payload ++ x) (sym (take-append-drop 32 more)) in
     record {
       fits = rw len fits;
       is = behind_head left size head ∙ ap (λ (x : List ℕ). entry_head size ++ x) two ∙ ap (λ (n : ℕ). entry_head n ++ (payload ++ (take 32 more ++ drop 32 more))) (sym len);
@@ -86,9 +86,9 @@ parts_at left size fits head long =
 next_behind_head : (before left : List ℕ) (size : ℕ) → AreBytes left → size < 2 ^ 32 → take 8 left ≡ entry_head size → Next before left
 next_behind_head before left size all fits head =
     elim (less_or_not (length left) (8 + size + 32)) [
-      inl short ↦ Torn (cut_short before left size fits head short)
-    | inr long ↦ next_of_parts before left (take size (drop 8 left)) (take 32 (drop size (drop 8 left))) (drop 32 (drop size (drop 8 left)))
-        (bytes_before size (drop 8 left) (bytes_behind 8 left all)) (parts_at left size fits head long)
+      | inl short ↦ Torn (cut_short before left size fits head short)
+      | inr long ↦ next_of_parts before left (take size (drop 8 left)) (take 32 (drop size (drop 8 left))) (drop 32 (drop size (drop 8 left)))
+          (bytes_before size (drop 8 left) (bytes_behind 8 left all)) (parts_at left size fits head long)
     ]
 
 number_fits : (bytes : List ℕ) → 8 ≤ length bytes → AreBytes bytes → big_number 4 bytes < 2 ^ 32
@@ -105,13 +105,13 @@ its_number left size fits head = ap (big_number 4) (behind_head left size head) 
 next_of_eight : (before left : List ℕ) → AreBytes left → 8 ≤ length left → Next before left
 next_of_eight before left all long =
     elim (same_or_not (take 8 left) (entry_head (big_number 4 left))) [
-      inl head ↦ next_behind_head before left (big_number 4 left) all (number_fits left long all) head
-    | inr other ↦
-        let none : (size : ℕ) → size < 2 ^ 32 → take 8 left ≢ entry_head size = λ size fits head. other (head ∙ ap entry_head (sym (its_number left size fits head))) in
-        elim (zeros_or_not left) [
-          inl zeros ↦ Torn (all_zeros before left zeros)
-        | inr some ↦ Broken_here (no_head before left long none some)
-        ]
+      | inl head ↦ next_behind_head before left (big_number 4 left) all (number_fits left long all) head
+      | inr other ↦
+          let none : (size : ℕ) → size < 2 ^ 32 → take 8 left ≢ entry_head size = λ size fits head. other (head ∙ ap entry_head (sym (its_number left size fits head))) in
+          elim (zeros_or_not left) [
+            | inl zeros ↦ Torn (all_zeros before left zeros)
+            | inr some ↦ Broken_here (no_head before left long none some)
+          ]
     ]
 
 next : (before left : List ℕ) → AreBytes left → Next before left
@@ -147,11 +147,11 @@ find : (fuel : ℕ) (before bytes : List ℕ) → length bytes < fuel → AreByt
 find zero before bytes few all = absurd (omega (arith, few))
 find (suc fuel) before bytes few all =
     elim (next before bytes all) [
-      Torn torn ↦ none_found before bytes (inl torn)
-    | Broken_here broken ↦ none_found before bytes (inr broken)
-    | Entry_here bodies rest begins ↦
-        let fewer : length rest < fuel = omega (arith, few, ap length begins.is, length-append (entry_text before bodies) rest, length-entry before bodies) in
-        one_found before bytes bodies rest begins (find fuel (next_digest before bodies) rest fewer (bytes_left (entry_text before bodies) rest (subst AreBytes begins.is all)))
+      | Torn torn ↦ none_found before bytes (inl torn)
+      | Broken_here broken ↦ none_found before bytes (inr broken)
+      | Entry_here bodies rest begins ↦
+          let fewer : length rest < fuel = omega (arith, few, ap length begins.is, length-append (entry_text before bodies) rest, length-entry before bodies) in
+          one_found before bytes bodies rest begins (find fuel (next_digest before bodies) rest fewer (bytes_left (entry_text before bodies) rest (subst AreBytes begins.is all)))
     ]
 
 abbrev HasReading : List ℕ → List ℕ → Type 0
@@ -160,13 +160,13 @@ HasReading book bytes = (reading : Result (List (List (List ℕ)) × List ℕ) L
 found_reading : (book bytes behind : List ℕ) → bytes ≡ header_text book ++ behind → Found (first_digest book) behind → HasReading book bytes
 found_reading book bytes behind is found =
     let text : bytes ≡ log_text book found.entries ++ found.left =
-        is ∙ ap (λ (x : List ℕ). header_text book ++ x) found.is ∙ sym (append_assoc (header_text book) (entries_text (first_digest book) found.entries) found.left) in
+    is ∙ ap (λ (x : List ℕ). header_text book ++ x) found.is ∙ sym (append_assoc (header_text book) (entries_text (first_digest book) found.entries) found.left) in
     let stands : Stands book bytes found.entries found.left = record { are = found.are; is = text } in
     elim found.ends [
-      inl torn ↦ let log : IsLogOf book bytes found.entries found.left = record { stands = stands; torn = torn } in (Ok (found.entries, found.left), log)
-    | inr broken ↦
-        let at : IsBrokenAt book bytes (length found.entries) = record { entries = found.entries; left = found.left; stands = stands; count = refl; broken = broken } in
-        (Err (Broken (length found.entries)), at)
+      | inl torn ↦ let log : IsLogOf book bytes found.entries found.left = record { stands = stands; torn = torn } in (Ok (found.entries, found.left), log)
+      | inr broken ↦
+          let at : IsBrokenAt book bytes (length found.entries) = record { entries = found.entries; left = found.left; stands = stands; count = refl; broken = broken } in
+          (Err (Broken (length found.entries)), at)
     ]
 
 -- three parts of a header, and the bytes behind it
@@ -184,14 +184,14 @@ header_parts book bytes long letters version its_book =
 with_header : (book bytes : List ℕ) → AreBytes bytes → 38 ≤ length bytes → HasReading book bytes
 with_header book bytes all long =
     elim (same_or_not (take 4 bytes) log_letters) [
-      inr other ↦ (Err NoLog, inr other)
-    | inl letters ↦ elim (same_or_not (take 2 (drop 4 bytes)) log_version) [
-        inr other ↦ (Err Version, record { long = long; letters = letters; version = other })
-      | inl version ↦ elim (same_or_not (take 32 (drop 6 bytes)) book) [
-          inr other ↦ (Err OtherBook, record { long = long; letters = letters; version = version; other = other })
-        | inl its_book ↦
-            found_reading book bytes (drop 38 bytes) (header_parts book bytes long letters version its_book)
-            (find (suc (length (drop 38 bytes))) (first_digest book) (drop 38 bytes) (omega arith) (bytes_behind 38 bytes all))
+      | inr other ↦ (Err NoLog, inr other)
+      | inl letters ↦ elim (same_or_not (take 2 (drop 4 bytes)) log_version) [
+        | inr other ↦ (Err Version, record { long = long; letters = letters; version = other })
+        | inl version ↦ elim (same_or_not (take 32 (drop 6 bytes)) book) [
+          | inr other ↦ (Err OtherBook, record { long = long; letters = letters; version = version; other = other })
+          | inl its_book ↦
+              found_reading book bytes (drop 38 bytes) (header_parts book bytes long letters version its_book)
+              (find (suc (length (drop 38 bytes))) (first_digest book) (drop 38 bytes) (omega arith) (bytes_behind 38 bytes all))
         ]
       ]
     ]
@@ -199,6 +199,6 @@ with_header book bytes all long =
 pub some_reading : (book bytes : List ℕ) → length book ≡ 32 → All (λ byte. byte < 256) bytes → HasReading book bytes
 some_reading book bytes len all =
     elim (less_or_not (length bytes) 38) [
-      inl short ↦ (Err NoLog, inl short)
-    | inr long ↦ with_header book bytes (recursion_from_All (λ byte. byte < 256) bytes all) long
+      | inl short ↦ (Err NoLog, inl short)
+      | inr long ↦ with_header book bytes (recursion_from_All (λ byte. byte < 256) bytes all) long
     ]

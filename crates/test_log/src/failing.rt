@@ -2,6 +2,7 @@
 
 use crate::vectors::{BOOK, LOG};
 use crate::writing::{begun, bodies_of, file_of};
+use file_devices::FailingSource;
 use log_devices::MemoryLog;
 use log_file::{LogFault, LogWriter, read_log};
 use std::alloc::Global;
@@ -34,11 +35,15 @@ fn is_kept(alloc: Global, answers: u64) -> Result<bool, LogFault> {
     let has = writer.file().bytes();
     let kept = writer.file().synced();
     let read = read_log(alloc, has, BOOK)?;
-    Ok(has_failed == (count < 2)
-        && (count == 2 || again == Some(LogFault::Failed))
-        && (count == 2 || LOG.starts_with(has))
-        && ENDS.get(count).is_some_and(|end| kept.starts_with(LOG.get(..*end).unwrap_or(LOG)))
-        && read.end.entries() >= count as u64)
+    Ok(
+        has_failed == (count < 2)
+            && (count == 2 || again == Some(LogFault::Failed))
+            && (count == 2 || LOG.starts_with(has))
+            && ENDS
+                .get(count)
+                .is_some_and(|end| kept.starts_with(LOG.get(..*end).unwrap_or(LOG)))
+            && read.end.entries() >= count as u64,
+    )
 }
 
 #[test]
@@ -48,4 +53,15 @@ fn what_is_synced_is_kept_by_whatever_fails(rt: HostRuntime) -> Result<(), Fail>
         assert!(rt; is_kept(rt.alloc(), answers) == Ok(true), "{answers}");
     }
     Ok(())
+}
+
+#[test]
+fn a_source_that_fails_is_told(rt: HostRuntime) {
+    // Eight pieces of 20 bytes, and a last call that finds the end.
+    for answers in 0..9u64 {
+        let source = FailingSource::new(LOG, 20, answers);
+        assert!(rt; read_log(rt.alloc(), source, BOOK).err() == Some(LogFault::Failed), "{answers}");
+    }
+    let source = FailingSource::new(LOG, 20, 9);
+    assert!(rt; read_log(rt.alloc(), source, BOOK).is_ok());
 }

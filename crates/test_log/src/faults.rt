@@ -35,17 +35,28 @@ fn each_fault_is_named(rt: HostRuntime) -> Result<(), Fail> {
     assert!(rt; read(alloc, &changed(alloc, 144, 37, b"")?) == Err(LogFault::OtherBook));
     // The length, its complement, the payload and the digest of the first entry.
     for place in [38usize, 41, 42, 45, 46, 60, 61, 92] {
-        assert!(rt; read(alloc, &changed(alloc, 144, place, b"")?) == Err(LogFault::Broken(0)), "{place}");
+        assert!(rt;
+            read(alloc, &changed(alloc, 144, place, b"")?) == Err(LogFault::Broken(0)),
+            "{place}"
+        );
     }
     // The same of the last entry, where more follows.
     for place in [93usize, 100, 101, 112, 143] {
-        assert!(rt; read(alloc, &changed(alloc, 144, place, b"\x00")?) == Err(LogFault::Broken(1)), "{place}");
+        assert!(rt;
+            read(alloc, &changed(alloc, 144, place, b"\x00")?) == Err(LogFault::Broken(1)),
+            "{place}"
+        );
     }
     // A right digest over no bodies, and a payload that isn't one.
     assert!(rt; read(alloc, &changed(alloc, 38, NONE, NO_BODIES)?) == Err(LogFault::Broken(0)));
     assert!(rt; read(alloc, &changed(alloc, 38, NONE, NO_PAYLOAD)?) == Err(LogFault::Broken(0)));
     // Zeros, and then a byte that is none.
-    assert!(rt; read(alloc, &changed(alloc, 144, NONE, b"\x00\x00\x00\x00\x00\x00\x00\x00\x01")?) == Err(LogFault::Broken(2)));
+    assert!(rt;
+        read(
+            alloc,
+            &changed(alloc, 144, NONE, b"\x00\x00\x00\x00\x00\x00\x00\x00\x01")?
+        ) == Err(LogFault::Broken(2))
+    );
     Ok(())
 }
 
@@ -55,15 +66,24 @@ fn each_torn_tail_is_told(rt: HostRuntime) -> Result<(), Fail> {
     for kept in 38..144usize {
         let (entries, end) = if kept < 93 { (0u64, 38usize) } else { (1, 93) };
         let tail = kept.saturating_sub(end) as u64;
-        assert!(rt; read(alloc, &changed(alloc, kept, NONE, b"")?) == Ok((entries, tail)), "{kept}");
+        assert!(rt;
+            read(alloc, &changed(alloc, kept, NONE, b"")?) == Ok((entries, tail)),
+            "{kept}"
+        );
     }
     // The payload and the digest of the last entry.
     for place in [101usize, 111, 112, 143] {
-        assert!(rt; read(alloc, &changed(alloc, 144, place, b"")?) == Ok((1, 51)), "{place}");
+        assert!(rt;
+            read(alloc, &changed(alloc, 144, place, b"")?) == Ok((1, 51)),
+            "{place}"
+        );
     }
     for zeros in [0usize, 1, 7, 8, 9, 70_000] {
         let more = vec![in alloc; 0u8; zeros]?;
-        assert!(rt; read(alloc, &changed(alloc, 144, NONE, &more)?) == Ok((2, zeros as u64)), "{zeros}");
+        assert!(rt;
+            read(alloc, &changed(alloc, 144, NONE, &more)?) == Ok((2, zeros as u64)),
+            "{zeros}"
+        );
     }
     Ok(())
 }

@@ -74,7 +74,12 @@ fn one_host_alone_has_a_log(rt: HostRuntime) -> Result<(), Fail> {
     drop(first);
     assert!(rt; HostLog::open(&rt, "log_locked/log").is_ok());
     assert!(rt; matches!(HostLog::open(&rt, "log_locked"), Err(OpenFault::Refused)));
-    assert!(rt; matches!(HostLog::open(&rt, "log_absent/log"), Err(OpenFault::Refused)));
+    assert!(rt;
+        matches!(
+            HostLog::open(&rt, "log_absent/log"),
+            Err(OpenFault::Refused)
+        )
+    );
     fs::remove_dir_all(&rt, "log_locked")?;
     Ok(())
 }

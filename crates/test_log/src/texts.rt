@@ -52,11 +52,15 @@ fn a_log_is_written_byte_for_byte(rt: HostRuntime) -> Result<(), Fail> {
 #[test]
 fn a_log_is_read_as_its_entries(rt: HostRuntime) {
     let read = read_log(rt.alloc(), LOG, BOOK);
-    assert!(rt; matches!(&read, Ok(log) if log.end.at() == 144 && log.end.tail() == 0 && log.end.entries() == 2));
+    assert!(rt;
+        matches!(&read, Ok(log) if log.end.at() == 144 && log.end.tail() == 0 && log.end.entries() == 2)
+    );
     let Ok(log) = read else {
         return;
     };
-    assert!(rt; matches!(log.entries.as_slice(), [first, second] if are(first, &[b"one", b"two!"]) && are(second, &[b"three"])));
+    assert!(rt;
+        matches!(log.entries.as_slice(), [first, second] if are(first, &[b"one", b"two!"]) && are(second, &[b"three"]))
+    );
 }
 
 // The file, once its log was read to the end, and is written on.
@@ -83,7 +87,15 @@ fn resumed(alloc: Global, file: MemoryLog) -> Result<LogWriter<MemoryLog>, LogFa
 fn a_log_is_gone_on_with_behind_a_torn_tail(rt: HostRuntime) -> Result<(), Fail> {
     let alloc = rt.alloc();
     // A header that was torn, the header, the first entry, and that with a tail.
-    for (kept, number) in [(0usize, 0u64), (37, 0), (38, 0), (60, 0), (93, 1), (100, 1), (143, 1)] {
+    for (kept, number) in [
+        (0usize, 0u64),
+        (37, 0),
+        (38, 0),
+        (60, 0),
+        (93, 1),
+        (100, 1),
+        (143, 1),
+    ] {
         let file = file_of(alloc, LOG.get(..kept).unwrap_or(LOG), 255, 1_000)?;
         let resumed = resumed(alloc, file);
         assert!(rt; resumed.is_ok());

@@ -13,7 +13,7 @@ returns-then-not-branch-clause-part g c = λ known.
     let new = c.fill.new.self in
     let less = ok_of _ _ c.if-not-branch.true in
     let torn = cut_end c.args.before.now (ahead rem old) (held old) (rem old.source) (held new) (rem new.source) c.args.size (omega arith) c.requires.long c.requires.head refl
-        (c.in_ok-fill.ensures.bytes known) (c.in_ok-fill.ensures.end less known) (c.in_ok-fill.ensures.less less) in
+    (c.in_ok-fill.ensures.bytes known) (c.in_ok-fill.ensures.end less known) (c.in_ok-fill.ensures.less less) in
     (torn.0, ap length c.held.ensures ∙ torn.1)
 
 pub returns-in-Whole-clause-part : goal.returns-in-Whole-clause-part

@@ -17,9 +17,9 @@ returns-in-Some-Some-clause-read g c = λ known book bytes entries has.
     let self = c.args.self.now in
     let entry = c.in-Entry.entry in
     let part : IsPart self.digest (ahead rem self.input) (ahead rem c.read_part.new.input) (Entry entry) =
-        subst (IsPart self.digest (ahead rem self.input) (ahead rem c.read_part.new.input)) c.in-Entry.is (c.in_ok-entry.ensures.part known) in
+    subst (IsPart self.digest (ahead rem self.input) (ahead rem c.read_part.new.input)) c.in-Entry.is (c.in_ok-entry.ensures.part known) in
     let at : c.in-Some-Some.at ≡ self.at + entry.size = omega (arith, c.in-Some-Some.ensures, c.in-Some-Some.ensures') in
     let count : c.in-Some-Some.entries ≡ self.entries + 1 = omega (arith, c.in-Some-Some.ensures, c.in-Some-Some.ensures') in
     let e = entered book bytes (ahead rem self.input) (ahead rem c.read_part.new.input) self.digest entry.digest entries entry.bodies self.at entry.size c.in-Some-Some.at self.entries c.in-Some-Some.entries
-        has.stands has.digest part.0 part.1 part.2 has.place at has.count count in
+    has.stands has.digest part.0 part.1 part.2 has.place at has.count count in
     record { stands = e.stands; digest = e.digest_is; count = e.number; place = e.place }

@@ -25,7 +25,7 @@ returns-in_err-check_header-clause-fault g c =
     let known1 : g.R.Source.is_known c.in_ok-input.input.source = rw c.in_ok-input.ensures.source known in
     let start : ahead rem c.in_ok-input.input ≡ rem c.args.source = rw (c.in_ok-input.ensures.held, c.in_ok-input.ensures.source) refl in
     let whole : c.held.result.now ++ rem c.fill.new.self.source ≡ rem c.args.source =
-        ap (λ (x : List ℕ). x ++ rem c.fill.new.self.source) c.held.ensures ∙ c.in_ok-fill.ensures.bytes known1 ∙ start in
+    ap (λ (x : List ℕ). x ++ rem c.fill.new.self.source) c.held.ensures ∙ c.in_ok-fill.ensures.bytes known1 ∙ start in
     subst (λ (x : List ℕ). IsReading c.args.book.now x (Err c.in_err-check_header.field-0.0)) whole (c.in_err-check_header.ensures.fault (rem c.fill.new.self.source)))
 
 pub returns-clause-read : goal.returns-clause-read
@@ -35,7 +35,7 @@ returns-clause-read g c = λ known.
     let known1 : g.R.Source.is_known c.in_ok-input.input.source = rw c.in_ok-input.ensures.source known in
     let start : ahead rem c.in_ok-input.input ≡ rem c.args.source = rw (c.in_ok-input.ensures.held, c.in_ok-input.ensures.source) refl in
     let whole : c.held.result.now ++ rem c.fill.new.self.source ≡ rem c.args.source =
-        ap (λ (x : List ℕ). x ++ rem c.fill.new.self.source) c.held.ensures ∙ c.in_ok-fill.ensures.bytes known1 ∙ start in
+    ap (λ (x : List ℕ). x ++ rem c.fill.new.self.source) c.held.ensures ∙ c.in_ok-fill.ensures.bytes known1 ∙ start in
     let behind : ahead rem next ≡ drop 38 c.held.result.now ++ rem c.fill.new.self.source = rw (c.skip.ensures.held, c.skip.ensures.source, c.held.ensures) refl in
     let len : length c.args.book.now ≡ 32 = first_of (search rules, omega arith) in
     let o = opened c.args.book.now (rem c.args.source) c.held.result.now (rem c.fill.new.self.source) (ahead rem next) c.digest_of-digest.result len whole c.in_ok-check_header.ensures.ok behind c.digest_of-digest.ensures in
