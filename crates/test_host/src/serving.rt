@@ -6,7 +6,7 @@ use host_serving::{Decider, Host, HostFault, Tally};
 use issuer_rows::Book;
 use issuer_rules::Shipped;
 use link_frames::LinkFault;
-use log_devices::MemoryLog;
+use log_devices::{LogInput, MemoryLog};
 use log_file::{Begun, LogFault, LogWriter, read_log};
 use std::alloc::Global;
 use std::test::Fail;
@@ -233,20 +233,30 @@ fn a_link_that_stops_within_a_frame_is_answered_up_to_there(rt: HostRuntime) -> 
     Ok(())
 }
 
-// A host that was started again: the log of the first link is decided again, and the second link is served.
-fn started_again(alloc: Global, book: &Book, first: &[u8], second: &[u8]) -> Option<Outcome> {
+// A host that is started on a log: what it has is decided again on the book.
+fn start(alloc: Global, book: &Book, file: MemoryLog) -> Option<Host<MemoryLog>> {
+    let log = read_log(alloc, LogInput::new(&file), &BOOK).ok()?;
+    let mut decider = Decider::new(alloc, book.copy().ok()?);
+    decider.replay(alloc, &log.entries, &Shipped).ok()?;
+    let writer = LogWriter::resume(alloc, file, log.end).ok()?;
+    Some(Host::new(decider, writer))
+}
+
+// What a crash keeps of the log of a host that served this link.
+fn kept(alloc: Global, book: &Book, link: &[u8]) -> Option<MemoryLog> {
     let mut host = host(alloc, book, 1000)?;
-    let mut source = first;
+    let mut source = link;
     let mut sink = FailingSink::new(alloc, 4096, 1000);
     host.serve_link(alloc, &mut source, &mut sink, &Shipped)
         .ok()?;
-    let log = read_log(alloc, host.log().file().synced(), &BOOK).ok()?;
-    let mut decider = Decider::new(alloc, book.copy().ok()?);
-    decider.replay(alloc, &log.entries, &Shipped).ok()?;
     let mut bytes = Vec::new(alloc);
     bytes.extend_from_slice(host.log().file().synced()).ok()?;
-    let file = MemoryLog::new(bytes, 4096, 1000);
-    let mut again = Host::new(decider, LogWriter::resume(alloc, file, log.end).ok()?);
+    Some(MemoryLog::new(bytes, 4096, 1000))
+}
+
+// The first link is served; then the host is started again, and serves the second one.
+fn started_again(alloc: Global, book: &Book, first: &[u8], second: &[u8]) -> Option<Outcome> {
+    let mut again = start(alloc, book, kept(alloc, book, first)?)?;
     let mut source = second;
     let mut sink = FailingSink::new(alloc, 4096, 1000);
     let result = again.serve_link(alloc, &mut source, &mut sink, &Shipped);
