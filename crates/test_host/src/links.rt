@@ -1,5 +1,7 @@
 //! Frames of a link that is cut at each place, and its faults.
 
+ghost use Rattle.std.specs.Prelude.{◌<◌};
+
 use crate::vectors::{FIRST, LINK, REPEAT};
 use file_devices::{FailingSource, Source};
 use link_frames::{Front, LinkFault, LinkReader, front_of};

@@ -1,5 +1,7 @@
 //! Links that are served over devices that fail at each call: nothing is answered that isn't in the log.
 
+ghost use Rattle.std.specs.Prelude.{◌<◌};
+
 use crate::vectors::{FIRST, FIRST_REPLY, LINK, NO_MESSAGE, REPEAT, REPLIES, SECOND, SECOND_REPLY};
 use file_devices::{FailingSink, FailingSource};
 use host_serving::{Decider, Host, HostFault, Tally};
