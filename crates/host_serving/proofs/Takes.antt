@@ -1,0 +1,105 @@
+-- Bodies that are taken out of frames, one after another.
+use Rattle.std.proofs.Common.{◌≡◌, ℕ, suc, ◌+◌, ◌-◌, ◌<◌, List, [], ◌∷◌, ◌++◌, length, Result, Ok, Err, Bor, inl, inr, refl, sym, ap, subst, ◌∙◌, append_assoc, arith}
+use Rattle.std.specs.List.{flat_map, AllByRecursion}
+use Rattle.std.proofs.lemmas.List.{append-nil, length-append}
+use Rattle.std.proofs.lemmas.List.Concat.{flat_map-append}
+use Rattle.file_batch_laws.specs.Files.{framed, IsBody}
+use Rattle.file_batch_laws.specs.Reading.{bodies_at}
+use Rattle.file_batch_laws.specs.declared.batch_fault.BatchFault.{BatchFault}
+use Rattle.file_batch_laws.specs.Frames.{IsFrameOf, AreFramesOf}
+use Rattle.file_batch_laws.proofs.Again.{bodies_again}
+use Rattle.issuer_rows.specs.declared.frame.Frame.{Frame as Message}
+use Rattle.link_frames.specs.Front.{IsFront}
+use Rattle.link_frames.specs.Link.{AreFrames, AreSoMany, HasFrame}
+use Rattle.link_frames.specs.declared.front.Front.{Front}
+use Rattle.link_frames.specs.declared.front.Front.TheVariants.{Frame, Part, Wrong}
+use Rattle.link_frames.proofs.Fronts.{not_none}
+
+abbrev Read : Type 0
+Read = Result (List (List ℕ) × List ℕ) BatchFault
+
+-- of one or more frames the first stands first
+first_of : (n : ℕ) (bytes : List ℕ) (bodies : List (List ℕ)) → length bodies ≡ suc n → AllByRecursion IsBody bodies → bytes ≡ flat_map framed bodies → HasFrame bytes
+first_of n bytes [] e all is = absurd (omega (arith, e))
+first_of n bytes (body ∷ bodies) e all is = (body, flat_map framed bodies, all.0, is)
+
+some_frame : (n : ℕ) (bytes : List ℕ) → AreSoMany (suc n) bytes → HasFrame bytes
+some_frame n bytes many = first_of n bytes many.0 many.1 many.2 many.3
+
+abbrev left_in : Read → List ℕ
+left_in (Ok read) = read.1
+left_in (Err e) = []
+
+one_framed : (body rest : List ℕ) → flat_map framed (body ∷ []) ++ rest ≡ framed body ++ rest
+one_framed body rest = ap (λ (x : List ℕ). x ++ rest) (append-nil (framed body))
+
+-- a frame is of one body alone
+alone : (body other behind rest : List ℕ) → IsBody body → IsBody other → framed body ++ behind ≡ framed other ++ rest → behind ≡ rest
+alone body other behind rest is is_other same =
+    let both : flat_map framed (body ∷ []) ++ behind ≡ flat_map framed (other ∷ []) ++ rest = one_framed body behind ∙ same ∙ sym (one_framed other rest) in
+    let reads : Path Read (Ok (body ∷ [], behind)) (Ok (other ∷ [], rest)) = sym (bodies_again (body ∷ []) behind (is, tt)) ∙ ap (bodies_at 1) both ∙ bodies_again (other ∷ []) rest (is_other, tt) in
+    ap (λ (read : Read). left_in read) reads
+
+left_of : (n : ℕ) (bytes body behind : List ℕ) (bodies : List (List ℕ)) → length bodies ≡ suc n → AllByRecursion IsBody bodies → bytes ≡ flat_map framed bodies
+    → IsBody body → bytes ≡ framed body ++ behind → AreSoMany n behind
+left_of n bytes body behind [] e all is is_body first = absurd (omega (arith, e))
+left_of n bytes body behind (b ∷ bodies) e all is is_body first =
+    (bodies, omega (arith, e), all.1, alone body b behind (flat_map framed bodies) is_body all.0 (sym first ∙ is))
+
+-- behind the first of them there is one less
+pub one_taken : (n : ℕ) (bytes body behind : List ℕ) → AreSoMany (suc n) bytes → IsBody body → bytes ≡ framed body ++ behind → AreSoMany n behind
+one_taken n bytes body behind many is first = left_of n bytes body behind many.0 many.1 many.2 many.3 is first
+
+each_more : {A : Type 0} (P : A → Type 0) (some more : List A) → AllByRecursion P some → AllByRecursion P more → AllByRecursion P (some ++ more)
+each_more P [] more h k = k
+each_more P (item ∷ some) more h k = (h.0, each_more P some more h.1 k)
+
+-- frames, and frames behind them
+pub frames_more : (bytes left rest : List ℕ) (some more : List (List ℕ)) → AreFrames bytes some left → AreFrames left more rest → AreFrames bytes (some ++ more) rest
+frames_more bytes left rest some more front back =
+    (each_more IsBody some more front.0 back.0, rw (front.1, back.1, flat_map-append framed some more) (sym (append_assoc (flat_map framed some) (flat_map framed more) rest)))
+
+pub one_more : (bytes rest body behind : List ℕ) (bodies : List (List ℕ)) → AllByRecursion IsBody bodies → bytes ≡ flat_map framed bodies ++ rest → IsBody body → rest ≡ framed body ++ behind
+    → AreFrames bytes (bodies ++ body ∷ []) behind
+one_more bytes rest body behind bodies are all is first =
+    frames_more bytes rest behind bodies (body ∷ []) (are, all) ((is, tt), first ∙ ap (λ (x : List ℕ). x ++ behind) (sym (append-nil (framed body))))
+
+none_left : (bytes : List ℕ) (bodies : List (List ℕ)) → length bodies ≡ 0 → bytes ≡ flat_map framed bodies → bytes ≡ []
+none_left bytes [] e is = is
+none_left bytes (body ∷ bodies) e is = absurd (omega (arith, e))
+
+-- none is left
+pub no_more : (bytes : List ℕ) → AreSoMany 0 bytes → bytes ≡ []
+no_more bytes many = none_left bytes many.0 many.1 many.3
+
+-- one frame less is left of so many
+pub one_less : (count k : ℕ) (bytes : List ℕ) → k < count → AreSoMany (count - k) bytes → AreSoMany (suc (count - (k + 1))) bytes
+one_less count k bytes lt many = subst (λ (n : ℕ). AreSoMany n bytes) (omega (arith, lt)) many
+
+front_stands : (bytes : List ℕ) (front : Front) → HasFrame bytes → IsFront bytes front → ((body : Bor (List ℕ)) (behind : Bor (List ℕ)) → front ≡ Frame body behind → ⊥) → ⊥
+front_stands bytes (Frame body behind) frame is other = other body behind refl
+front_stands bytes Part frame is other = not_none bytes frame (inl is)
+front_stands bytes Wrong frame is other = not_none bytes frame (inr is)
+
+-- of one or more frames the front is one
+pub some_front : (n : ℕ) (bytes : List ℕ) (front : Front) → AreSoMany (suc n) bytes → IsFront bytes front → ((body : Bor (List ℕ)) (behind : Bor (List ℕ)) → front ≡ Frame body behind → ⊥) → ⊥
+some_front n bytes front many is other = front_stands bytes front (some_frame n bytes many) is other
+
+-- frames of bodies, and of those behind them
+pub both_are : (bodies more : List (List ℕ)) (frames others : List Message) → AreFramesOf bodies frames → AreFramesOf more others → AreFramesOf (bodies ++ more) (frames ++ others)
+both_are [] more [] others here there = there
+both_are [] more (x ∷ frames) others here there = absurd here
+both_are (b ∷ bodies) more [] others here there = absurd here
+both_are (b ∷ bodies) more (x ∷ frames) others here there = (here.0, both_are bodies more frames others here.1 there)
+
+-- as many frames as bodies
+pub as_many : (bodies : List (List ℕ)) (frames : List Message) → AreFramesOf bodies frames → length frames ≡ length bodies
+as_many [] [] are = refl
+as_many [] (x ∷ frames) are = absurd are
+as_many (b ∷ bodies) [] are = absurd are
+as_many (b ∷ bodies) (x ∷ frames) are = ap suc (as_many bodies frames are.1)
+
+-- the bodies that were taken out of what was given
+pub given_came : (bytes given left : List ℕ) (bodies : List (List ℕ)) → bytes ≡ given ++ left → AreFrames given bodies [] → AreFrames bytes bodies left
+given_came bytes given left bodies order taken =
+    (taken.0, order ∙ ap (λ (x : List ℕ). x ++ left) (taken.1 ∙ append-nil (flat_map framed bodies)))

@@ -1,0 +1,28 @@
+-- Bodies that are decided, and what is written for them.
+use Rattle.std.specs.Prelude.{◌≡◌, ℕ, List}
+use Rattle.issuer_rows.specs.Fold.{Rows, rows_after, replies_to}
+use Rattle.issuer_rows.specs.declared.frame.Frame.{Frame}
+use Rattle.file_batch_laws.specs.Frames.{AreFramesOf}
+use Rattle.link_frames.specs.Replies.{reply_frames}
+use Rattle.host_serving.specs.Tally.{counted}
+use Rattle.host_serving.specs.declared.decider.Decider.{Decider}
+
+-- the new book is the one after these messages, decided one after another on the old one, and they are counted
+pub record Follows (old new : Decider) (messages : List Frame) : Type 0 where
+  pub book : new.prefix.book ≡ rows_after old.prefix.book messages
+  pub tally : new.tally ≡ counted old.tally messages
+
+-- the messages of these bodies were decided, and their replies are at hand
+pub record Decides (bodies : List (List ℕ)) (old new : Decider) : Type 0 where
+  pub messages : List Frame
+  pub read : AreFramesOf bodies messages
+  pub after : Follows old new messages
+  pub replies : new.prefix.replies.items ≡ replies_to old.prefix.book messages
+
+-- these bodies were decided last, on the book before them, and their replies are at hand
+abbrev pub HasDecided : List (List ℕ) → Decider → Type 0
+HasDecided bodies decider = (before : Decider) × Decides bodies before decider
+
+-- what a link is given: the replies to these messages, decided one after another on this book
+abbrev pub answers_to : Rows → List Frame → List ℕ
+answers_to book messages = reply_frames (replies_to book messages)

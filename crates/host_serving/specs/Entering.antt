@@ -1,0 +1,67 @@
+-- One entry: its messages are decided, it is appended to the log and synced, and then its replies are written.
+use Rattle.std.specs.Prelude.{◌≡◌, ℕ, List, [], ◌∷◌, ◌++◌}
+use Rattle.issuer_rows.specs.Fold.{Rows}
+use Rattle.issuer_rows.specs.declared.frame.Frame.{Frame}
+use Rattle.file_batch_laws.specs.Frames.{AreFramesOf}
+use Rattle.link_frames.specs.Replies.{AppendsPart}
+use Rattle.link_frames.specs.declared.link_fault.LinkFault.TheVariants as link
+use Rattle.log_file.specs.Writes.{HasLog, IsCutOff}
+use Rattle.log_file.specs.declared.log_writer.LogWriter.{LogWriter}
+use Rattle.log_laws.specs.declared.log_fault.LogFault.TheVariants.{Failed}
+use Rattle.host_serving.specs.Deciding.{Follows, answers_to}
+use Rattle.host_serving.specs.declared.host.Host.{Host}
+use Rattle.host_serving.specs.declared.host_fault.HostFault.{HostFault}
+use Rattle.host_serving.specs.declared.host_fault.HostFault.TheVariants.{Link, Log, OutOfMemory}
+
+-- the book of a host
+abbrev pub book_of : {G : Type 0} → Host G → Rows
+book_of host = host.decider.prefix.book
+
+-- over the file of a log
+module _ {G : Type 0} (is_known : G → Type 0) (synced unsynced : G → List ℕ) where
+  -- what the log had stays, and these entries stand behind it, all synced
+  abbrev pub Grows : LogWriter G → LogWriter G → List (List (List ℕ)) → Type 0
+  Grows old new entries = (digest : List ℕ) (first : List (List (List ℕ))) → HasLog is_known synced unsynced digest first old
+      → HasLog is_known synced unsynced digest (first ++ entries) new
+
+  -- the same, but that a call on the log's file failed: some beginning of one entry more, of these bodies, may stand behind them
+  abbrev pub BreaksOff : LogWriter G → LogWriter G → List (List (List ℕ)) → List (List ℕ) → Type 0
+  BreaksOff old new entries bodies = (digest : List ℕ) (first : List (List (List ℕ))) → HasLog is_known synced unsynced digest first old
+      → IsCutOff is_known synced unsynced digest (first ++ entries) bodies new.file
+
+  -- an entry of these bodies was appended and synced, its messages decided, and all their replies written
+  pub record Enters (bodies : List (List ℕ)) (old new : Host G) (puts : Type 0) (had has : List ℕ) : Type 0 where
+    pub messages : List Frame
+    pub read : AreFramesOf bodies messages
+    pub log : Grows old.log new.log (bodies ∷ [])
+    pub after : Follows old.decider new.decider messages
+    pub answered : puts → has ≡ had ++ answers_to (book_of old) messages
+
+  -- It stopped while the replies were written: the entry is synced.
+  pub record StopsAnswering (bodies : List (List ℕ)) (old new : Host G) (puts : Type 0) (had has : List ℕ) : Type 0 where
+    pub messages : List Frame
+    pub read : AreFramesOf bodies messages
+    pub log : Grows old.log new.log (bodies ∷ [])
+    pub after : Follows old.decider new.decider messages
+    pub answered : puts → AppendsPart had has (answers_to (book_of old) messages)
+
+  -- It stopped while the entry was appended: nothing was written on the link.
+  pub record StopsAppending (bodies : List (List ℕ)) (old new : Host G) (puts : Type 0) (had has : List ℕ) : Type 0 where
+    pub messages : List Frame
+    pub read : AreFramesOf bodies messages
+    pub log : BreaksOff old.log new.log [] bodies
+    pub after : Follows old.decider new.decider messages
+    pub unanswered : puts → has ≡ had
+
+  -- Memory ran out before the entry was appended: the log is as it was, nothing was written, and the book is of no use.
+  pub record StopsDeciding (old new : Host G) (puts : Type 0) (had has : List ℕ) : Type 0 where
+    pub log : Grows old.log new.log []
+    pub unanswered : puts → has ≡ had
+
+  -- which of them it is, by the fault
+  abbrev pub StopsEntering : HostFault → List (List ℕ) → Host G → Host G → Type 0 → List ℕ → List ℕ → Type 0
+  StopsEntering (Link link.Unwritable) bodies old new puts had has = StopsAnswering bodies old new puts had has
+  StopsEntering (Link link.OutOfMemory) bodies old new puts had has = StopsAnswering bodies old new puts had has
+  StopsEntering (Link fault) bodies old new puts had has = ⊥
+  StopsEntering (Log Failed) bodies old new puts had has = StopsAppending bodies old new puts had has
+  StopsEntering fault bodies old new puts had has = StopsDeciding old new puts had has

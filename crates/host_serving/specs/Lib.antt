@@ -1,0 +1,6 @@
+pub mod HostFault
+pub mod Entries
+pub mod Tally
+pub mod Deciding
+pub mod Entering
+pub mod Serving

@@ -1,0 +1,86 @@
+-- What serving a link comes to: the entries that the log has more, the book after them, and what was written on the link.
+use Rattle.std.specs.Prelude.{◌≡◌, ⊤, ℕ, List, ◌++◌}
+use Rattle.issuer_rows.specs.declared.frame.Frame.{Frame}
+use Rattle.file_batch_laws.specs.Frames.{AreFramesOf}
+use Rattle.link_frames.specs.Replies.{AppendsPart}
+use Rattle.link_frames.specs.Link.{AreFrames, HasFault}
+use Rattle.link_frames.specs.declared.link_fault.LinkFault.TheVariants as link
+use Rattle.log_file.specs.declared.log_writer.LogWriter.{LogWriter}
+use Rattle.log_laws.specs.declared.log_fault.LogFault.TheVariants.{Failed}
+use Rattle.host_serving.specs.Deciding.{Follows, answers_to}
+use Rattle.host_serving.specs.Entering.{book_of, Grows, BreaksOff, Enters, StopsEntering}
+use Rattle.host_serving.specs.Entries.{all_bodies, AreMessagesOf}
+use Rattle.host_serving.specs.declared.decider.Decider.{Decider}
+use Rattle.host_serving.specs.declared.host.Host.{Host}
+use Rattle.host_serving.specs.declared.host_fault.HostFault.{HostFault}
+use Rattle.host_serving.specs.declared.host_fault.HostFault.TheVariants.{Link, Log, OutOfMemory}
+
+-- The book after a fault: that after these messages. Where a call on the log failed, the messages of the frames that came next are decided
+-- too, and not answered; where memory ran out it is of no use.
+abbrev pub BookAfter : HostFault → Decider → List Frame → Type 0 → List ℕ → Decider → Type 0
+BookAfter (Link fault) old messages reads left new = Follows old new messages
+BookAfter (Log Failed) old messages reads left new =
+    (bodies : List (List ℕ)) × (next : List Frame) × (rest : List ℕ) × (reads → AreFrames left bodies rest) × AreFramesOf bodies next × Follows old new (messages ++ next)
+BookAfter fault old messages reads left new = ⊤
+
+-- What was written after a fault: these replies; where one can't be written, or memory ran out for its bytes, a beginning of them.
+abbrev pub AnsweredAfter : HostFault → List ℕ → List ℕ → List ℕ → Type 0
+AnsweredAfter (Link link.Unwritable) had has text = AppendsPart had has text
+AnsweredAfter (Link link.OutOfMemory) had has text = AppendsPart had has text
+AnsweredAfter fault had has text = has ≡ had ++ text
+
+-- a fault of the link's bytes is that of the bytes that are left
+abbrev pub FaultFits : HostFault → Type 0 → List ℕ → Type 0
+FaultFits (Link fault) reads left = reads → HasFault left fault
+FaultFits fault reads left = ⊤
+
+-- a fault that is met while frames are read, where these bytes are ahead
+abbrev pub StopsReading : HostFault → Type 0 → List ℕ → Type 0
+StopsReading (Link fault) reads left = reads → HasFault left fault
+StopsReading (Log fault) reads left = ⊥
+StopsReading OutOfMemory reads left = ⊤
+
+-- over the file of a log
+module _ {G : Type 0} (is_known : G → Type 0) (synced unsynced : G → List ℕ) where
+  -- What the log is after a fault: what it had, and these entries, all synced. Where a call on its file failed, some beginning of one more
+  -- may stand behind them.
+  abbrev pub LogAfter : HostFault → LogWriter G → LogWriter G → List (List (List ℕ)) → Type 0
+  LogAfter (Log Failed) old new entries = (bodies : List (List ℕ)) × BreaksOff is_known synced unsynced old new entries bodies
+  LogAfter fault old new entries = Grows is_known synced unsynced old new entries
+
+  -- All frames that came on a link, up to the bytes that are left, were served: their bodies stand in the log, each entry synced; the book
+  -- is the one after their messages, decided in order; and all their replies were written.
+  pub record Served (old new : Host G) (reads : Type 0) (bytes left : List ℕ) (puts : Type 0) (had has : List ℕ) : Type 0 where
+    pub entries : List (List (List ℕ))
+    pub messages : List Frame
+    pub came : reads → AreFrames bytes (all_bodies entries) left
+    pub read : AreMessagesOf entries messages
+    pub log : Grows is_known synced unsynced old.log new.log entries
+    pub after : Follows old.decider new.decider messages
+    pub answered : puts → has ≡ had ++ answers_to (book_of old) messages
+
+  -- Serving a link stopped with a fault. The log has entries more, all synced, whose bodies are a beginning of the frames that came. What
+  -- was written are the replies to their messages, or a beginning of these: nothing was answered, not even in part, that isn't in the log.
+  pub record Stopped (fault : HostFault) (old new : Host G) (reads : Type 0) (bytes : List ℕ) (puts : Type 0) (had has : List ℕ) : Type 0 where
+    pub entries : List (List (List ℕ))
+    pub messages : List Frame
+    pub left : List ℕ
+    pub came : reads → AreFrames bytes (all_bodies entries) left
+    pub read : AreMessagesOf entries messages
+    pub log : LogAfter fault old.log new.log entries
+    pub after : BookAfter fault old.decider messages reads left new.decider
+    pub answered : puts → AnsweredAfter fault had has (answers_to (book_of old) messages)
+    pub fits : FaultFits fault reads left
+
+  -- the frames that had come became one entry, and these bytes are left
+  pub record EntersNext (old new : Host G) (reads : Type 0) (bytes left : List ℕ) (puts : Type 0) (had has : List ℕ) : Type 0 where
+    pub bodies : List (List ℕ)
+    pub came : reads → AreFrames bytes bodies left
+    pub entered : Enters is_known synced unsynced bodies old new puts had has
+
+  -- the same, but that it stopped in the entry
+  pub record StopsInEntry (fault : HostFault) (old new : Host G) (reads : Type 0) (bytes : List ℕ) (puts : Type 0) (had has : List ℕ) : Type 0 where
+    pub bodies : List (List ℕ)
+    pub left : List ℕ
+    pub came : reads → AreFrames bytes bodies left
+    pub stops : StopsEntering is_known synced unsynced fault bodies old new puts had has

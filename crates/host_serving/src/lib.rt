@@ -1,0 +1,17 @@
+//! A live host: frames of a link become entries of a log, are decided on the book in memory, and are answered once their entry is synced.
+#![tactic(auto)]
+
+mod answering;
+mod decider;
+mod decoding;
+mod host;
+mod host_fault;
+mod serving;
+mod taking;
+mod tally;
+
+pub use answering::answer;
+pub use decider::Decider;
+pub use host::Host;
+pub use host_fault::HostFault;
+pub use tally::Tally;

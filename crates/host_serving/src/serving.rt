@@ -1,0 +1,131 @@
+use crate::answering::answer;
+use crate::host::Host;
+use crate::host_fault::HostFault;
+use crate::taking::take_bodies;
+use file_devices::{Sink, Source};
+use issuer_view::Decide;
+use link_frames::{LinkFault, LinkReader, ReplyWriter};
+use log_devices::GrowingFile;
+use log_file::Bodies;
+use std::alloc::{AllocError, Global};
+use std::mem;
+
+// How many bodies an entry has, at most.
+const MOST: u32 = 65_536;
+
+// The memory of a link: what came on it, what is about to be written, and the bodies of an entry.
+#[derive(Drop)]
+struct Link {
+    reader: LinkReader,
+    writer: ReplyWriter,
+    bodies: Bodies,
+}
+
+impl Link {
+    ghost use Rattle.std.specs.Prelude.{◌≡◌, [], IfOk};
+    ghost use Rattle.link_frames.specs.Reader.{kept};
+
+    // Nothing has come yet.
+    fn new(alloc: Global) -> Result<Link, AllocError>
+        ensures { IfOk result (λ link. kept link.reader ≡ []) }
+    {
+        Ok(Link {
+            reader: LinkReader::new(alloc)?,
+            writer: ReplyWriter::new(alloc),
+            bodies: Bodies::new(alloc),
+        })
+    }
+}
+
+impl<G: GrowingFile + Drop> Host<G> {
+    ghost use Rattle.std.specs.Prelude.{◌≡◌, ◌≢◌, ◌⊎◌, [], true, false, Ok, Err, OnOk, IfErr};
+    ghost use Rattle.link_frames.specs.LinkFault.{Reads, Writes};
+    ghost use Rattle.link_frames.specs.Reader.{ahead};
+    ghost use Rattle.host_serving.specs.HostFault.{of_link};
+    ghost use Rattle.host_serving.specs.Entering.{Enters, StopsEntering};
+    ghost use Rattle.host_serving.specs.Serving.{Served, Stopped, StopsReading, EntersNext, StopsInEntry};
+
+    // Decides the messages of these bodies, appends their entry to the log, and once it is synced writes their replies. The bodies are given
+    // back, for their memory.
+    fn enter<W: Sink, F: Decide>(
+        &mut self,
+        alloc: Global,
+        bodies: Bodies,
+        writer: &mut ReplyWriter,
+        sink: &mut W,
+        decision: &F,
+    ) -> Result<Bodies, HostFault>
+        ensures sink { Writes W.is_known W.has_failed W.may_fail sink.old sink.new (of_link result) }
+        ensures ok { OnOk result (Enters G.is_known G.synced G.unsynced bodies self.old self.new (W.is_known sink.old) (W.written sink.old) (W.written sink.new)) }
+        ensures err { IfErr result (λ e. StopsEntering G.is_known G.synced G.unsynced e bodies self.old self.new (W.is_known sink.old) (W.written sink.old) (W.written sink.new)) }
+        ensures kinds { result ≢ Err (HostFault.Link LinkFault.Unreadable) }
+    {
+        self.decider.decide(alloc, &bodies, decision)?;
+        let synced = self.log.append(bodies)?;
+        answer(writer, &synced, &self.decider, sink)?;
+        Ok(synced.into_bodies())
+    }
+
+    // Waits for frames, and serves those that have come. Returns false at the link's end.
+    fn serve_next<R: Source, W: Sink, F: Decide>(
+        &mut self,
+        alloc: Global,
+        link: &mut Link,
+        source: &mut R,
+        sink: &mut W,
+        decision: &F,
+    ) -> Result<bool, HostFault>
+        ensures source { Reads R.is_known R.has_failed R.may_fail source.old source.new (of_link result) }
+        ensures sink { Writes W.is_known W.has_failed W.may_fail sink.old sink.new (of_link result) }
+        ensures next { result ≡ Ok true → EntersNext G.is_known G.synced G.unsynced self.old self.new
+            (R.is_known source.old) (ahead link.old.reader (R.remaining source.old)) (ahead link.new.reader (R.remaining source.new))
+            (W.is_known sink.old) (W.written sink.old) (W.written sink.new) }
+        ensures end { result ≡ Ok false → (self.new ≡ self.old) × (sink.new ≡ sink.old)
+            × (R.is_known source.old → ahead link.old.reader (R.remaining source.old) ≡ []) }
+        ensures err { IfErr result (λ e. ((self.new ≡ self.old) × (sink.new ≡ sink.old)
+            × StopsReading e (R.is_known source.old) (ahead link.old.reader (R.remaining source.old)))
+            ⊎ StopsInEntry G.is_known G.synced G.unsynced e self.old self.new
+            (R.is_known source.old) (ahead link.old.reader (R.remaining source.old))
+            (W.is_known sink.old) (W.written sink.old) (W.written sink.new)) }
+    {
+        let count = link.reader.next(source, MOST)?;
+        if count == 0 {
+            return Ok(false);
+        }
+        take_bodies(&mut link.bodies, link.reader.frames(), count)?;
+        let bodies = mem::replace(&mut link.bodies, Bodies::new(alloc));
+        link.bodies = self.enter(alloc, bodies, &mut link.writer, sink, decision)?;
+        Ok(true)
+    }
+
+    /// Serves a link until it ends, or to the first fault: the frames that have come become one entry of the log, whose messages are decided
+    /// on the book, one after another, by any local decision; once the entry is synced, their replies are written. A body that is no
+    /// message stands in the log, too, and gets no reply. What a batch costs doesn't grow with the book or the log.
+    pub fn serve_link<R: Source, W: Sink, F: Decide>(
+        &mut self,
+        alloc: Global,
+        source: &mut R,
+        sink: &mut W,
+        decision: &F,
+    ) -> Result<(), HostFault>
+        // It says that the link can't be read exactly where a call of the source failed.
+        ensures source { Reads R.is_known R.has_failed R.may_fail source.old source.new (of_link result) }
+        // It says that a reply can't be written exactly where a call of the sink failed.
+        ensures sink { Writes W.is_known W.has_failed W.may_fail sink.old sink.new (of_link result) }
+        // Where no fault is met, all frames of the link were served.
+        ensures ok { OnOk result (Served G.is_known G.synced G.unsynced self.old self.new
+            (R.is_known source.old) (R.remaining source.old) [] (W.is_known sink.old) (W.written sink.old) (W.written sink.new)) }
+        // After a fault nothing was answered that isn't in the log.
+        ensures stopped { IfErr result (λ e. Stopped G.is_known G.synced G.unsynced e self.old self.new
+            (R.is_known source.old) (R.remaining source.old) (W.is_known sink.old) (W.written sink.old) (W.written sink.new)) }
+    {
+        let mut link = Link::new(alloc)?;
+        for _ in 0..u64::MAX {
+            if !self.serve_next(alloc, &mut link, source, sink, decision)? {
+                return Ok(());
+            }
+        }
+        // No disk can hold so many entries.
+        Err(HostFault::OutOfMemory)
+    }
+}

@@ -1,0 +1,5 @@
+pub mod LinkFault
+pub mod Link
+pub mod Front
+pub mod Reader
+pub mod Replies

@@ -1,0 +1,5 @@
+pub mod LogFault
+pub mod Texts
+pub mod Tails
+pub mod Reading
+pub mod Digests
