@@ -1,6 +1,4 @@
-use Rattle.std.proofs.Common.{◌≡◌, ◌≤◌, ◌*◌, length, ap, arith}
-use Rattle.std.specs.List.{flat_map}
-use Rattle.file_batch_laws.specs.Files.{framed}
+use Rattle.std.proofs.Common.{length, ap, arith}
 use Rattle.log_laws.proofs.Payloads.{length-framed}
 use Rattle.log_file.proofs.appending.make_entry.Goals as goal
 

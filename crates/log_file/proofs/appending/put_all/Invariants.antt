@@ -1,4 +1,4 @@
-use Rattle.std.proofs.Common.{◌≡◌, ℕ, length}
+use Rattle.std.proofs.Common.{◌≡◌, length}
 use Rattle.log_file.proofs.Puts.{IsPut}
 use Rattle.log_file.specs.Device.{UsesFile}
 use Rattle.std.specs.Prelude.{Ok}

@@ -1,5 +1,4 @@
-use Rattle.std.proofs.Common.{◌≡◌, ◌∙◌, ◌++◌, List, ℕ, sym, ap, append_assoc}
-use Rattle.log_devices.specs.Growing.{AddsPart}
+use Rattle.std.proofs.Common.{◌++◌}
 use Rattle.log_file.proofs.Puts.{all_added, always_err}
 use Rattle.log_file.proofs.appending.put_and_sync.Goals as goal
 

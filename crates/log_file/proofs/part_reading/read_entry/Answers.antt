@@ -1,9 +1,8 @@
-use Rattle.std.proofs.Common.{◌≡◌, ◌≢◌, ◌∙◌, ◌<◌, ◌≤◌, ◌+◌, ◌^◌, ◌++◌, List, ℕ, take, drop, length, refl, sym, ap, subst, arith}
+use Rattle.std.proofs.Common.{◌≡◌, ◌∙◌, ◌+◌, ◌++◌, take, drop, length, refl, ap, subst, arith}
 use Rattle.log_file.specs.Ahead.{ahead, held}
 use Rattle.log_file.specs.Parts.{IsChecked}
 use Rattle.log_file.specs.declared.part.Checked.TheVariants.{Whole, NoBodies, Unmatched}
-use Rattle.log_laws.proofs.Steps.{Parts}
-use Rattle.log_file.proofs.Ahead.{IsHeld, at_least, at_most, cut_end, digest_held, entry_part, last_part, more_part, no_bodies_part, ok_of, parts_held, payload_held}
+use Rattle.log_file.proofs.Ahead.{IsHeld, at_least, at_most, cut_end, entry_part, last_part, more_part, no_bodies_part, ok_of, parts_held}
 use Rattle.log_file.proofs.part_reading.read_entry.Goals as goal
 
 pub returns-then-not-branch-clause-part : goal.returns-then-not-branch-clause-part

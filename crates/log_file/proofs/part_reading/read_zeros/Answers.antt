@@ -1,7 +1,7 @@
-use Rattle.std.proofs.Common.{rules, ◌≡◌, ◌∙◌, ◌+◌, ◌++◌, [], List, ℕ, drop, length, refl, sym, ap, subst, arith}
+use Rattle.std.proofs.Common.{rules, ◌≡◌, ◌∙◌, ◌+◌, ◌++◌, [], drop, length, refl, sym, ap, subst, arith}
 use Rattle.std.specs.List.{All}
 use Rattle.log_file.specs.Ahead.{ahead, held}
-use Rattle.log_file.proofs.Ahead.{ZerosRead, more_read, nothing_ahead, ok_of, skipped, zeros_broken, zeros_end}
+use Rattle.log_file.proofs.Ahead.{more_read, nothing_ahead, ok_of, skipped, zeros_broken, zeros_end}
 use Rattle.log_file.proofs.Framing.{clash}
 use Rattle.log_file.proofs.part_reading.read_zeros.Goals as goal
 

@@ -1,4 +1,4 @@
-use Rattle.std.proofs.Common.{◌≡◌, [], refl, arith}
+use Rattle.std.proofs.Common.{[], refl, arith}
 use Rattle.log_file.proofs.Framing.{texts}
 use Rattle.log_file.proofs.bodies.Bodies.clear.Goals as goal
 

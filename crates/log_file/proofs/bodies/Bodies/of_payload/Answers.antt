@@ -1,4 +1,4 @@
-use Rattle.std.proofs.Common.{◌≡◌, ◌∙◌, ◌++◌, List, ℕ, refl, sym, ap}
+use Rattle.std.proofs.Common.{◌≡◌, ◌∙◌, ◌++◌, List, ℕ, refl, ap}
 use Rattle.log_file.proofs.Framing.{clash, no_payload, not_theirs, payload_of}
 use Rattle.log_file.proofs.bodies.Bodies.of_payload.Goals as goal
 

@@ -1,6 +1,5 @@
-use Rattle.std.proofs.Common.{◌≡◌, ◌<◌, ◌∙◌, ◌++◌, ◌∷◌, [], List, ℕ, ap, length, sym, arith}
-use Rattle.log_file.proofs.Framing.{Texts, pushed}
-use Rattle.log_file.specs.Bodies.{bodies_in}
+use Rattle.std.proofs.Common.{◌<◌, ◌∙◌, ◌++◌, ◌∷◌, [], List, ℕ, ap, length, arith}
+use Rattle.log_file.proofs.Framing.{pushed}
 use Rattle.log_file.proofs.bodies.Bodies.push.Goals as goal
 
 pub invariant_of-self : goal.invariant_of-self

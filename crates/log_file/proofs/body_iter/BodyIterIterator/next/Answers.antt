@@ -1,6 +1,6 @@
-use Rattle.std.proofs.Common.{◌≡◌, ◌≢◌, ◌∙◌, ◌<◌, ◌-◌, ℕ, List, length, subst, sym, ap, arith}
+use Rattle.std.proofs.Common.{◌∙◌, ◌<◌, ◌-◌, ℕ, List, length, subst, sym, arith}
 use Rattle.log_file.specs.Bodies.{bodies_in}
-use Rattle.log_file.proofs.Framing.{Goes, goes, some_body}
+use Rattle.log_file.proofs.Framing.{goes, some_body}
 use Rattle.log_file.proofs.body_iter.BodyIterIterator.next.Goals as goal
 
 pub returns-in_err-body-clause-steps : goal.returns-in_err-body-clause-steps

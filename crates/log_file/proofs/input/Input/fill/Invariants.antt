@@ -1,4 +1,4 @@
-use Rattle.std.proofs.Common.{◌≡◌, ◌-◌, ℕ, length}
+use Rattle.std.proofs.Common.{◌≡◌, ◌-◌, length}
 use Rattle.std.specs.Prelude.{Ok}
 use Rattle.log_file.specs.Ahead.{ahead, held}
 use Rattle.log_file.specs.Device.{UsesFile}
