@@ -48,9 +48,9 @@ impl From<LogFault> for HostFault {
 impl fmt::Display for HostFault {
     fn fmt<W: fmt::Write>(&self, f: &mut fmt::Formatter<W>) -> fmt::Result {
         match self {
-            HostFault::Link(fault) => write!(f, "{fault}"),
-            HostFault::Log(fault) => write!(f, "{fault}"),
-            HostFault::OutOfMemory => write!(f, "out of memory"),
+            HostFault::Link(fault) => fault.fmt(f),
+            HostFault::Log(fault) => fault.fmt(f),
+            HostFault::OutOfMemory => f.write_str("memory 1"),
         }
     }
 }

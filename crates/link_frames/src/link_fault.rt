@@ -45,12 +45,6 @@ impl From<AllocError> for LinkFault {
 
 impl fmt::Display for LinkFault {
     fn fmt<W: fmt::Write>(&self, f: &mut fmt::Formatter<W>) -> fmt::Result {
-        match self {
-            LinkFault::Ended => write!(f, "the link ended within a frame"),
-            LinkFault::Length => write!(f, "a frame's length is outside 1 to 512"),
-            LinkFault::Unwritable => write!(f, "a reply can't be written"),
-            LinkFault::Unreadable => write!(f, "the link can't be read"),
-            LinkFault::OutOfMemory => write!(f, "out of memory"),
-        }
+        write!(f, "link {}", self.number())
     }
 }

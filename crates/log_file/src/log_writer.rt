@@ -20,7 +20,8 @@ pub struct LogWriter<G> {
 }
 
 impl<G: GrowingFile + Drop> LogWriter<G> {
-    ghost use Rattle.std.specs.Prelude.{◌≡◌, ◌⊎◌, ◌∷◌, ◌++◌, ℕ, List, [], true, false, Err, IfOk, IfErr, OnOk};
+    ghost use Rattle.std.specs.Prelude.{◌≡◌, ◌⊎◌, ◌∷◌, ◌++◌, ℕ, List, [], true, false, Err, IfOk, IfErr, OnOk, IsTrue};
+    ghost use Rattle.log_laws.specs.LogFault.{is_of_bytes};
     ghost use Rattle.log_laws.specs.Reading.{IsLogOf};
     ghost use Rattle.log_file.specs.Device.{UsesFile};
     ghost use Rattle.log_file.specs.Reads.{EndsAs};
@@ -32,6 +33,7 @@ impl<G: GrowingFile + Drop> LogWriter<G> {
     pub fn begin(alloc: Global, file: G, book: &[u8; 32]) -> Result<Begun<G>, LogFault>
         ensures begun { IfOk result (λ begun. IsBegun G.is_known G.synced G.unsynced book.now file begun) }
         ensures may { IfErr result (λ e. e ≡ LogFault.Failed → G.may_fail file) }
+        ensures fault { IfErr result (λ e. ¬ IsTrue (is_of_bytes e)) }
     {
         let mut file = file;
         let header = make_header(alloc, book)?;
@@ -60,6 +62,7 @@ impl<G: GrowingFile + Drop> LogWriter<G> {
             → HasLog G.is_known G.synced G.unsynced book entries writer) }
         ensures fresh { IfOk result (λ writer. writer.has_failed ≡ false) }
         ensures may { IfErr result (λ e. e ≡ LogFault.Failed → G.may_fail file) }
+        ensures fault { IfErr result (λ e. ¬ IsTrue (is_of_bytes e)) }
     {
         let mut file = file;
         cut_and_sync(&mut file, end.at)?;

@@ -1,4 +1,5 @@
 ghost use Rattle.std.specs.Prelude.{◌≡◌, ◌↔◌, ◌<◌, ◌++◌, ℕ, List, length, take, IfOk, IfErr, IsTrue};
+ghost use Rattle.log_laws.specs.LogFault.{is_of_bytes};
 ghost use Rattle.log_laws.specs.Reading.{IsUnbegun};
 ghost use Rattle.log_laws.specs.Texts.{header_text};
 
@@ -26,6 +27,7 @@ pub(crate) fn is_unbegun<G: GrowingFile>(
 ) -> Result<bool, LogFault>
     ensures unbegun { G.is_known file.now → IfOk result (λ unbegun. IsTrue unbegun ↔ IsUnbegun book.now (G.synced file.now ++ G.unsynced file.now)) }
     ensures may { IfErr result (λ e. e ≡ LogFault.Failed → G.may_fail file.now) }
+    ensures fault { IfErr result (λ e. ¬ IsTrue (is_of_bytes e)) }
 {
     let header = make_header(alloc, book)?;
     let mut input = Input::new(alloc, LogInput::new(file))?;

@@ -1,0 +1,2 @@
+pub mod HostAsked
+pub mod Served

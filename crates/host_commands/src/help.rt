@@ -1,0 +1,29 @@
+/// What `switch serve --help` prints.
+pub const SERVE_HELP: &str = "Answers messages as they come, on a book in memory, and loses none: a reply leaves when its message stands in the log
+
+Usage: switch serve <BOOK> <LOG>
+
+Arguments:
+  <BOOK>  The opening book of the log: JSON of version 1, 2 or 3. It stays as it is
+  <LOG>   The log of all messages that were decided on it. It is begun where it isn't there or is empty
+
+Options:
+  -h, --help  Print help
+
+Messages come on standard input, replies go to standard output, each behind two bytes of its length, the higher first.
+At the start the messages that the log holds are decided again; what a crash left of an entry behind them is cut, and
+`torn N` on standard error says how many bytes that was. The host ends when standard input does.
+
+Exit status: 0 all was answered, 1 fault, 2 usage error.
+
+A fault is printed on standard error as what it is of and its number there:
+  file 1     BOOK can't be opened or read
+  book N     BOOK is no book, as `switch --help` lists
+  log N      the log: 1 is none, 2 another version, 3 of another book, 4 another host has it, 5 an entry was changed,
+             6 can't be opened, read, written or synced; 7 out of memory
+  link N     standard input: 1 ends within a message, 2 a length of 0 or over 512, 4 can't be read; standard output:
+             3 a reply can't be written; 5 out of memory
+  memory 1   memory ran out
+After a fault every message that was answered is in the log. A message that got no reply is sent again as its repeat
+(1101, 1121, 1421): what was decided is answered as it was, and nothing is charged twice.
+";

@@ -1,0 +1,74 @@
+ghost use Rattle.std.specs.Prelude.{◌≡◌, ◌⊎◌, ◌≤◌, ⊤, ⊥, ℕ, List, IfErr, OnOk};
+ghost use Rattle.host_commands.specs.Served.{IsAnswered, IsServed};
+
+use crate::logs::Logs;
+use crate::serve_fault::ServeFault;
+use file_devices::{Files, Sink, Source};
+use host_opening::open_host;
+use issuer_rules::Shipped;
+use std::alloc::Global;
+use std::fmt;
+use std::io::Write;
+use std::thread::Threads;
+
+/// Serves a link, on the book in the first file, with the log in the second, until the link ends or to the first fault. Returns the exit
+/// status: 0 where all that came was answered, else 1, and the fault stands on `err`. So does the size of a torn tail that was cut. What
+/// `err` doesn't take is dropped.
+pub fn serve<R: Threads, F: Files, L: Logs, I: Source, O: Sink, E: Write>(
+    rt: &R,
+    alloc: Global,
+    files: &F,
+    logs: &L,
+    book: &str,
+    log: &str,
+    source: &mut I,
+    sink: &mut O,
+    err: &mut E,
+) -> u8
+    ensures status { result ≤ 1 }
+    ensures served { (text bytes : List ℕ) → F.holds files.now book.now text → L.holds logs.now log.now bytes
+        → I.is_known source.old → O.is_known sink.old
+        → IsServed text bytes (I.remaining source.old) result (O.written sink.old) (O.written sink.new) }
+{
+    match served(rt, alloc, files, logs, book, log, source, sink, err) {
+        Ok(()) => 0,
+        Err(fault) => {
+            say(err, format_args!("{fault}"));
+            1
+        }
+    }
+}
+
+// The same, with the fault.
+fn served<R: Threads, F: Files, L: Logs, I: Source, O: Sink, E: Write>(
+    rt: &R,
+    alloc: Global,
+    files: &F,
+    logs: &L,
+    book: &str,
+    log: &str,
+    source: &mut I,
+    sink: &mut O,
+    err: &mut E,
+) -> Result<(), ServeFault>
+    ensures ok { (text bytes : List ℕ) → F.holds files.now book.now text → L.holds logs.now log.now bytes
+        → I.is_known source.old → O.is_known sink.old
+        → OnOk result (IsAnswered text bytes (I.remaining source.old) (O.written sink.old) (O.written sink.new) ⊤) }
+    ensures err { (text bytes : List ℕ) → F.holds files.now book.now text → L.holds logs.now log.now bytes
+        → I.is_known source.old → O.is_known sink.old
+        → IfErr result (λ _. (O.written sink.new ≡ O.written sink.old)
+            ⊎ IsAnswered text bytes (I.remaining source.old) (O.written sink.old) (O.written sink.new) ⊥) }
+{
+    let file = logs.open(log)?;
+    let mut opened = open_host(rt, alloc, files, book, file, &Shipped)?;
+    if opened.torn > 0 {
+        say(err, format_args!("torn {}", opened.torn));
+    }
+    opened.host.serve_link(alloc, source, sink, &Shipped)?;
+    Ok(())
+}
+
+// Says a line, as far as it is taken.
+fn say<E: Write>(err: &mut E, line: fmt::Arguments<'_>) {
+    let _ = err.write_fmt(format_args!("{line}\n"));
+}

@@ -1,0 +1,3 @@
+pub mod Again
+pub mod Opening
+pub mod OpeningFault

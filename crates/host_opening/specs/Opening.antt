@@ -1,0 +1,33 @@
+-- A live host that was opened over the file of a book and the file of a log.
+use Rattle.std.specs.Prelude.{◌≡◌, ◌⊎◌, ℕ, List, [], ◌++◌, Ok}
+use Rattle.sha2.specs.Sha256.{sha256}
+use Rattle.issuer_rows.specs.Fold.{Rows}
+use Rattle.issuer_rows.specs.declared.frame.Frame.{Frame}
+use Rattle.book_laws.specs.Reading.{reading}
+use Rattle.book_laws.specs.Text.{book_text}
+use Rattle.log_laws.specs.Reading.{IsLogOf, IsUnbegun}
+use Rattle.host_laws.specs.Standing.{StandsBehind}
+use Rattle.host_serving.specs.declared.host.Host.{Host}
+
+-- the digest by which a log names its opening book
+abbrev pub book_digest : Rows → List ℕ
+book_digest book = sha256 (book_text book)
+
+-- the bytes are the log of these entries, and a torn tail perhaps; or no log was begun, and there are none
+abbrev pub HoldsEntries : List ℕ → List ℕ → List (List (List ℕ)) → Type 0
+HoldsEntries digest bytes entries = ((tail : List ℕ) × IsLogOf digest bytes entries tail) ⊎ (IsUnbegun digest bytes × (entries ≡ []))
+
+-- over the file of a log
+module _ {G : Type 0} (is_known : G → Type 0) (synced unsynced : G → List ℕ) where
+  -- the file held these entries, for this book, and the host stands behind them
+  pub record GoesOn (book : Rows) (file : G) (host : Host G) : Type 0 where
+    pub entries : List (List (List ℕ))
+    pub messages : List Frame
+    pub held : HoldsEntries (book_digest book) (synced file ++ unsynced file) entries
+    pub stands : StandsBehind is_known synced unsynced book (book_digest book) entries messages host
+
+  -- the text is read as a book, and the host goes on where the log in the file ends
+  pub record IsOpened (text : List ℕ) (file : G) (host : Host G) : Type 0 where
+    pub book : Rows
+    pub read : reading text ≡ Ok book
+    pub again : is_known file → GoesOn book file host
