@@ -29,7 +29,7 @@ loop-preserved g c =
       known = λ known. c.in_ok-bodies.ensures.file.known (inv.known known);
       may = λ may. inv.may (c.in_ok-bodies.ensures.file.may may);
       read = λ known.
-          rw c.in_ok-push.ensures.items (
+          rw c.in_ok-push-in-Entry.ensures.items (
           subst (λ step. Steps rem c.args.book.now (rem c.args.source) c.loop.entries.items step c.next.new.self) c.in-Entry.is
           (c.in_ok-bodies.ensures.read (inv.known known) c.args.book.now (rem c.args.source) c.loop.entries.items (inv.read known)));
     }
