@@ -1,5 +1,6 @@
 /// What `switch serve --help` prints.
-pub const SERVE_HELP: &str = "Answers messages as they come, on a book in memory, and loses none: a reply leaves when its message stands in the log
+pub const SERVE_HELP: &str =
+    "Answers messages as they come, on a book in memory, and loses none: a reply leaves when its message stands in the log
 
 Usage: switch serve <BOOK> <LOG>
 

@@ -1,8 +1,8 @@
 //! What the program does for `switch serve`: a live host over standard input and output.
 #![tactic(auto)]
 
-mod host_asked;
 mod help;
+mod host_asked;
 mod logs;
 mod serve_fault;
 mod serving;

@@ -57,7 +57,7 @@ fn served<R: Threads, F: Files, L: Logs, I: Source, O: Sink, E: Write>(
     ensures err { (text bytes : List ℕ) → F.holds files.now book.now text → L.holds logs.now log.now bytes
         → I.is_known source.old → O.is_known sink.old
         → IfErr result (λ _. (O.written sink.new ≡ O.written sink.old)
-            ⊎ IsAnswered text bytes (I.remaining source.old) (O.written sink.old) (O.written sink.new) ⊥) }
+        ⊎ IsAnswered text bytes (I.remaining source.old) (O.written sink.old) (O.written sink.new) ⊥) }
 {
     let file = logs.open(log)?;
     let mut opened = open_host(rt, alloc, files, book, file, &Shipped)?;

@@ -37,7 +37,7 @@ messages_of_more entries bodies old middle new before next = record {
 
 -- no entry has no message
 pub messages_of_none : (decider : Decider) → FollowsEntries [] decider decider
-messages_of_none decider = record { messages = []; are = tt; after = record { book = refl; tally = refl; }; }
+messages_of_none decider = record { messages = []; are = tt; after = record { book = refl; tally = refl } }
 
 -- a fault that isn't of the log's bytes says nothing of them
 pub not_of_bytes : (known : Type 0) (digest bytes : List ℕ) (fault : LogFault) → ¬ IsTrue (is_of_bytes fault) → IsLogFault known digest bytes (Log fault)

@@ -12,12 +12,14 @@ returns-in_err-end-clause-fault g c =
     rw (p.1, p.2) (known_more _ _ c.args.digest.now bytes _ (λ known. (knows known, reads known)) (c.in_err-end.ensures.fault c.args.digest.now bytes))
 
 pub resume-requires : goal.resume-requires
-resume-requires g c = record { end = λ known.
-    let bytes = g.G.GrowingFile.synced c.args.file ++ g.G.GrowingFile.unsynced c.args.file in
-    let knows = rw c.new.ensures.file at c.in_ok-reader.ensures.known in
-    let reads = rw (c.new.ensures.file, c.new.ensures.at) at c.in_ok-reader.ensures.read in
-    let again = c.in_ok-end.ensures.again c.args.digest.now bytes (knows known) (reads known) in
-    (c.args.digest.now, again.entries, again.tail, again.is, again.ends) }
+resume-requires g c = record {
+  end = λ known.
+      let bytes = g.G.GrowingFile.synced c.args.file ++ g.G.GrowingFile.unsynced c.args.file in
+      let knows = rw c.new.ensures.file at c.in_ok-reader.ensures.known in
+      let reads = rw (c.new.ensures.file, c.new.ensures.at) at c.in_ok-reader.ensures.read in
+      let again = c.in_ok-end.ensures.again c.args.digest.now bytes (knows known) (reads known) in
+      (c.args.digest.now, again.entries, again.tail, again.is, again.ends);
+}
 
 pub returns-in_err-log-clause-fault : goal.returns-in_err-log-clause-fault
 returns-in_err-log-clause-fault g c =
