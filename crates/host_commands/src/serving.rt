@@ -7,7 +7,6 @@ use file_devices::{Files, Sink, Source};
 use host_opening::open_host;
 use issuer_rules::Shipped;
 use std::alloc::Global;
-use std::fmt;
 use std::io::Write;
 use std::thread::Threads;
 
@@ -33,7 +32,7 @@ pub fn serve<R: Threads, F: Files, L: Logs, I: Source, O: Sink, E: Write>(
     match served(rt, alloc, files, logs, book, log, source, sink, err) {
         Ok(()) => 0,
         Err(fault) => {
-            say(err, format_args!("{fault}"));
+            let _ = write!(err, "{fault}\n");
             1
         }
     }
@@ -62,13 +61,8 @@ fn served<R: Threads, F: Files, L: Logs, I: Source, O: Sink, E: Write>(
     let file = logs.open(log)?;
     let mut opened = open_host(rt, alloc, files, book, file, &Shipped)?;
     if opened.torn > 0 {
-        say(err, format_args!("torn {}", opened.torn));
+        let _ = write!(err, "torn {}\n", opened.torn);
     }
     opened.host.serve_link(alloc, source, sink, &Shipped)?;
     Ok(())
-}
-
-// Says a line, as far as it is taken.
-fn say<E: Write>(err: &mut E, line: fmt::Arguments<'_>) {
-    let _ = err.write_fmt(format_args!("{line}\n"));
 }

@@ -2,13 +2,13 @@
 
 ghost use Rattle.std.specs.Prelude.{◌<◌};
 
-use crate::vectors::{FIRST, FIRST_REPLY, LINK, NO_MESSAGE, REPEAT, REPLIES, SECOND, SECOND_REPLY};
+use crate::vectors::{FIRST_REPLY, LINK, REPLIES};
 use file_devices::{FailingSink, FailingSource};
 use host_serving::{Decider, Host, HostFault, Tally};
 use issuer_rows::Book;
 use issuer_rules::Shipped;
 use link_frames::LinkFault;
-use log_devices::{LogInput, MemoryLog};
+use log_devices::MemoryLog;
 use log_file::{Begun, LogFault, LogWriter, read_log};
 use std::alloc::Global;
 use std::test::Fail;
@@ -232,70 +232,6 @@ fn a_link_that_stops_within_a_frame_is_answered_up_to_there(rt: HostRuntime) -> 
     assert!(rt;
         matches!(&outcome, Some(it) if it.replies.as_slice() == FIRST_REPLY && it.bodies == 2)
     );
-    Ok(())
-}
-
-// A host that is started on a log: what it has is decided again on the book.
-fn start(alloc: Global, book: &Book, file: MemoryLog) -> Option<Host<MemoryLog>> {
-    let log = read_log(alloc, LogInput::new(&file), &BOOK).ok()?;
-    let mut decider = Decider::new(alloc, book.copy().ok()?);
-    decider.replay(alloc, &log.entries, &Shipped).ok()?;
-    let writer = LogWriter::resume(alloc, file, log.end).ok()?;
-    Some(Host::new(decider, writer))
-}
-
-// What a crash keeps of the log of a host that served this link.
-fn kept(alloc: Global, book: &Book, link: &[u8]) -> Option<MemoryLog> {
-    let mut host = host(alloc, book, 1000)?;
-    let mut source = link;
-    let mut sink = FailingSink::new(alloc, 4096, 1000);
-    host.serve_link(alloc, &mut source, &mut sink, &Shipped)
-        .ok()?;
-    let mut bytes = Vec::new(alloc);
-    bytes.extend_from_slice(host.log().file().synced()).ok()?;
-    Some(MemoryLog::new(bytes, 4096, 1000))
-}
-
-// The first link is served; then the host is started again, and serves the second one.
-fn started_again(alloc: Global, book: &Book, first: &[u8], second: &[u8]) -> Option<Outcome> {
-    let mut again = start(alloc, book, kept(alloc, book, first)?)?;
-    let mut source = second;
-    let mut sink = FailingSink::new(alloc, 4096, 1000);
-    let result = again.serve_link(alloc, &mut source, &mut sink, &Shipped);
-    let (entries, bodies) = log_size(alloc, again.log().file().synced())?;
-    let mut replies = Vec::new(alloc);
-    replies.extend_from_slice(sink.taken()).ok()?;
-    Some(Outcome {
-        result,
-        replies,
-        entries,
-        bodies,
-        tally: again.decider().tally(),
-    })
-}
-
-#[test]
-fn a_repeat_behind_a_restart_gets_the_first_reply(rt: HostRuntime) -> Result<(), Fail> {
-    let book = first_book_with(rt.alloc(), &[])?;
-    let outcome = started_again(rt.alloc(), &book, FIRST, REPEAT);
-    assert!(rt;
-        matches!(&outcome, Some(it) if it.result == Ok(()) && it.replies.as_slice() == FIRST_REPLY)
-    );
-    assert!(rt;
-        matches!(&outcome, Some(it) if it.entries == 2 && it.bodies == 2 && it.tally.bodies == 2)
-    );
-    Ok(())
-}
-
-#[test]
-fn a_request_behind_a_restart_goes_on_from_the_book_after_the_log(
-    rt: HostRuntime,
-) -> Result<(), Fail> {
-    let book = first_book_with(rt.alloc(), &[])?;
-    let outcome = started_again(rt.alloc(), &book, FIRST, SECOND);
-    assert!(rt; matches!(&outcome, Some(it) if it.replies.as_slice() == SECOND_REPLY));
-    let none = started_again(rt.alloc(), &book, FIRST, NO_MESSAGE);
-    assert!(rt; matches!(&none, Some(it) if it.replies.is_empty() && it.tally.unreadable == 1));
     Ok(())
 }
 

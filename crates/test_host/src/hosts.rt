@@ -1,0 +1,274 @@
+//! Hosts over their files: the words that ask for one, and hosts that are opened again on their log.
+
+use crate::vectors::{FIRST, FIRST_REPLY, LINK, NO_MESSAGE, REPEAT, REPLIES, SECOND, SECOND_REPLY};
+use book_json::write_book;
+use file_devices::{FailingSink, MemoryFiles};
+use host_commands::{HostAsked, Logs, host_asked, serve};
+use host_opening::{Opened, OpeningFault, open_host};
+use issuer_rows::Book;
+use issuer_rules::Shipped;
+use log_devices::{MemoryLog, OpenFault};
+use log_file::LogFault;
+use std::alloc::Global;
+use std::test::Fail;
+use std::thread::Threads;
+use test_fixtures::{first_book_with, has_row};
+
+// Logs that all have these bytes.
+#[derive(Drop)]
+struct CopiedLogs {
+    alloc: Global,
+    bytes: Vec<u8>,
+}
+
+impl Logs for CopiedLogs {
+    type Log = MemoryLog;
+
+    ghost holds = { λ _ _ _. ⊥ };
+
+    fn open(&self, _name: &str) -> Result<MemoryLog, OpenFault> {
+        match copy_of(self.alloc, &self.bytes) {
+            Some(bytes) => Ok(MemoryLog::new(bytes, 4096, 1000)),
+            None => Err(OpenFault::OutOfMemory),
+        }
+    }
+}
+
+fn copy_of(alloc: Global, bytes: &[u8]) -> Option<Vec<u8>> {
+    let mut copy = Vec::new(alloc);
+    copy.extend_from_slice(bytes).ok()?;
+    Some(copy)
+}
+
+// The file `book` with this book.
+fn files(alloc: Global, book: &Book) -> Option<MemoryFiles> {
+    let mut files = MemoryFiles::new(alloc);
+    files.put("book", write_book(alloc, book).ok()?).ok()?;
+    Some(files)
+}
+
+// A host on the first book, with a log in these bytes.
+fn open<R: Threads>(
+    rt: &R,
+    alloc: Global,
+    book: &Book,
+    log: Vec<u8>,
+) -> Result<Opened<MemoryLog>, OpeningFault> {
+    let Some(files) = files(alloc, book) else {
+        return Err(OpeningFault::OutOfMemory);
+    };
+    let log = MemoryLog::new(log, 4096, 1000);
+    open_host(rt, alloc, &files, "book", log, &Shipped)
+}
+
+// What a crash keeps of the log of a host that goes on with this one and serves a link, and what it wrote.
+fn serve_link<R: Threads>(
+    rt: &R,
+    alloc: Global,
+    book: &Book,
+    log: Vec<u8>,
+    link: &[u8],
+) -> Option<(Vec<u8>, Vec<u8>)> {
+    let mut opened = open(rt, alloc, book, log).ok()?;
+    let mut source = link;
+    let mut sink = FailingSink::new(alloc, 4096, 1000);
+    opened
+        .host
+        .serve_link(alloc, &mut source, &mut sink, &Shipped)
+        .ok()?;
+    let kept = copy_of(alloc, opened.host.log().file().synced())?;
+    Some((kept, copy_of(alloc, sink.taken())?))
+}
+
+// Whether a host serves the first link, and one that is opened on its log answers the second one so.
+fn goes_on<R: Threads>(
+    rt: &R,
+    alloc: Global,
+    book: &Book,
+    first: &[u8],
+    second: &[u8],
+    reply: &[u8],
+) -> bool {
+    let Some((log, _)) = serve_link(rt, alloc, book, Vec::new(alloc), first) else {
+        return false;
+    };
+    match serve_link(rt, alloc, book, log, second) {
+        Some((_, replies)) => replies.as_slice() == reply,
+        None => false,
+    }
+}
+
+#[test]
+fn a_host_goes_on_where_its_log_ends(rt: HostRuntime) -> Result<(), Fail> {
+    let book = first_book_with(rt.alloc(), &[])?;
+    assert!(rt; goes_on(&rt, rt.alloc(), &book, FIRST, REPEAT, FIRST_REPLY));
+    assert!(rt; goes_on(&rt, rt.alloc(), &book, FIRST, SECOND, SECOND_REPLY));
+    assert!(rt; goes_on(&rt, rt.alloc(), &book, FIRST, NO_MESSAGE, b""));
+    Ok(())
+}
+
+// The log of a host that served the link of three bodies, one of which is no message.
+fn log_of_three<R: Threads>(rt: &R, alloc: Global, book: &Book) -> Option<Vec<u8>> {
+    let (log, replies) = serve_link(rt, alloc, book, Vec::new(alloc), LINK)?;
+    if replies.as_slice() == REPLIES {
+        Some(log)
+    } else {
+        None
+    }
+}
+
+#[test]
+fn a_host_is_opened_on_the_book_after_its_log(rt: HostRuntime) -> Result<(), Fail> {
+    let book = first_book_with(rt.alloc(), &[])?;
+    let log = log_of_three(&rt, rt.alloc(), &book).expect(&rt, "a log");
+    let opened = open(&rt, rt.alloc(), &book, log).ok().expect(&rt, "a host");
+    assert!(rt; opened.entries == 1 && opened.torn == 0);
+    assert!(rt; has_row(opened.host.decider().book(), "account A 9900 978"));
+    Ok(())
+}
+
+// With seven bytes behind its last entry.
+#[test]
+fn a_torn_tail_is_cut(rt: HostRuntime) -> Result<(), Fail> {
+    let book = first_book_with(rt.alloc(), &[])?;
+    let mut log = log_of_three(&rt, rt.alloc(), &book).expect(&rt, "a log");
+    log.extend_from_slice(b"\x00\x00\x00\x66\xff\xff\xff")
+        .expect(&rt, "room");
+    let opened = open(&rt, rt.alloc(), &book, log).ok().expect(&rt, "a host");
+    assert!(rt; opened.entries == 1 && opened.torn == 7);
+    Ok(())
+}
+
+// The fault of a log that has one byte changed.
+fn fault_with<R: Threads>(
+    rt: &R,
+    alloc: Global,
+    book: &Book,
+    mut log: Vec<u8>,
+    at: usize,
+) -> Option<OpeningFault> {
+    let byte = log.get_mut(at)?;
+    *byte ^= 1;
+    open(rt, alloc, book, log).err()
+}
+
+#[test]
+fn another_log_is_refused(rt: HostRuntime) -> Result<(), Fail> {
+    let book = first_book_with(rt.alloc(), &[])?;
+    let letters = log_of_three(&rt, rt.alloc(), &book).expect(&rt, "a log");
+    assert!(rt;
+        fault_with(&rt, rt.alloc(), &book, letters, 0) == Some(OpeningFault::Log(LogFault::NoLog))
+    );
+    let version = log_of_three(&rt, rt.alloc(), &book).expect(&rt, "a log");
+    assert!(rt;
+        fault_with(&rt, rt.alloc(), &book, version, 5) == Some(OpeningFault::Log(LogFault::Version))
+    );
+    let digest = log_of_three(&rt, rt.alloc(), &book).expect(&rt, "a log");
+    assert!(rt;
+        fault_with(&rt, rt.alloc(), &book, digest, 6)
+            == Some(OpeningFault::Log(LogFault::OtherBook))
+    );
+    let size = log_of_three(&rt, rt.alloc(), &book).expect(&rt, "a log");
+    assert!(rt;
+        fault_with(&rt, rt.alloc(), &book, size, 41) == Some(OpeningFault::Log(LogFault::Broken(0)))
+    );
+    Ok(())
+}
+
+// The status of `serve` on the files of the first book, with the log in these bytes; what it wrote; and what it said.
+fn served<R: Threads>(
+    rt: &R,
+    alloc: Global,
+    book: &Book,
+    log: Vec<u8>,
+    name: &str,
+    link: &[u8],
+) -> Option<(u8, Vec<u8>, Vec<u8>)> {
+    let files = files(alloc, book)?;
+    let logs = CopiedLogs { alloc, bytes: log };
+    let mut source = link;
+    let mut sink = FailingSink::new(alloc, 4096, 1000);
+    let mut said = Vec::new(alloc);
+    let status = serve(
+        rt,
+        alloc,
+        &files,
+        &logs,
+        name,
+        "log",
+        &mut source,
+        &mut sink,
+        &mut said,
+    );
+    Some((status, copy_of(alloc, sink.taken())?, said))
+}
+
+// Whether `serve` returns this status, writes this and says that.
+fn is_served<R: Threads>(
+    rt: &R,
+    alloc: Global,
+    book: &Book,
+    name: &str,
+    link: &[u8],
+    outcome: (u8, &[u8], &[u8]),
+) -> bool {
+    match served(rt, alloc, book, Vec::new(alloc), name, link) {
+        Some((status, replies, said)) => {
+            status == outcome.0 && replies.as_slice() == outcome.1 && said.as_slice() == outcome.2
+        }
+        None => false,
+    }
+}
+
+#[test]
+fn a_link_is_served_over_files(rt: HostRuntime) -> Result<(), Fail> {
+    let book = first_book_with(rt.alloc(), &[])?;
+    assert!(rt; is_served(&rt, rt.alloc(), &book, "book", LINK, (0, REPLIES, b"")));
+    assert!(rt; is_served(&rt, rt.alloc(), &book, "none", LINK, (1, b"", b"file 1\n")));
+    assert!(rt;
+        is_served(
+            &rt,
+            rt.alloc(),
+            &book,
+            "book",
+            b"\x00\x00",
+            (1, b"", b"link 2\n")
+        )
+    );
+    assert!(rt;
+        is_served(
+            &rt,
+            rt.alloc(),
+            &book,
+            "book",
+            b"\x00",
+            (1, b"", b"link 1\n")
+        )
+    );
+    Ok(())
+}
+
+// What these words ask for: s serve, h help, w something else behind `serve`, - nothing of a host.
+fn asked(alloc: Global, line: &str) -> Option<char> {
+    let mut words = Vec::new(alloc);
+    for word in line.split(' ') {
+        words.push(String::from_str(alloc, word).ok()?).ok()?;
+    }
+    match host_asked(&words) {
+        Some(HostAsked::Serve(book, log)) if book == "b" && log == "l" => Some('s'),
+        Some(HostAsked::Help) => Some('h'),
+        Some(_) => Some('w'),
+        None => Some('-'),
+    }
+}
+
+#[test]
+fn words_ask_for_a_host(rt: HostRuntime) -> Result<(), Fail> {
+    let book = first_book_with(rt.alloc(), &[])?;
+    assert!(rt; asked(rt.alloc(), "switch serve b l") == Some('s'));
+    assert!(rt; asked(rt.alloc(), "switch serve --help") == Some('h'));
+    assert!(rt; asked(rt.alloc(), "switch serve") == Some('w'));
+    assert!(rt; asked(rt.alloc(), "switch serve b l more") == Some('w'));
+    assert!(rt; asked(rt.alloc(), "switch serial b l") == Some('-'));
+    Ok(())
+}
