@@ -1,15 +1,11 @@
 -- What words ask of a live host.
-use Rattle.std.specs.Prelude.{◌≡◌, ◌≢◌, ⊤, ℕ, List, Some, codes, length, slice_get}
-use Rattle.host_commands.specs.declared.host_asked.HostAsked.{HostAsked}
-use Rattle.host_commands.specs.declared.host_asked.HostAsked.TheVariants.{Serve, Help, Wrong}
+use Rattle.std.specs.Prelude.{◌≡◌, ◌≢◌, ℕ, List, Some, length, slice_get}
+use Rattle.host_commands.specs.declared.asking.HostAsked.{HostAsked}
+use Rattle.host_commands.specs.declared.asking.HostAsked.TheVariants.{Serve, Help, Wrong}
 
--- the word behind the program's name is `serve`
-abbrev pub BeginsWithServe : List (List ℕ) → Type 0
-BeginsWithServe words = slice_get words 1 ≡ Some (codes "serve")
-
--- `serve BOOK LOG`, with these names of files; `serve --help`; or another word or number of words behind `serve`
+-- Words of which the second is `serve` ask to serve, on the book of the file that the third names, with the log in the file that the fourth
+-- names; or, with one word behind it, what it takes; other words are wrong.
 abbrev pub IsAskedBy : List (List ℕ) → HostAsked → Type 0
-IsAskedBy words (Serve book log) =
-    BeginsWithServe words × (length words ≡ 4) × (slice_get words 2 ≡ Some book.now) × (slice_get words 3 ≡ Some log.now)
-IsAskedBy words Help = BeginsWithServe words × (length words ≡ 3)
-IsAskedBy words Wrong = BeginsWithServe words × (length words ≢ 4)
+IsAskedBy words (Serve book log) = (length words ≡ 4) × (slice_get words 2 ≡ Some book.now) × (slice_get words 3 ≡ Some log.now)
+IsAskedBy words Help = length words ≡ 3
+IsAskedBy words Wrong = length words ≢ 4

@@ -1,13 +1,13 @@
 -- What serving a link comes to, by the book's file, the log's, and the bytes that came and went.
 use Rattle.std.specs.Prelude.{◌≡◌, ◌≢◌, ◌⊎◌, ℕ, List, [], ◌++◌, Ok}
-use Rattle.issuer_rows.specs.Fold.{Rows}
+use Rattle.issuer_rows.specs.Fold.{Rows, rows_after}
 use Rattle.issuer_rows.specs.declared.frame.Frame.{Frame}
 use Rattle.book_laws.specs.Reading.{reading}
-use Rattle.link_frames.specs.Replies.{AppendsPart}
 use Rattle.file_batch_laws.specs.Frames.{AreFramesOf}
 use Rattle.link_frames.specs.Link.{AreFrames}
+use Rattle.link_frames.specs.Replies.{AppendsPart}
 use Rattle.host_serving.specs.Deciding.{answers_to}
-use Rattle.host_opening.specs.Again.{FollowsEntries}
+use Rattle.host_serving.specs.Entries.{AreMessagesOf}
 use Rattle.host_opening.specs.Opening.{book_digest, HoldsEntries}
 
 -- The text is a book, and the log is this book's. Some first bodies that came were decided, one after another, on the book after the
@@ -18,15 +18,15 @@ pub record IsAnswered (text log came before after : List ℕ) (all : Type 0) : T
   pub read : reading text ≡ Ok opening
   pub entries : List (List (List ℕ))
   pub held : HoldsEntries (book_digest opening) log entries
-  pub book : Rows
-  pub again : FollowsEntries entries opening book
+  pub logged : List Frame
+  pub spelled : AreMessagesOf entries logged
   pub bodies : List (List ℕ)
   pub left : List ℕ
   pub frames : AreFrames came bodies left
   pub messages : List Frame
   pub are : AreFramesOf bodies messages
-  pub answered : AppendsPart before after (answers_to book messages)
-  pub whole : all → (left ≡ []) × (after ≡ before ++ answers_to book messages)
+  pub answered : AppendsPart before after (answers_to (rows_after opening logged) messages)
+  pub whole : all → (left ≡ []) × (after ≡ before ++ answers_to (rows_after opening logged) messages)
 
 -- with status 0 all that came is answered; with another one nothing is, or a beginning
 abbrev pub IsServed : List ℕ → List ℕ → List ℕ → ℕ → List ℕ → List ℕ → Type 0

@@ -1,4 +1,4 @@
-ghost use Rattle.std.specs.Prelude.{◌≡◌, ◌⊎◌, ◌≤◌, ⊤, ⊥, ℕ, List, IfErr, OnOk};
+ghost use Rattle.std.specs.Prelude.{◌≡◌, ◌⊎◌, ◌≤◌, ⊤, ℕ, List, IfErr, OnOk};
 ghost use Rattle.host_commands.specs.Served.{IsAnswered, IsServed};
 
 use crate::logs::Logs;

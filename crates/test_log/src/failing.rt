@@ -60,7 +60,10 @@ fn a_source_that_fails_is_told(rt: HostRuntime) {
     // Eight pieces of 20 bytes, and a last call that finds the end.
     for answers in 0..9u64 {
         let source = FailingSource::new(LOG, 20, answers);
-        assert!(rt; read_log(rt.alloc(), source, BOOK).err() == Some(LogFault::Failed), "{answers}");
+        assert!(rt;
+            read_log(rt.alloc(), source, BOOK).err() == Some(LogFault::Failed),
+            "{answers}"
+        );
     }
     let source = FailingSource::new(LOG, 20, 9);
     assert!(rt; read_log(rt.alloc(), source, BOOK).is_ok());

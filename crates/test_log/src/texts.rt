@@ -3,7 +3,7 @@
 use crate::vectors::{BOOK, LOG};
 use crate::writing::{begun, bodies_of, file_of};
 use log_devices::{GrowingFile, LogInput, MemoryLog};
-use log_file::{Begun, Bodies, LogFault, LogReader, LogStep, LogWriter, read_log};
+use log_file::{Begun, Bodies, LogFault, LogWriter, read_log};
 use std::alloc::Global;
 use std::test::Fail;
 
@@ -69,18 +69,8 @@ fn resumed(alloc: Global, file: MemoryLog) -> Result<LogWriter<MemoryLog>, LogFa
         Begun::New(writer) => return Ok(writer),
         Begun::Old(file) => file,
     };
-    let mut end = None;
-    let mut reader = LogReader::open(alloc, LogInput::new(&file), BOOK)?;
-    for _ in 0..10 {
-        if let LogStep::End(here) = reader.next()? {
-            end = Some(here);
-            break;
-        }
-    }
-    match end {
-        Some(end) => LogWriter::resume(alloc, file, end),
-        None => Err(LogFault::NoLog),
-    }
+    let log = read_log(alloc, LogInput::new(&file), BOOK)?;
+    LogWriter::resume(alloc, file, log.end)
 }
 
 #[test]

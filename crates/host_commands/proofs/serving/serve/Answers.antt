@@ -1,0 +1,10 @@
+use Rattle.host_commands.proofs.Answering.{by_end, by_fault}
+use Rattle.host_commands.proofs.serving.serve.Goals as goal
+
+pub returns-in-Ok-clause-served : goal.returns-in-Ok-clause-served
+returns-in-Ok-clause-served g c text bytes held logged reads puts =
+    by_end text bytes _ _ _ (rw c.in-Ok.is at (c.served.ensures.ok text bytes held logged reads puts))
+
+pub returns-in-Err-clause-served : goal.returns-in-Err-clause-served
+returns-in-Err-clause-served g c text bytes held logged reads puts =
+    by_fault text bytes _ _ _ (rw c.in-Err.is at (c.served.ensures.err text bytes held logged reads puts))
