@@ -11,52 +11,38 @@ use std::{env, io};
 
 fn main(rt: HostRuntime) -> ExitCode {
     let mut err = Printer::new(rt.stderr());
-    let status = match arguments_of(&rt) {
-        Ok(words) => match host_asked(&words) {
-            Some(asked) => do_host(&rt, asked),
-            None => do_files(&rt, &words),
-        },
+    let words = match arguments_of(&rt) {
+        Ok(words) => words,
         Err(fault) => {
             print_fault(&fault, &mut err);
-            fault.status()
+            return ExitCode::from(fault.status());
         }
     };
-    ExitCode::from(status)
-}
-
-// Does what is asked of files.
-fn do_files(rt: &HostRuntime, words: &[String]) -> u8 {
-    let mut files = HostFiles::new(*rt, rt.alloc());
+    let mut files = HostFiles::new(rt, rt.alloc());
     let mut out = Printer::new(rt.stdout());
-    let mut err = Printer::new(rt.stderr());
-    act(rt, rt.alloc(), &mut files, words, &mut out, &mut err)
-}
-
-// Does what is asked of a live host.
-fn do_host(rt: &HostRuntime, asked: HostAsked<'_>) -> u8 {
-    match asked {
-        HostAsked::Serve(book, log) => serve(
-            rt,
+    let status = match host_asked(&words) {
+        None => act(&rt, rt.alloc(), &mut files, &words, &mut out, &mut err),
+        Some(HostAsked::Serve(book, log)) => serve(
+            &rt,
             rt.alloc(),
-            &HostFiles::new(*rt, rt.alloc()),
-            &HostLogs::new(*rt),
+            &files,
+            &HostLogs::new(rt),
             book,
             log,
             &mut FromRead::new(rt.stdin()),
             &mut IntoWrite::new(rt.stdout()),
             &mut rt.stderr(),
         ),
-        HostAsked::Help => {
-            let mut out = Printer::new(rt.stdout());
+        Some(HostAsked::Help) => {
             out.text(SERVE_HELP.as_bytes());
             u8::from(out.is_stuck())
         }
-        HostAsked::Wrong => {
-            let mut err = Printer::new(rt.stderr());
+        Some(HostAsked::Wrong) => {
             err.line(b"usage: switch serve <BOOK> <LOG>; `switch serve --help` says more");
             2
         }
-    }
+    };
+    ExitCode::from(status)
 }
 
 // The words that the program was started with.
