@@ -1,6 +1,6 @@
 -- One more row that is written, and one more body that is decided.
 use Rattle.std.proofs.Common.{◌≡◌, ℕ, suc, ◌+◌, ◌-◌, ◌<◌, List, [], ◌∷◌, ◌++◌, take, drop, length, get_or, slice_get, Some, refl, sym, ap, ◌∙◌, add-one, take-append-drop, arith}
-use Rattle.std.proofs.lemmas.List.{take_all, length-drop}
+use Rattle.std.proofs.lemmas.List.{drop_all, take_all, length-drop}
 use Rattle.std.proofs.Math.Seq.{drop-cons, take-suc}
 use Rattle.std.proofs.lemmas.Option.{slice_get_within, get_or_from_slice_get}
 use Rattle.std.specs.FinMap as map
@@ -19,6 +19,12 @@ left_in_turn xs i x lt at = rw add-one (drop-cons xs i x lt ∙ ap (λ y. y ∷ 
 pub overlay-drop : (rows : Rows) (writes : Writes) (i : ℕ) (w : RowKey × RowVal) → slice_get writes i ≡ Some w
     → overlay (map.insert rows w.0 w.1) (drop (i + 1) writes) ≡ overlay rows (drop i writes)
 overlay-drop rows writes i w at = sym (ap (overlay rows) (left_at writes i w at))
+
+-- the last row is all that is left
+pub overlay-last : (rows : Rows) (writes : Writes) (i : ℕ) (w : RowKey × RowVal) → slice_get writes i ≡ Some w → i + 1 ≡ length writes
+    → map.insert rows w.0 w.1 ≡ overlay rows (drop i writes)
+overlay-last rows writes i w at last =
+    sym (ap (overlay (map.insert rows w.0 w.1)) (drop_all (i + 1) writes (omega (arith, last)))) ∙ overlay-drop rows writes i w at
 
 -- what is behind this place, as a slice's rest says it
 pub rest_is : {X : Type 0} (xs : List X) (i : ℕ) → take (length xs - i) (drop i xs) ≡ drop i xs

@@ -1,4 +1,3 @@
 pub mod Begun
 pub mod Former
 pub mod Run
-pub mod There
