@@ -6,8 +6,12 @@ use clap::{Arg, ArgAction, Command};
 use std::alloc::{AllocError, Global};
 
 // What the program's help says behind its subcommands.
-const AFTER_HELP: &str =
-    "Exit status: 0 done, 1 fault, 2 usage error, 3 an audit found a difference.
+const AFTER_HELP: &str = "Commands with help of their own, as `switch serve --help`:
+  serve   Answers messages as they come, on a book in memory, with a log that loses none
+  replay  Makes the replies and the next book of such a log
+  why     Tells why a message of a batch was answered so
+
+Exit status: 0 done, 1 fault, 2 usage error, 3 an audit found a difference.
 
 A fault is printed on standard error as what it is of and its number there:
   file 1     a file can't be opened or read
