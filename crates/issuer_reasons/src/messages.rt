@@ -12,10 +12,16 @@ use issuer_rows::{Book, Frame};
 
 /// The rule that decides a body on this book: the first of its table's conditions that holds. By that rule it is answered, and rows are
 /// written.
-#[tactic(auto, using(issuer_laws::proofs::DecidedBy::body_decided))]
 pub fn rule_of(book: &Book, frame: &Frame) -> DecisionRule
     ensures rule { result ≡ decided_by book.now frame.now }
     ensures decided { IsDecidedBy book.now frame.now result }
+{
+    first_rule(book, frame)
+}
+
+// The first rule of the body's table whose condition holds.
+fn first_rule(book: &Book, frame: &Frame) -> DecisionRule
+    ensures { result ≡ decided_by book.now frame.now }
 {
     match frame {
         Frame::Good(Message::Request(request)) => {
