@@ -87,6 +87,6 @@ fn put<W: Write>(writer: &mut W, text: &[u8]) -> io::Result<()>
 fn tell<W: Write>(err: &mut W, fault: &WhyFault, batch: &str) {
     let _ = write!(err, "{fault}\n");
     if let WhyFault::Index(count) = fault {
-        let _ = write!(err, "{batch}: it has {count} messages, the first of which is 0\n");
+        let _ = write!(err, "{batch}: it has {count} messages, numbered from 0\n");
     }
 }

@@ -17,3 +17,9 @@ so_far f (y ∷ xs) (suc i) x at = ap (λ rest. f y ++ rest) (so_far f xs i x at
 -- the lines of the first items, and that of the next one
 pub one_more : {X : Type 0} (f : X → List ℕ) (xs : List X) (i : ℕ) (x : X) → slice_get xs i ≡ Some x → flat_map f (take (i + 1) xs) ≡ flat_map f (take i xs) ++ f x
 one_more f xs i x at = rw add-one (so_far f xs i x at)
+
+-- the line of the next item is appended behind those of the first ones
+pub appended : {X : Type 0} (f : X → List ℕ) (xs : List X) (i : ℕ) (x : X) (before old new : List ℕ) → slice_get xs i ≡ Some x
+    → old ≡ before ++ flat_map f (take i xs) → new ≡ old ++ f x → new ≡ before ++ flat_map f (take (i + 1) xs)
+appended f xs i x before old new at so_far more =
+    more ∙ ap (λ (text : List ℕ). text ++ f x) so_far ∙ append_assoc before (flat_map f (take i xs)) (f x) ∙ ap (λ (text : List ℕ). before ++ text) (sym (one_more f xs i x at))

@@ -95,8 +95,7 @@ accounts_words accounts = account_words accounts.first ++ second_words accounts.
 
 abbrev pub card_words : CardRow → List ℕ
 card_words c =
-    status_words c.status
-    ++ (codes ", expires " ++ (c.expiry ++ (codes ", account " ++ (accounts_words c.accounts ++ (codes ", approvals " ++ (decimal c.approvals ++ (codes ", a day at most " ++ (decimal c.day_count ++ (codes " and " ++ decimal c.day_amount)))))))))
+    status_words c.status ++ (codes ", expires " ++ (c.expiry ++ (codes ", account " ++ (accounts_words c.accounts ++ (codes ", approvals " ++ (decimal c.approvals ++ (codes ", a day at most " ++ (decimal c.day_count ++ (codes " and " ++ decimal c.day_amount)))))))))
 
 abbrev pub day_words : VelocityRow → List ℕ
 day_words d = codes "approvals " ++ decimal d.count ++ codes ", spent " ++ decimal d.sum
@@ -136,12 +135,11 @@ outcome_words (outcome.Acknowledged action by) = codes "answered " ++ fixed_digi
 
 abbrev pub kept_words : KeptOriginal → List ℕ
 kept_words k =
-    kind_words (kind_of_outcome k.outcome)
-    ++ (codes " of card " ++ (masked k.card.0 ++ (codes ", amount " ++ (decimal k.amount ++ (codes ", processing code " ++ (k.processing.0 ++ (codes ", " ++ outcome_words k.outcome)))))))
+    kind_words (kind_of_outcome k.outcome) ++ (codes " of card " ++ (masked k.card.0 ++ (codes ", amount " ++ (decimal k.amount ++ (codes ", processing code " ++ (k.processing.0 ++ (codes ", " ++ outcome_words k.outcome)))))))
 
 abbrev pub mark_words : Mark → List ℕ
 mark_words m =
-    codes "reversal " ++ (identity_words m.reversal ++ (codes " of a " ++ (kind_words m.kind ++ (codes " of card " ++ (masked m.card.0 ++ codes " came ahead")))))
+    kind_words m.kind ++ (codes " of card " ++ (masked m.card.0 ++ (codes ", reversed ahead by " ++ identity_words m.reversal)))
 
 abbrev pub row_words : RowVal → List ℕ
 row_words (val.Card c) = card_words c
@@ -161,8 +159,8 @@ found_words (Some row) = row_words row
 -- the elements that each message has
 abbrev pub transaction_words : Transaction → List ℕ
 transaction_words t =
-    codes " of card "
-    ++ (masked t.pan.0 ++ (codes ", amount " ++ (decimal t.amount ++ (codes ", currency " ++ (t.currency.0 ++ (codes ", processing code " ++ (t.processing.0 ++ (codes ", trace " ++ (t.stan.0 ++ (codes ", time " ++ (t.stamp ++ (codes ", acquirer " ++ t.acquirer.0)))))))))))))
+    (codes " of card " ++ (masked t.pan.0 ++ (codes ", amount " ++ (decimal t.amount ++ (codes ", currency " ++ (t.currency.0 ++ (codes ", processing code " ++ (t.processing.0 ++ (codes ", trace " ++ (t.stan.0 ++ (codes ", time " ++ t.stamp)))))))))))
+    ++ (codes ", acquirer " ++ t.acquirer.0)
 
 -- element 102
 abbrev pub named_words : Option AccountId → List ℕ

@@ -45,7 +45,6 @@ fn add_head(
 }
 
 // Appends the rows that were read.
-#[tactic(auto, using(crate::proofs::SoFar::one_more))]
 fn add_reads(alloc: Global, text: &mut Vec<u8>, reads: &ReadSet) -> Result<(), AllocError>
     ensures { OnOk result (text.new.items ≡ text.old.items ++ read_lines reads.now) }
 {
@@ -71,7 +70,6 @@ fn add_read(
 }
 
 // Appends the rows that are written.
-#[tactic(auto, using(crate::proofs::SoFar::one_more))]
 fn add_writes(alloc: Global, text: &mut Vec<u8>, writes: &WriteSet) -> Result<(), AllocError>
     ensures { OnOk result (text.new.items ≡ text.old.items ++ written_lines writes.now) }
 {

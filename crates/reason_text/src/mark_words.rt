@@ -18,6 +18,6 @@ impl fmt::Display for MarkWords {
         let reversal = IdentityWords(self.0.reversal);
         let kind = KindWords(self.0.kind);
         let card = MaskedPan::new(self.0.card);
-        write!(f, "reversal {reversal} of a {kind} of card {card} came ahead")
+        write!(f, "{kind} of card {card}, reversed ahead by {reversal}")
     }
 }
