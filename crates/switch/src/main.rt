@@ -2,6 +2,7 @@
 #![tactic(auto)]
 
 use app_commands::{Fault, Printer, act, print_fault};
+use app_why::{answer_why, why_asked};
 use file_devices::{FromRead, HostFiles, IntoWrite};
 use host_commands::{HostAsked, HostLogs, SERVE_HELP, host_asked, serve};
 use std::alloc::{AllocError, Global};
@@ -19,6 +20,11 @@ fn main(rt: HostRuntime) -> ExitCode {
         }
     };
     let mut files = HostFiles::new(rt, rt.alloc());
+    if let Some(asked) = why_asked(&words) {
+        let (mut out, mut err) = (rt.stdout(), rt.stderr());
+        let status = answer_why(&rt, rt.alloc(), &files, &asked, &mut out, &mut err);
+        return ExitCode::from(status);
+    }
     let mut out = Printer::new(rt.stdout());
     let status = match host_asked(&words) {
         None => act(&rt, rt.alloc(), &mut files, &words, &mut out, &mut err),

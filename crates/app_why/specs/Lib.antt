@@ -1,0 +1,2 @@
+pub mod Why
+pub mod WhyAsked

@@ -1,0 +1,28 @@
+-- What words ask of `why`.
+use Rattle.std.specs.Prelude.{◌≡◌, ◌≢◌, ℕ, ◌<◌, ◌^◌, List, Some, length, slice_get}
+use Rattle.std.specs.Str.Parse.{IsNumeral, digits_value, without_leading_plus}
+use Rattle.app_why.specs.declared.asking.WhyAsked.{WhyAsked}
+use Rattle.app_why.specs.declared.asking.WhyAsked.TheVariants.{Message, Help, Wrong}
+
+-- the number that a word stands for
+abbrev pub place_of : List ℕ → ℕ
+place_of word = digits_value 10 (without_leading_plus word)
+
+-- a word says a place of a batch: a number in decimal digits, below 2^32
+abbrev pub IsPlace : List ℕ → Type 0
+IsPlace word = IsNumeral 10 (without_leading_plus word) × (place_of word < 2 ^ 32)
+
+-- the words BOOK, BATCH and INDEX ask for that message, where the last is a place
+abbrev pub IsAskedOf : List ℕ → List ℕ → List ℕ → WhyAsked → Type 0
+IsAskedOf book batch index (Message named from place) = (named.now ≡ book) × (from.now ≡ batch) × IsPlace index × (place ≡ place_of index)
+IsAskedOf book batch index Help = ⊥
+IsAskedOf book batch index Wrong = ¬ IsPlace index
+
+-- Words of which the second is `why` ask for a message: the third names the book's file, the fourth the batch's, and the fifth is the place;
+-- or, with one word behind it, what it takes; other words are wrong.
+abbrev pub IsAskedBy : List (List ℕ) → WhyAsked → Type 0
+IsAskedBy words (Message book batch place) =
+    (length words ≡ 5) × (slice_get words 2 ≡ Some book.now) × (slice_get words 3 ≡ Some batch.now)
+    × (word : List ℕ) × (slice_get words 4 ≡ Some word) × IsPlace word × (place ≡ place_of word)
+IsAskedBy words Help = length words ≡ 3
+IsAskedBy words Wrong = length words ≡ 5 → (word : List ℕ) → slice_get words 4 ≡ Some word → ¬ IsPlace word

@@ -1,0 +1,15 @@
+//! What the program does for `switch why`: why a message of a batch was answered so.
+#![tactic(auto)]
+
+mod asking;
+mod answering;
+mod help;
+mod opening;
+mod telling;
+mod why_fault;
+
+pub use answering::why_of;
+pub use asking::{WhyAsked, why_asked};
+pub use help::WHY_HELP;
+pub use telling::answer_why;
+pub use why_fault::WhyFault;

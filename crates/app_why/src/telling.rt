@@ -1,0 +1,92 @@
+ghost use Rattle.std.specs.Prelude.{◌≡◌, ◌≤◌, IfOk, IfErr, IsOk, OnOk};
+ghost use Rattle.std.specs.Io.KnownBytes.{Appends};
+ghost use Rattle.issuer_reasons.specs.declared.explanation.Explanation.{Explanation};
+ghost use Rattle.reason_text.specs.Lines.{lines_of};
+ghost use Rattle.app_why.specs.Why.{IsSaid, IsWhy, IsWhyFault};
+
+use crate::answering::why_of;
+use crate::asking::WhyAsked;
+use crate::help::{USAGE, WHY_HELP};
+use crate::why_fault::WhyFault;
+use file_devices::Files;
+use reason_text::lines_of;
+use std::alloc::Global;
+use std::io;
+use std::io::Write;
+use std::thread::Threads;
+
+/// Does what is asked of `why` over these files, which are read alone, and returns the exit status: 0 done, 1 fault, 2 words that are no
+/// command, or no such message. What is asked for goes to `out`, a fault to `err`; what that doesn't take is dropped.
+pub fn answer_why<R: Threads, F: Files, O: Write, E: Write>(
+    rt: &R,
+    alloc: Global,
+    files: &F,
+    asked: &WhyAsked<'_>,
+    out: &mut O,
+    err: &mut E,
+) -> u8
+    ensures status { result ≤ 2 }
+    ensures said { result ≡ 0 → IsSaid (F.is_known files.now) (F.holds files.now) asked.now (O.contents out.old) (O.contents out.new) }
+{
+    let said = match asked {
+        WhyAsked::Message(book, batch, index) => {
+            match lines_of_files(rt, alloc, files, book, batch, *index) {
+                Ok(text) => put(out, &text),
+                Err(fault) => {
+                    tell(err, &fault, batch);
+                    return fault.status();
+                }
+            }
+        }
+        WhyAsked::Help => put(out, WHY_HELP.as_bytes()),
+        WhyAsked::Wrong => {
+            let _ = err.write_all(USAGE.as_bytes());
+            return 2;
+        }
+    };
+    status_of(said, err)
+}
+
+// 0, or 1 where it wasn't all written.
+fn status_of<E: Write>(said: io::Result<()>, err: &mut E) -> u8
+    ensures bound { result ≤ 1 }
+    ensures done { result ≡ 0 → IsOk said }
+{
+    if said.is_ok() {
+        return 0;
+    }
+    let _ = err.write_all(b"output 1\n");
+    1
+}
+
+// What is said of the message at this place of a batch.
+fn lines_of_files<R: Threads, F: Files>(
+    rt: &R,
+    alloc: Global,
+    files: &F,
+    book: &str,
+    batch: &str,
+    index: usize,
+) -> Result<Vec<u8>, WhyFault>
+    ensures lines { IfOk result (λ text. (e : Explanation) × IsWhy (F.is_known files.now) (F.holds files.now) book.now batch.now index e
+        × (text.items ≡ lines_of index e)) }
+    ensures fault { IfErr result (IsWhyFault (F.holds files.now) (F.failing files.now) book.now batch.now index) }
+{
+    let explanation = why_of(rt, alloc, files, book, batch, index)?;
+    Ok(lines_of(alloc, index, &explanation)?)
+}
+
+// Writes all of the text.
+fn put<W: Write>(writer: &mut W, text: &[u8]) -> io::Result<()>
+    ensures { OnOk result (Appends (W.contents writer.old) (W.contents writer.new) text.now) }
+{
+    writer.write_all(text)
+}
+
+// Says the fault, and behind one of the place how many messages the batch has.
+fn tell<W: Write>(err: &mut W, fault: &WhyFault, batch: &str) {
+    let _ = write!(err, "{fault}\n");
+    if let WhyFault::Index(count) = fault {
+        let _ = write!(err, "{batch}: it has {count} messages, numbered from 0\n");
+    }
+}

@@ -1,0 +1,74 @@
+//! The command over files in memory: its statuses, and what stands on standard error.
+
+use app_why::{WhyAsked, answer_why};
+use file_devices::MemoryFiles;
+use std::alloc::Global;
+use std::process::Abort;
+use std::thread::Threads;
+
+// A book without rows.
+const BOOK: &str =
+    "{\"accounts\":[],\"ahead\":[],\"budgets\":[],\"cards\":[],\"days\":[],\"originals\":[],\"version\":3}";
+
+// A batch with one body, which is no message.
+const BATCH: &[u8] = b"I83B\x00\x01\x00\x00\x00\x01\x00\x04\x31\x31\x30\x30";
+
+// Commands: the names of their files and the place, the status, what stands on standard output, and on standard error.
+const COMMANDS: &[(&str, &str, usize, u8, &str, &str)] = &[
+    (
+        "book",
+        "batch",
+        0,
+        0,
+        "message  0: no message: too few bytes for element 0\nrule     NoMessage: the body is no message\nreply    F01000\n",
+        "",
+    ),
+    (
+        "book",
+        "batch",
+        1,
+        2,
+        "",
+        "index 1\nbatch: it has 1 messages, numbered from 0\n",
+    ),
+    ("none", "batch", 0, 1, "", "file 1\n"),
+    ("book", "none", 0, 1, "", "file 1\n"),
+    ("batch", "batch", 0, 1, "", "book 1\n"),
+    ("book", "book", 0, 1, "", "batch 1\n"),
+];
+
+fn bytes_of(alloc: Global, bytes: &[u8]) -> Option<Vec<u8>> {
+    let mut copy = Vec::new(alloc);
+    copy.extend_from_slice(bytes).ok()?;
+    Some(copy)
+}
+
+fn files(alloc: Global) -> Option<MemoryFiles> {
+    let mut files = MemoryFiles::new(alloc);
+    files.put("book", bytes_of(alloc, BOOK.as_bytes())?).ok()?;
+    files.put("batch", bytes_of(alloc, BATCH)?).ok()?;
+    Some(files)
+}
+
+// What the command comes to: its status, and what it said.
+fn said<R: Threads>(
+    rt: &R,
+    alloc: Global,
+    asked: &WhyAsked<'_>,
+) -> Option<(u8, Vec<u8>, Vec<u8>)> {
+    let files = files(alloc)?;
+    let (mut out, mut err) = (Vec::new(alloc), Vec::new(alloc));
+    let status = answer_why(rt, alloc, &files, asked, &mut out, &mut err);
+    Some((status, out, err))
+}
+
+#[test]
+fn answers_the_commands(rt: HostRuntime) {
+    for (book, batch, index, status, out, err) in COMMANDS {
+        let asked = WhyAsked::Message(book, batch, *index);
+        let said = said(&rt, rt.alloc(), &asked).expect(&rt, "room");
+        assert!(rt; said.0 == *status, "{book} {batch} {index}");
+        assert!(rt; said.1.as_slice() == out.as_bytes(), "{book} {batch} {index}");
+        assert!(rt; said.2.as_slice() == err.as_bytes(), "{book} {batch} {index}");
+    }
+}
