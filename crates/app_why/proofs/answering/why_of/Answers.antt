@@ -8,14 +8,15 @@ returns-in_err-frames-clause-fault g c =
     rw (p.1, p.2) (inr ((c.in_ok-opening.opening, c.in_ok-opening.ensures.book), c.in_err-frames.ensures.fault))
 
 pub returns-then-count-index-clause-fault : goal.returns-then-count-index-clause-fault
-returns-then-count-index-clause-fault g c =
-    ((c.in_ok-opening.opening, c.in_ok-opening.ensures.book),
-    record {
-      frames = c.in_ok-frames.frames.items;
-      messages = c.in_ok-frames.ensures.frames;
-      counted = ap length c.as_slice-count.ensures.value;
-      none = c.if-count-index.true;
-    })
+returns-then-count-index-clause-fault g c = (
+  (c.in_ok-opening.opening, c.in_ok-opening.ensures.book),
+  record {
+    frames = c.in_ok-frames.frames.items;
+    messages = c.in_ok-frames.ensures.frames;
+    counted = ap length c.as_slice-count.ensures.value;
+    none = c.if-count-index.true;
+  },
+)
 
 pub returns-clause-why : goal.returns-clause-why
 returns-clause-why g c = record {
