@@ -25,8 +25,9 @@ pub fn why_of<R: Threads, F: Files>(
 {
     let opening = open_book(rt, alloc, files, book)?;
     let frames = open_batch(alloc, files, batch)?;
-    if frames.len() <= index {
-        return Err(WhyFault::Index(frames.len()));
+    let count = frames.as_slice().len();
+    if count <= index {
+        return Err(WhyFault::Index(count));
     }
     Ok(explain_at(alloc, opening, &frames, index)?)
 }

@@ -1,8 +1,8 @@
 //! What the program does for `switch why`: why a message of a batch was answered so.
 #![tactic(auto)]
 
-mod asking;
 mod answering;
+mod asking;
 mod help;
 mod opening;
 mod telling;

@@ -52,11 +52,13 @@ fn rule_by_account(advice: &Advice, account: &AccountRow, facts: &CardFacts) -> 
         return DecisionRule::OtherCurrency;
     }
     match &facts.budget {
-        Some(BudgetRow {
-            mode: BudgetMode::StandIn,
-            cap,
-            left,
-        }) if amount <= cap.minor() && amount <= left.minor() => DecisionRule::BudgetPays,
+        Some(
+            BudgetRow {
+                mode: BudgetMode::StandIn,
+                cap,
+                left,
+            },
+        ) if amount <= cap.minor() && amount <= left.minor() => DecisionRule::BudgetPays,
         _ if amount <= account.available.minor() => DecisionRule::AccountPays,
         _ => DecisionRule::NotSufficientFunds,
     }

@@ -106,11 +106,13 @@ fn rule_by_funds(request: &Request, account: &AccountRow, facts: &CardFacts) -> 
     ensures { result ≡ request_rule_behind 18 request.now facts.now }
 {
     match &facts.budget {
-        Some(BudgetRow {
-            mode: BudgetMode::StandIn,
-            cap,
-            left,
-        }) => {
+        Some(
+            BudgetRow {
+                mode: BudgetMode::StandIn,
+                cap,
+                left,
+            },
+        ) => {
             if cap.minor() < request.transaction.amount.minor()
                 || left.minor() < request.transaction.amount.minor()
             {

@@ -3,9 +3,7 @@ ghost use Rattle.std.specs.FinMap as map;
 ghost use Rattle.issuer_rows.specs.Typed as typed;
 
 use iso8583::{AccountId, Day, Identity, Pan, PanPrefix};
-use issuer_rows::{
-    AccountRow, Book, BudgetRow, CardRow, OriginalRow, RowKey, RowVal, VelocityRow,
-};
+use issuer_rows::{AccountRow, Book, BudgetRow, CardRow, OriginalRow, RowKey, RowVal, VelocityRow};
 
 // The card of this number, if it has a row.
 pub(crate) fn card_of(book: &Book, pan: Pan) -> Option<CardRow>

@@ -14,9 +14,7 @@ impl fmt::Display for BudgetWords {
     fn fmt<W: fmt::Write>(&self, f: &mut fmt::Formatter<W>) -> fmt::Result {
         let (cap, left) = (self.0.cap.minor(), self.0.left.minor());
         match self.0.mode {
-            BudgetMode::StandIn => {
-                write!(f, "stands in, at most {cap} a message, left {left}")
-            }
+            BudgetMode::StandIn => { write!(f, "stands in, at most {cap} a message, left {left}") }
             BudgetMode::Direct => {
                 write!(f, "doesn't stand in, at most {cap} a message, left {left}")
             }

@@ -95,11 +95,7 @@ fn add_written(
 }
 
 // Appends the reply.
-fn add_reply(
-    alloc: Global,
-    text: &mut Vec<u8>,
-    explanation: &Explanation,
-) -> Result<(), AllocError>
+fn add_reply(alloc: Global, text: &mut Vec<u8>, explanation: &Explanation) -> Result<(), AllocError>
     ensures { OnOk result (text.new.items ≡ text.old.items ++ reply_line explanation.now) }
 {
     let reply = ReplyWords(explanation.execution.reply());

@@ -15,10 +15,7 @@ impl fmt::Display for SettlementWords {
     fn fmt<W: fmt::Write>(&self, f: &mut fmt::Formatter<W>) -> fmt::Result {
         match &self.0 {
             Some(settlement) => {
-                let (by, stay) = (
-                    IdentityWords(settlement.reversal),
-                    settlement.stay.minor(),
-                );
+                let (by, stay) = (IdentityWords(settlement.reversal), settlement.stay.minor());
                 write!(f, ", reversed by {by}, stays {stay}")
             }
             None => Ok(()),

@@ -51,11 +51,7 @@ fn files(alloc: Global) -> Option<MemoryFiles> {
 }
 
 // What the command comes to: its status, and what it said.
-fn said<R: Threads>(
-    rt: &R,
-    alloc: Global,
-    asked: &WhyAsked<'_>,
-) -> Option<(u8, Vec<u8>, Vec<u8>)> {
+fn said<R: Threads>(rt: &R, alloc: Global, asked: &WhyAsked<'_>) -> Option<(u8, Vec<u8>, Vec<u8>)> {
     let files = files(alloc)?;
     let (mut out, mut err) = (Vec::new(alloc), Vec::new(alloc));
     let status = answer_why(rt, alloc, &files, asked, &mut out, &mut err);
@@ -68,7 +64,13 @@ fn answers_the_commands(rt: HostRuntime) {
         let asked = WhyAsked::Message(book, batch, *index);
         let said = said(&rt, rt.alloc(), &asked).expect(&rt, "room");
         assert!(rt; said.0 == *status, "{book} {batch} {index}");
-        assert!(rt; said.1.as_slice() == out.as_bytes(), "{book} {batch} {index}");
-        assert!(rt; said.2.as_slice() == err.as_bytes(), "{book} {batch} {index}");
+        assert!(rt;
+            said.1.as_slice() == out.as_bytes(),
+            "{book} {batch} {index}"
+        );
+        assert!(rt;
+            said.2.as_slice() == err.as_bytes(),
+            "{book} {batch} {index}"
+        );
     }
 }

@@ -5,7 +5,8 @@ use reason_text::lines_of;
 use std::alloc::Global;
 use std::process::Abort;
 
-const BATCH: &str = "# a request that the account pays, its repeat and its partial reversal; and others
+const BATCH: &str =
+    "# a request that the account pays, its repeat and its partial reversal; and others
 put card A 2812 active 12 3 20000 MAIN SAVE
 put account MAIN 10000 978
 put budget 411111 direct 400 3000
