@@ -46,6 +46,7 @@ MayNotBeWritten failing names = MayNotBePut failing names.replies ⊎ MayNotBePu
 -- A log that is open isn't answered, on a book of these rows: it isn't read, or has too many messages; a file of what it comes to isn't
 -- written; or memory ran out.
 abbrev pub IsUnanswered : Type 0 → Type 0 → List ℕ → Failing → Names → Rows → CommandFault → Type 0
+IsUnanswered known may_fail bytes failing names rows (Log log.Failed) = known → may_fail
 IsUnanswered known may_fail bytes failing names rows (Log fault) = IsReadingFault known may_fail (book_digest rows) bytes fault
 IsUnanswered known may_fail bytes failing names rows (Job (job.Batch batch.Blocks)) = known → HasTooMany (book_digest rows) bytes
 IsUnanswered known may_fail bytes failing names rows (Job job.Unwritable) = MayNotBeWritten failing names
