@@ -58,7 +58,5 @@ fn check_pair<F: Files>(
         return Ok(());
     }
     let (role, name) = (second.role, second.name);
-    Err(CommandFault::Usage(
-        format!(in alloc; "{} and {role} are one file: {name}", first.role)?,
-    ))
+    Err(CommandFault::Usage(format!(in alloc; "{} and {role} are one file: {name}", first.role)?))
 }

@@ -109,7 +109,7 @@ joined old middle new some more puts later had between has still first then rows
     let two = then rows (messages ++ some) (text ++ one.0) one.1 in (
       one.0 ++ two.0,
       subst (λ (t : List ℕ). HasTaken rows (messages ++ (some ++ more)) t new) (append_assoc text one.0 two.0)
-      (subst (λ (m : List Frame). HasTaken rows m ((text ++ one.0) ++ two.0) new) (append_assoc messages some more) two.1),
+          (subst (λ (m : List Frame). HasTaken rows m ((text ++ one.0) ++ two.0) new) (append_assoc messages some more) two.1),
       λ known. two.2 (still known) ∙ ap (λ (x : List ℕ). x ++ two.0) (one.2 known) ∙ append_assoc had one.0 two.0,
     )
 

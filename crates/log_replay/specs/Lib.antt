@@ -6,3 +6,4 @@ pub mod Writing
 pub mod Answering
 pub mod Replayed
 pub mod UnderWay
+pub mod Gathering

@@ -4,6 +4,8 @@
 mod answering;
 mod block_writing;
 mod digest;
+mod gathering;
+mod log_blocks;
 mod log_size;
 mod measuring;
 mod messages;
@@ -12,6 +14,7 @@ mod replayed;
 mod replaying;
 
 pub use digest::digest_of_book;
+pub use log_blocks::read_log_blocks;
 pub use log_size::LogSize;
 pub use measuring::measure_log;
 pub use replay_fault::ReplayFault;

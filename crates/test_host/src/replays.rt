@@ -124,9 +124,7 @@ fn ends<R: Threads + Wait + Sync>(
     let mut files = files(alloc, book)?;
     let (status, said) = replayed(rt, alloc, &mut files, log, names)?;
     let is_written = files.get("replies").is_some() || files.get("after").is_some();
-    Some(
-        status == outcome.0 && said.as_slice() == outcome.1 && is_written == (outcome.0 == 0),
-    )
+    Some(status == outcome.0 && said.as_slice() == outcome.1 && is_written == (outcome.0 == 0))
 }
 
 #[test]
@@ -164,7 +162,12 @@ fn a_log_gives_what_serial_gives(rt: HostRuntime) -> Result<(), Fail> {
     let log = log_of(&rt, alloc, &book, &[LINK, SECOND, FIRST]).expect(&rt, "a log");
     let mut files = files(alloc, &book).expect(&rt, "files");
     let mut batch = Vec::new(alloc);
-    for part in [b"I83B\x00\x01\x00\x00\x00\x05".as_slice(), LINK, SECOND, FIRST] {
+    for part in [
+        b"I83B\x00\x01\x00\x00\x00\x05".as_slice(),
+        LINK,
+        SECOND,
+        FIRST,
+    ] {
         batch.extend_from_slice(part).expect(&rt, "room");
     }
     let _ = files.put("batch", batch).expect(&rt, "room");
@@ -268,7 +271,14 @@ fn a_log_of_the_host_is_decided_again(rt: HostRuntime) -> Result<(), Fail> {
     );
     let mut host = HostFiles::new(rt, alloc);
     let mut said = Vec::new(alloc);
-    let status = replay(&rt, alloc, &mut host, &HostLockedLogs::new(rt), &names, &mut said);
+    let status = replay(
+        &rt,
+        alloc,
+        &mut host,
+        &HostLockedLogs::new(rt),
+        &names,
+        &mut said,
+    );
     assert!(rt; status == 0 && said.is_empty());
     assert!(rt; fs::read(&rt, "replayed/replies")?.as_slice() == REPLIES);
     assert!(rt; fs::read(&rt, "replayed/log")?.as_slice() == log.as_slice());
@@ -299,10 +309,7 @@ fn asked(alloc: Global, line: &str) -> Option<char> {
             if names.book == "b"
                 && names.log == "l"
                 && names.replies == "r"
-                && names.new_book == "n" =>
-        {
-            Some('f')
-        }
+                && names.new_book == "n" => { Some('f') }
         Some(LogAsked::Help) => Some('h'),
         Some(_) => Some('w'),
         None => Some('-'),

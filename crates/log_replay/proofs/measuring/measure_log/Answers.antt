@@ -36,12 +36,12 @@ loop-preserved g c = (
   λ known. c.next.ensures.file.known (c.loop.invariant.0 known),
   λ may. c.loop.invariant.1 (c.next.ensures.file.may may),
   λ known.
-  let inv = c.loop.invariant in
-  let so_far = inv.2 known in
-  let bodies = c.in-Entry.bodies in
-  let steps = rw c.in-Entry.is at (c.in_ok-bodies.ensures.read (inv.0 known) c.args.digest.now (g.R.Source.remaining c.args.source) so_far.0 so_far.2) in (
-    so_far.0 ++ bodies ∷ [],
-    omega (arith, c.in-Some.ensures, c.from.ensures, c.len.ensures.count, so_far.1, ap length (bodies_more so_far.0 bodies), length-append (all_bodies so_far.0) bodies),
-    steps,
-  ),
+      let inv = c.loop.invariant in
+      let so_far = inv.2 known in
+      let bodies = c.in-Entry.bodies in
+      let steps = rw c.in-Entry.is at (c.in_ok-bodies.ensures.read (inv.0 known) c.args.digest.now (g.R.Source.remaining c.args.source) so_far.0 so_far.2) in (
+        so_far.0 ++ bodies ∷ [],
+        omega (arith, c.in-Some.ensures, c.from.ensures, c.len.ensures.count, so_far.1, ap length (bodies_more so_far.0 bodies), length-append (all_bodies so_far.0) bodies),
+        steps,
+      ),
 )

@@ -28,8 +28,16 @@ returns-clause-replayed g c =
     let done = c.in_ok-finish.ensures.finishes rows log.messages took.0 took.1 in
     let end = done.1 in
     let count = length-cut end.blocks end.cut.cut in
-    let number : length end.blocks ≡ c.blocks_of.result = omega (arith, count.0, count.1, ap length end.cut.all, taken_all rows log.messages took.0 c.take_log.new.answering took.1,
-    c.in_ok-take_log.ensures.all, c.blocks_of.ensures.all, c.blocks_of.ensures.last) in
+    let number : length end.blocks ≡ c.blocks_of.result = omega (
+      arith,
+      count.0,
+      count.1,
+      ap length end.cut.all,
+      taken_all rows log.messages took.0 c.take_log.new.answering took.1,
+      c.in_ok-take_log.ensures.all,
+      c.blocks_of.ensures.all,
+      c.blocks_of.ensures.last,
+    ) in
     let blocks : length (replies_to_blocks rows end.blocks) ≡ c.blocks_of.result = blocks_replied rows end.blocks ∙ number in
     let had = g.W.Sink.written c.args.sink.now in
     record {

@@ -31,8 +31,17 @@ returns-then-len-messages-clause-fault g c digest bytes width = inr (λ begins t
     let so_far = way.read digest bytes begins in
     let steps = rw c.in-Entry.is at (c.in_ok-bodies.ensures.read so_far.0 digest bytes way.entries so_far.1) in
     let most = no_more digest bytes (way.entries ++ bodies ∷ []) _ c.args.messages torn steps.stands size in
-    omega (arith, most, c.if-len-messages.true, c.taken.ensures, c.len.ensures.count, way.number, c.loop.invariant.few,
-    ap length (bodies_more way.entries bodies), length-append (all_bodies way.entries) bodies))
+    omega (
+      arith,
+      most,
+      c.if-len-messages.true,
+      c.taken.ensures,
+      c.len.ensures.count,
+      way.number,
+      c.loop.invariant.few,
+      ap length (bodies_more way.entries bodies),
+      length-append (all_bodies way.entries) bodies,
+    ))
 
 pub returns-then-taken-messages-clause-fault : goal.returns-then-taken-messages-clause-fault
 returns-then-taken-messages-clause-fault g c digest bytes width = inr (λ begins torn size.

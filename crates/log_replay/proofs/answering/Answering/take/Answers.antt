@@ -9,6 +9,13 @@ returns-then-len-lt-FULL-clause-takes g c = waits _ _ c.args.frame.now _ _ refl 
 pub returns-clause-takes : goal.returns-clause-takes
 returns-clause-takes g c =
     let block = c.push_copy.new.items in
-    let full : length block.items ≡ 65536 = omega (arith, c.if-len-lt-FULL.false, c.len.ensures, block.ok.0, ap length c.in_ok-push_copy.ensures,
-    length-append c.args.self.now.block.items (c.args.frame.now ∷ []), c.requires.counted.room) in
+    let full : length block.items ≡ 65536 = omega (
+      arith,
+      c.if-len-lt-FULL.false,
+      c.len.ensures,
+      block.ok.0,
+      ap length c.in_ok-push_copy.ensures,
+      length-append c.args.self.now.block.items (c.args.frame.now ∷ []),
+      c.requires.counted.room,
+    ) in
     on_ok (fills _ _ _ c.args.frame.now _ _ _ refl refl c.in_ok-push_copy.ensures full) c.answer.result c.answer.ensures.answers
