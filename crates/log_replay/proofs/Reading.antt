@@ -1,11 +1,11 @@
 -- A log that is read entry by entry, and its size.
-use Rattle.std.proofs.Common.{inl, inr, ◌≡◌, ℕ, ◌+◌, ◌<◌, ◌≤◌, List, [], ◌∷◌, ◌++◌, length, Result, Ok, Err, IfErr, refl, ap, sym, subst, ◌∙◌, append_assoc, arith}
+use Rattle.std.proofs.Common.{inl, inr, ◌≡◌, ℕ, ◌≤◌, List, [], ◌∷◌, ◌++◌, length, Result, Ok, Err, refl, ap, subst, ◌∙◌, arith}
 use Rattle.std.proofs.lemmas.List.{append-nil, length-append}
 use Rattle.std.proofs.lemmas.List.Concat.{flat_map-append}
 use Rattle.issuer_rows.specs.declared.frame.Frame.{Frame}
 use Rattle.file_batch_laws.specs.Frames.{AreFramesOf}
 use Rattle.log_laws.specs.Reading.{IsLogOf, IsReading, Stands}
-use Rattle.log_laws.specs.Texts.{last_digest, log_text}
+use Rattle.log_laws.specs.Texts.{last_digest}
 use Rattle.log_laws.specs.declared.log_fault.LogFault.{LogFault}
 use Rattle.log_laws.specs.declared.log_fault.LogFault.TheVariants.{NoLog, Version, OtherBook, InUse, Broken, Failed, OutOfMemory}
 use Rattle.log_laws.specs.LogFault.{is_of_bytes}

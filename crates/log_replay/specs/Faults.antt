@@ -1,6 +1,5 @@
 -- Why a log is not decided again.
-use Rattle.std.specs.Prelude.{◌≡◌, ◌<◌, ◌⊎◌, ℕ, List, Err, IsTrue}
-use Rattle.log_laws.specs.LogFault.{is_of_bytes}
+use Rattle.std.specs.Prelude.{◌<◌, ◌⊎◌, ℕ, List, Err}
 use Rattle.log_laws.specs.Reading.{IsReading}
 use Rattle.log_laws.specs.declared.log_fault.LogFault.{LogFault}
 use Rattle.log_laws.specs.declared.log_fault.LogFault.TheVariants as log

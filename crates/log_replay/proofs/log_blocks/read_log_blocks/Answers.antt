@@ -1,4 +1,4 @@
-use Rattle.std.proofs.Common.{rules, ℕ, ◌≡◌, ◌≤◌, [], length, ap, arith}
+use Rattle.std.proofs.Common.{rules, ℕ, ◌≡◌, [], length, ap, arith}
 use Rattle.std.proofs.lemmas.List.{length-map}
 use Rattle.std.proofs.lemmas.Result.{err_from_is_err_and}
 use Rattle.log_replay.specs.Logged.{IsLogOfSize}

@@ -1,4 +1,4 @@
-use Rattle.std.proofs.Common.{◌≡◌, length, arith, ap, ◌∙◌}
+use Rattle.std.proofs.Common.{length, arith, ap}
 use Rattle.file_batch.proofs.Folds.{as_many}
 use Rattle.log_replay.proofs.answering.Answering.answer.Goals as goal
 

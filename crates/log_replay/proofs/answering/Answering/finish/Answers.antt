@@ -1,4 +1,4 @@
-use Rattle.std.proofs.Common.{rules, ◌≡◌, length, arith, ap, refl, sym, ◌∙◌}
+use Rattle.std.proofs.Common.{rules, arith, sym, ◌∙◌}
 use Rattle.std.proofs.lemmas.List.{nil_from_length}
 use Rattle.log_replay.proofs.Taking.{last_answered, none_left, not_zero, on_ok}
 use Rattle.log_replay.proofs.answering.Answering.finish.Goals as goal
