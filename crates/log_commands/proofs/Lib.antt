@@ -1,2 +1,2 @@
 pub mod Faults
-pub mod Replaying
+pub mod Placed

@@ -32,10 +32,10 @@ fn is_word(words: &[String], place: usize, word: &str) -> bool
     ensures yes { IsTrue result → slice_get (map string_bytes words.now) place ≡ Some word.now }
     ensures no { ¬ IsTrue result → slice_get (map string_bytes words.now) place ≢ Some word.now }
 {
-    match words.get(place) {
-        Some(own) => own.as_str() == word,
-        None => false,
+    if place >= words.len() {
+        return false;
     }
+    words[place].as_str() == word
 }
 
 // What is asked by words of which the second is the command.
