@@ -1,5 +1,5 @@
 -- Faults of the parts of a replay.
-use Rattle.std.proofs.Common.{◌≡◌, ◌⊎◌, ◌<◌, ℕ, List, inl, inr, refl, Err}
+use Rattle.std.proofs.Common.{◌≡◌, ℕ, List, inl, inr, refl}
 use Rattle.app_jobs.specs.Decided.{Holding, IsBookOf}
 use Rattle.app_jobs.specs.Faults.{IsPuttingFault, MayBeRefused, MayNotBePut}
 use Rattle.app_jobs.specs.JobFault.{fault_of_write}
@@ -22,7 +22,7 @@ use Rattle.log_replay.specs.declared.replay_fault.ReplayFault.TheVariants as rep
 use Rattle.log_commands.specs.CommandFault.{fault_of_open, fault_of_replay}
 use Rattle.log_commands.specs.Faults.{IsReplayFault, IsUnanswered, MayNotBeWritten}
 use Rattle.log_commands.specs.declared.command_fault.CommandFault.{CommandFault}
-use Rattle.log_commands.specs.declared.command_fault.CommandFault.TheVariants.{Usage, Job, Log}
+use Rattle.log_commands.specs.declared.command_fault.CommandFault.TheVariants.{Job, Log}
 
 -- a log that isn't measured isn't answered
 pub unmeasured : (known may_fail : Type 0) (bytes : List ℕ) (failing : Failing) (names : Names) (rows : Rows) (e : ReplayFault)

@@ -1,5 +1,5 @@
 -- From what a log came to, and that it is put in place, to files that hold it.
-use Rattle.std.proofs.Common.{◌≡◌, ◌≢◌, ◌⊎◌, ℕ, List, inl, inr, Result, Ok, Err}
+use Rattle.std.proofs.Common.{◌≡◌, ◌≢◌, ℕ, List, inr, Ok, Err}
 use Rattle.app_jobs.specs.Decided.{Holding, IsBookOf}
 use Rattle.app_jobs.specs.Deciding.{PutsAnswer}
 use Rattle.app_jobs.specs.Faults.{MayBeRefused}
@@ -7,18 +7,16 @@ use Rattle.app_jobs.proofs.AnsweredFiles.{untouched}
 use Rattle.app_jobs.specs.declared.job_fault.JobFault.{JobFault}
 use Rattle.file_devices.specs.BatchNames.{Names}
 use Rattle.file_devices.specs.Failing.{Failing}
-use Rattle.file_devices.specs.Holding.{AreAsTheyWere, IsThere}
+use Rattle.file_devices.specs.Holding.{IsThere}
 use Rattle.issuer_rows.specs.Fold.{Rows}
-use Rattle.log_commands.specs.CommandFault.{status_of}
-use Rattle.log_commands.specs.Faults.{IsReplayFault, IsReplayRefusal}
+use Rattle.log_commands.specs.Faults.{IsReplayRefusal}
 use Rattle.log_commands.specs.Replayed.{IsAnswered}
-use Rattle.log_commands.specs.Replays.{Ends, Replays}
+use Rattle.log_commands.specs.Replays.{Replays}
 use Rattle.log_commands.specs.declared.command_fault.CommandFault.{CommandFault}
-use Rattle.log_commands.specs.declared.command_fault.CommandFault.TheVariants.{Usage, Job, Log}
+use Rattle.log_commands.specs.declared.command_fault.CommandFault.TheVariants.{Job}
 use Rattle.log_commands.specs.declared.log_replay_files.ReplayedFiles.{ReplayedFiles}
 use Rattle.log_commands.specs.declared.written_log.WrittenLog.{WrittenLog}
 use Rattle.log_commands.proofs.Faults.{unput}
-use Rattle.log_replay.specs.Logged.{IsLogOfMessages, book_digest}
 
 module _ {F : Type 0} (is_known : F → Type 0) (holds : F → Holding) (failing : F → Failing) (held : Holding) (reading in_use : List ℕ → Type 0) where
   -- nothing is done, and all files are as they were
