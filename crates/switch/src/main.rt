@@ -5,8 +5,10 @@ use app_commands::{Fault, Printer, act, print_fault};
 use app_why::{answer_why, why_asked};
 use file_devices::{FromRead, HostFiles, IntoWrite};
 use host_commands::{HostAsked, HostLogs, SERVE_HELP, host_asked, serve};
+use log_commands::{LogAsked, REPLAY_HELP, replay, replay_asked};
+use log_locked::HostLockedLogs;
 use std::alloc::{AllocError, Global};
-use std::io::ErrorKind;
+use std::io::{ErrorKind, Write};
 use std::process::ExitCode;
 use std::{env, io};
 
@@ -26,12 +28,29 @@ fn main(rt: HostRuntime) -> ExitCode {
         return ExitCode::from(status);
     }
     let mut out = Printer::new(rt.stdout());
-    let status = match host_asked(&words) {
-        None => act(&rt, rt.alloc(), &mut files, &words, &mut out, &mut err),
-        Some(HostAsked::Serve(book, log)) => serve(
+    let status = if let Some(asked) = host_asked(&words) {
+        serve_words(rt, &files, asked, &mut out, &mut err)
+    } else if let Some(asked) = replay_asked(&words) {
+        replay_words(rt, &mut files, asked, &mut out, &mut err)
+    } else {
+        act(&rt, rt.alloc(), &mut files, &words, &mut out, &mut err)
+    };
+    ExitCode::from(status)
+}
+
+// Does what is asked of a live host, over standard input and output.
+fn serve_words<O: Write, E: Write>(
+    rt: HostRuntime,
+    files: &HostFiles<HostRuntime>,
+    asked: HostAsked<'_>,
+    out: &mut Printer<O>,
+    err: &mut Printer<E>,
+) -> u8 {
+    match asked {
+        HostAsked::Serve(book, log) => serve(
             &rt,
             rt.alloc(),
-            &files,
+            files,
             &HostLogs::new(rt),
             book,
             log,
@@ -39,16 +58,45 @@ fn main(rt: HostRuntime) -> ExitCode {
             &mut IntoWrite::new(rt.stdout()),
             &mut rt.stderr(),
         ),
-        Some(HostAsked::Help) => {
-            out.text(SERVE_HELP.as_bytes());
-            u8::from(out.is_stuck())
+        HostAsked::Help => help(SERVE_HELP, out),
+        HostAsked::Wrong => usage(
+            b"usage: switch serve <BOOK> <LOG>; `switch serve --help` says more",
+            err,
+        ),
+    }
+}
+
+// Does what is asked of a log that is decided again.
+fn replay_words<O: Write, E: Write>(
+    rt: HostRuntime,
+    files: &mut HostFiles<HostRuntime>,
+    asked: LogAsked<'_>,
+    out: &mut Printer<O>,
+    err: &mut Printer<E>,
+) -> u8 {
+    match asked {
+        LogAsked::Files(names) => {
+            let logs = HostLockedLogs::new(rt);
+            replay(&rt, rt.alloc(), files, &logs, &names, &mut rt.stderr())
         }
-        Some(HostAsked::Wrong) => {
-            err.line(b"usage: switch serve <BOOK> <LOG>; `switch serve --help` says more");
-            2
-        }
-    };
-    ExitCode::from(status)
+        LogAsked::Help => help(REPLAY_HELP, out),
+        LogAsked::Wrong => usage(
+            b"usage: switch replay <BOOK> <LOG> <REPLIES> <NEWBOOK>; `switch replay --help` says more",
+            err,
+        ),
+    }
+}
+
+// Prints what a command takes.
+fn help<O: Write>(text: &str, out: &mut Printer<O>) -> u8 {
+    out.text(text.as_bytes());
+    u8::from(out.is_stuck())
+}
+
+// Says what is wrong with the words.
+fn usage<E: Write>(text: &[u8], err: &mut Printer<E>) -> u8 {
+    err.line(text);
+    2
 }
 
 // The words that the program was started with.

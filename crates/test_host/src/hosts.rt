@@ -34,14 +34,14 @@ impl Logs for CopiedLogs {
     }
 }
 
-fn copy_of(alloc: Global, bytes: &[u8]) -> Option<Vec<u8>> {
+pub(crate) fn copy_of(alloc: Global, bytes: &[u8]) -> Option<Vec<u8>> {
     let mut copy = Vec::new(alloc);
     copy.extend_from_slice(bytes).ok()?;
     Some(copy)
 }
 
-// The file `book` with this book.
-fn files(alloc: Global, book: &Book) -> Option<MemoryFiles> {
+/// The file `book` with this book.
+pub(crate) fn files(alloc: Global, book: &Book) -> Option<MemoryFiles> {
     let mut files = MemoryFiles::new(alloc);
     files.put("book", write_book(alloc, book).ok()?).ok()?;
     Some(files)
@@ -61,8 +61,8 @@ fn open<R: Threads>(
     open_host(rt, alloc, &files, "book", log, &Shipped)
 }
 
-// What a crash keeps of the log of a host that goes on with this one and serves a link, and what it wrote.
-fn serve_link<R: Threads>(
+/// What a crash keeps of the log of a host that goes on with this one and serves a link, and what it wrote.
+pub(crate) fn serve_link<R: Threads>(
     rt: &R,
     alloc: Global,
     book: &Book,

@@ -1,0 +1,6 @@
+pub mod Asked
+pub mod CommandFault
+pub mod Names
+pub mod Faults
+pub mod Replayed
+pub mod Replays

@@ -1,0 +1,31 @@
+ghost use Rattle.std.specs.Prelude.{◌⊎◌, IfErr};
+ghost use Rattle.log_commands.specs.Faults.{IsClaimFault};
+
+use crate::command_fault::CommandFault;
+use crate::log_names::LogNames;
+use file_devices::Files;
+use std::alloc::Global;
+
+/// Claims the files of replies and of the new book, so that no other run writes them. They are claimed until the result is dropped.
+pub(crate) fn claim_answer<F: Files>(
+    alloc: Global,
+    files: &F,
+    names: &LogNames<'_>,
+) -> Result<Vec<F::Claim>, CommandFault>
+    ensures { IfErr result (IsClaimFault ((F.failing files.now).in_use names.now.replies.now ⊎ (F.failing files.now).in_use names.now.new_book.now)) }
+{
+    let mut claims = Vec::new(alloc);
+    claims.push(claim(files, names.replies)?)?;
+    claims.push(claim(files, names.new_book)?)?;
+    Ok(claims)
+}
+
+// Claims a file, to write it.
+fn claim<F: Files>(files: &F, name: &str) -> Result<F::Claim, CommandFault>
+    ensures { IfErr result (IsClaimFault ((F.failing files.now).in_use name.now)) }
+{
+    match files.claim(name) {
+        Ok(claim) => Ok(claim),
+        Err(fault) => Err(CommandFault::from(fault)),
+    }
+}

@@ -1,0 +1,4 @@
+pub mod Cutting
+pub mod Taking
+pub mod Reading
+pub mod Gathers

@@ -1,0 +1,37 @@
+-- The messages of a log.
+use Rattle.std.specs.Prelude.{◌≡◌, ℕ, List, length}
+use Rattle.std.specs.List.{flat_map}
+use Rattle.sha2.specs.Sha256.{sha256}
+use Rattle.issuer_rows.specs.Fold.{Rows}
+use Rattle.issuer_rows.specs.declared.frame.Frame.{Frame}
+use Rattle.book_laws.specs.Text.{book_text}
+use Rattle.file_batch_laws.specs.Frames.{AreFramesOf}
+use Rattle.log_laws.specs.Reading.{IsLogOf}
+use Rattle.log_replay.specs.declared.log_size.LogSize.{LogSize}
+
+-- the digest by which a log names its opening book
+abbrev pub book_digest : Rows → List ℕ
+book_digest book = sha256 (book_text book)
+
+-- the bodies of all entries, in order
+abbrev pub all_bodies : List (List (List ℕ)) → List (List ℕ)
+all_bodies entries = flat_map (λ bodies. bodies) entries
+
+-- The bytes are a log of the book that has this digest, with a torn tail behind it perhaps. These are the messages that its bodies spell,
+-- in order, or the fault of a body that spells none.
+pub record IsLogOfMessages (digest bytes : List ℕ) (messages : List Frame) : Type 0 where
+  pub entries : List (List (List ℕ))
+  pub tail : List ℕ
+  pub is : IsLogOf digest bytes entries tail
+  pub spelled : AreFramesOf (all_bodies entries) messages
+
+-- the bytes are a log of so many bodies, and a torn tail of so many bytes
+pub record IsLogOfSize (digest bytes : List ℕ) (count torn : ℕ) : Type 0 where
+  pub entries : List (List (List ℕ))
+  pub tail : List ℕ
+  pub is : IsLogOf digest bytes entries tail
+  pub bodies : count ≡ length (all_bodies entries)
+  pub left : torn ≡ length tail
+
+abbrev pub HasSize : List ℕ → List ℕ → LogSize → Type 0
+HasSize digest bytes size = IsLogOfSize digest bytes size.messages size.torn
