@@ -16,39 +16,55 @@ pub returns-in_err-log-clause-fault : goal.returns-in_err-log-clause-fault
 returns-in_err-log-clause-fault g c =
     let p = err_from_is_err_and c.from_residual-in_err-log.result c.from_residual-in_err-log.ensures.1 in
     let opened = c.in_err-log.ensures in
-    rw (p.1, p.2) (inr (inr (c.in_ok-book.book, c.in_ok-book.ensures.book, inl (not_opened
-    (g.L.LockedLogs.holds c.args.logs.now) (g.L.LockedLogs.reading c.args.logs.now) (g.L.LockedLogs.in_use c.args.logs.now) (names_of c.args.names.now) c.in_ok-book.book c.in_err-log.field-0.0
-    (λ used. opened.in_use (ap (λ (e : OpenFault). Err e) used)) (λ gone. opened.absent (ap (λ (e : OpenFault). Err e) gone))))))
+    rw (p.1, p.2) (inr (inr (
+      c.in_ok-book.book,
+      c.in_ok-book.ensures.book,
+      inl (not_opened
+          (g.L.LockedLogs.holds c.args.logs.now) (g.L.LockedLogs.reading c.args.logs.now) (g.L.LockedLogs.in_use c.args.logs.now) (names_of c.args.names.now) c.in_ok-book.book c.in_err-log.field-0.0
+          (λ used. opened.in_use (ap (λ (e : OpenFault). Err e) used)) (λ gone. opened.absent (ap (λ (e : OpenFault). Err e) gone))),
+    )))
 
 pub returns-in_err-blocks-clause-fault : goal.returns-in_err-blocks-clause-fault
 returns-in_err-blocks-clause-fault g c =
     let p = err_from_is_err_and c.from_residual-in_err-blocks.result c.from_residual-in_err-blocks.ensures.1 in
-    rw (p.1, p.2) (inr (inr (c.in_ok-book.book, c.in_ok-book.ensures.book, inl (not_read
-    (g.L.LockedLogs.holds c.args.logs.now) (g.L.LockedLogs.reading c.args.logs.now) (g.L.LockedLogs.in_use c.args.logs.now) (names_of c.args.names.now) c.in_ok-book.book
-    (g.L.Log.LockedLog.is_known c.in_ok-log.log) (g.L.Log.LockedLog.may_fail c.in_ok-log.log) (g.L.Log.LockedLog.bytes c.in_ok-log.log) c.in_err-blocks.field-0.0
-    c.in_ok-log.ensures.log c.in_ok-log.ensures.device c.in_err-blocks.ensures.fault))))
+    rw (p.1, p.2) (inr (inr (
+      c.in_ok-book.book,
+      c.in_ok-book.ensures.book,
+      inl (not_read
+          (g.L.LockedLogs.holds c.args.logs.now) (g.L.LockedLogs.reading c.args.logs.now) (g.L.LockedLogs.in_use c.args.logs.now) (names_of c.args.names.now) c.in_ok-book.book
+          (g.L.Log.LockedLog.is_known c.in_ok-log.log) (g.L.Log.LockedLog.may_fail c.in_ok-log.log) (g.L.Log.LockedLog.bytes c.in_ok-log.log) c.in_err-blocks.field-0.0
+          c.in_ok-log.ensures.log c.in_ok-log.ensures.device c.in_err-blocks.ensures.fault),
+    )))
 
 pub returns-in_err-replies-clause-fault : goal.returns-in_err-replies-clause-fault
 returns-in_err-replies-clause-fault g c =
     let p = err_from_is_err_and c.from_residual-in_err-replies.result c.from_residual-in_err-replies.ensures.1 in
     let log = c.in_ok-log.ensures.log in
     let blocks = c.in_ok-blocks.ensures.blocks in
-    rw (p.1, p.2) (inr (inr (c.in_ok-book.book, c.in_ok-book.ensures.book, inr (
-      blocks.0,
-      λ bytes h. rw (log bytes h).1 at (blocks.2 (log bytes h).0),
-      inl c.in_err-replies.ensures.fault,
-    ))))
+    rw (p.1, p.2) (inr (inr (
+      c.in_ok-book.book,
+      c.in_ok-book.ensures.book,
+      inr (
+        blocks.0,
+        λ bytes h. rw (log bytes h).1 at (blocks.2 (log bytes h).0),
+        inl c.in_err-replies.ensures.fault,
+      ),
+    )))
 
 pub returns-in_err-after-clause-fault : goal.returns-in_err-after-clause-fault
 returns-in_err-after-clause-fault g c =
     let p = err_from_is_err_and c.from_residual-in_err-after.result c.from_residual-in_err-after.ensures.1 in
     let log = c.in_ok-log.ensures.log in
     let blocks = c.in_ok-blocks.ensures.blocks in
-    rw (p.1, p.2) (inr (inr (c.in_ok-book.book, c.in_ok-book.ensures.book, inr (
-      blocks.0,
-      λ bytes h. rw (log bytes h).1 at (blocks.2 (log bytes h).0),
-      inr ((map (λ (block : Vec ReplyBody). block.items) c.in_ok-replies.replies.items, c.in_ok-replies.ensures.replies), inl c.in_err-after.ensures.fault),
-    ))))
+    rw (p.1, p.2) (inr (inr (
+      c.in_ok-book.book,
+      c.in_ok-book.ensures.book,
+      inr (
+        blocks.0,
+        λ bytes h. rw (log bytes h).1 at (blocks.2 (log bytes h).0),
+        inr ((map (λ (block : Vec ReplyBody). block.items) c.in_ok-replies.replies.items, c.in_ok-replies.ensures.replies), inl c.in_err-after.ensures.fault),
+      ),
+    )))
 
 pub returns-clause-audited : goal.returns-clause-audited
 returns-clause-audited g c =
