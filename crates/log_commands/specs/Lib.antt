@@ -4,3 +4,5 @@ pub mod Names
 pub mod Faults
 pub mod Replayed
 pub mod Replays
+pub mod Audited
+pub mod Audits

@@ -27,6 +27,19 @@ pub fn replay_asked(words: &[String]) -> Option<LogAsked<'_>>
     }
 }
 
+/// What the program's words, of which the first is its name, ask of `audit-log`. `None` where they don't ask it.
+pub fn audit_log_asked(words: &[String]) -> Option<LogAsked<'_>>
+    ensures audit { OnSome result (slice_get (map string_bytes words.now) 1 ≡ Some (codes "audit-log")) }
+    ensures asked { IfSome result (IsAskedBy (map string_bytes words.now)) }
+    ensures none { IfNone result (slice_get (map string_bytes words.now) 1 ≢ Some (codes "audit-log")) }
+{
+    if is_word(words, 1, "audit-log") {
+        Some(asked_behind(words))
+    } else {
+        None
+    }
+}
+
 // Whether the word at this place is that one.
 fn is_word(words: &[String], place: usize, word: &str) -> bool
     ensures yes { IsTrue result → slice_get (map string_bytes words.now) place ≡ Some word.now }

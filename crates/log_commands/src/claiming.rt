@@ -29,3 +29,29 @@ fn claim<F: Files>(files: &F, name: &str) -> Result<F::Claim, CommandFault>
         Err(fault) => Err(CommandFault::from(fault)),
     }
 }
+
+/// Claims the files of a book, of replies and of the new book, to read them while no run writes them.
+pub(crate) fn claim_audited<F: Files>(
+    alloc: Global,
+    files: &F,
+    names: &LogNames<'_>,
+) -> Result<Vec<F::Claim>, CommandFault>
+    ensures { IfErr result (IsClaimFault ((F.failing files.now).in_use names.now.book.now
+        ⊎ ((F.failing files.now).in_use names.now.replies.now ⊎ (F.failing files.now).in_use names.now.new_book.now))) }
+{
+    let mut claims = Vec::new(alloc);
+    claims.push(claim_to_read(files, names.book)?)?;
+    claims.push(claim_to_read(files, names.replies)?)?;
+    claims.push(claim_to_read(files, names.new_book)?)?;
+    Ok(claims)
+}
+
+// Claims a file, to read it.
+fn claim_to_read<F: Files>(files: &F, name: &str) -> Result<F::Claim, CommandFault>
+    ensures { IfErr result (IsClaimFault ((F.failing files.now).in_use name.now)) }
+{
+    match files.claim_to_read(name) {
+        Ok(claim) => Ok(claim),
+        Err(fault) => Err(CommandFault::from(fault)),
+    }
+}

@@ -27,3 +27,27 @@ A fault is printed on standard error as what it is of and its number there:
   memory 1   memory ran out
 After a fault all files are as they were, and none is new.
 ";
+
+/// What `switch audit-log --help` prints.
+pub const AUDIT_LOG_HELP: &str =
+    "Decides the messages of a log again, and says whether these are their replies and this is the book after them
+
+Usage: switch audit-log <BOOK> <LOG> <REPLIES> <NEWBOOK>
+
+Arguments:
+  <BOOK>     The opening book of the log
+  <LOG>      The log that `switch serve` wrote. No host may have it meanwhile
+  <REPLIES>  The replies to its messages, as `switch replay` writes them
+  <NEWBOOK>  The book after them
+
+Options:
+  -h, --help  Print help
+
+It prints `same`, or what differs first: `count differs`, `block 1 reply 2 differs`, `row KEY differs`.
+
+Exit status: 0 nothing differs, 1 fault, 2 usage error, 3 something differs.
+
+A fault is printed on standard error as what it is of and its number there, as `switch replay --help` lists them;
+besides, `batch N` where REPLIES is no block reply file, `file 1` and `book N` for NEWBOOK too, and `output 1` where
+what was found can't be printed.
+";

@@ -4,6 +4,8 @@
 mod answering;
 mod apart;
 mod asking;
+mod audit_report;
+mod auditing;
 mod claiming;
 mod command_fault;
 mod help;
@@ -13,9 +15,11 @@ mod placing;
 mod replaying;
 mod written_log;
 
-pub use asking::{LogAsked, replay_asked};
+pub use asking::{LogAsked, audit_log_asked, replay_asked};
+pub use audit_report::audit_log;
+pub use auditing::audit_log_files;
 pub use command_fault::CommandFault;
-pub use help::REPLAY_HELP;
+pub use help::{AUDIT_LOG_HELP, REPLAY_HELP};
 pub use log_names::LogNames;
 pub use log_replay_files::{ReplayedFiles, replay_files};
 pub use replaying::replay;

@@ -5,7 +5,9 @@ use app_commands::{Fault, Printer, act, print_fault};
 use app_why::{answer_why, why_asked};
 use file_devices::{FromRead, HostFiles, IntoWrite};
 use host_commands::{HostAsked, HostLogs, SERVE_HELP, host_asked, serve};
-use log_commands::{LogAsked, REPLAY_HELP, replay, replay_asked};
+use log_commands::{
+    AUDIT_LOG_HELP, LogAsked, REPLAY_HELP, audit_log, audit_log_asked, replay, replay_asked,
+};
 use log_locked::HostLockedLogs;
 use std::alloc::{AllocError, Global};
 use std::io::{ErrorKind, Write};
@@ -32,6 +34,8 @@ fn main(rt: HostRuntime) -> ExitCode {
         serve_words(rt, &files, asked, &mut out, &mut err)
     } else if let Some(asked) = replay_asked(&words) {
         replay_words(rt, &mut files, asked, &mut out, &mut err)
+    } else if let Some(asked) = audit_log_asked(&words) {
+        audit_log_words(rt, &files, asked, &mut out, &mut err)
     } else {
         act(&rt, rt.alloc(), &mut files, &words, &mut out, &mut err)
     };
@@ -82,6 +86,32 @@ fn replay_words<O: Write, E: Write>(
         LogAsked::Help => help(REPLAY_HELP, out),
         LogAsked::Wrong => usage(
             b"usage: switch replay <BOOK> <LOG> <REPLIES> <NEWBOOK>; `switch replay --help` says more",
+            err,
+        ),
+    }
+}
+
+// Does what is asked of a log whose replies and new book are audited.
+fn audit_log_words<O: Write, E: Write>(
+    rt: HostRuntime,
+    files: &HostFiles<HostRuntime>,
+    asked: LogAsked<'_>,
+    out: &mut Printer<O>,
+    err: &mut Printer<E>,
+) -> u8 {
+    match asked {
+        LogAsked::Files(names) => audit_log(
+            &rt,
+            rt.alloc(),
+            files,
+            &HostLockedLogs::new(rt),
+            &names,
+            &mut rt.stdout(),
+            &mut rt.stderr(),
+        ),
+        LogAsked::Help => help(AUDIT_LOG_HELP, out),
+        LogAsked::Wrong => usage(
+            b"usage: switch audit-log <BOOK> <LOG> <REPLIES> <NEWBOOK>; `switch audit-log --help` says more",
             err,
         ),
     }

@@ -7,7 +7,7 @@ use book_json::read_book;
 use file_batch::Strictness;
 use file_devices::{BatchNames, Broken, HostFiles, MemoryFiles};
 use issuer_rows::Book;
-use log_commands::{LogAsked, LogNames, replay, replay_asked};
+use log_commands::{LogAsked, LogNames, audit_log, audit_log_asked, replay, replay_asked};
 use log_devices::OpenFault;
 use log_locked::{HostLockedLogs, LockedLog, LockedLogs};
 use std::alloc::Global;
@@ -295,6 +295,76 @@ fn a_log_that_is_not_there_is_not_made(rt: HostRuntime) -> Result<(), Fail> {
     assert!(rt; matches!(logs.open("no_log"), Err(OpenFault::Refused)));
     assert!(rt; fs::metadata(&rt, "no_log/log").is_err());
     fs::remove_dir_all(&rt, "no_log")?;
+    Ok(())
+}
+
+// Whether an audit of this log, with these files, returns this status and prints this, on its two outputs.
+fn is_audited<R: Threads>(
+    rt: &R,
+    alloc: Global,
+    files: &MemoryFiles,
+    log: &[u8],
+    outcome: (u8, &[u8], &[u8]),
+) -> Option<bool> {
+    let logs = OneLog {
+        alloc,
+        bytes: copy_of(alloc, log)?,
+    };
+    let names = names("book", "log", "replies", "after");
+    let mut out = Vec::new(alloc);
+    let mut err = Vec::new(alloc);
+    let status = audit_log(rt, alloc, files, &logs, &names, &mut out, &mut err);
+    Some(status == outcome.0 && out.as_slice() == outcome.1 && err.as_slice() == outcome.2)
+}
+
+#[test]
+fn what_is_kept_of_a_log_is_audited(rt: HostRuntime) -> Result<(), Fail> {
+    let alloc = rt.alloc();
+    let book = first_book_with(alloc, &[])?;
+    let log = log_of(&rt, alloc, &book, &[LINK]).expect(&rt, "a log");
+    let mut files = files(alloc, &book).expect(&rt, "files");
+    assert!(rt; is_audited(&rt, alloc, &files, &log, (1, b"", b"file 1\n")) == Some(true));
+    let good = names("book", "log", "replies", "after");
+    let _ = replayed(&rt, alloc, &mut files, &log, &good).expect(&rt, "an outcome");
+    assert!(rt; is_audited(&rt, alloc, &files, &log, (0, b"same\n", b"")) == Some(true));
+    let older = copy_of(alloc, files.get("book").expect(&rt, "a book")).expect(&rt, "room");
+    let _ = files.put("after", older).expect(&rt, "room");
+    let mut found = Vec::new(alloc);
+    let logs = OneLog {
+        alloc,
+        bytes: copy_of(alloc, &log).expect(&rt, "room"),
+    };
+    let status = audit_log(
+        &rt,
+        alloc,
+        &files,
+        &logs,
+        &good,
+        &mut found,
+        &mut Vec::new(alloc),
+    );
+    assert!(rt; status == 3 && found.starts_with(b"row "));
+    let none = copy_of(alloc, NO_REPLIES).expect(&rt, "room");
+    let _ = files.put("replies", none).expect(&rt, "room");
+    assert!(rt; is_audited(&rt, alloc, &files, &log, (3, b"count differs\n", b"")) == Some(true));
+    let other = copy_of(alloc, b"I83R").expect(&rt, "room");
+    let _ = files.put("replies", other).expect(&rt, "room");
+    assert!(rt; is_audited(&rt, alloc, &files, &log, (1, b"", b"batch 1\n")) == Some(true));
+    assert!(rt; is_audited(&rt, alloc, &files, b"I83", (1, b"", b"log 1\n")) == Some(true));
+    Ok(())
+}
+
+#[test]
+fn words_ask_for_an_audit_of_a_log(rt: HostRuntime) -> Result<(), Fail> {
+    let alloc = rt.alloc();
+    let mut words = Vec::new(alloc);
+    for word in ["switch", "audit-log", "b", "l", "r", "n"] {
+        words
+            .push(String::from_str(alloc, word)?)
+            .expect(&rt, "room");
+    }
+    assert!(rt; matches!(audit_log_asked(&words), Some(LogAsked::Files(_))));
+    assert!(rt; replay_asked(&words).is_none());
     Ok(())
 }
 
