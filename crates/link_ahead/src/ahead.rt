@@ -7,16 +7,16 @@ use crate::signals::Signals;
 use file_devices::{Broken, Source};
 use rtrb::Consumer;
 use std::alloc::Global;
-use std::sync::Wait;
+use std::sync::{Arc, Wait};
 
 /// A link that a thread of its own reads ahead, up to 1 MiB: a source of the bytes that have come. One call takes all that are there, over
 /// any number of calls of the link's own source, as far as the buffer goes, and waits only where none is.
 #[derive(Drop)]
-pub struct Ahead<'a, R, L: Link> {
-    rt: &'a R,
+pub struct Ahead<R, L: Link> {
+    rt: R,
     pub(crate) inbound: Consumer<u8, Global, InOrder<L>>,
     ends: Consumer<Last, Global, InOrder<L>>,
-    signals: &'a Signals,
+    signals: Arc<Signals, Global>,
     // How many bytes were taken, up to 2^64 - 1.
     count: u64,
     last: Option<Last>,
@@ -24,18 +24,18 @@ pub struct Ahead<'a, R, L: Link> {
     ghost counted: { count ≡ min (length (received inbound)) (2 ^ 64 - 1) },
 }
 
-impl<'a, R, L: Link> Ahead<'a, R, L> {
+impl<R, L: Link> Ahead<R, L> {
     ghost use Rattle.std.specs.Prelude.{◌≡◌, ◌≤◌, ◌<◌, ◌++◌, [], length, take, Some, IfSome};
     ghost use Rattle.rtrb.specs.Ring.{received};
     ghost use Rattle.link_ahead.specs.Ahead.{most, IsBeginning, FitsEnd, MayFail, IsFresh};
 
     /// A link of which no byte was taken, read by this thread.
     pub(crate) fn new(
-        rt: &'a R,
+        rt: R,
         inbound: Consumer<u8, Global, InOrder<L>>,
         ends: Consumer<Last, Global, InOrder<L>>,
-        signals: &'a Signals,
-    ) -> Ahead<'a, R, L>
+        signals: Arc<Signals, Global>,
+    ) -> Ahead<R, L>
         requires { received inbound ≡ [] }
         ensures { IsFresh result }
     {
@@ -94,7 +94,7 @@ impl<'a, R, L: Link> Ahead<'a, R, L> {
     }
 }
 
-impl<R: Wait, L: Link> Source for Ahead<'_, R, L> {
+impl<R: Wait + Copy, L: Link> Source for Ahead<R, L> {
     ghost use Rattle.std.specs.Prelude.{length, drop};
     ghost use Rattle.rtrb.specs.Ring.{received};
     ghost use Rattle.link_ahead.specs.Ahead.{MayFail, IsReadAhead};
@@ -120,7 +120,7 @@ impl<R: Wait, L: Link> Source for Ahead<'_, R, L> {
                     return Err(Broken);
                 }
                 Some(_) => return Ok(0),
-                None => self.signals.came.park(rt),
+                None => self.signals.came.park(&rt),
             }
         }
         unreachable!()

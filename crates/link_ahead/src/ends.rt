@@ -1,4 +1,4 @@
-ghost use Rattle.std.specs.Prelude.{◌≡◌, false, IfOk};
+ghost use Rattle.std.specs.Prelude.{IfOk};
 ghost use Rattle.link_ahead.specs.Ahead.{IsFresh, HasReadNone};
 
 use crate::ahead::Ahead;
@@ -7,7 +7,7 @@ use crate::reading::Reading;
 use crate::signals::Signals;
 use rtrb::RingBuffer;
 use std::alloc::{AllocError, Global};
-use std::sync::Wait;
+use std::sync::Arc;
 
 // How many bytes are read ahead, at most.
 const AHEAD: usize = 1_048_576;
@@ -16,11 +16,11 @@ const AHEAD: usize = 1_048_576;
 const PIECE: usize = 65_536;
 
 /// What the thread has that reads a link, and what the one has that serves it. Nothing is read yet. Memory can run out.
-pub fn ends_of_link<'a, L: Link, R: Wait>(
-    rt: &'a R,
+pub fn ends_of_link<L: Link, R: Copy>(
+    rt: R,
     alloc: Global,
-    signals: &'a Signals,
-) -> Result<(Reading<'a, L>, Ahead<'a, R, L>), AllocError>
+    signals: &Arc<Signals, Global>,
+) -> Result<(Reading<L>, Ahead<R, L>), AllocError>
     ensures reading { IfOk result (λ ends. HasReadNone ends.0) }
     ensures fresh { IfOk result (λ ends. IsFresh ends.1) }
 {
@@ -29,9 +29,10 @@ pub fn ends_of_link<'a, L: Link, R: Wait>(
     let reading = Reading {
         outbound,
         ends,
-        signals,
+        signals: Arc::try_clone(signals)?,
         buffer: vec![in alloc; 0; PIECE]?,
         count: 0,
     };
-    Ok((reading, Ahead::new(rt, inbound, last, signals)))
+    let others = Arc::try_clone(signals)?;
+    Ok((reading, Ahead::new(rt, inbound, last, others)))
 }

@@ -7,14 +7,14 @@ use crate::waiting::hand_over;
 use file_devices::Source;
 use rtrb::Producer;
 use std::alloc::Global;
-use std::sync::Wait;
+use std::sync::{Arc, Wait};
 
 /// What the thread has that reads a link.
 #[derive(Drop)]
-pub struct Reading<'a, L: Link> {
+pub struct Reading<L: Link> {
     pub(crate) outbound: Producer<u8, Global, InOrder<L>>,
     pub(crate) ends: Producer<Last, Global, InOrder<L>>,
-    pub(crate) signals: &'a Signals,
+    pub(crate) signals: Arc<Signals, Global>,
     // Memory for what one call of the source gives.
     pub(crate) buffer: Vec<u8>,
     // How many bytes it gave, up to 2^64 - 1.
@@ -22,7 +22,7 @@ pub struct Reading<'a, L: Link> {
     ghost room: { 0 < length buffer.items },
 }
 
-impl<L: Link> Reading<'_, L> {
+impl<L: Link> Reading<L> {
     ghost use Rattle.std.specs.Prelude.{◌≡◌, ◌-◌, ◌^◌, [], min, length, true, false, IsTrue, IsFalse};
     ghost use Rattle.rtrb.specs.Ring.{sent};
     ghost use Rattle.link_ahead.specs.Ahead.{IsBehind, HasReadNone};
@@ -61,7 +61,7 @@ impl<L: Link> Reading<'_, L> {
             Ok(count) => {
                 let next = &self.buffer[..count];
                 self.count = self.count.saturating_add(count as u64);
-                return hand_over(rt, &mut self.outbound, next, self.signals);
+                return hand_over(rt, &mut self.outbound, next, &self.signals);
             }
             Err(_) => self.end(true),
         }
