@@ -1,6 +1,7 @@
 //! What the program does for `switch serve`: a live host over standard input and output.
 #![tactic(auto)]
 
+mod ahead;
 mod asking;
 mod help;
 mod logs;

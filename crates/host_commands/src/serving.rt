@@ -1,6 +1,7 @@
 ghost use Rattle.std.specs.Prelude.{◌≡◌, ◌⊎◌, ◌≤◌, ⊤, ℕ, List, IfErr, OnOk};
 ghost use Rattle.host_commands.specs.Served.{IsAnswered, IsServed};
 
+use crate::ahead::serve_ahead;
 use crate::logs::Logs;
 use crate::serve_fault::ServeFault;
 use file_devices::{Files, Sink, Source};
@@ -8,12 +9,20 @@ use host_opening::open_host;
 use issuer_rules::Shipped;
 use std::alloc::Global;
 use std::io::Write;
+use std::sync::Wait;
 use std::thread::Threads;
 
 /// Serves a link, on the book in the first file, with the log in the second, until the link ends or to the first fault. Returns the exit
 /// status: 0 where all that came was answered, else 1, and the fault stands on `err`. So does the size of a torn tail that was cut. What
 /// `err` doesn't take is dropped.
-pub fn serve<R: Threads, F: Files, L: Logs, I: Source, O: Sink, E: Write>(
+pub fn serve<
+    R: Threads + Wait + Copy + Sync,
+    F: Files,
+    L: Logs,
+    I: Source + Send,
+    O: Sink,
+    E: Write,
+>(
     rt: &R,
     alloc: Global,
     files: &F,
@@ -31,6 +40,8 @@ pub fn serve<R: Threads, F: Files, L: Logs, I: Source, O: Sink, E: Write>(
 {
     match served(rt, alloc, files, logs, book, log, source, sink, err) {
         Ok(()) => 0,
+        // One of serving was told at once.
+        Err(ServeFault::Serving(_)) => 1,
         Err(fault) => {
             let _ = write!(err, "{fault}\n");
             1
@@ -39,7 +50,7 @@ pub fn serve<R: Threads, F: Files, L: Logs, I: Source, O: Sink, E: Write>(
 }
 
 // The same, with the fault.
-fn served<R: Threads, F: Files, L: Logs, I: Source, O: Sink, E: Write>(
+fn served<R: Threads + Wait + Copy + Sync, F: Files, L: Logs, I: Source + Send, O: Sink, E: Write>(
     rt: &R,
     alloc: Global,
     files: &F,
@@ -63,6 +74,6 @@ fn served<R: Threads, F: Files, L: Logs, I: Source, O: Sink, E: Write>(
     if opened.torn > 0 {
         let _ = write!(err, "torn {}\n", opened.torn);
     }
-    opened.host.serve_link(alloc, source, sink, &Shipped)?;
+    serve_ahead(rt, alloc, &mut opened.host, source, sink, err)?;
     Ok(())
 }

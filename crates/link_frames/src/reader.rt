@@ -7,8 +7,8 @@ use crate::link_fault::LinkFault;
 use file_devices::Source;
 use std::alloc::{AllocError, Global};
 
-// How many bytes are asked for at once, at most: some 400 messages.
-const ROOM: usize = 65_536;
+// How many bytes are asked for at once, at most: some 10,000 messages.
+const ROOM: usize = 1_048_576;
 
 /// What was taken from a link: the frames that were given last, and behind them what wasn't given yet. Bodies are read where they came,
 /// and reading takes no memory.

@@ -2,7 +2,7 @@
 
 use crate::vectors::{FIRST, FIRST_REPLY, LINK, NO_MESSAGE, REPEAT, REPLIES, SECOND, SECOND_REPLY};
 use book_json::write_book;
-use file_devices::{FailingSink, MemoryFiles};
+use file_devices::{FailingSink, MemoryFiles, Source};
 use host_commands::{HostAsked, Logs, host_asked, serve};
 use host_opening::{Opened, OpeningFault, open_host};
 use issuer_rows::Book;
@@ -10,6 +10,7 @@ use issuer_rules::Shipped;
 use log_devices::{MemoryLog, OpenFault};
 use log_file::LogFault;
 use std::alloc::Global;
+use std::sync::Wait;
 use std::test::Fail;
 use std::thread::Threads;
 use test_fixtures::{first_book_with, has_row};
@@ -176,43 +177,34 @@ fn another_log_is_refused(rt: HostRuntime) -> Result<(), Fail> {
 }
 
 // The status of `serve` on the files of the first book, with the log in these bytes; what it wrote; and what it said.
-fn served<R: Threads>(
+pub(crate) fn served<R: Threads + Wait + Copy + Sync, S: Source + Send>(
     rt: &R,
     alloc: Global,
     book: &Book,
     log: Vec<u8>,
     name: &str,
-    link: &[u8],
+    source: &mut S,
 ) -> Option<(u8, Vec<u8>, Vec<u8>)> {
     let files = files(alloc, book)?;
     let logs = CopiedLogs { alloc, bytes: log };
-    let mut source = link;
     let mut sink = FailingSink::new(alloc, 4096, 1000);
     let mut said = Vec::new(alloc);
     let status = serve(
-        rt,
-        alloc,
-        &files,
-        &logs,
-        name,
-        "log",
-        &mut source,
-        &mut sink,
-        &mut said,
+        rt, alloc, &files, &logs, name, "log", source, &mut sink, &mut said,
     );
     Some((status, copy_of(alloc, sink.taken())?, said))
 }
 
 // Whether `serve` returns this status, writes this and says that.
-fn is_served<R: Threads>(
+fn is_served<R: Threads + Wait + Copy + Sync>(
     rt: &R,
     alloc: Global,
     book: &Book,
     name: &str,
-    link: &[u8],
+    mut link: &[u8],
     outcome: (u8, &[u8], &[u8]),
 ) -> bool {
-    match served(rt, alloc, book, Vec::new(alloc), name, link) {
+    match served(rt, alloc, book, Vec::new(alloc), name, &mut link) {
         Some((status, replies, said)) => {
             status == outcome.0 && replies.as_slice() == outcome.1 && said.as_slice() == outcome.2
         }

@@ -8,3 +8,7 @@ returns-in-Ok-clause-served g c text bytes held logged reads puts =
 pub returns-in-Err-clause-served : goal.returns-in-Err-clause-served
 returns-in-Err-clause-served g c text bytes held logged reads puts =
     by_fault text bytes _ _ _ (rw c.in-Err.is at (c.served.ensures.err text bytes held logged reads puts))
+
+pub returns-in-Err-Serving-clause-served : goal.returns-in-Err-Serving-clause-served
+returns-in-Err-Serving-clause-served g c text bytes held logged reads puts =
+    by_fault text bytes _ _ _ (rw c.in-Err-Serving.is at (c.served.ensures.err text bytes held logged reads puts))

@@ -1,0 +1,72 @@
+-- What serving a link that is read ahead comes to is what serving the link comes to.
+use Rattle.std.proofs.Common.{◌≡◌, ℕ, List, length, drop, Result, Ok, Err, OnOk, IfErr, sym, ap, subst}
+use Rattle.issuer_rows.specs.declared.frame.Frame.{Frame}
+use Rattle.link_frames.specs.Link.{AreFrames}
+use Rattle.log_laws.specs.declared.log_fault.LogFault.TheVariants.{NoLog, Version, OtherBook, InUse, Broken, Failed, OutOfMemory as NoMemory}
+use Rattle.host_serving.proofs.Servings.{served_none, stopped_reading}
+use Rattle.host_serving.specs.Entries.{all_bodies}
+use Rattle.host_serving.specs.Serving.{BookAfter, FaultFits, Served, Stopped}
+use Rattle.host_serving.specs.declared.decider.Decider.{Decider}
+use Rattle.host_serving.specs.declared.host.Host.{Host}
+use Rattle.host_serving.specs.declared.host_fault.HostFault.{HostFault}
+use Rattle.host_serving.specs.declared.host_fault.HostFault.TheVariants.{Link, Log, OutOfMemory}
+
+-- what follows from it holds of a result, too
+pub on_ok : {X E P Q : Type 0} (result : Result X E) → (P → Q) → OnOk result P → OnOk result Q
+on_ok (Ok x) f p = f p
+on_ok (Err e) f p = tt
+
+pub if_err : {X E : Type 0} {P Q : E → Type 0} (result : Result X E) → ((e : E) → P e → Q e) → IfErr result P → IfErr result Q
+if_err (Ok x) f p = tt
+if_err (Err e) f p = f e p
+
+-- the same book, where less is known of the link
+book_for : (fault : HostFault) (old new : Decider) (messages : List Frame) (reads others : Type 0) (left : List ℕ) → (others → reads)
+    → BookAfter fault old messages reads left new → BookAfter fault old messages others left new
+book_for (Link f) old new messages reads others left r after = after
+book_for (Log Failed) old new messages reads others left r after = (after.0, after.1, after.2, λ known. after.3 (r known), after.4, after.5)
+book_for (Log NoLog) old new messages reads others left r after = tt
+book_for (Log Version) old new messages reads others left r after = tt
+book_for (Log OtherBook) old new messages reads others left r after = tt
+book_for (Log InUse) old new messages reads others left r after = tt
+book_for (Log (Broken k)) old new messages reads others left r after = tt
+book_for (Log NoMemory) old new messages reads others left r after = tt
+book_for OutOfMemory old new messages reads others left r after = tt
+
+fits_for : (fault : HostFault) (reads others : Type 0) (left : List ℕ) → (others → reads) → FaultFits fault reads left → FaultFits fault others left
+fits_for (Link f) reads others left r fits = λ known. fits (r known)
+fits_for (Log f) reads others left r fits = tt
+fits_for OutOfMemory reads others left r fits = tt
+
+-- over the file of a log
+module _ {G : Type 0} (is_known : G → Type 0) (synced unsynced : G → List ℕ) where
+  pub served_for : (old new : Host G) (reads others : Type 0) (bytes same left : List ℕ) (puts : Type 0) (had has : List ℕ) → (others → reads) → (others → bytes ≡ same)
+      → Served is_known synced unsynced old new reads bytes left puts had has → Served is_known synced unsynced old new others same left puts had has
+  served_for old new reads others bytes same left puts had has r is s = record {
+    entries = s.entries;
+    messages = s.messages;
+    came = λ known. subst (λ (x : List ℕ). AreFrames x (all_bodies s.entries) left) (is known) (s.came (r known));
+    read = s.read;
+    log = s.log;
+    after = s.after;
+    answered = s.answered;
+  }
+
+  pub stopped_for : (fault : HostFault) (old new : Host G) (reads others : Type 0) (bytes same : List ℕ) (puts : Type 0) (had has : List ℕ) → (others → reads) → (others → bytes ≡ same)
+      → Stopped is_known synced unsynced fault old new reads bytes puts had has → Stopped is_known synced unsynced fault old new others same puts had has
+  stopped_for fault old new reads others bytes same puts had has r is s = record {
+    entries = s.entries;
+    messages = s.messages;
+    left = s.left;
+    came = λ known. subst (λ (x : List ℕ). AreFrames x (all_bodies s.entries) s.left) (is known) (s.came (r known));
+    read = s.read;
+    log = s.log;
+    after = book_for fault old.decider new.decider s.messages reads others s.left r s.after;
+    answered = s.answered;
+    fits = fits_for fault reads others s.left r s.fits;
+  }
+
+  -- it stopped before the first frame
+  pub stopped_at_once : (host : Host G) (reads : Type 0) (bytes : List ℕ) (puts : Type 0) (text : List ℕ) → Stopped is_known synced unsynced OutOfMemory host host reads bytes puts text text
+  stopped_at_once host reads bytes puts text =
+      stopped_reading is_known synced unsynced OutOfMemory host host reads reads bytes bytes puts text text (λ known. known) (served_none is_known synced unsynced host reads bytes puts text) tt
