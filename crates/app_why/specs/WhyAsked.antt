@@ -1,5 +1,5 @@
 -- What words ask of `why`.
-use Rattle.std.specs.Prelude.{◌≡◌, ◌≢◌, ℕ, ◌<◌, ◌^◌, List, Some, length, slice_get}
+use Rattle.std.specs.Prelude.{◌≡◌, ℕ, ◌<◌, ◌^◌, List, Some, length, slice_get}
 use Rattle.std.specs.Str.Parse.{IsNumeral, digits_value, without_leading_plus}
 use Rattle.app_why.specs.declared.asking.WhyAsked.{WhyAsked}
 use Rattle.app_why.specs.declared.asking.WhyAsked.TheVariants.{Message, Help, Wrong}

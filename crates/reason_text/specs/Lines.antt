@@ -1,5 +1,5 @@
 -- Why a body is decided so, as lines. Each ends at a line feed, 10.
-use Rattle.std.specs.Prelude.{ℕ, List, [], ◌∷◌, ◌++◌, Option, codes, decimal}
+use Rattle.std.specs.Prelude.{ℕ, List, ◌++◌, Option, codes, decimal}
 use Rattle.std.specs.List.{flat_map}
 use Rattle.issuer_rows.specs.Agreement.{Reads}
 use Rattle.issuer_rows.specs.Plan.{Writes}

@@ -1,13 +1,12 @@
 -- Rows, messages and replies in words. Card numbers are masked, also where an account is named by one; amounts are in minor units, and
 -- times, days and months are as the book has them: YYMMDDhhmmss, YYMMDD and YYMM.
-use Rattle.std.specs.Prelude.{ℕ, Bool, ◌&&◌, nat_le, if◌then◌else◌, List, [], ◌∷◌, ◌++◌, length, Option, Some, None, codes, decimal}
+use Rattle.std.specs.Prelude.{ℕ, Bool, ◌&&◌, nat_le, if◌then◌else◌, List, [], ◌++◌, length, Option, Some, None, codes, decimal}
 use Rattle.iso8583.specs.Class.{is_digits}
 use Rattle.iso8583.specs.Number.{fixed_digits}
 use Rattle.iso8583.specs.declared.account_id.AccountId.{AccountId}
 use Rattle.iso8583.specs.declared.advice.Advice.{Advice}
 use Rattle.iso8583.specs.declared.answer.Answer.{Answer}
 use Rattle.iso8583.specs.declared.answer.Answer.TheVariants as answer
-use Rattle.iso8583.specs.declared.approval.Approval.{Approval}
 use Rattle.iso8583.specs.declared.codec_fault.CodecFault.{CodecFault}
 use Rattle.iso8583.specs.declared.codec_fault.CodecFault.TheVariants as fault
 use Rattle.iso8583.specs.declared.identity.Identity.{Identity}
@@ -15,7 +14,6 @@ use Rattle.iso8583.specs.declared.message.Message.{Message}
 use Rattle.iso8583.specs.declared.message.Message.TheVariants as message
 use Rattle.iso8583.specs.declared.original_kind.OriginalKind.{OriginalKind}
 use Rattle.iso8583.specs.declared.original_kind.OriginalKind.TheVariants as kind
-use Rattle.iso8583.specs.declared.reply.Reply.{Reply}
 use Rattle.iso8583.specs.declared.request.Request.{Request}
 use Rattle.iso8583.specs.declared.reversal.Reversal.{Reversal}
 use Rattle.iso8583.specs.declared.reversal_scope.ReversalScope.{ReversalScope}
