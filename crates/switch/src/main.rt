@@ -12,6 +12,8 @@ use log_locked::HostLockedLogs;
 use std::alloc::{AllocError, Global};
 use std::io::{ErrorKind, Write};
 use std::process::ExitCode;
+use std::sync::Wait;
+use std::thread::Threads;
 use std::{env, io};
 
 fn main(rt: HostRuntime) -> ExitCode {
@@ -31,11 +33,11 @@ fn main(rt: HostRuntime) -> ExitCode {
     }
     let mut out = Printer::new(rt.stdout());
     let status = if let Some(asked) = host_asked(&words) {
-        serve_words(rt, &files, asked, &mut out, &mut err)
+        serve_words(&rt, rt, &files, asked, &mut out, &mut err)
     } else if let Some(asked) = replay_asked(&words) {
-        replay_words(rt, &mut files, asked, &mut out, &mut err)
+        replay_words(&rt, rt, &mut files, asked, &mut out, &mut err)
     } else if let Some(asked) = audit_log_asked(&words) {
-        audit_log_words(rt, &files, asked, &mut out, &mut err)
+        audit_log_words(&rt, rt, &files, asked, &mut out, &mut err)
     } else {
         act(&rt, rt.alloc(), &mut files, &words, &mut out, &mut err)
     };
@@ -43,8 +45,9 @@ fn main(rt: HostRuntime) -> ExitCode {
 }
 
 // Does what is asked of a live host, over standard input and output.
-fn serve_words<O: Write, E: Write>(
-    rt: HostRuntime,
+fn serve_words<R: Threads, O: Write, E: Write>(
+    rt: &R,
+    host: HostRuntime,
     files: &HostFiles<HostRuntime>,
     asked: HostAsked<'_>,
     out: &mut Printer<O>,
@@ -52,15 +55,15 @@ fn serve_words<O: Write, E: Write>(
 ) -> u8 {
     match asked {
         HostAsked::Serve(book, log) => serve(
-            &rt,
-            rt.alloc(),
+            rt,
+            host.alloc(),
             files,
-            &HostLogs::new(rt),
+            &HostLogs::new(host),
             book,
             log,
-            &mut FromRead::new(rt.stdin()),
-            &mut IntoWrite::new(rt.stdout()),
-            &mut rt.stderr(),
+            &mut FromRead::new(host.stdin()),
+            &mut IntoWrite::new(host.stdout()),
+            &mut host.stderr(),
         ),
         HostAsked::Help => help(SERVE_HELP, out),
         HostAsked::Wrong => usage(
@@ -71,8 +74,9 @@ fn serve_words<O: Write, E: Write>(
 }
 
 // Does what is asked of a log that is decided again.
-fn replay_words<O: Write, E: Write>(
-    rt: HostRuntime,
+fn replay_words<R: Threads + Wait + Sync, O: Write, E: Write>(
+    rt: &R,
+    host: HostRuntime,
     files: &mut HostFiles<HostRuntime>,
     asked: LogAsked<'_>,
     out: &mut Printer<O>,
@@ -80,8 +84,8 @@ fn replay_words<O: Write, E: Write>(
 ) -> u8 {
     match asked {
         LogAsked::Files(names) => {
-            let logs = HostLockedLogs::new(rt);
-            replay(&rt, rt.alloc(), files, &logs, &names, &mut rt.stderr())
+            let logs = HostLockedLogs::new(host);
+            replay(rt, host.alloc(), files, &logs, &names, &mut host.stderr())
         }
         LogAsked::Help => help(REPLAY_HELP, out),
         LogAsked::Wrong => usage(
@@ -92,8 +96,9 @@ fn replay_words<O: Write, E: Write>(
 }
 
 // Does what is asked of a log whose replies and new book are audited.
-fn audit_log_words<O: Write, E: Write>(
-    rt: HostRuntime,
+fn audit_log_words<R: Threads, O: Write, E: Write>(
+    rt: &R,
+    host: HostRuntime,
     files: &HostFiles<HostRuntime>,
     asked: LogAsked<'_>,
     out: &mut Printer<O>,
@@ -101,13 +106,13 @@ fn audit_log_words<O: Write, E: Write>(
 ) -> u8 {
     match asked {
         LogAsked::Files(names) => audit_log(
-            &rt,
-            rt.alloc(),
+            rt,
+            host.alloc(),
             files,
-            &HostLockedLogs::new(rt),
+            &HostLockedLogs::new(host),
             &names,
-            &mut rt.stdout(),
-            &mut rt.stderr(),
+            &mut host.stdout(),
+            &mut host.stderr(),
         ),
         LogAsked::Help => help(AUDIT_LOG_HELP, out),
         LogAsked::Wrong => usage(
