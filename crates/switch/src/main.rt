@@ -45,7 +45,7 @@ fn main(rt: HostRuntime) -> ExitCode {
 }
 
 // Does what is asked of a live host, over standard input and output.
-fn serve_words<R: Threads, O: Write, E: Write>(
+fn serve_words<R: Threads + Wait + Copy + Sync, O: Write, E: Write>(
     rt: &R,
     host: HostRuntime,
     files: &HostFiles<HostRuntime>,
