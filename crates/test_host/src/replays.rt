@@ -112,6 +112,13 @@ fn names<'a>(book: &'a str, log: &'a str, replies: &'a str, new_book: &'a str) -
     }
 }
 
+// The bytes, with another one at this place.
+fn changed_at(alloc: Global, bytes: &[u8], place: usize) -> Option<Vec<u8>> {
+    let mut changed = copy_of(alloc, bytes)?;
+    *changed.get_mut(place)? ^= 1;
+    Some(changed)
+}
+
 // Whether `replay` of this log, on this book, returns this status and says this; nothing is written then but with status 0.
 fn ends<R: Threads + Wait + Sync>(
     rt: &R,
@@ -218,10 +225,8 @@ fn faults_are_told_and_nothing_is_written(rt: HostRuntime) -> Result<(), Fail> {
     let book = first_book_with(alloc, &[])?;
     let log = log_of(&rt, alloc, &book, &[LINK]).expect(&rt, "a log");
     let good = names("book", "log", "replies", "after");
-    let mut other = copy_of(alloc, &log).expect(&rt, "room");
-    other[6] ^= 1;
-    let mut broken = copy_of(alloc, &log).expect(&rt, "room");
-    broken[41] ^= 1;
+    let other = changed_at(alloc, &log, 6).expect(&rt, "a byte");
+    let broken = changed_at(alloc, &log, 41).expect(&rt, "a byte");
     assert!(rt; ends(&rt, alloc, &book, b"", &good, (1, b"log 1\n")) == Some(true));
     assert!(rt; ends(&rt, alloc, &book, &other, &good, (1, b"log 3\n")) == Some(true));
     assert!(rt; ends(&rt, alloc, &book, &broken, &good, (1, b"log 5\n")) == Some(true));
