@@ -22,6 +22,7 @@ impl<'a> FailingSource<'a> {
     pub fn new(bytes: &'a [u8], piece: usize, answers: u64) -> FailingSource<'a>
         requires { 0 < piece }
         ensures bytes { result.rest.now ≡ bytes.now }
+        ensures piece { result.piece ≡ piece }
         ensures answers { result.answers ≡ answers }
         ensures fresh { result.has_failed ≡ false }
     {
@@ -71,6 +72,7 @@ impl FailingSink {
     /// out.
     pub fn new(alloc: Global, piece: usize, answers: u64) -> FailingSink
         ensures taken { result.taken.items ≡ [] }
+        ensures piece { result.piece ≡ piece }
         ensures answers { result.answers ≡ answers }
         ensures fresh { result.has_failed ≡ false }
     {

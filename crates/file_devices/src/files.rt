@@ -27,6 +27,10 @@ pub trait Files {
     ghost holds: { Self → List ℕ → List ℕ → Type 0 };
     // What may fail of the file of a name.
     ghost failing: { Self → Failing };
+    // The claim is the right to write the file of this name alone.
+    ghost is_alone_on: { Self.Claim → List ℕ → Type 0 };
+    // The claim is the right to read the file of this name while nobody writes it.
+    ghost is_to_read: { Self.Claim → List ℕ → Type 0 };
 
     /// Opens a file to read it. One that holds known bytes is opened, unless memory runs out; where it is known what files hold, no
     /// other is.
@@ -55,11 +59,13 @@ pub trait Files {
 
     /// Claims a file, to write it alone.
     fn claim(&self, name: &str) -> Result<Self::Claim, ClaimFault>
-        ensures { result ≡ Err ClaimFault.InUse → (failing self.now).in_use name.now };
+        ensures claimed { IfOk result (λ claim. is_alone_on claim name.now) }
+        ensures in_use { result ≡ Err ClaimFault.InUse → (failing self.now).in_use name.now };
 
     /// Claims a file, to read it with others while nobody writes it.
     fn claim_to_read(&self, name: &str) -> Result<Self::Claim, ClaimFault>
-        ensures { result ≡ Err ClaimFault.InUse → (failing self.now).in_use name.now };
+        ensures claimed { IfOk result (λ claim. is_to_read claim name.now) }
+        ensures in_use { result ≡ Err ClaimFault.InUse → (failing self.now).in_use name.now };
 
     /// Whether both names are one file's: by equal words or, on a host, by links.
     fn is_one_file(&self, first: &str, second: &str) -> Result<bool, AllocError>

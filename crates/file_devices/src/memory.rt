@@ -24,7 +24,9 @@ pub struct MemoryFiles {
 
 impl MemoryFiles {
     /// No files yet.
-    pub fn new(alloc: Global) -> MemoryFiles {
+    pub fn new(alloc: Global) -> MemoryFiles
+        ensures { (name : List ℕ) → held result.files name ≡ None }
+    {
         MemoryFiles {
             alloc,
             files: BTreeMap::new(alloc),
@@ -119,6 +121,10 @@ impl Files for MemoryFiles {
     ghost holds = { λ files name bytes. HeldBy files.files name bytes };
 
     ghost failing = { λ _. writing_alone };
+
+    ghost is_alone_on = { λ _ _. Unit {0} };
+
+    ghost is_to_read = { λ _ _. Unit {0} };
 
     fn open(&self, name: &str) -> Result<MemoryInput, ReadFault> {
         match self.files.get(name) {

@@ -38,8 +38,7 @@ fn put_from(
     if index + 1 == writes.len() {
         return book.put_copy_near(key, row, places);
     }
-    let former = book.find(key, places).copied();
-    book.put_copy_near(key, row, places)?;
+    let former = book.replace_near(key, row, places)?;
     match put_from(book, writes, index + 1, places) {
         Ok(()) => Ok(()),
         Err(fault) => {

@@ -1,4 +1,4 @@
-ghost use Rattle.std.specs.Prelude.{◌≡◌, ◌≢◌, ◌<◌, ◌↔◌, length, slice_get, option_copied, OnOk, OnErr, IfOk, IfSome, IsTrue, IsFalse, IsPermutation, None, Some};
+ghost use Rattle.std.specs.Prelude.{◌≡◌, ◌<◌, ◌↔◌, length, slice_get, option_copied, OnOk, OnErr, OnSome, IfOk, IfSome, IfNone, IsTrue, IsPermutation, None, Some};
 ghost use Rattle.std.specs.FinMap as map;
 ghost use Rattle.indexmap.specs.IndexMap.{IsUnchanged, Updates};
 ghost use Rattle.issuer_rows.specs.Book.{AllOfKind, IsWithin, value_at};
@@ -137,11 +137,11 @@ impl Book {
         ensures err { OnErr result (self.new ≡ self.old) }
         ensures full { OnErr result (map.get self.old key.now ≡ None) }
     {
-        put_entry(&mut self.rows, key, val)
+        self.replace(key, val)?;
+        Ok(())
     }
 
-    /// Writes a copy of the value at the key, over what was there, without a look-up where the row stands at its noted place. Only a row
-    /// that wasn't there takes memory; its place is noted.
+    /// The same, without a look-up where the row stands at its noted place; the place of a row that wasn't there is noted.
     #[inline(always)]
     pub fn put_copy_near(
         &mut self,
@@ -154,19 +154,38 @@ impl Book {
         ensures err { OnErr result (self.new ≡ self.old) }
         ensures full { OnErr result (map.get self.old key.now ≡ None) }
     {
-        if copy_at(&mut self.rows, places.last(key), key, val) {
-            return Ok(());
-        }
-        put_noting(&mut self.rows, key, val, places)
+        self.replace_near(key, val, places)?;
+        Ok(())
     }
 
-    /// Whether the row stands at its noted place. Where it doesn't it may still be there, since a place is a hint alone.
-    #[inline(always)]
-    pub fn stands_near(&self, key: &RowKey, places: &Places) -> bool
-        ensures { IsTrue result → map.get self.now key.now ≢ None }
+    /// Writes a copy of the value at the key, and returns what was there. Only a row that wasn't there takes memory.
+    pub fn replace(&mut self, key: &RowKey, val: &RowVal) -> Result<Option<RowVal>, AllocError>
+        requires { IsOfKind key.now val.now }
+        ensures ok { OnOk result (self.new ≡ map.insert self.old key.now val.now) }
+        ensures former { IfOk result (λ former. former ≡ map.get self.old key.now) }
+        ensures kind { IfOk result (λ former. IfSome former (IsOfKind key.now)) }
+        ensures err { OnErr result (self.new ≡ self.old) }
+        ensures full { OnErr result (map.get self.old key.now ≡ None) }
     {
-        let _count = self.rows.len();
-        stands_at(&self.rows, places.last(key), key)
+        replace(&mut self.rows, key, val)
+    }
+
+    /// The same, without a look-up where the row stands at its noted place; the place of a row that wasn't there is noted.
+    #[inline(always)]
+    pub fn replace_near(
+        &mut self,
+        key: &RowKey,
+        val: &RowVal,
+        places: &mut Places,
+    ) -> Result<Option<RowVal>, AllocError>
+        requires { IsOfKind key.now val.now }
+        ensures ok { OnOk result (self.new ≡ map.insert self.old key.now val.now) }
+        ensures former { IfOk result (λ former. former ≡ map.get self.old key.now) }
+        ensures kind { IfOk result (λ former. IfSome former (IsOfKind key.now)) }
+        ensures err { OnErr result (self.new ≡ self.old) }
+        ensures full { OnErr result (map.get self.old key.now ≡ None) }
+    {
+        replace_near(&mut self.rows, key, val, places)
     }
 
     /// Takes the row out, and returns its value, if there was such a row.
@@ -247,59 +266,91 @@ impl Book {
     }
 }
 
-// Writes a copy of a row, by one look-up. An entry takes the value without handing one back.
-fn put_entry(
+// Writes a copy of a row, by one look-up, and returns what was there.
+fn replace(
     rows: &mut IndexMap<RowKey, RowVal>,
     key: &RowKey,
     val: &RowVal,
-) -> Result<(), AllocError>
+) -> Result<Option<RowVal>, AllocError>
     ensures updates { OnOk result (Updates key_eq rows.old rows.new key.now (Some val.now)) }
+    ensures former { IfOk result (λ former. former ≡ value_at rows.old.entries key.now) }
     ensures err { OnErr result (rows.new.entries ≡ rows.old.entries) }
     ensures absent { OnErr result (value_at rows.old.entries key.now ≡ None) }
 {
     match rows.entry(*key)? {
         Entry::Occupied(entry) => {
-            entry.into_mut().copy_from(val);
+            let there = entry.into_mut();
+            let former = *there;
+            there.copy_from(val);
+            Ok(Some(former))
         }
         Entry::Vacant(entry) => {
             entry.insert(*val);
+            Ok(None)
         }
     }
-    Ok(())
 }
 
 // The same; where the row wasn't there, its place is noted.
 #[inline(always)]
-fn put_noting(
+fn replace_noting(
     rows: &mut IndexMap<RowKey, RowVal>,
     key: &RowKey,
     val: &RowVal,
     places: &mut Places,
-) -> Result<(), AllocError>
+) -> Result<Option<RowVal>, AllocError>
     ensures updates { OnOk result (Updates key_eq rows.old rows.new key.now (Some val.now)) }
+    ensures former { IfOk result (λ former. former ≡ value_at rows.old.entries key.now) }
     ensures err { OnErr result (rows.new.entries ≡ rows.old.entries) }
     ensures absent { OnErr result (value_at rows.old.entries key.now ≡ None) }
 {
     let count = rows.len();
-    put_entry(rows, key, val)?;
-    if count < rows.len() {
+    let former = replace(rows, key, val)?;
+    if former.is_none() {
         places.note(key, count);
     }
-    Ok(())
+    Ok(former)
 }
 
-// Writes a copy of a row over it, if it stands at this place.
+// The same, without a look-up where the row stands at its noted place.
 #[inline(always)]
-fn copy_at(rows: &mut IndexMap<RowKey, RowVal>, place: usize, key: &RowKey, val: &RowVal) -> bool
-    ensures found { IsTrue result → Updates key_eq rows.old rows.new key.now (Some val.now) }
-    ensures not_found { IsFalse result → rows.new.entries ≡ rows.old.entries }
+fn replace_near(
+    rows: &mut IndexMap<RowKey, RowVal>,
+    key: &RowKey,
+    val: &RowVal,
+    places: &mut Places,
+) -> Result<Option<RowVal>, AllocError>
+    ensures updates { OnOk result (Updates key_eq rows.old rows.new key.now (Some val.now)) }
+    ensures former { IfOk result (λ former. former ≡ value_at rows.old.entries key.now) }
+    ensures err { OnErr result (rows.new.entries ≡ rows.old.entries) }
+    ensures absent { OnErr result (value_at rows.old.entries key.now ≡ None) }
+{
+    let _count = rows.len();
+    if let Some(former) = replace_at(rows, places.last(key), key, val) {
+        return Ok(Some(former));
+    }
+    replace_noting(rows, key, val, places)
+}
+
+// Writes a copy of a row over it, if it stands at this place, and returns what was there.
+#[inline(always)]
+fn replace_at(
+    rows: &mut IndexMap<RowKey, RowVal>,
+    place: usize,
+    key: &RowKey,
+    val: &RowVal,
+) -> Option<RowVal>
+    ensures former { IfSome result (λ former. slice_get rows.old.entries place ≡ Some (key.now, former)) }
+    ensures found { OnSome result (Updates key_eq rows.old rows.new key.now (Some val.now)) }
+    ensures not_found { IfNone result (rows.new.entries ≡ rows.old.entries) }
 {
     if !stands_at(rows, place, key) {
-        return false;
+        return None;
     }
     let (_, there) = rows.pair_mut(place);
+    let former = *there;
     there.copy_from(val);
-    true
+    Some(former)
 }
 
 // The row's value where it stands, if that is this place.

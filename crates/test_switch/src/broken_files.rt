@@ -67,6 +67,10 @@ impl<F: Files> Files for BrokenFiles<F> {
       in_use = (F.failing all.files).in_use;
     } };
 
+    ghost is_alone_on = { F.is_alone_on };
+
+    ghost is_to_read = { F.is_to_read };
+
     fn open(&self, name: &str) -> Result<BrokenInput<F::Input>, ReadFault> {
         Ok(BrokenInput {
             input: self.files.open(name)?,

@@ -107,6 +107,10 @@ impl<R: rt::Files<File = File> + Copy> Files for HostFiles<R> {
 
     ghost failing = { λ _. anything };
 
+    ghost is_alone_on = { λ _ _. Unit {0} };
+
+    ghost is_to_read = { λ _ _. Unit {0} };
+
     fn open(&self, name: &str) -> Result<FromRead<File>, ReadFault> {
         match self.open_file(name) {
             Ok(file) => Ok(FromRead::new(file)),
