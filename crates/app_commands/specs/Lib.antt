@@ -1,4 +1,5 @@
 pub mod Answered
 pub mod Apart
+pub mod Claims
 pub mod Fault
 pub mod Printed

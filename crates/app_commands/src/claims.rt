@@ -1,6 +1,8 @@
-ghost use Rattle.std.specs.Prelude.{◌≡◌, IfErr};
+ghost use Rattle.std.specs.Prelude.{◌≡◌, IfOk, IfErr};
 ghost use Rattle.app_arguments.specs.Asked.{asked_of, names_of};
 ghost use Rattle.app_commands.specs.Answered.{IsAnswerInUse, IsAuditedInUse, IsClaimFault, IsOneInUse};
+ghost use Rattle.app_commands.specs.Claims.{answer_claims, audit_claims, claims_for};
+ghost use Rattle.file_devices.specs.Claims.{AreOn};
 
 use crate::fault::Fault;
 use app_arguments::Command;
@@ -15,7 +17,8 @@ pub(crate) fn claim_files<F: Files>(
     files: &F,
     command: &Command,
 ) -> Result<Vec<F::Claim>, Fault>
-    ensures { IfErr result (IsClaimFault (IsOneInUse (F.failing files.now).in_use (asked_of command.now))) }
+    ensures claimed { IfOk result (λ claims. AreOn F.is_alone_on F.is_to_read (claims_for (asked_of command.now)) claims.items) }
+    ensures in_use { IfErr result (IsClaimFault (IsOneInUse (F.failing files.now).in_use (asked_of command.now))) }
 {
     match command {
         Command::Serial { names, .. }
@@ -44,7 +47,8 @@ fn claim_answer<F: Files>(
     files: &F,
     names: &BatchNames,
 ) -> Result<Vec<F::Claim>, Fault>
-    ensures { IfErr result (IsClaimFault (IsAnswerInUse (F.failing files.now).in_use (names_of names.now))) }
+    ensures claimed { IfOk result (λ claims. AreOn F.is_alone_on F.is_to_read (answer_claims (names_of names.now)) claims.items) }
+    ensures in_use { IfErr result (IsClaimFault (IsAnswerInUse (F.failing files.now).in_use (names_of names.now))) }
 {
     let mut claims = Vec::new(alloc);
     claims.push(claim(files, names.replies.as_str())?)?;
@@ -58,7 +62,8 @@ fn claim_audited<F: Files>(
     files: &F,
     names: &BatchNames,
 ) -> Result<Vec<F::Claim>, Fault>
-    ensures { IfErr result (IsClaimFault (IsAuditedInUse (F.failing files.now).in_use (names_of names.now))) }
+    ensures claimed { IfOk result (λ claims. AreOn F.is_alone_on F.is_to_read (audit_claims (names_of names.now)) claims.items) }
+    ensures in_use { IfErr result (IsClaimFault (IsAuditedInUse (F.failing files.now).in_use (names_of names.now))) }
 {
     let mut claims = Vec::new(alloc);
     claims.push(claim_to_read(files, names.book.as_str())?)?;
@@ -69,7 +74,8 @@ fn claim_audited<F: Files>(
 
 // Claims a file, to write it.
 fn claim<F: Files>(files: &F, name: &str) -> Result<F::Claim, Fault>
-    ensures { IfErr result (IsClaimFault ((F.failing files.now).in_use name.now)) }
+    ensures claimed { IfOk result (λ claim. F.is_alone_on claim name.now) }
+    ensures in_use { IfErr result (IsClaimFault ((F.failing files.now).in_use name.now)) }
 {
     match files.claim(name) {
         Ok(claim) => Ok(claim),
@@ -79,7 +85,8 @@ fn claim<F: Files>(files: &F, name: &str) -> Result<F::Claim, Fault>
 
 // Claims a file, to read it.
 fn claim_to_read<F: Files>(files: &F, name: &str) -> Result<F::Claim, Fault>
-    ensures { IfErr result (IsClaimFault ((F.failing files.now).in_use name.now)) }
+    ensures claimed { IfOk result (λ claim. F.is_to_read claim name.now) }
+    ensures in_use { IfErr result (IsClaimFault ((F.failing files.now).in_use name.now)) }
 {
     match files.claim_to_read(name) {
         Ok(claim) => Ok(claim),

@@ -2,6 +2,8 @@ ghost use Rattle.std.specs.Prelude.{◌≡◌, IfSome, MatchResult, OnOk, ℕ, L
 ghost use Rattle.app_arguments.specs.Asked.{asked_of, audit, audit_blocks, blocks, names_of, one, pack, run, run_with_journal, serial, show};
 ghost use Rattle.file_devices.specs.Holding.{IsAsItWas};
 ghost use Rattle.app_commands.specs.Apart.{AreApart, names_apart};
+ghost use Rattle.app_commands.specs.Claims.{claims_for};
+ghost use Rattle.file_devices.specs.Claims.{AreOn};
 ghost use Rattle.app_commands.specs.Answered.{IsDoneAs, IsFaultIn, IsRefusalIn, IsTold, Spares};
 
 use crate::apart::check_names;
@@ -38,11 +40,11 @@ pub(crate) fn done<R: Clock + Threads + Wait + Sync, F: Files>(
     ensures others { (other : List ℕ) → Spares (asked_of command.now) other → IsAsItWas (F.holds files.old) (F.holds files.new) other }
 {
     check_names(alloc, files, command)?;
-    let _claims = match claim_files(alloc, files, command) {
+    let claims = match claim_files(alloc, files, command) {
         Ok(claims) => claims,
         Err(fault) => return Err(explained(alloc, files, command, fault)),
     };
-    match act_on(rt, alloc, files, command) {
+    match act_on(rt, alloc, files, command, &claims) {
         Ok(report) => Ok(report),
         Err(fault) => Err(explained(alloc, files, command, fault)),
     }
@@ -60,18 +62,21 @@ fn explained<F: Files>(alloc: Global, files: &F, command: &Command, fault: Fault
     Refusal { fault, words }
 }
 
-// Does what the command asks for.
+// Does what the command asks for, while its files are claimed.
 fn act_on<R: Clock + Threads + Wait + Sync, F: Files>(
     rt: &R,
     alloc: Global,
     files: &mut F,
     command: &Command,
+    claims: &[F::Claim],
 ) -> Result<Report, Fault>
+    requires claimed { AreOn F.is_alone_on F.is_to_read (claims_for (asked_of command.now)) claims.now }
     ensures done { MatchResult result
         (IsDoneAs (F.is_known files.old) (F.holds files.old) (F.holds files.new) (asked_of command.now))
         (IsFaultIn (F.is_known files.old) (F.holds files.old) (F.holds files.new) (F.failing files.old) (asked_of command.now)) }
     ensures others { (other : List ℕ) → Spares (asked_of command.now) other → IsAsItWas (F.holds files.old) (F.holds files.new) other }
 {
+    let _ = claims;
     match command {
         Command::Help(text) => Ok(Report::Help(String::from_str(alloc, text.as_str())?)),
         Command::Version => Ok(Report::Version),

@@ -1,4 +1,5 @@
 pub mod BatchNames
+pub mod Claims
 pub mod Devices
 pub mod Failing
 pub mod Held

@@ -1,4 +1,5 @@
-ghost use Rattle.std.specs.Prelude.{◌⊎◌, IfErr};
+ghost use Rattle.std.specs.Prelude.{◌⊎◌, ◌∷◌, [], IfOk, IfErr};
+ghost use Rattle.file_devices.specs.Claims.{AreOn, alone, to_read};
 ghost use Rattle.log_commands.specs.Faults.{IsClaimFault};
 
 use crate::command_fault::CommandFault;
@@ -12,7 +13,9 @@ pub(crate) fn claim_answer<F: Files>(
     files: &F,
     names: &LogNames<'_>,
 ) -> Result<Vec<F::Claim>, CommandFault>
-    ensures { IfErr result (IsClaimFault ((F.failing files.now).in_use names.now.replies.now ⊎ (F.failing files.now).in_use names.now.new_book.now)) }
+    ensures claimed { IfOk result (λ claims. AreOn F.is_alone_on F.is_to_read
+        (alone names.now.replies.now ∷ alone names.now.new_book.now ∷ []) claims.items) }
+    ensures in_use { IfErr result (IsClaimFault ((F.failing files.now).in_use names.now.replies.now ⊎ (F.failing files.now).in_use names.now.new_book.now)) }
 {
     let mut claims = Vec::new(alloc);
     claims.push(claim(files, names.replies)?)?;
@@ -22,7 +25,8 @@ pub(crate) fn claim_answer<F: Files>(
 
 // Claims a file, to write it.
 fn claim<F: Files>(files: &F, name: &str) -> Result<F::Claim, CommandFault>
-    ensures { IfErr result (IsClaimFault ((F.failing files.now).in_use name.now)) }
+    ensures claimed { IfOk result (λ claim. F.is_alone_on claim name.now) }
+    ensures in_use { IfErr result (IsClaimFault ((F.failing files.now).in_use name.now)) }
 {
     match files.claim(name) {
         Ok(claim) => Ok(claim),
@@ -36,7 +40,9 @@ pub(crate) fn claim_audited<F: Files>(
     files: &F,
     names: &LogNames<'_>,
 ) -> Result<Vec<F::Claim>, CommandFault>
-    ensures { IfErr result (IsClaimFault ((F.failing files.now).in_use names.now.book.now
+    ensures claimed { IfOk result (λ claims. AreOn F.is_alone_on F.is_to_read
+        (to_read names.now.book.now ∷ to_read names.now.replies.now ∷ to_read names.now.new_book.now ∷ []) claims.items) }
+    ensures in_use { IfErr result (IsClaimFault ((F.failing files.now).in_use names.now.book.now
         ⊎ ((F.failing files.now).in_use names.now.replies.now ⊎ (F.failing files.now).in_use names.now.new_book.now))) }
 {
     let mut claims = Vec::new(alloc);
@@ -48,7 +54,8 @@ pub(crate) fn claim_audited<F: Files>(
 
 // Claims a file, to read it.
 fn claim_to_read<F: Files>(files: &F, name: &str) -> Result<F::Claim, CommandFault>
-    ensures { IfErr result (IsClaimFault ((F.failing files.now).in_use name.now)) }
+    ensures claimed { IfOk result (λ claim. F.is_to_read claim name.now) }
+    ensures in_use { IfErr result (IsClaimFault ((F.failing files.now).in_use name.now)) }
 {
     match files.claim_to_read(name) {
         Ok(claim) => Ok(claim),
