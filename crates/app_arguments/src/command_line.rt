@@ -7,9 +7,12 @@ use std::alloc::{AllocError, Global};
 
 // What the program's help says behind its subcommands.
 const AFTER_HELP: &str = "Commands with help of their own, as `switch serve --help`:
-  serve   Answers messages as they come, on a book in memory, with a log that loses none
-  replay  Makes the replies and the next book of such a log
-  why     Tells why a message of a batch was answered so
+  serve      Answers messages as they come, on a book in memory, with a log that loses none
+  replay     Makes the replies and the next book of such a log
+  audit-log  Says whether replies and a book are those of such a log
+  why        Tells why a message of a batch was answered so
+
+`switch help formats`, `rules`, `faults` (of a body that is no message) and `example` tell more.
 
 Exit status: 0 done, 1 fault, 2 usage error, 3 an audit found a difference.
 

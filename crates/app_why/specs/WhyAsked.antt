@@ -1,6 +1,7 @@
 -- What words ask of `why`.
 use Rattle.std.specs.Prelude.{◌≡◌, ℕ, ◌<◌, ◌^◌, List, Some, length, slice_get}
 use Rattle.std.specs.Str.Parse.{IsNumeral, digits_value, without_leading_plus}
+use Rattle.app_words.specs.Words.{AsksHelp}
 use Rattle.app_why.specs.declared.asking.WhyAsked.{WhyAsked}
 use Rattle.app_why.specs.declared.asking.WhyAsked.TheVariants.{Message, Help, Wrong}
 
@@ -19,10 +20,10 @@ IsAskedOf book batch index Help = ⊥
 IsAskedOf book batch index Wrong = ¬ IsPlace index
 
 -- Words of which the second is `why` ask for a message: the third names the book's file, the fourth the batch's, and the fifth is the place;
--- or, with one word behind it, what it takes; other words are wrong.
+-- one word behind it may ask what it takes; other words are wrong.
 abbrev pub IsAskedBy : List (List ℕ) → WhyAsked → Type 0
 IsAskedBy words (Message book batch place) =
     (length words ≡ 5) × (slice_get words 2 ≡ Some book.now) × (slice_get words 3 ≡ Some batch.now)
     × (word : List ℕ) × (slice_get words 4 ≡ Some word) × IsPlace word × (place ≡ place_of word)
-IsAskedBy words Help = length words ≡ 3
-IsAskedBy words Wrong = length words ≡ 5 → (word : List ℕ) → slice_get words 4 ≡ Some word → ¬ IsPlace word
+IsAskedBy words Help = AsksHelp words
+IsAskedBy words Wrong = (¬ AsksHelp words) × (length words ≡ 5 → (word : List ℕ) → slice_get words 4 ≡ Some word → ¬ IsPlace word)

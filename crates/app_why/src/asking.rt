@@ -1,6 +1,9 @@
-ghost use Rattle.std.specs.Prelude.{◌≡◌, ◌≢◌, Some, IfSome, IfNone, IsTrue, OnSome, codes, map, slice_get, string_bytes};
+ghost use Rattle.std.specs.Prelude.{IfSome, IfNone, OnSome, codes, map, string_bytes};
 ghost use Rattle.std.specs.Option.{SomeIff};
 ghost use Rattle.app_why.specs.WhyAsked.{IsAskedBy, IsAskedOf, IsPlace, place_of};
+ghost use Rattle.app_words.specs.Words.{IsCommand};
+
+use app_words::{asks_help, is_command};
 
 /// What words ask of `why`.
 #[derive(Clone, Copy)]
@@ -15,26 +18,15 @@ pub enum WhyAsked<'a> {
 
 /// What the program's words, of which the first is its name, ask of `why`. `None` where they don't ask it.
 pub fn why_asked(words: &[String]) -> Option<WhyAsked<'_>>
-    ensures why { OnSome result (slice_get (map string_bytes words.now) 1 ≡ Some (codes "why")) }
+    ensures why { OnSome result (IsCommand (codes "why") (map string_bytes words.now)) }
     ensures asked { IfSome result (IsAskedBy (map string_bytes words.now)) }
-    ensures none { IfNone result (slice_get (map string_bytes words.now) 1 ≢ Some (codes "why")) }
+    ensures none { IfNone result (¬ IsCommand (codes "why") (map string_bytes words.now)) }
 {
-    if is_why(words) {
+    if is_command(words, "why") {
         Some(asked_behind(words))
     } else {
         None
     }
-}
-
-// Whether the second word is `why`.
-fn is_why(words: &[String]) -> bool
-    ensures yes { IsTrue result → slice_get (map string_bytes words.now) 1 ≡ Some (codes "why") }
-    ensures no { ¬ IsTrue result → slice_get (map string_bytes words.now) 1 ≢ Some (codes "why") }
-{
-    if words.len() < 2 {
-        return false;
-    }
-    words[1].as_str() == "why"
 }
 
 // What is asked by words of which the second is `why`.
@@ -44,7 +36,7 @@ fn asked_behind(words: &[String]) -> WhyAsked<'_>
     if words.len() == 5 {
         return asked_of(words[2].as_str(), words[3].as_str(), words[4].as_str());
     }
-    if words.len() == 3 && is_help(words[2].as_str()) {
+    if asks_help(words) {
         return WhyAsked::Help;
     }
     WhyAsked::Wrong
@@ -68,9 +60,4 @@ fn place_in(word: &str) -> Option<usize>
         Ok(place) => Some(place as usize),
         Err(_) => None,
     }
-}
-
-// Whether the word asks for help.
-fn is_help(word: &str) -> bool {
-    word == "--help" || word == "-h"
 }

@@ -1,11 +1,8 @@
 -- What words ask of a log.
-use Rattle.std.specs.Prelude.{◌≡◌, ◌≢◌, ◌⊎◌, ℕ, List, Some, codes, length, slice_get}
+use Rattle.std.specs.Prelude.{◌≡◌, ◌≢◌, ℕ, List, Some, length, slice_get}
+use Rattle.app_words.specs.Words.{AsksHelp}
 use Rattle.log_commands.specs.declared.asking.LogAsked.{LogAsked}
 use Rattle.log_commands.specs.declared.asking.LogAsked.TheVariants.{Files, Help, Wrong}
-
--- one word behind the command's asks what it takes
-abbrev pub AsksHelp : List (List ℕ) → Type 0
-AsksHelp words = (length words ≡ 3) × ((slice_get words 2 ≡ Some (codes "--help")) ⊎ (slice_get words 2 ≡ Some (codes "-h")))
 
 -- Words with four behind the command's name BOOK, LOG, REPLIES and NEWBOOK; one may ask what the command takes; others are wrong.
 abbrev pub IsAskedBy : List (List ℕ) → LogAsked → Type 0

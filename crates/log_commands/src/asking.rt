@@ -1,7 +1,9 @@
-ghost use Rattle.std.specs.Prelude.{◌≡◌, ◌≢◌, Some, IfSome, IfNone, IsTrue, OnSome, codes, map, slice_get, string_bytes};
+ghost use Rattle.std.specs.Prelude.{IfSome, IfNone, OnSome, codes, map, string_bytes};
+ghost use Rattle.app_words.specs.Words.{IsCommand};
 ghost use Rattle.log_commands.specs.Asked.{IsAskedBy};
 
 use crate::log_names::LogNames;
+use app_words::{asks_help, is_command};
 
 /// What words ask of a log.
 #[derive(Clone, Copy)]
@@ -16,11 +18,11 @@ pub enum LogAsked<'a> {
 
 /// What the program's words, of which the first is its name, ask of `replay`. `None` where they don't ask it.
 pub fn replay_asked(words: &[String]) -> Option<LogAsked<'_>>
-    ensures replay { OnSome result (slice_get (map string_bytes words.now) 1 ≡ Some (codes "replay")) }
+    ensures replay { OnSome result (IsCommand (codes "replay") (map string_bytes words.now)) }
     ensures asked { IfSome result (IsAskedBy (map string_bytes words.now)) }
-    ensures none { IfNone result (slice_get (map string_bytes words.now) 1 ≢ Some (codes "replay")) }
+    ensures none { IfNone result (¬ IsCommand (codes "replay") (map string_bytes words.now)) }
 {
-    if is_word(words, 1, "replay") {
+    if is_command(words, "replay") {
         Some(asked_behind(words))
     } else {
         None
@@ -29,26 +31,15 @@ pub fn replay_asked(words: &[String]) -> Option<LogAsked<'_>>
 
 /// What the program's words, of which the first is its name, ask of `audit-log`. `None` where they don't ask it.
 pub fn audit_log_asked(words: &[String]) -> Option<LogAsked<'_>>
-    ensures audit { OnSome result (slice_get (map string_bytes words.now) 1 ≡ Some (codes "audit-log")) }
+    ensures audit { OnSome result (IsCommand (codes "audit-log") (map string_bytes words.now)) }
     ensures asked { IfSome result (IsAskedBy (map string_bytes words.now)) }
-    ensures none { IfNone result (slice_get (map string_bytes words.now) 1 ≢ Some (codes "audit-log")) }
+    ensures none { IfNone result (¬ IsCommand (codes "audit-log") (map string_bytes words.now)) }
 {
-    if is_word(words, 1, "audit-log") {
+    if is_command(words, "audit-log") {
         Some(asked_behind(words))
     } else {
         None
     }
-}
-
-// Whether the word at this place is that one.
-fn is_word(words: &[String], place: usize, word: &str) -> bool
-    ensures yes { IsTrue result → slice_get (map string_bytes words.now) place ≡ Some word.now }
-    ensures no { ¬ IsTrue result → slice_get (map string_bytes words.now) place ≢ Some word.now }
-{
-    if place >= words.len() {
-        return false;
-    }
-    words[place].as_str() == word
 }
 
 // What is asked by words of which the second is the command.
@@ -63,7 +54,7 @@ fn asked_behind(words: &[String]) -> LogAsked<'_>
             new_book: words[5].as_str(),
         });
     }
-    if words.len() == 3 && (is_word(words, 2, "--help") || is_word(words, 2, "-h")) {
+    if asks_help(words) {
         return LogAsked::Help;
     }
     LogAsked::Wrong

@@ -3,6 +3,7 @@
 
 use app_commands::{Fault, Printer, act, print_fault};
 use app_why::{answer_why, why_asked};
+use app_words::topic_asked;
 use file_devices::{FromRead, HostFiles, IntoWrite};
 use host_commands::{HostAsked, HostLogs, SERVE_HELP, host_asked, serve};
 use log_commands::{
@@ -32,7 +33,9 @@ fn main(rt: HostRuntime) -> ExitCode {
         return ExitCode::from(status);
     }
     let mut out = Printer::new(rt.stdout());
-    let status = if let Some(asked) = host_asked(&words) {
+    let status = if let Some(topic) = topic_asked(&words) {
+        help(topic.text(), &mut out)
+    } else if let Some(asked) = host_asked(&words) {
         serve_words(&rt, rt, &files, asked, &mut out, &mut err)
     } else if let Some(asked) = replay_asked(&words) {
         replay_words(&rt, rt, &mut files, asked, &mut out, &mut err)

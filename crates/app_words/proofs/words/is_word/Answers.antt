@@ -1,7 +1,7 @@
 use Rattle.std.proofs.Common.{◌≡◌, ℕ, List, Some, Option, map, option_map, slice_get, string_bytes, sym, ap, ◌∙◌, arith}
 use Rattle.std.proofs.lemmas.Option.{slice_get-get_or, slice_get-map}
 use Rattle.std.proofs.lemmas.Slice.Eq.{bytes_eq-Decides}
-use Rattle.log_commands.proofs.asking.is_word.Goals as goal
+use Rattle.app_words.proofs.words.is_word.Goals as goal
 
 same_word : (a b : List ℕ) → Path (Option (List ℕ)) (Some a) (Some b) → a ≡ b
 same_word a b e = cc
