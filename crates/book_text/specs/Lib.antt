@@ -1,4 +1,5 @@
 pub mod Back
+pub mod Digest
 pub mod Top
 pub mod Left
 pub mod Pieces

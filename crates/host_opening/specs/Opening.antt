@@ -1,17 +1,12 @@
 -- A live host that was opened over the file of a book and the file of a log.
 use Rattle.std.specs.Prelude.{◌≡◌, ◌⊎◌, ℕ, List, [], ◌++◌, Ok}
-use Rattle.sha2.specs.Sha256.{sha256}
 use Rattle.issuer_rows.specs.Fold.{Rows}
 use Rattle.issuer_rows.specs.declared.frame.Frame.{Frame}
 use Rattle.book_laws.specs.Reading.{reading}
-use Rattle.book_laws.specs.Text.{book_text}
+pub use Rattle.book_text.specs.Digest.{book_digest}
 use Rattle.log_laws.specs.Reading.{IsLogOf, IsUnbegun}
 use Rattle.host_laws.specs.Standing.{StandsBehind}
 use Rattle.host_serving.specs.declared.host.Host.{Host}
-
--- the digest by which a log names its opening book
-abbrev pub book_digest : Rows → List ℕ
-book_digest book = sha256 (book_text book)
 
 -- the bytes are the log of these entries, and a torn tail perhaps; or no log was begun, and there are none
 abbrev pub HoldsEntries : List ℕ → List ℕ → List (List (List ℕ)) → Type 0

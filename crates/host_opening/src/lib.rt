@@ -7,5 +7,5 @@ mod opening;
 mod opening_fault;
 
 pub use opened::Opened;
-pub use opening::{digest_of_book, open_host};
+pub use opening::open_host;
 pub use opening_fault::OpeningFault;

@@ -7,24 +7,15 @@ use crate::again::decide_again;
 use crate::opened::Opened;
 use crate::opening_fault::OpeningFault;
 use book_json::read_book;
-use book_text::write_book;
+use book_text::digest_of_book;
 use file_devices::{Files, read_file};
 use host_serving::{Decider, Host};
 use issuer_rows::Book;
 use issuer_view::Decide;
 use log_devices::{GrowingFile, LogInput};
 use log_file::{Begun, LogReader, LogWriter};
-use sha2::{Digest, Sha256};
-use std::alloc::{AllocError, Global};
+use std::alloc::Global;
 use std::thread::Threads;
-
-/// The digest by which a log names its opening book: SHA-256 of the book's canonical text, JSON of version 3.
-pub fn digest_of_book(alloc: Global, book: &Book) -> Result<[u8; 32], AllocError>
-    ensures { IfOk result (λ digest. digest ≡ book_digest book.now) }
-{
-    let text = write_book(alloc, book)?;
-    Ok(Sha256::digest(text.as_slice()))
-}
 
 /// Opens a live host: reads the book of this name, and decides again the messages that the log holds, one after another, by any local
 /// decision. A torn tail of the log is cut; in an empty file a log is begun. The first fault is told: of the book's file, of the book, then

@@ -14,12 +14,13 @@ use crate::command_fault::CommandFault;
 use crate::log_names::LogNames;
 use app_audit::{BlockAudit, audit_blocks};
 use app_jobs::{JobFault, open_book};
+use book_text::digest_of_book;
 use file_batch_laws::BatchFault;
 use file_blocks::read_block_replies;
 use file_devices::Files;
 use issuer_rows::{Book, Frame, ReplyBody};
 use log_locked::{LockedInput, LockedLog, LockedLogs};
-use log_replay::{digest_of_book, measure_log, read_log_blocks};
+use log_replay::{measure_log, read_log_blocks};
 use std::alloc::Global;
 use std::thread::Threads;
 

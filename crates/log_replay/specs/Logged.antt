@@ -1,17 +1,11 @@
 -- The messages of a log.
 use Rattle.std.specs.Prelude.{◌≡◌, ℕ, List, length}
 use Rattle.std.specs.List.{flat_map}
-use Rattle.sha2.specs.Sha256.{sha256}
-use Rattle.issuer_rows.specs.Fold.{Rows}
 use Rattle.issuer_rows.specs.declared.frame.Frame.{Frame}
-use Rattle.book_laws.specs.Text.{book_text}
+pub use Rattle.book_text.specs.Digest.{book_digest}
 use Rattle.file_batch_laws.specs.Frames.{AreFramesOf}
 use Rattle.log_laws.specs.Reading.{IsLogOf}
 use Rattle.log_replay.specs.declared.log_size.LogSize.{LogSize}
-
--- the digest by which a log names its opening book
-abbrev pub book_digest : Rows → List ℕ
-book_digest book = sha256 (book_text book)
 
 -- the bodies of all entries, in order
 abbrev pub all_bodies : List (List (List ℕ)) → List (List ℕ)

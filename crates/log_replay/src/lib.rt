@@ -3,7 +3,6 @@
 
 mod answering;
 mod block_writing;
-mod digest;
 mod gathering;
 mod log_blocks;
 mod log_size;
@@ -13,7 +12,6 @@ mod replay_fault;
 mod replayed;
 mod replaying;
 
-pub use digest::digest_of_book;
 pub use log_blocks::read_log_blocks;
 pub use log_size::LogSize;
 pub use measuring::measure_log;

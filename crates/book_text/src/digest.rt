@@ -1,7 +1,7 @@
 ghost use Rattle.std.specs.Prelude.{◌≡◌, IfOk};
-ghost use Rattle.log_replay.specs.Logged.{book_digest};
+ghost use Rattle.book_text.specs.Digest.{book_digest};
 
-use book_text::write_book;
+use crate::writing::write_book;
 use issuer_rows::Book;
 use sha2::{Digest, Sha256};
 use std::alloc::{AllocError, Global};
