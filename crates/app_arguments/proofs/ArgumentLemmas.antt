@@ -14,7 +14,7 @@ use Rattle.file_batch.specs.declared.strictness.Strictness.{Strictness}
 use Rattle.file_listing.specs.Bodies.{body_of}
 use Rattle.engine_workers.specs.declared.engine.Engine.{Engine}
 use Rattle.engine_workers.specs.declared.engine.Engine.TheVariants.{Locked, Split}
-use Rattle.app_arguments.specs.Asked.{Asked, Names, asked, asked_of, audit, audit_blocks, audit_blocks_in, audit_in, blocks, blocks_in, engine_in, help, names_in, one, one_in, pack, pack_in, run, run_by, run_in, run_with_journal, serial, serial_in, show, show_in, strictness_in, version, workers_in}
+use Rattle.app_arguments.specs.Asked.{Asked, Names, asked, asked_of, audit, audit_blocks, audit_blocks_in, audit_in, blocks, blocks_in, engine_for, engine_in, help, names_in, one, one_in, pack, pack_in, run, run_by, run_in, run_with_journal, serial, serial_in, show, show_in, strictness_in, version, workers_in}
 use Rattle.app_arguments.specs.CommandLine.{command_line}
 use Rattle.app_arguments.specs.Arguments.{IsRead, IsReadAs, IsReadOfKind, asked_in}
 use Rattle.app_arguments.specs.declared.command.Command.{Command}
@@ -97,15 +97,15 @@ of_subcommand : (a b c d e f g i : Bool) (rows : List Row) (what : Asked)
     else (if i then pack_in rows else None)))))))) ≡ Some what → is_of_subcommand what ≡ true
 of_subcommand true b c d e f g i rows what h = of_one one (λ body. refl) (option_and_then body_of (first_of (codes "FRAME") rows)) what h
 of_subcommand false true c d e f g i rows what h =
-    of_each (λ names. option_and_then (λ workers. option_and_then (λ engine. run_by names workers engine (strictness_in rows) (first_of (codes "journal") rows)) (engine_in rows)) (workers_in rows))
-    (λ names. of_each (λ workers. option_and_then (λ engine. run_by names workers engine (strictness_in rows) (first_of (codes "journal") rows)) (engine_in rows))
+    of_each (λ names. option_and_then (λ workers. option_and_then (λ engine. run_by names workers engine (strictness_in rows) (first_of (codes "journal") rows)) (engine_in (engine_for (first_of (codes "journal") rows)) rows)) (workers_in rows))
+    (λ names. of_each (λ workers. option_and_then (λ engine. run_by names workers engine (strictness_in rows) (first_of (codes "journal") rows)) (engine_in (engine_for (first_of (codes "journal") rows)) rows))
     (λ workers. of_each (λ engine. run_by names workers engine (strictness_in rows) (first_of (codes "journal") rows))
-    (λ engine. of_run names workers engine (strictness_in rows) (first_of (codes "journal") rows)) (engine_in rows)) (workers_in rows))
+    (λ engine. of_run names workers engine (strictness_in rows) (first_of (codes "journal") rows)) (engine_in (engine_for (first_of (codes "journal") rows)) rows)) (workers_in rows))
     (names_in (codes "BATCH") rows) what h
 of_subcommand false false true d e f g i rows what h = of_one (λ names. serial names (strictness_in rows)) (λ names. refl) (names_in (codes "BATCH") rows) what h
 of_subcommand false false false true e f g i rows what h =
-    of_each (λ names. option_and_then (λ workers. option_map (λ engine. blocks names workers engine (strictness_in rows)) (engine_in rows)) (workers_in rows))
-    (λ names. of_two (λ workers engine. blocks names workers engine (strictness_in rows)) (λ workers engine. refl) (workers_in rows) (engine_in rows)) (names_in (codes "FILE") rows) what h
+    of_each (λ names. option_and_then (λ workers. option_map (λ engine. blocks names workers engine (strictness_in rows)) (engine_in Split rows)) (workers_in rows))
+    (λ names. of_two (λ workers engine. blocks names workers engine (strictness_in rows)) (λ workers engine. refl) (workers_in rows) (engine_in Split rows)) (names_in (codes "FILE") rows) what h
 of_subcommand false false false false true f g i rows what h =
     of_one (λ names. audit names (first_of (codes "journal") rows)) (λ names. refl) (names_in (codes "BATCH") rows) what h
 of_subcommand false false false false false true g i rows what h = of_one audit_blocks (λ names. refl) (names_in (codes "FILE") rows) what h

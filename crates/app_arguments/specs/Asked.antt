@@ -40,9 +40,19 @@ workers_in rows = option_and_then worker_count (first_of (codes "workers") rows)
 abbrev pub engine_named : Text → Option Engine
 engine_named text = if bytes_eq text (codes "locked") then Some Locked else (if bytes_eq text (codes "split") then Some Split else None)
 
--- the engine behind `--engine`
-abbrev pub engine_in : List Row → Option Engine
-engine_in rows = option_and_then engine_named (first_of (codes "engine") rows)
+-- the engine of this name; where there is none, this one
+abbrev pub engine_or : Engine → Option Text → Option Engine
+engine_or engine None = Some engine
+engine_or engine (Some name) = engine_named name
+
+-- the engine behind `--engine`; where it isn't there, this one
+abbrev pub engine_in : Engine → List Row → Option Engine
+engine_in engine rows = engine_or engine (first_of (codes "engine") rows)
+
+-- where no engine is named, the locked one keeps the journal that is asked for, and without one the split one decides, which is faster
+abbrev pub engine_for : Option Text → Engine
+engine_for None = Split
+engine_for (Some journal) = Locked
 
 -- whether bodies that are no message are answered: not where the flag is set
 abbrev pub strictness_of : Option Text → Strictness
@@ -85,7 +95,7 @@ run_in rows =
     option_and_then (λ names.
     option_and_then (λ workers.
     option_and_then (λ engine. run_by names workers engine (strictness_in rows) (first_of (codes "journal") rows))
-    (engine_in rows))
+    (engine_in (engine_for (first_of (codes "journal") rows)) rows))
     (workers_in rows))
     (names_in (codes "BATCH") rows)
 
@@ -95,7 +105,7 @@ blocks_in rows =
     option_and_then (λ names.
     option_and_then (λ workers.
     option_map (λ engine. blocks names workers engine (strictness_in rows))
-    (engine_in rows))
+    (engine_in Split rows))
     (workers_in rows))
     (names_in (codes "FILE") rows)
 

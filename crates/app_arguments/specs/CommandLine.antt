@@ -32,9 +32,9 @@ abbrev pub files_line : Text → Text → App
 files_line name input =
     with_rule (with_rule (with_rule (with_rule (new_app name) (operand (codes "BOOK"))) (operand input)) (operand (codes "REPLIES"))) (operand (codes "NEWBOOK"))
 
--- a line with `[--workers N] [--engine ENGINE]` behind it, 4 and locked where they aren't there
+-- a line with `[--workers N] [--engine ENGINE]` behind it, 4 workers where they aren't there
 abbrev pub with_engine : App → App
-with_engine line = with_rule (with_rule line (setting_or (codes "workers") (codes "4"))) (setting_or (codes "engine") (codes "locked"))
+with_engine line = with_rule (with_rule line (setting_or (codes "workers") (codes "4"))) (setting (codes "engine"))
 
 -- a line with `[--strict]` behind it
 abbrev pub with_strict : App → App

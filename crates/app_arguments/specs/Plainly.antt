@@ -2,7 +2,7 @@
 use Rattle.std.specs.Prelude.{◌≡◌, ◌≢◌, ℕ, List, [], ◌∷◌, Some, None, codes}
 use Rattle.clap.specs.Walk.{Text}
 use Rattle.file_listing.specs.Bodies.{body_of}
-use Rattle.engine_workers.specs.declared.engine.Engine.TheVariants.{Locked, Split}
+use Rattle.engine_workers.specs.declared.engine.Engine.TheVariants.{Split}
 use Rattle.file_batch.specs.declared.strictness.Strictness.TheVariants.{Lenient, Strict}
 use Rattle.app_arguments.specs.Asked.{Names, audit, audit_blocks, blocks, one, run, run_with_journal, serial}
 use Rattle.app_arguments.specs.Arguments.{Asks, IsHelp, IsUsageFault, IsVersion}
@@ -46,11 +46,11 @@ SerialIsRead name names = ArePlain names → Asks (arguments_of name (codes "ser
 abbrev pub StrictSerialIsRead : Text → Names → Type 0
 StrictSerialIsRead name names = ArePlain names → Asks (arguments_of name (codes "serial") names (codes "--strict" ∷ [])) (serial names Strict)
 
--- `run` with its files asks for 4 workers of the locked engine and no journal
+-- `run` with its files asks for 4 workers of the split engine and no journal
 abbrev pub RunIsRead : Text → Names → Type 0
-RunIsRead name names = ArePlain names → Asks (arguments_of name (codes "run") names []) (run names 4 Locked Lenient)
+RunIsRead name names = ArePlain names → Asks (arguments_of name (codes "run") names []) (run names 4 Split Lenient)
 
--- with `--journal FILE` behind them, for the journal in FILE too
+-- with `--journal FILE` behind them, for 4 workers of the locked engine, and the journal in FILE too
 abbrev pub JournalIsRead : Text → Names → Text → Type 0
 JournalIsRead name names file =
     ArePlain names → IsPlain file → Asks (arguments_of name (codes "run") names (codes "--journal" ∷ file ∷ [])) (run_with_journal names 4 file Lenient)
@@ -65,9 +65,9 @@ SplitJournalIsNone name names file =
     ArePlain names → IsPlain file
     → IsUsageFault (arguments_of name (codes "run") names (codes "--engine" ∷ codes "split" ∷ codes "--journal" ∷ file ∷ []))
 
--- `blocks` with its files asks for 4 workers of the locked engine, and with `--engine split` behind them for 4 of the split engine
+-- `blocks` with its files asks for 4 workers of the split engine, and so it does with `--engine split` behind them
 abbrev pub BlocksAreRead : Text → Names → Type 0
-BlocksAreRead name names = ArePlain names → Asks (arguments_of name (codes "blocks") names []) (blocks names 4 Locked Lenient)
+BlocksAreRead name names = ArePlain names → Asks (arguments_of name (codes "blocks") names []) (blocks names 4 Split Lenient)
 
 abbrev pub SplitBlocksAreRead : Text → Names → Type 0
 SplitBlocksAreRead name names =

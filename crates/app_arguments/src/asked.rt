@@ -3,7 +3,7 @@ ghost use Rattle.clap.specs.Matches.{found_of};
 ghost use Rattle.clap.specs.Simple.{subcommand_rows_of};
 ghost use Rattle.clap.specs.Values.{kind_of};
 ghost use Rattle.clap.specs.Walk.{first_of, rows_of};
-ghost use Rattle.app_arguments.specs.Asked.{asked, asked_of, audit_blocks_in, audit_in, blocks_in, engine_in, names_in, names_of, names_of_arguments, one_in, pack_in, run_by, run_in, serial_in, show_in, strictness_in, workers_in};
+ghost use Rattle.app_arguments.specs.Asked.{asked, asked_of, audit_blocks_in, audit_in, blocks_in, engine_for, engine_in, names_in, names_of, names_of_arguments, one_in, pack_in, run_by, run_in, serial_in, show_in, strictness_in, workers_in};
 ghost use Rattle.app_arguments.specs.Arguments.{IsRead, IsReadAs, IsReadOfKind};
 
 use crate::command::Command;
@@ -131,10 +131,10 @@ fn run_of(alloc: Global, matches: &ArgMatches<'_>) -> Result<Option<Command>, Al
     let Some(workers) = workers_of(matches) else {
         return Ok(None);
     };
-    let Some(engine) = engine_of(matches) else {
+    let journal = journal_of(alloc, matches)?;
+    let Some(engine) = engine_of(matches, engine_for(&journal)) else {
         return Ok(None);
     };
-    let journal = journal_of(alloc, matches)?;
     Ok(run_by(names, workers, engine, strictness_of(matches), journal))
 }
 
@@ -177,7 +177,7 @@ fn blocks_of(alloc: Global, matches: &ArgMatches<'_>) -> Result<Option<Command>,
     let Some(workers) = workers_of(matches) else {
         return Ok(None);
     };
-    match engine_of(matches) {
+    match engine_of(matches, Engine::Split) {
         Some(engine) => Ok(Some(Command::Blocks {
             names,
             workers,
@@ -237,14 +237,25 @@ fn pack_of(alloc: Global, matches: &ArgMatches<'_>) -> Result<Option<Command>, A
     }))
 }
 
-// The engine behind `--engine`.
-fn engine_of(matches: &ArgMatches<'_>) -> Option<Engine>
-    ensures { result ≡ engine_in (rows_of (found_of matches.now)) }
+// The engine behind `--engine`; where it isn't there, this one.
+fn engine_of(matches: &ArgMatches<'_>, engine: Engine) -> Option<Engine>
+    ensures { result ≡ engine_in engine (rows_of (found_of matches.now)) }
 {
-    match word(matches, "engine")? {
-        "locked" => Some(Engine::Locked),
-        "split" => Some(Engine::Split),
-        _ => None,
+    match word(matches, "engine") {
+        None => Some(engine),
+        Some("locked") => Some(Engine::Locked),
+        Some("split") => Some(Engine::Split),
+        Some(_) => None,
+    }
+}
+
+// The engine where none is named: the split one is faster, and keeps no journal.
+fn engine_for(journal: &Option<String>) -> Engine
+    ensures { result ≡ engine_for (option_map string_bytes journal.now) }
+{
+    match journal {
+        None => Engine::Split,
+        Some(_) => Engine::Locked,
     }
 }
 

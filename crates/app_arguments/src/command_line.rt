@@ -236,9 +236,9 @@ fn with_engine<'a>(alloc: Global, line: Command<'a>) -> Result<Command<'a>, Allo
         alloc,
         "engine",
         "ENGINE",
-        "How they share their work: locked, all of it under one lock; split, each row, message and commit under a lock of its own, and of a long batch only what takes long to decide",
+        "How they share their work: split, each row, message and commit under a lock of its own, and of a long batch only what takes long to decide; locked, all of it under one lock, slower, with a journal. Without it: split, and locked with --journal",
     );
-    counted.arg(engine.default_value("locked"))
+    counted.arg(engine)
 }
 
 // `--strict`.
