@@ -1,0 +1,2 @@
+pub mod Formers
+pub mod InPlace
