@@ -51,7 +51,7 @@ impl Formers {
         ensures err { OnErr result ((book.new ≡ book.old) × (self.new ≡ self.old)) }
     {
         self.rows.reserve(1)?;
-        let former = replace(book, key, row, places)?;
+        let former = book.replace_near(key, row, places)?;
         self.rows.push_reserved((*key, former));
         Ok(())
     }
@@ -82,24 +82,6 @@ impl Formers {
         let Formers { rows } = self;
         give_back_each(book, rows);
     }
-}
-
-// Writes a copy of a row, and returns what it was.
-fn replace(
-    book: &mut Book,
-    key: &RowKey,
-    row: &RowVal,
-    places: &mut Places,
-) -> Result<Option<RowVal>, AllocError>
-    requires { IsOfKind key.now row.now }
-    ensures ok { OnOk result (book.new ≡ map.insert book.old key.now row.now) }
-    ensures value { IfOk result (λ former. former ≡ map.get book.old key.now) }
-    ensures kind { IfOk result (λ former. IfSome former (IsOfKind key.now)) }
-    ensures err { OnErr result (book.new ≡ book.old) }
-{
-    let former = book.find(key, places).copied();
-    book.put_copy_near(key, row, places)?;
-    Ok(former)
 }
 
 // Gives rows back what they were, the last one first.
