@@ -1,4 +1,4 @@
-use Rattle.std.proofs.Common.{◌≡◌, ◌∷◌, ◌++◌, [], List, ap, subst, sym, ◌∙◌}
+use Rattle.std.proofs.Common.{ap, subst, sym, ◌∙◌}
 use Rattle.issuer_in_place.specs.Formers.{Former, AreFormersOfKind, AreThere, given_back}
 use Rattle.issuer_in_place.proofs.BackLaws.{given_back-last, last_of_kind, last_there}
 use Rattle.issuer_in_place.proofs.formers.give_back_each.Goals as goal

@@ -1,4 +1,4 @@
-use Rattle.std.proofs.Common.{◌≡◌, ◌+◌, drop, ap, ◌∙◌}
+use Rattle.std.proofs.Common.{◌+◌, drop, ap, ◌∙◌}
 use Rattle.issuer_fold.proofs.FoldLaws.{overlay-drop}
 use Rattle.issuer_view.specs.Words.{Rows, overlay}
 use Rattle.issuer_in_place.proofs.BackLaws.{leads_back_still}
