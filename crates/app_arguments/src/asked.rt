@@ -79,7 +79,7 @@ fn wrong_word(matches: &ArgMatches<'_>) -> &'static str {
 
 // What is wrong with the settings of a subcommand that decides.
 fn wrong_setting(deciding: &ArgMatches<'_>) -> &'static str {
-    if engine_of(deciding).is_none() {
+    if engine_of(deciding, Engine::Split).is_none() {
         return "--engine is locked or split";
     }
     if workers_of(deciding).is_none() {
