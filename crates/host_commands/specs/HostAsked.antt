@@ -1,11 +1,12 @@
 -- What words ask of a live host.
 use Rattle.std.specs.Prelude.{◌≡◌, ◌≢◌, ℕ, List, Some, length, slice_get}
+use Rattle.app_words.specs.Words.{AsksHelp}
 use Rattle.host_commands.specs.declared.asking.HostAsked.{HostAsked}
 use Rattle.host_commands.specs.declared.asking.HostAsked.TheVariants.{Serve, Help, Wrong}
 
 -- Words of which the second is `serve` ask to serve, on the book of the file that the third names, with the log in the file that the fourth
--- names; or, with one word behind it, what it takes; other words are wrong.
+-- names; one word behind it may ask what it takes; other words are wrong.
 abbrev pub IsAskedBy : List (List ℕ) → HostAsked → Type 0
 IsAskedBy words (Serve book log) = (length words ≡ 4) × (slice_get words 2 ≡ Some book.now) × (slice_get words 3 ≡ Some log.now)
-IsAskedBy words Help = length words ≡ 3
-IsAskedBy words Wrong = length words ≢ 4
+IsAskedBy words Help = AsksHelp words
+IsAskedBy words Wrong = (length words ≢ 4) × ¬ AsksHelp words

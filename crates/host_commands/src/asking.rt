@@ -1,5 +1,8 @@
-ghost use Rattle.std.specs.Prelude.{◌≡◌, ◌≢◌, Some, IfSome, IfNone, IsTrue, OnSome, codes, map, slice_get, string_bytes};
+ghost use Rattle.std.specs.Prelude.{IfSome, IfNone, OnSome, codes, map, string_bytes};
+ghost use Rattle.app_words.specs.Words.{IsCommand};
 ghost use Rattle.host_commands.specs.HostAsked.{IsAskedBy};
+
+use app_words::{asks_help, is_command};
 
 /// What words ask of a live host.
 #[derive(Clone, Copy)]
@@ -14,26 +17,15 @@ pub enum HostAsked<'a> {
 
 /// What the program's words, of which the first is its name, ask of a live host. `None` where they don't ask it.
 pub fn host_asked(words: &[String]) -> Option<HostAsked<'_>>
-    ensures serve { OnSome result (slice_get (map string_bytes words.now) 1 ≡ Some (codes "serve")) }
+    ensures serve { OnSome result (IsCommand (codes "serve") (map string_bytes words.now)) }
     ensures asked { IfSome result (IsAskedBy (map string_bytes words.now)) }
-    ensures none { IfNone result (slice_get (map string_bytes words.now) 1 ≢ Some (codes "serve")) }
+    ensures none { IfNone result (¬ IsCommand (codes "serve") (map string_bytes words.now)) }
 {
-    if is_serve(words) {
+    if is_command(words, "serve") {
         Some(asked_behind(words))
     } else {
         None
     }
-}
-
-// Whether the second word is `serve`.
-fn is_serve(words: &[String]) -> bool
-    ensures yes { IsTrue result → slice_get (map string_bytes words.now) 1 ≡ Some (codes "serve") }
-    ensures no { ¬ IsTrue result → slice_get (map string_bytes words.now) 1 ≢ Some (codes "serve") }
-{
-    if words.len() < 2 {
-        return false;
-    }
-    words[1].as_str() == "serve"
 }
 
 // What is asked by words of which the second is `serve`.
@@ -43,13 +35,8 @@ fn asked_behind(words: &[String]) -> HostAsked<'_>
     if words.len() == 4 {
         return HostAsked::Serve(words[2].as_str(), words[3].as_str());
     }
-    if words.len() == 3 && is_help(words[2].as_str()) {
+    if asks_help(words) {
         return HostAsked::Help;
     }
     HostAsked::Wrong
-}
-
-// Whether the word asks for help.
-fn is_help(word: &str) -> bool {
-    word == "--help" || word == "-h"
 }
