@@ -48,8 +48,54 @@ impl<G: GrowingFile + Drop> Host<G> {
     ghost use Rattle.host_serving.specs.Turn.{IsTurn};
     ghost use Rattle.host_serving.specs.Serving.{Served, Stopped, StopsReading, EntersNext, StopsInEntry};
 
+    // Answers the network management requests that came in a turn without bodies.
+    fn answer_requests<W: Sink>(
+        &self,
+        turn: Turn,
+        writer: &mut ReplyWriter,
+        sink: &mut W,
+    ) -> Result<Turn, HostFault>
+        requires none { turn.bodies ≡ [] }
+        ensures sink { Writes W.is_known W.has_failed W.may_fail sink.old sink.new (of_link result) }
+        ensures ok { (incoming : List Incoming) → IsTurn incoming turn → OnOk result (Enters G.is_known G.synced G.unsynced incoming self.now self.now
+            (W.is_known sink.old) (W.written sink.old) (W.written sink.new)) }
+        ensures err { (incoming : List Incoming) → IsTurn incoming turn → IfErr result (λ e. StopsEntering G.is_known G.synced G.unsynced e incoming
+            self.now self.now (W.is_known sink.old) (W.written sink.old) (W.written sink.new)) }
+        ensures kinds { result ≢ Err (HostFault.Link LinkFault.Unreadable) }
+    {
+        writer.write(&[], &turn.requests, sink)?;
+        Ok(turn)
+    }
+
     // Decides the messages of the bodies that came in this turn, appends their entry to the log, and once it is synced answers them and the
-    // network management requests between them, in order. Where no body came there is no entry. The turn is given back, for its memory.
+    // network management requests between them, in order.
+    fn enter_bodies<W: Sink, F: Decide>(
+        &mut self,
+        alloc: Global,
+        turn: Turn,
+        writer: &mut ReplyWriter,
+        sink: &mut W,
+        decision: &F,
+    ) -> Result<Turn, HostFault>
+        requires some { turn.bodies ≢ [] }
+        ensures sink { Writes W.is_known W.has_failed W.may_fail sink.old sink.new (of_link result) }
+        ensures ok { (incoming : List Incoming) → IsTurn incoming turn → OnOk result (Enters G.is_known G.synced G.unsynced incoming self.old self.new
+            (W.is_known sink.old) (W.written sink.old) (W.written sink.new)) }
+        ensures err { (incoming : List Incoming) → IsTurn incoming turn → IfErr result (λ e. StopsEntering G.is_known G.synced G.unsynced e incoming
+            self.old self.new (W.is_known sink.old) (W.written sink.old) (W.written sink.new)) }
+        ensures kinds { result ≢ Err (HostFault.Link LinkFault.Unreadable) }
+    {
+        let mut turn = turn;
+        self.decider.decide(alloc, &turn.bodies, decision)?;
+        let bodies = mem::replace(&mut turn.bodies, Bodies::new(alloc));
+        let synced = self.log.append(bodies)?;
+        answer(writer, &synced, &self.decider, &turn.requests, sink)?;
+        turn.bodies = synced.into_bodies();
+        Ok(turn)
+    }
+
+    // Serves what came in a turn: its bodies become an entry, which is decided and answered; where no body came, there is no entry. The turn
+    // is given back, for its memory.
     fn enter<W: Sink, F: Decide>(
         &mut self,
         alloc: Global,
@@ -66,16 +112,9 @@ impl<G: GrowingFile + Drop> Host<G> {
         ensures kinds { result ≢ Err (HostFault.Link LinkFault.Unreadable) }
     {
         if turn.bodies.is_empty() {
-            writer.write(&[], &turn.requests, sink)?;
-            return Ok(turn);
+            return self.answer_requests(turn, writer, sink);
         }
-        let mut turn = turn;
-        self.decider.decide(alloc, &turn.bodies, decision)?;
-        let bodies = mem::replace(&mut turn.bodies, Bodies::new(alloc));
-        let synced = self.log.append(bodies)?;
-        answer(writer, &synced, &self.decider, &turn.requests, sink)?;
-        turn.bodies = synced.into_bodies();
-        Ok(turn)
+        self.enter_bodies(alloc, turn, writer, sink, decision)
     }
 
     // Waits for frames, and serves those that have come. Returns false at the link's end.

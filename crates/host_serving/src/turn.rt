@@ -1,5 +1,4 @@
-ghost use Rattle.std.specs.Prelude.{◌≡◌};
-
+use crate::decoding::push_copy;
 use link_frames::NetworkRequest;
 use link_network::{NetworkMessage, decode_network};
 use log_file::Bodies;
@@ -47,11 +46,11 @@ impl Turn {
             ≡ self.old.requests.items ++ record { bodies_before = self.old.between; message = message } ∷ []) }
         ensures between { OnOk result (self.new.between ≡ 0) }
     {
-        self.requests.reserve(1)?;
-        self.requests.push_reserved(NetworkRequest {
+        let request = NetworkRequest {
             bodies_before: self.between,
             message,
-        });
+        };
+        push_copy(&mut self.requests, &request)?;
         self.between = 0;
         Ok(())
     }

@@ -271,11 +271,13 @@ fn is_answered(
 ) -> Result<bool, Fail> {
     let book = first_book_with(alloc, &[])?;
     match serve(alloc, &book, link, 4096, ALL) {
-        Some(outcome) => Ok(outcome.result == Ok(())
-            && outcome.replies.as_slice() == replies
-            && outcome.entries == entries
-            && outcome.bodies == bodies
-            && outcome.tally.bodies == u64::from(bodies)),
+        Some(outcome) => Ok(
+            outcome.result == Ok(())
+                && outcome.replies.as_slice() == replies
+                && outcome.entries == entries
+                && outcome.bodies == bodies
+                && outcome.tally.bodies == u64::from(bodies),
+        ),
         None => Ok(false),
     }
 }
@@ -314,8 +316,7 @@ fn an_echo_is_answered_at_its_place(rt: HostRuntime) -> Result<(), Fail> {
 // Function 803, which there is not: the body is logged as one that is no message, and gets no reply.
 #[test]
 fn another_function_is_no_network_management(rt: HostRuntime) -> Result<(), Fail> {
-    let link =
-        b"\x00\x211804\x00\x30\x01\x00\x00\x00\x00\x00000007260315080500803";
+    let link = b"\x00\x211804\x00\x30\x01\x00\x00\x00\x00\x00000007260315080500803";
     assert!(rt; is_answered(rt.alloc(), link, b"", 1, 1)?);
     Ok(())
 }
@@ -332,10 +333,7 @@ fn an_echo_waits_for_the_entry_of_its_turn(rt: HostRuntime) -> Result<(), Fail> 
             &book,
             &link,
             4096,
-            Answers {
-                log: calls,
-                ..ALL
-            },
+            Answers { log: calls, ..ALL },
         );
         assert!(rt;
             matches!(&outcome, Some(it) if it.result == Err(HostFault::Log(LogFault::Failed)) && it.replies.is_empty())
