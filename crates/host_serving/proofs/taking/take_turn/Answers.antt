@@ -9,11 +9,11 @@ pub loop-init : goal.loop-init
 loop-init c =
     let all : c.args.count ≡ c.args.count - 0 = omega arith in
     record {
-  bodies = omega (arith, ap (λ (x : List (List ℕ)). length x) c.clear.ensures.bodies);
-  between = omega (arith, c.clear.ensures.between);
-  left = subst (λ (n : ℕ). AreSoMany n c.args.frames.now) all c.requires.frames;
-  so_far = none_taken c.args.frames.now c.clear.new.self c.clear.ensures;
-}
+      bodies = omega (arith, ap (λ (x : List (List ℕ)). length x) c.clear.ensures.bodies);
+      between = omega (arith, c.clear.ensures.between);
+      left = subst (λ (n : ℕ). AreSoMany n c.args.frames.now) all c.requires.frames;
+      so_far = none_taken c.args.frames.now c.clear.new.self c.clear.ensures;
+    }
 
 pub unreachable-requires : goal.unreachable-requires
 unreachable-requires c =
