@@ -3,10 +3,10 @@ use Rattle.std.proofs.Common.{◌≡◌, ◌≢◌, ◌⊎◌, ℕ, List, [], �
 use Rattle.std.specs.Prelude.{⊤}
 use Rattle.std.proofs.lemmas.List.{append-nil}
 use Rattle.issuer_rows.specs.Fold.{Rows, rows_after}
+use Rattle.file_batch_laws.specs.Frames.{AreFramesOf}
 use Rattle.link_frames.specs.Replies.{AppendsPart}
 use Rattle.host_serving.specs.Deciding.{answers_to}
 use Rattle.host_serving.specs.Entering.{book_of}
-use Rattle.host_serving.specs.Entries.{all_bodies}
 use Rattle.link_frames.specs.declared.link_fault.LinkFault.TheVariants.{Ended, Length, Unwritable, Unreadable, OutOfMemory as NoMemory}
 use Rattle.host_serving.specs.Serving.{AnsweredAfter, Served, Stopped}
 use Rattle.host_serving.specs.declared.host.Host.{Host}
@@ -38,8 +38,8 @@ module _ {G : Type 0} (is_known : G → Type 0) (synced unsynced : G → List �
   answered_all text log file old new reads puts came before after has opened served read put =
       let on = opened.again has.0 in
       let same : book_of old ≡ rows_after opened.book on.messages = on.stands.book in
-      let said : after ≡ before ++ answers_to (rows_after opened.book on.messages) served.messages =
-      served.answered put ∙ ap (λ (rows : Rows). before ++ answers_to rows served.messages) same in
+      let said : after ≡ before ++ answers_to (rows_after opened.book on.messages) served.incoming served.messages =
+      served.answered put ∙ ap (λ (rows : Rows). before ++ answers_to rows served.incoming served.messages) same in
       record {
         opening = opened.book;
         read = opened.read;
@@ -47,12 +47,13 @@ module _ {G : Type 0} (is_known : G → Type 0) (synced unsynced : G → List �
         held = subst (λ (bytes : List ℕ). HoldsEntries (book_digest opened.book) bytes on.entries) has.1 on.held;
         logged = on.messages;
         spelled = on.stands.read;
-        bodies = all_bodies served.entries;
+        incoming = served.incoming;
         left = [];
         frames = served.came read;
+        each = served.are;
         messages = served.messages;
-        are = served.read;
-        answered = whole before after (answers_to (rows_after opened.book on.messages) served.messages) said;
+        are = subst (λ (x : List (List ℕ)). AreFramesOf x served.messages) served.logged served.read;
+        answered = whole before after (answers_to (rows_after opened.book on.messages) served.incoming served.messages) said;
         whole = λ _. (refl, said);
       }
 
@@ -69,12 +70,13 @@ module _ {G : Type 0} (is_known : G → Type 0) (synced unsynced : G → List �
         held = subst (λ (bytes : List ℕ). HoldsEntries (book_digest opened.book) bytes on.entries) has.1 on.held;
         logged = on.messages;
         spelled = on.stands.read;
-        bodies = all_bodies stopped.entries;
+        incoming = stopped.incoming;
         left = stopped.left;
         frames = stopped.came read;
+        each = stopped.are;
         messages = stopped.messages;
-        are = stopped.read;
-        answered = subst (λ (rows : Rows). AppendsPart before after (answers_to rows stopped.messages)) on.stands.book (begun fault before after (answers_to (book_of old) stopped.messages) (stopped.answered put));
+        are = subst (λ (x : List (List ℕ)). AreFramesOf x stopped.messages) stopped.logged stopped.read;
+        answered = subst (λ (rows : Rows). AppendsPart before after (answers_to rows stopped.incoming stopped.messages)) on.stands.book (begun fault before after (answers_to (book_of old) stopped.incoming stopped.messages) (stopped.answered put));
         whole = λ all. absurd all;
       }
 
@@ -87,9 +89,10 @@ answered_for text log came before after all more asks is = record {
   held = is.held;
   logged = is.logged;
   spelled = is.spelled;
-  bodies = is.bodies;
+  incoming = is.incoming;
   left = is.left;
   frames = is.frames;
+  each = is.each;
   messages = is.messages;
   are = is.are;
   answered = is.answered;

@@ -1,10 +1,10 @@
 -- What serving a link that is read ahead comes to is what serving the link comes to.
 use Rattle.std.proofs.Common.{◌≡◌, ℕ, List, length, drop, Result, Ok, Err, OnOk, IfErr, sym, ap, subst}
 use Rattle.issuer_rows.specs.declared.frame.Frame.{Frame}
+use Rattle.link_frames.specs.Incoming.{frames_of}
 use Rattle.link_frames.specs.Link.{AreFrames}
 use Rattle.log_laws.specs.declared.log_fault.LogFault.TheVariants.{NoLog, Version, OtherBook, InUse, Broken, Failed, OutOfMemory as NoMemory}
 use Rattle.host_serving.proofs.Servings.{served_none, stopped_reading}
-use Rattle.host_serving.specs.Entries.{all_bodies}
 use Rattle.host_serving.specs.Serving.{BookAfter, FaultFits, Served, Stopped}
 use Rattle.host_serving.specs.declared.decider.Decider.{Decider}
 use Rattle.host_serving.specs.declared.host.Host.{Host}
@@ -24,7 +24,7 @@ if_err (Err e) f p = f e p
 book_for : (fault : HostFault) (old new : Decider) (messages : List Frame) (reads others : Type 0) (left : List ℕ) → (others → reads)
     → BookAfter fault old messages reads left new → BookAfter fault old messages others left new
 book_for (Link f) old new messages reads others left r after = after
-book_for (Log Failed) old new messages reads others left r after = (after.0, after.1, after.2, λ known. after.3 (r known), after.4, after.5)
+book_for (Log Failed) old new messages reads others left r after = (after.0, after.1, after.2, λ known. after.3 (r known), after.4, after.5, after.6)
 book_for (Log NoLog) old new messages reads others left r after = tt
 book_for (Log Version) old new messages reads others left r after = tt
 book_for (Log OtherBook) old new messages reads others left r after = tt
@@ -43,9 +43,13 @@ module _ {G : Type 0} (is_known : G → Type 0) (synced unsynced : G → List �
   pub served_for : (old new : Host G) (reads others : Type 0) (bytes same left : List ℕ) (puts : Type 0) (had has : List ℕ) → (others → reads) → (others → bytes ≡ same)
       → Served is_known synced unsynced old new reads bytes left puts had has → Served is_known synced unsynced old new others same left puts had has
   served_for old new reads others bytes same left puts had has r is s = record {
+    incoming = s.incoming;
     entries = s.entries;
     messages = s.messages;
-    came = λ known. subst (λ (x : List ℕ). AreFrames x (all_bodies s.entries) left) (is known) (s.came (r known));
+    came = λ known. subst (λ (x : List ℕ). AreFrames x (frames_of s.incoming) left) (is known) (s.came (r known));
+    are = s.are;
+    logged = s.logged;
+    each = s.each;
     read = s.read;
     log = s.log;
     after = s.after;
@@ -55,10 +59,14 @@ module _ {G : Type 0} (is_known : G → Type 0) (synced unsynced : G → List �
   pub stopped_for : (fault : HostFault) (old new : Host G) (reads others : Type 0) (bytes same : List ℕ) (puts : Type 0) (had has : List ℕ) → (others → reads) → (others → bytes ≡ same)
       → Stopped is_known synced unsynced fault old new reads bytes puts had has → Stopped is_known synced unsynced fault old new others same puts had has
   stopped_for fault old new reads others bytes same puts had has r is s = record {
+    incoming = s.incoming;
     entries = s.entries;
     messages = s.messages;
     left = s.left;
-    came = λ known. subst (λ (x : List ℕ). AreFrames x (all_bodies s.entries) s.left) (is known) (s.came (r known));
+    came = λ known. subst (λ (x : List ℕ). AreFrames x (frames_of s.incoming) s.left) (is known) (s.came (r known));
+    are = s.are;
+    logged = s.logged;
+    each = s.each;
     read = s.read;
     log = s.log;
     after = book_for fault old.decider new.decider s.messages reads others s.left r s.after;

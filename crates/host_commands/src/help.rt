@@ -12,6 +12,7 @@ Options:
   -h, --help  Print help
 
 Messages come on standard input, replies go to standard output, each behind two bytes of its length, the higher first.
+Network management (1804: sign-on 801, sign-off 802, echo test 831) is answered 1814, and stands in no log.
 At the start the messages that the log holds are decided again; what a crash left of an entry behind them is cut, and
 `torn N` on standard error says how many bytes that was. The host ends when standard input does.
 

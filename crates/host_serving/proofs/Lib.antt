@@ -1,2 +1,3 @@
 pub mod Takes
+pub mod Turns
 pub mod Servings

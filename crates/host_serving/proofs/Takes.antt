@@ -50,7 +50,7 @@ left_of n bytes body behind (b ∷ bodies) e all is is_body first =
 pub one_taken : (n : ℕ) (bytes body behind : List ℕ) → AreSoMany (suc n) bytes → IsBody body → bytes ≡ framed body ++ behind → AreSoMany n behind
 one_taken n bytes body behind many is first = left_of n bytes body behind many.0 many.1 many.2 many.3 is first
 
-each_more : {A : Type 0} (P : A → Type 0) (some more : List A) → AllByRecursion P some → AllByRecursion P more → AllByRecursion P (some ++ more)
+pub each_more : {A : Type 0} (P : A → Type 0) (some more : List A) → AllByRecursion P some → AllByRecursion P more → AllByRecursion P (some ++ more)
 each_more P [] more h k = k
 each_more P (item ∷ some) more h k = (h.0, each_more P some more h.1 k)
 

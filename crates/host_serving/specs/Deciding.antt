@@ -3,7 +3,7 @@ use Rattle.std.specs.Prelude.{◌≡◌, ℕ, List}
 use Rattle.issuer_rows.specs.Fold.{Rows, rows_after, replies_to}
 use Rattle.issuer_rows.specs.declared.frame.Frame.{Frame}
 use Rattle.file_batch_laws.specs.Frames.{AreFramesOf}
-use Rattle.link_frames.specs.Replies.{reply_frames}
+use Rattle.link_frames.specs.Incoming.{Incoming, answers_of}
 use Rattle.host_serving.specs.Tally.{counted}
 use Rattle.host_serving.specs.declared.decider.Decider.{Decider}
 
@@ -23,6 +23,7 @@ pub record Decides (bodies : List (List ℕ)) (old new : Decider) : Type 0 where
 abbrev pub HasDecided : List (List ℕ) → Decider → Type 0
 HasDecided bodies decider = (before : Decider) × Decides bodies before decider
 
--- what a link is given: the replies to these messages, decided one after another on this book
-abbrev pub answers_to : Rows → List Frame → List ℕ
-answers_to book messages = reply_frames (replies_to book messages)
+-- what a link is given for all that came on it: the replies to these messages, decided one after another on this book, and those to network
+-- management, in the order of the frames
+abbrev pub answers_to : Rows → List Incoming → List Frame → List ℕ
+answers_to book incoming messages = answers_of incoming (replies_to book messages)

@@ -1,14 +1,16 @@
--- One entry: its messages are decided, it is appended to the log and synced, and then its replies are written.
-use Rattle.std.specs.Prelude.{◌≡◌, ℕ, List, [], ◌∷◌, ◌++◌}
+-- One turn: the messages of its bodies are decided, their entry is appended to the log and synced, and then all that came is answered.
+use Rattle.std.specs.Prelude.{◌≡◌, ℕ, List, [], ◌++◌}
 use Rattle.issuer_rows.specs.Fold.{Rows}
 use Rattle.issuer_rows.specs.declared.frame.Frame.{Frame}
 use Rattle.file_batch_laws.specs.Frames.{AreFramesOf}
+use Rattle.link_frames.specs.Incoming.{Incoming, bodies_of}
 use Rattle.link_frames.specs.Replies.{AppendsPart}
 use Rattle.link_frames.specs.declared.link_fault.LinkFault.TheVariants as link
 use Rattle.log_file.specs.Writes.{HasLog, IsCutOff}
 use Rattle.log_file.specs.declared.log_writer.LogWriter.{LogWriter}
 use Rattle.log_laws.specs.declared.log_fault.LogFault.TheVariants.{Failed}
 use Rattle.host_serving.specs.Deciding.{Follows, answers_to}
+use Rattle.host_serving.specs.Turn.{entry_of}
 use Rattle.host_serving.specs.declared.host.Host.{Host}
 use Rattle.host_serving.specs.declared.host_fault.HostFault.{HostFault}
 use Rattle.host_serving.specs.declared.host_fault.HostFault.TheVariants.{Link, Log, OutOfMemory}
@@ -29,27 +31,28 @@ module _ {G : Type 0} (is_known : G → Type 0) (synced unsynced : G → List �
   BreaksOff old new entries bodies = (digest : List ℕ) (first : List (List (List ℕ))) → HasLog is_known synced unsynced digest first old
       → IsCutOff is_known synced unsynced digest (first ++ entries) bodies new.file
 
-  -- an entry of these bodies was appended and synced, its messages decided, and all their replies written
-  pub record Enters (bodies : List (List ℕ)) (old new : Host G) (puts : Type 0) (had has : List ℕ) : Type 0 where
+  -- the messages of the bodies were decided, their entry was appended and synced, and all was answered; where no body came, the log and the
+  -- book are as they were
+  pub record Enters (incoming : List Incoming) (old new : Host G) (puts : Type 0) (had has : List ℕ) : Type 0 where
     pub messages : List Frame
-    pub read : AreFramesOf bodies messages
-    pub log : Grows old.log new.log (bodies ∷ [])
+    pub read : AreFramesOf (bodies_of incoming) messages
+    pub log : Grows old.log new.log (entry_of (bodies_of incoming))
     pub after : Follows old.decider new.decider messages
-    pub answered : puts → has ≡ had ++ answers_to (book_of old) messages
+    pub answered : puts → has ≡ had ++ answers_to (book_of old) incoming messages
 
-  -- It stopped while the replies were written: the entry is synced.
-  pub record StopsAnswering (bodies : List (List ℕ)) (old new : Host G) (puts : Type 0) (had has : List ℕ) : Type 0 where
+  -- It stopped while the answers were written: the entry is synced.
+  pub record StopsAnswering (incoming : List Incoming) (old new : Host G) (puts : Type 0) (had has : List ℕ) : Type 0 where
     pub messages : List Frame
-    pub read : AreFramesOf bodies messages
-    pub log : Grows old.log new.log (bodies ∷ [])
+    pub read : AreFramesOf (bodies_of incoming) messages
+    pub log : Grows old.log new.log (entry_of (bodies_of incoming))
     pub after : Follows old.decider new.decider messages
-    pub answered : puts → AppendsPart had has (answers_to (book_of old) messages)
+    pub answered : puts → AppendsPart had has (answers_to (book_of old) incoming messages)
 
   -- It stopped while the entry was appended: nothing was written on the link.
-  pub record StopsAppending (bodies : List (List ℕ)) (old new : Host G) (puts : Type 0) (had has : List ℕ) : Type 0 where
+  pub record StopsAppending (incoming : List Incoming) (old new : Host G) (puts : Type 0) (had has : List ℕ) : Type 0 where
     pub messages : List Frame
-    pub read : AreFramesOf bodies messages
-    pub log : BreaksOff old.log new.log [] bodies
+    pub read : AreFramesOf (bodies_of incoming) messages
+    pub log : BreaksOff old.log new.log [] (bodies_of incoming)
     pub after : Follows old.decider new.decider messages
     pub unanswered : puts → has ≡ had
 
@@ -59,9 +62,9 @@ module _ {G : Type 0} (is_known : G → Type 0) (synced unsynced : G → List �
     pub unanswered : puts → has ≡ had
 
   -- which of them it is, by the fault
-  abbrev pub StopsEntering : HostFault → List (List ℕ) → Host G → Host G → Type 0 → List ℕ → List ℕ → Type 0
-  StopsEntering (Link link.Unwritable) bodies old new puts had has = StopsAnswering bodies old new puts had has
-  StopsEntering (Link link.OutOfMemory) bodies old new puts had has = StopsAnswering bodies old new puts had has
-  StopsEntering (Link fault) bodies old new puts had has = ⊥
-  StopsEntering (Log Failed) bodies old new puts had has = StopsAppending bodies old new puts had has
-  StopsEntering fault bodies old new puts had has = StopsDeciding old new puts had has
+  abbrev pub StopsEntering : HostFault → List Incoming → Host G → Host G → Type 0 → List ℕ → List ℕ → Type 0
+  StopsEntering (Link link.Unwritable) incoming old new puts had has = StopsAnswering incoming old new puts had has
+  StopsEntering (Link link.OutOfMemory) incoming old new puts had has = StopsAnswering incoming old new puts had has
+  StopsEntering (Link fault) incoming old new puts had has = ⊥
+  StopsEntering (Log Failed) incoming old new puts had has = StopsAppending incoming old new puts had has
+  StopsEntering fault incoming old new puts had has = StopsDeciding old new puts had has

@@ -2,5 +2,6 @@ pub mod HostFault
 pub mod Entries
 pub mod Tally
 pub mod Deciding
+pub mod Turn
 pub mod Entering
 pub mod Serving

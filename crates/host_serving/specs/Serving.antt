@@ -1,7 +1,9 @@
--- What serving a link comes to: the entries that the log has more, the book after them, and what was written on the link.
+-- What serving a link comes to: what came on it, the entries that the log has more, the book after them, and what was written on the link.
 use Rattle.std.specs.Prelude.{◌≡◌, ⊤, ℕ, List, ◌++◌}
+use Rattle.std.specs.List.{AllByRecursion}
 use Rattle.issuer_rows.specs.declared.frame.Frame.{Frame}
 use Rattle.file_batch_laws.specs.Frames.{AreFramesOf}
+use Rattle.link_frames.specs.Incoming.{Incoming, IsIncoming, frames_of, bodies_of}
 use Rattle.link_frames.specs.Replies.{AppendsPart}
 use Rattle.link_frames.specs.Link.{AreFrames, HasFault}
 use Rattle.link_frames.specs.declared.link_fault.LinkFault.TheVariants as link
@@ -9,7 +11,7 @@ use Rattle.log_file.specs.declared.log_writer.LogWriter.{LogWriter}
 use Rattle.log_laws.specs.declared.log_fault.LogFault.TheVariants.{Failed}
 use Rattle.host_serving.specs.Deciding.{Follows, answers_to}
 use Rattle.host_serving.specs.Entering.{book_of, Grows, BreaksOff, Enters, StopsEntering}
-use Rattle.host_serving.specs.Entries.{all_bodies, AreMessagesOf}
+use Rattle.host_serving.specs.Entries.{all_bodies, AreMessagesOf, HasBody}
 use Rattle.host_serving.specs.declared.decider.Decider.{Decider}
 use Rattle.host_serving.specs.declared.host.Host.{Host}
 use Rattle.host_serving.specs.declared.host_fault.HostFault.{HostFault}
@@ -20,10 +22,11 @@ use Rattle.host_serving.specs.declared.host_fault.HostFault.TheVariants.{Link, L
 abbrev pub BookAfter : HostFault → Decider → List Frame → Type 0 → List ℕ → Decider → Type 0
 BookAfter (Link fault) old messages reads left new = Follows old new messages
 BookAfter (Log Failed) old messages reads left new =
-    (bodies : List (List ℕ)) × (next : List Frame) × (rest : List ℕ) × (reads → AreFrames left bodies rest) × AreFramesOf bodies next × Follows old new (messages ++ next)
+    (incoming : List Incoming) × (next : List Frame) × (rest : List ℕ) × (reads → AreFrames left (frames_of incoming) rest) × AllByRecursion IsIncoming incoming
+    × AreFramesOf (bodies_of incoming) next × Follows old new (messages ++ next)
 BookAfter fault old messages reads left new = ⊤
 
--- What was written after a fault: these replies; where one can't be written, or memory ran out for its bytes, a beginning of them.
+-- What was written after a fault: these answers; where one can't be written, or memory ran out for its bytes, a beginning of them.
 abbrev pub AnsweredAfter : HostFault → List ℕ → List ℕ → List ℕ → Type 0
 AnsweredAfter (Link link.Unwritable) had has text = AppendsPart had has text
 AnsweredAfter (Link link.OutOfMemory) had has text = AppendsPart had has text
@@ -48,39 +51,50 @@ module _ {G : Type 0} (is_known : G → Type 0) (synced unsynced : G → List �
   LogAfter (Log Failed) old new entries = (bodies : List (List ℕ)) × BreaksOff is_known synced unsynced old new entries bodies
   LogAfter fault old new entries = Grows is_known synced unsynced old new entries
 
-  -- All frames that came on a link, up to the bytes that are left, were served: their bodies stand in the log, each entry synced; the book
-  -- is the one after their messages, decided in order; and all their replies were written.
+  -- All frames that came on a link, up to the bytes that are left, were served: the bodies stand in the log, each entry synced, and network
+  -- management stands in none; the book is the one after the bodies' messages, decided in order; and all was answered, in the order of the
+  -- frames.
   pub record Served (old new : Host G) (reads : Type 0) (bytes left : List ℕ) (puts : Type 0) (had has : List ℕ) : Type 0 where
+    pub incoming : List Incoming
     pub entries : List (List (List ℕ))
     pub messages : List Frame
-    pub came : reads → AreFrames bytes (all_bodies entries) left
+    pub came : reads → AreFrames bytes (frames_of incoming) left
+    pub are : AllByRecursion IsIncoming incoming
+    pub logged : all_bodies entries ≡ bodies_of incoming
+    pub each : AllByRecursion HasBody entries
     pub read : AreMessagesOf entries messages
     pub log : Grows is_known synced unsynced old.log new.log entries
     pub after : Follows old.decider new.decider messages
-    pub answered : puts → has ≡ had ++ answers_to (book_of old) messages
+    pub answered : puts → has ≡ had ++ answers_to (book_of old) incoming messages
 
-  -- Serving a link stopped with a fault. The log has entries more, all synced, whose bodies are a beginning of the frames that came. What
-  -- was written are the replies to their messages, or a beginning of these: nothing was answered, not even in part, that isn't in the log.
+  -- Serving a link stopped with a fault. The log has entries more, all synced, of the bodies of a beginning of the frames that came. What
+  -- was written are the answers to that beginning, or a beginning of these: no body was answered, not even in part, that isn't in the log.
   pub record Stopped (fault : HostFault) (old new : Host G) (reads : Type 0) (bytes : List ℕ) (puts : Type 0) (had has : List ℕ) : Type 0 where
+    pub incoming : List Incoming
     pub entries : List (List (List ℕ))
     pub messages : List Frame
     pub left : List ℕ
-    pub came : reads → AreFrames bytes (all_bodies entries) left
+    pub came : reads → AreFrames bytes (frames_of incoming) left
+    pub are : AllByRecursion IsIncoming incoming
+    pub logged : all_bodies entries ≡ bodies_of incoming
+    pub each : AllByRecursion HasBody entries
     pub read : AreMessagesOf entries messages
     pub log : LogAfter fault old.log new.log entries
     pub after : BookAfter fault old.decider messages reads left new.decider
-    pub answered : puts → AnsweredAfter fault had has (answers_to (book_of old) messages)
+    pub answered : puts → AnsweredAfter fault had has (answers_to (book_of old) incoming messages)
     pub fits : FaultFits fault reads left
 
-  -- the frames that had come became one entry, and these bytes are left
+  -- the frames that had come were one turn, and these bytes are left
   pub record EntersNext (old new : Host G) (reads : Type 0) (bytes left : List ℕ) (puts : Type 0) (had has : List ℕ) : Type 0 where
-    pub bodies : List (List ℕ)
-    pub came : reads → AreFrames bytes bodies left
-    pub entered : Enters is_known synced unsynced bodies old new puts had has
+    pub incoming : List Incoming
+    pub came : reads → AreFrames bytes (frames_of incoming) left
+    pub are : AllByRecursion IsIncoming incoming
+    pub entered : Enters is_known synced unsynced incoming old new puts had has
 
-  -- the same, but that it stopped in the entry
+  -- the same, but that it stopped in the turn
   pub record StopsInEntry (fault : HostFault) (old new : Host G) (reads : Type 0) (bytes : List ℕ) (puts : Type 0) (had has : List ℕ) : Type 0 where
-    pub bodies : List (List ℕ)
+    pub incoming : List Incoming
     pub left : List ℕ
-    pub came : reads → AreFrames bytes bodies left
-    pub stops : StopsEntering is_known synced unsynced fault bodies old new puts had has
+    pub came : reads → AreFrames bytes (frames_of incoming) left
+    pub are : AllByRecursion IsIncoming incoming
+    pub stops : StopsEntering is_known synced unsynced fault incoming old new puts had has

@@ -20,8 +20,8 @@ fn frame_of(body: &[u8]) -> Frame
     }
 }
 
-// Appends a copy of an item. Memory can run out.
-fn push_copy<T: Copy>(items: &mut Vec<T>, item: &T) -> Result<(), AllocError>
+/// Appends a copy of an item. Memory can run out.
+pub(crate) fn push_copy<T: Copy>(items: &mut Vec<T>, item: &T) -> Result<(), AllocError>
     ensures { OnOk result (items.new.items ≡ items.old.items ++ item.now ∷ []) }
 {
     items.reserve(1)?;

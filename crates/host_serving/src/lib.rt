@@ -1,4 +1,5 @@
-//! A live host: frames of a link become entries of a log, are decided on the book in memory, and are answered once their entry is synced.
+//! A live host: bodies of a link become entries of a log, are decided on the book in memory, and are answered once their entry is synced;
+//! network management is answered by the link itself.
 #![tactic(auto)]
 
 mod answering;
@@ -9,6 +10,7 @@ mod host_fault;
 mod serving;
 mod taking;
 mod tally;
+mod turn;
 
 pub use answering::answer;
 pub use decider::Decider;

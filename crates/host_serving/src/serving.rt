@@ -1,7 +1,8 @@
 use crate::answering::answer;
 use crate::host::Host;
 use crate::host_fault::HostFault;
-use crate::taking::take_bodies;
+use crate::taking::take_turn;
+use crate::turn::Turn;
 use file_devices::{Sink, Source};
 use issuer_view::Decide;
 use link_frames::{LinkFault, LinkReader, ReplyWriter};
@@ -10,15 +11,15 @@ use log_file::Bodies;
 use std::alloc::{AllocError, Global};
 use std::mem;
 
-// How many bodies an entry has, at most.
+// How many frames are served in one turn, at most: so many bodies can an entry have.
 const MOST: u32 = 65_536;
 
-// The memory of a link: what came on it, what is about to be written, and the bodies of an entry.
+// The memory of a link: what came on it, what is about to be written, and what came in one turn.
 #[derive(Drop)]
 struct Link {
     reader: LinkReader,
     writer: ReplyWriter,
-    bodies: Bodies,
+    turn: Turn,
 }
 
 impl Link {
@@ -32,38 +33,88 @@ impl Link {
         Ok(Link {
             reader: LinkReader::new(alloc)?,
             writer: ReplyWriter::new(alloc),
-            bodies: Bodies::new(alloc),
+            turn: Turn::new(alloc),
         })
     }
 }
 
 impl<G: GrowingFile + Drop> Host<G> {
-    ghost use Rattle.std.specs.Prelude.{◌≡◌, ◌≢◌, ◌⊎◌, [], true, false, Ok, Err, OnOk, IfErr};
+    ghost use Rattle.std.specs.Prelude.{◌≡◌, ◌≢◌, ◌⊎◌, [], List, true, false, Ok, Err, OnOk, IfErr};
+    ghost use Rattle.link_frames.specs.Incoming.{Incoming};
     ghost use Rattle.link_frames.specs.LinkFault.{Reads, Writes};
     ghost use Rattle.link_frames.specs.Reader.{ahead};
     ghost use Rattle.host_serving.specs.HostFault.{of_link};
     ghost use Rattle.host_serving.specs.Entering.{Enters, StopsEntering};
+    ghost use Rattle.host_serving.specs.Turn.{IsTurn};
     ghost use Rattle.host_serving.specs.Serving.{Served, Stopped, StopsReading, EntersNext, StopsInEntry};
 
-    // Decides the messages of these bodies, appends their entry to the log, and once it is synced writes their replies. The bodies are given
-    // back, for their memory.
-    fn enter<W: Sink, F: Decide>(
+    // Answers the network management requests that came in a turn without bodies.
+    fn answer_requests<W: Sink>(
+        &self,
+        turn: Turn,
+        writer: &mut ReplyWriter,
+        sink: &mut W,
+    ) -> Result<Turn, HostFault>
+        requires none { turn.bodies ≡ [] }
+        ensures sink { Writes W.is_known W.has_failed W.may_fail sink.old sink.new (of_link result) }
+        ensures ok { (incoming : List Incoming) → IsTurn incoming turn → OnOk result (Enters G.is_known G.synced G.unsynced incoming self.now self.now
+            (W.is_known sink.old) (W.written sink.old) (W.written sink.new)) }
+        ensures err { (incoming : List Incoming) → IsTurn incoming turn → IfErr result (λ e. StopsEntering G.is_known G.synced G.unsynced e incoming
+            self.now self.now (W.is_known sink.old) (W.written sink.old) (W.written sink.new)) }
+        ensures kinds { result ≢ Err (HostFault.Link LinkFault.Unreadable) }
+    {
+        writer.write(&[], &turn.requests, sink)?;
+        Ok(turn)
+    }
+
+    // Decides the messages of the bodies that came in this turn, appends their entry to the log, and once it is synced answers them and the
+    // network management requests between them, in order.
+    fn enter_bodies<W: Sink, F: Decide>(
         &mut self,
         alloc: Global,
-        bodies: Bodies,
+        turn: Turn,
         writer: &mut ReplyWriter,
         sink: &mut W,
         decision: &F,
-    ) -> Result<Bodies, HostFault>
+    ) -> Result<Turn, HostFault>
+        requires some { turn.bodies ≢ [] }
         ensures sink { Writes W.is_known W.has_failed W.may_fail sink.old sink.new (of_link result) }
-        ensures ok { OnOk result (Enters G.is_known G.synced G.unsynced bodies self.old self.new (W.is_known sink.old) (W.written sink.old) (W.written sink.new)) }
-        ensures err { IfErr result (λ e. StopsEntering G.is_known G.synced G.unsynced e bodies self.old self.new (W.is_known sink.old) (W.written sink.old) (W.written sink.new)) }
+        ensures ok { (incoming : List Incoming) → IsTurn incoming turn → OnOk result (Enters G.is_known G.synced G.unsynced incoming self.old self.new
+            (W.is_known sink.old) (W.written sink.old) (W.written sink.new)) }
+        ensures err { (incoming : List Incoming) → IsTurn incoming turn → IfErr result (λ e. StopsEntering G.is_known G.synced G.unsynced e incoming
+            self.old self.new (W.is_known sink.old) (W.written sink.old) (W.written sink.new)) }
         ensures kinds { result ≢ Err (HostFault.Link LinkFault.Unreadable) }
     {
-        self.decider.decide(alloc, &bodies, decision)?;
+        let mut turn = turn;
+        self.decider.decide(alloc, &turn.bodies, decision)?;
+        let bodies = mem::replace(&mut turn.bodies, Bodies::new(alloc));
         let synced = self.log.append(bodies)?;
-        answer(writer, &synced, &self.decider, sink)?;
-        Ok(synced.into_bodies())
+        answer(writer, &synced, &self.decider, &turn.requests, sink)?;
+        turn.bodies = synced.into_bodies();
+        Ok(turn)
+    }
+
+    // Serves what came in a turn: its bodies become an entry, which is decided and answered; where no body came, there is no entry. The turn
+    // is given back, for its memory.
+    fn enter<W: Sink, F: Decide>(
+        &mut self,
+        alloc: Global,
+        turn: Turn,
+        writer: &mut ReplyWriter,
+        sink: &mut W,
+        decision: &F,
+    ) -> Result<Turn, HostFault>
+        ensures sink { Writes W.is_known W.has_failed W.may_fail sink.old sink.new (of_link result) }
+        ensures ok { (incoming : List Incoming) → IsTurn incoming turn → OnOk result (Enters G.is_known G.synced G.unsynced incoming self.old self.new
+            (W.is_known sink.old) (W.written sink.old) (W.written sink.new)) }
+        ensures err { (incoming : List Incoming) → IsTurn incoming turn → IfErr result (λ e. StopsEntering G.is_known G.synced G.unsynced e incoming
+            self.old self.new (W.is_known sink.old) (W.written sink.old) (W.written sink.new)) }
+        ensures kinds { result ≢ Err (HostFault.Link LinkFault.Unreadable) }
+    {
+        if turn.bodies.is_empty() {
+            return self.answer_requests(turn, writer, sink);
+        }
+        self.enter_bodies(alloc, turn, writer, sink, decision)
     }
 
     // Waits for frames, and serves those that have come. Returns false at the link's end.
@@ -92,15 +143,17 @@ impl<G: GrowingFile + Drop> Host<G> {
         if count == 0 {
             return Ok(false);
         }
-        take_bodies(&mut link.bodies, link.reader.frames(), count)?;
-        let bodies = mem::replace(&mut link.bodies, Bodies::new(alloc));
-        link.bodies = self.enter(alloc, bodies, &mut link.writer, sink, decision)?;
+        take_turn(&mut link.turn, link.reader.frames(), count)?;
+        let turn = mem::replace(&mut link.turn, Turn::new(alloc));
+        link.turn = self.enter(alloc, turn, &mut link.writer, sink, decision)?;
         Ok(true)
     }
 
-    /// Serves a link until it ends, or to the first fault: the frames that have come become one entry of the log, whose messages are decided
+    /// Serves a link until it ends, or to the first fault: the bodies that have come become one entry of the log, whose messages are decided
     /// on the book, one after another, by any local decision; once the entry is synced, their replies are written. A body that is no
-    /// message stands in the log, too, and gets no reply. What a batch costs doesn't grow with the book or the log.
+    /// message stands in the log, too, and gets no reply. Network management (ISO 8583:1993, 1804) is answered by the link itself, 1814 with
+    /// action 800, at its place among the replies: it stands in no entry, and changes nothing. What a batch costs doesn't grow with the book
+    /// or the log.
     pub fn serve_link<R: Source, W: Sink, F: Decide>(
         &mut self,
         alloc: Global,

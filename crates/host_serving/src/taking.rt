@@ -1,23 +1,24 @@
 ghost use Rattle.std.specs.Prelude.{◌≡◌, ◌≤◌, [], OnOk};
-ghost use Rattle.link_frames.specs.Link.{AreFrames, AreSoMany};
+ghost use Rattle.link_frames.specs.Link.{AreSoMany};
+ghost use Rattle.host_serving.specs.Turn.{HasTaken};
 
+use crate::turn::Turn;
 use link_frames::{Front, front_of};
-use log_file::Bodies;
 use std::alloc::AllocError;
 
-/// Takes the bodies out of so many frames, in place of others. Memory can run out.
-pub(crate) fn take_bodies(bodies: &mut Bodies, frames: &[u8], count: u32) -> Result<(), AllocError>
+/// Takes what came in so many frames, in place of what came before. Memory can run out.
+pub(crate) fn take_turn(turn: &mut Turn, frames: &[u8], count: u32) -> Result<(), AllocError>
     requires few { count ≤ 65536 }
     requires frames { AreSoMany count frames.now }
-    ensures { OnOk result (AreFrames frames.now bodies.new []) }
+    ensures { OnOk result (HasTaken frames.now [] turn.new) }
 {
-    bodies.clear();
+    turn.clear();
     let mut rest = frames;
     for _ in 0..count {
         let Front::Frame(body, behind) = front_of(rest) else {
             unreachable!();
         };
-        bodies.push(body)?;
+        turn.take(body)?;
         rest = behind;
     }
     Ok(())

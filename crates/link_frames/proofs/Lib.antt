@@ -3,3 +3,4 @@ pub mod Once
 pub mod Parts
 pub mod Puts
 pub mod Runs
+pub mod InOrder

@@ -3,3 +3,4 @@ pub mod Link
 pub mod Front
 pub mod Reader
 pub mod Replies
+pub mod Incoming

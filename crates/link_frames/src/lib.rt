@@ -6,12 +6,14 @@ mod frames;
 mod front;
 mod laws;
 mod link_fault;
+mod network_request;
 mod reader;
 mod replies;
 mod writing;
 
 pub use front::{Front, front_of};
-pub use laws::a_link_is_read_in_one_way;
+pub use laws::{a_link_is_read_in_one_way, answers_are_in_order};
 pub use link_fault::LinkFault;
+pub use network_request::NetworkRequest;
 pub use reader::LinkReader;
 pub use replies::ReplyWriter;

@@ -15,7 +15,7 @@ use Rattle.issuer_rows.specs.declared.reply_body.ReplyBody.{ReplyBody}
 use Rattle.file_batch_laws.specs.Blocks.{all_messages, all_replies, replies_to_blocks}
 use Rattle.file_batch_laws.specs.Frames.{AreFramesOf, IsFrameOf}
 use Rattle.file_batch_laws.proofs.FoldedBlocks.{one_book, one_list}
-use Rattle.link_frames.specs.Replies.{reply_frames}
+use Rattle.link_frames.specs.Incoming.{answers_of}
 use Rattle.log_laws.specs.Reading.{IsLogOf}
 use Rattle.log_laws.specs.Texts.{log_text}
 use Rattle.log_laws.specs.declared.log_fault.LogFault.{LogFault}
@@ -90,6 +90,6 @@ module _ {G : Type 0} (is_known : G → Type 0) (synced unsynced : G → List �
       record {
         same = same;
         replies = replies;
-        given = ap (λ (r : List ReplyBody). reply_frames r) replies;
+        given = λ incoming. ap (λ (r : List ReplyBody). answers_of incoming r) replies;
         book = one_book opening blocks ∙ ap (rows_after opening) all ∙ sym stands.book;
       }

@@ -2,7 +2,9 @@
 
 ghost use Rattle.std.specs.Prelude.{◌<◌};
 
-use crate::vectors::{FIRST_REPLY, LINK, REPLIES};
+use crate::vectors::{
+    ECHO, ECHO_REPLY, FIRST, FIRST_REPLY, LINK, NO_MESSAGE, REPEAT, REPLIES, SECOND, SECOND_REPLY,
+};
 use file_devices::{FailingSink, FailingSource};
 use host_serving::{Decider, Host, HostFault, Tally};
 use issuer_rows::Book;
@@ -245,5 +247,97 @@ fn the_book_is_that_after_the_link(rt: HostRuntime) -> Result<(), Fail> {
     let mut sink = FailingSink::new(rt.alloc(), 4096, 1000);
     assert!(rt; host.serve_link(rt.alloc(), &mut source, &mut sink, &Shipped) == Ok(()));
     assert!(rt; has_row(host.decider().book(), "account A 9900 978"));
+    Ok(())
+}
+
+// The bytes of all of these, one behind another.
+fn joined(alloc: Global, parts: &[&[u8]]) -> Result<Vec<u8>, Fail> {
+    let mut bytes = Vec::new(alloc);
+    for part in parts {
+        if bytes.extend_from_slice(part).is_err() {
+            return Err(Fail::new("room"));
+        }
+    }
+    Ok(bytes)
+}
+
+// Whether a link that comes at once is answered so, in so many entries of so many bodies.
+fn is_answered(
+    alloc: Global,
+    link: &[u8],
+    replies: &[u8],
+    entries: usize,
+    bodies: u32,
+) -> Result<bool, Fail> {
+    let book = first_book_with(alloc, &[])?;
+    match serve(alloc, &book, link, 4096, ALL) {
+        Some(outcome) => Ok(
+            outcome.result == Ok(())
+                && outcome.replies.as_slice() == replies
+                && outcome.entries == entries
+                && outcome.bodies == bodies
+                && outcome.tally.bodies == u64::from(bodies),
+        ),
+        None => Ok(false),
+    }
+}
+
+#[test]
+fn an_echo_alone_makes_no_entry(rt: HostRuntime) -> Result<(), Fail> {
+    assert!(rt; is_answered(rt.alloc(), ECHO, ECHO_REPLY, 0, 0)?);
+    let twice = joined(rt.alloc(), &[ECHO, ECHO])?;
+    let replies = joined(rt.alloc(), &[ECHO_REPLY, ECHO_REPLY])?;
+    assert!(rt; is_answered(rt.alloc(), &twice, &replies, 0, 0)?);
+    Ok(())
+}
+
+#[test]
+fn an_echo_is_answered_at_its_place(rt: HostRuntime) -> Result<(), Fail> {
+    let link = joined(
+        rt.alloc(),
+        &[ECHO, FIRST, NO_MESSAGE, ECHO, ECHO, SECOND, REPEAT, ECHO],
+    )?;
+    let replies = joined(
+        rt.alloc(),
+        &[
+            ECHO_REPLY,
+            FIRST_REPLY,
+            ECHO_REPLY,
+            ECHO_REPLY,
+            SECOND_REPLY,
+            FIRST_REPLY,
+            ECHO_REPLY,
+        ],
+    )?;
+    assert!(rt; is_answered(rt.alloc(), &link, &replies, 1, 4)?);
+    Ok(())
+}
+
+// Function 803, which there is not: the body is logged as one that is no message, and gets no reply.
+#[test]
+fn another_function_is_no_network_management(rt: HostRuntime) -> Result<(), Fail> {
+    let link = b"\x00\x211804\x00\x30\x01\x00\x00\x00\x00\x00000007260315080500803";
+    assert!(rt; is_answered(rt.alloc(), link, b"", 1, 1)?);
+    Ok(())
+}
+
+// An echo behind a request whose entry can't be synced is not answered either.
+#[test]
+fn an_echo_waits_for_the_entry_of_its_turn(rt: HostRuntime) -> Result<(), Fail> {
+    let book = first_book_with(rt.alloc(), &[])?;
+    let link = joined(rt.alloc(), &[ECHO, FIRST])?;
+    let begun = calls_to_begin(rt.alloc(), &book);
+    for calls in [begun, begun + 1] {
+        let outcome = serve(
+            rt.alloc(),
+            &book,
+            &link,
+            4096,
+            Answers { log: calls, ..ALL },
+        );
+        assert!(rt;
+            matches!(&outcome, Some(it) if it.result == Err(HostFault::Log(LogFault::Failed)) && it.replies.is_empty())
+        );
+    }
     Ok(())
 }

@@ -28,3 +28,9 @@ pub(crate) const SECOND: &[u8] =
 
 pub(crate) const SECOND_REPLY: &[u8] =
     b"\x00\x681110\x72\x30\x00\x01\x06\x80\x80\x00164111110000000005000000000000000100011012000100000226011012000106123456000002000TERM0001978";
+
+// An echo test, 1804 with elements 11, 12 and 24, in its frame; and its reply, 1814 with element 39, too.
+pub(crate) const ECHO: &[u8] = b"\x00\x211804\x00\x30\x01\x00\x00\x00\x00\x00000007260315080500831";
+
+pub(crate) const ECHO_REPLY: &[u8] =
+    b"\x00\x241814\x00\x30\x01\x00\x02\x00\x00\x00000007260315080500831800";
