@@ -3,7 +3,6 @@
 ghost use Rattle.std.specs.Prelude.{◌<◌};
 
 use crate::hosts::served;
-use crate::vectors::{FIRST_REPLY, LINK, REPLIES};
 use file_devices::FailingSource;
 use issuer_rows::Book;
 use std::alloc::Global;
@@ -11,6 +10,7 @@ use std::sync::Wait;
 use std::test::Fail;
 use std::thread::Threads;
 use test_fixtures::first_book_with;
+use test_links::{FIRST_REPLY, LINK, REPLIES};
 
 // Whether `serve` over a source that gives so many bytes at once, and fails behind so many calls, returns this status, writes this and says
 // that.

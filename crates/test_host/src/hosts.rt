@@ -1,12 +1,9 @@
 //! Hosts over their files: the words that ask for one, and hosts that are opened again on their log.
 
-use crate::vectors::{FIRST, FIRST_REPLY, LINK, NO_MESSAGE, REPEAT, REPLIES, SECOND, SECOND_REPLY};
-use book_json::write_book;
-use file_devices::{FailingSink, MemoryFiles, Source};
+use file_devices::{FailingSink, Source};
 use host_commands::{HostAsked, Logs, host_asked, serve};
-use host_opening::{Opened, OpeningFault, open_host};
+use host_opening::OpeningFault;
 use issuer_rows::Book;
-use issuer_rules::Shipped;
 use log_devices::{MemoryLog, OpenFault};
 use log_file::LogFault;
 use std::alloc::Global;
@@ -14,6 +11,10 @@ use std::sync::Wait;
 use std::test::Fail;
 use std::thread::Threads;
 use test_fixtures::{first_book_with, has_row};
+use test_links::{
+    FIRST, FIRST_REPLY, LINK, NO_MESSAGE, REPEAT, REPLIES, SECOND, SECOND_REPLY, copy_of, files,
+    open, serve_link,
+};
 
 // Logs that all have these bytes.
 #[derive(Drop)]
@@ -33,52 +34,6 @@ impl Logs for CopiedLogs {
             None => Err(OpenFault::OutOfMemory),
         }
     }
-}
-
-pub(crate) fn copy_of(alloc: Global, bytes: &[u8]) -> Option<Vec<u8>> {
-    let mut copy = Vec::new(alloc);
-    copy.extend_from_slice(bytes).ok()?;
-    Some(copy)
-}
-
-/// The file `book` with this book.
-pub(crate) fn files(alloc: Global, book: &Book) -> Option<MemoryFiles> {
-    let mut files = MemoryFiles::new(alloc);
-    files.put("book", write_book(alloc, book).ok()?).ok()?;
-    Some(files)
-}
-
-// A host on the first book, with a log in these bytes.
-fn open<R: Threads>(
-    rt: &R,
-    alloc: Global,
-    book: &Book,
-    log: Vec<u8>,
-) -> Result<Opened<MemoryLog>, OpeningFault> {
-    let Some(files) = files(alloc, book) else {
-        return Err(OpeningFault::OutOfMemory);
-    };
-    let log = MemoryLog::new(log, 4096, 1000);
-    open_host(rt, alloc, &files, "book", log, &Shipped)
-}
-
-/// What a crash keeps of the log of a host that goes on with this one and serves a link, and what it wrote.
-pub(crate) fn serve_link<R: Threads>(
-    rt: &R,
-    alloc: Global,
-    book: &Book,
-    log: Vec<u8>,
-    link: &[u8],
-) -> Option<(Vec<u8>, Vec<u8>)> {
-    let mut opened = open(rt, alloc, book, log).ok()?;
-    let mut source = link;
-    let mut sink = FailingSink::new(alloc, 4096, 1000);
-    opened
-        .host
-        .serve_link(alloc, &mut source, &mut sink, &Shipped)
-        .ok()?;
-    let kept = copy_of(alloc, opened.host.log().file().synced())?;
-    Some((kept, copy_of(alloc, sink.taken())?))
 }
 
 // Whether a host serves the first link, and one that is opened on its log answers the second one so.

@@ -10,8 +10,4 @@ mod links;
 #[cfg(test)]
 mod network;
 #[cfg(test)]
-mod replays;
-#[cfg(test)]
 mod serving;
-#[cfg(test)]
-mod vectors;

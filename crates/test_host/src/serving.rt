@@ -2,9 +2,6 @@
 
 ghost use Rattle.std.specs.Prelude.{◌<◌};
 
-use crate::vectors::{
-    ECHO, ECHO_REPLY, FIRST, FIRST_REPLY, LINK, NO_MESSAGE, REPEAT, REPLIES, SECOND, SECOND_REPLY,
-};
 use file_devices::{FailingSink, FailingSource};
 use host_serving::{Decider, Host, HostFault, Tally};
 use issuer_rows::Book;
@@ -15,6 +12,9 @@ use log_file::{Begun, LogFault, LogWriter, read_log};
 use std::alloc::Global;
 use std::test::Fail;
 use test_fixtures::{first_book_with, has_row};
+use test_links::{
+    ECHO, ECHO_REPLY, FIRST, FIRST_REPLY, LINK, NO_MESSAGE, REPEAT, REPLIES, SECOND, SECOND_REPLY,
+};
 
 // The digest of the opening book's text, as the log's header has it.
 const BOOK: [u8; 32] = [7; 32];

@@ -1,7 +1,5 @@
 //! Logs that are decided again: their replies in blocks, and the next day's book.
 
-use crate::hosts::{copy_of, files, serve_link};
-use crate::vectors::{FIRST, LINK, SECOND};
 use app_jobs::serial_batch;
 use book_json::read_book;
 use file_batch::Strictness;
@@ -16,6 +14,7 @@ use std::sync::Wait;
 use std::test::Fail;
 use std::thread::Threads;
 use test_fixtures::{first_book_with, has_row};
+use test_links::{FIRST, LINK, SECOND, copy_of, files, serve_link};
 
 // A log in memory.
 #[derive(Drop)]

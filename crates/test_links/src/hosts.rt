@@ -1,0 +1,55 @@
+use book_json::write_book;
+use file_devices::{FailingSink, MemoryFiles};
+use host_opening::{Opened, OpeningFault, open_host};
+use issuer_rows::Book;
+use issuer_rules::Shipped;
+use log_devices::MemoryLog;
+use std::alloc::Global;
+use std::thread::Threads;
+
+/// A copy of these bytes.
+pub fn copy_of(alloc: Global, bytes: &[u8]) -> Option<Vec<u8>> {
+    let mut copy = Vec::new(alloc);
+    copy.extend_from_slice(bytes).ok()?;
+    Some(copy)
+}
+
+/// The file `book` with this book.
+pub fn files(alloc: Global, book: &Book) -> Option<MemoryFiles> {
+    let mut files = MemoryFiles::new(alloc);
+    files.put("book", write_book(alloc, book).ok()?).ok()?;
+    Some(files)
+}
+
+/// A host on this book, with a log in these bytes.
+pub fn open<R: Threads>(
+    rt: &R,
+    alloc: Global,
+    book: &Book,
+    log: Vec<u8>,
+) -> Result<Opened<MemoryLog>, OpeningFault> {
+    let Some(files) = files(alloc, book) else {
+        return Err(OpeningFault::OutOfMemory);
+    };
+    let log = MemoryLog::new(log, 4096, 1000);
+    open_host(rt, alloc, &files, "book", log, &Shipped)
+}
+
+/// What a crash keeps of the log of a host that goes on with this one and serves a link, and what it wrote.
+pub fn serve_link<R: Threads>(
+    rt: &R,
+    alloc: Global,
+    book: &Book,
+    log: Vec<u8>,
+    link: &[u8],
+) -> Option<(Vec<u8>, Vec<u8>)> {
+    let mut opened = open(rt, alloc, book, log).ok()?;
+    let mut source = link;
+    let mut sink = FailingSink::new(alloc, 4096, 1000);
+    opened
+        .host
+        .serve_link(alloc, &mut source, &mut sink, &Shipped)
+        .ok()?;
+    let kept = copy_of(alloc, opened.host.log().file().synced())?;
+    Some((kept, copy_of(alloc, sink.taken())?))
+}

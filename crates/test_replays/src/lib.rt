@@ -1,0 +1,5 @@
+//! Tests of logs that are decided again.
+#![tactic(auto)]
+
+#[cfg(test)]
+mod replays;
