@@ -22,7 +22,8 @@ pub fn answer<W: Sink>(
 ) -> Result<(), LinkFault>
     requires ahead { HasDecided synced.now.bodies decider.now }
     ensures device { Writes W.is_known W.has_failed W.may_fail sink.old sink.new result }
-    ensures ok { OnOk result (W.is_known sink.old → W.written sink.new ≡ W.written sink.old ++ merged requests.now decider.now.prefix.replies.items) }
+    ensures ok { OnOk result (W.is_known sink.old
+        → W.written sink.new ≡ W.written sink.old ++ merged requests.now decider.now.prefix.replies.items) }
     ensures err { OnErr result (W.is_known sink.old
         → AppendsPart (W.written sink.old) (W.written sink.new) (merged requests.now decider.now.prefix.replies.items)) }
     ensures kinds { IfErr result (λ e. (e ≡ LinkFault.Unwritable) ⊎ (e ≡ LinkFault.OutOfMemory)) }

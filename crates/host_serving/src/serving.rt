@@ -57,9 +57,10 @@ impl<G: GrowingFile + Drop> Host<G> {
     ) -> Result<Turn, HostFault>
         requires none { turn.bodies ≡ [] }
         ensures sink { Writes W.is_known W.has_failed W.may_fail sink.old sink.new (of_link result) }
-        ensures ok { (incoming : List Incoming) → IsTurn incoming turn → OnOk result (Enters G.is_known G.synced G.unsynced incoming self.now self.now
-            (W.is_known sink.old) (W.written sink.old) (W.written sink.new)) }
-        ensures err { (incoming : List Incoming) → IsTurn incoming turn → IfErr result (λ e. StopsEntering G.is_known G.synced G.unsynced e incoming
+        ensures ok { (incoming : List Incoming) → IsTurn incoming turn → OnOk result (Enters G.is_known G.synced G.unsynced incoming
+            self.now self.now (W.is_known sink.old) (W.written sink.old) (W.written sink.new)) }
+        ensures err { (incoming : List Incoming) → IsTurn incoming turn
+            → IfErr result (λ e. StopsEntering G.is_known G.synced G.unsynced e incoming
             self.now self.now (W.is_known sink.old) (W.written sink.old) (W.written sink.new)) }
         ensures kinds { result ≢ Err (HostFault.Link LinkFault.Unreadable) }
     {
@@ -79,9 +80,10 @@ impl<G: GrowingFile + Drop> Host<G> {
     ) -> Result<Turn, HostFault>
         requires some { turn.bodies ≢ [] }
         ensures sink { Writes W.is_known W.has_failed W.may_fail sink.old sink.new (of_link result) }
-        ensures ok { (incoming : List Incoming) → IsTurn incoming turn → OnOk result (Enters G.is_known G.synced G.unsynced incoming self.old self.new
-            (W.is_known sink.old) (W.written sink.old) (W.written sink.new)) }
-        ensures err { (incoming : List Incoming) → IsTurn incoming turn → IfErr result (λ e. StopsEntering G.is_known G.synced G.unsynced e incoming
+        ensures ok { (incoming : List Incoming) → IsTurn incoming turn → OnOk result (Enters G.is_known G.synced G.unsynced incoming
+            self.old self.new (W.is_known sink.old) (W.written sink.old) (W.written sink.new)) }
+        ensures err { (incoming : List Incoming) → IsTurn incoming turn
+            → IfErr result (λ e. StopsEntering G.is_known G.synced G.unsynced e incoming
             self.old self.new (W.is_known sink.old) (W.written sink.old) (W.written sink.new)) }
         ensures kinds { result ≢ Err (HostFault.Link LinkFault.Unreadable) }
     {
@@ -94,8 +96,8 @@ impl<G: GrowingFile + Drop> Host<G> {
         Ok(turn)
     }
 
-    // Serves what came in a turn: its bodies become an entry, which is decided and answered; where no body came, there is no entry. The turn
-    // is given back, for its memory.
+    // Serves what came in a turn: its bodies become an entry, which is decided and answered; where no body came, there is no entry. The
+    // turn is given back, for its memory.
     fn enter<W: Sink, F: Decide>(
         &mut self,
         alloc: Global,
@@ -105,9 +107,10 @@ impl<G: GrowingFile + Drop> Host<G> {
         decision: &F,
     ) -> Result<Turn, HostFault>
         ensures sink { Writes W.is_known W.has_failed W.may_fail sink.old sink.new (of_link result) }
-        ensures ok { (incoming : List Incoming) → IsTurn incoming turn → OnOk result (Enters G.is_known G.synced G.unsynced incoming self.old self.new
-            (W.is_known sink.old) (W.written sink.old) (W.written sink.new)) }
-        ensures err { (incoming : List Incoming) → IsTurn incoming turn → IfErr result (λ e. StopsEntering G.is_known G.synced G.unsynced e incoming
+        ensures ok { (incoming : List Incoming) → IsTurn incoming turn → OnOk result (Enters G.is_known G.synced G.unsynced incoming
+            self.old self.new (W.is_known sink.old) (W.written sink.old) (W.written sink.new)) }
+        ensures err { (incoming : List Incoming) → IsTurn incoming turn
+            → IfErr result (λ e. StopsEntering G.is_known G.synced G.unsynced e incoming
             self.old self.new (W.is_known sink.old) (W.written sink.old) (W.written sink.new)) }
         ensures kinds { result ≢ Err (HostFault.Link LinkFault.Unreadable) }
     {
@@ -149,11 +152,11 @@ impl<G: GrowingFile + Drop> Host<G> {
         Ok(true)
     }
 
-    /// Serves a link until it ends, or to the first fault: the bodies that have come become one entry of the log, whose messages are decided
-    /// on the book, one after another, by any local decision; once the entry is synced, their replies are written. A body that is no
-    /// message stands in the log, too, and gets no reply. Network management (ISO 8583:1993, 1804) is answered by the link itself, 1814 with
-    /// action 800, at its place among the replies: it stands in no entry, and changes nothing. What a batch costs doesn't grow with the book
-    /// or the log.
+    /// Serves a link until it ends, or to the first fault: the bodies that have come become one entry of the log, whose messages are
+    /// decided on the book, one after another, by any local decision; once the entry is synced, their replies are written. A body that is
+    /// no message stands in the log, too, and gets no reply. Network management (ISO 8583:1993, 1804) is answered by the link itself, 1814
+    /// with action 800, at its place among the replies: it stands in no entry, and changes nothing. What a batch costs doesn't grow with
+    /// the book or the log.
     pub fn serve_link<R: Source, W: Sink, F: Decide>(
         &mut self,
         alloc: Global,

@@ -96,7 +96,8 @@ impl ReplyWriter {
     ) -> Result<(), LinkFault>
         ensures device { Writes W.is_known W.has_failed W.may_fail sink.old sink.new result }
         ensures ok { OnOk result (W.is_known sink.old → W.written sink.new ≡ W.written sink.old ++ merged requests.now replies.now) }
-        ensures err { OnErr result (W.is_known sink.old → AppendsPart (W.written sink.old) (W.written sink.new) (merged requests.now replies.now)) }
+        ensures err { OnErr result (W.is_known sink.old
+            → AppendsPart (W.written sink.old) (W.written sink.new) (merged requests.now replies.now)) }
         ensures memory { IfErr result (λ e. e ≡ LinkFault.OutOfMemory → sink.new ≡ sink.old) }
         ensures kinds { IfErr result (λ e. (e ≡ LinkFault.Unwritable) ⊎ (e ≡ LinkFault.OutOfMemory)) }
     {

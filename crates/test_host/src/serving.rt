@@ -327,6 +327,7 @@ fn an_echo_waits_for_the_entry_of_its_turn(rt: HostRuntime) -> Result<(), Fail> 
     let book = first_book_with(rt.alloc(), &[])?;
     let link = joined(rt.alloc(), &[ECHO, FIRST])?;
     let begun = calls_to_begin(rt.alloc(), &book);
+    assert!(rt; begun < 10);
     for calls in [begun, begun + 1] {
         let outcome = serve(
             rt.alloc(),
