@@ -1,5 +1,4 @@
 ghost use Rattle.std.specs.Prelude.{◌≡◌, ◌≢◌, ℕ, List, Some, None, Ok, IfOk, IfErr, OnOk, string_bytes};
-ghost use Rattle.file_batch.specs.Processing.{IsDecider};
 ghost use Rattle.book_laws.specs.Reading.{reading};
 ghost use Rattle.book_laws.specs.Text.{book_text};
 ghost use Rattle.file_devices.specs.BatchNames.{names_of};
@@ -17,36 +16,28 @@ use crate::opening::open_book;
 use crate::placing::put_answer;
 use crate::writing::write_book;
 use file_batch::Strictness;
-use file_blocks::{BlocksOutcome, Halted, process_blocks};
+use file_blocks::{BlocksOutcome, DecideBlock, Halted, process_blocks};
 use file_devices::{BatchNames, Files};
-use issuer_fold::RunOutcome;
-use issuer_rows::{Book, Frame};
-use std::alloc::{AllocError, Global};
+use issuer_rows::Book;
+use std::alloc::Global;
 use std::sync::Wait;
 use std::thread::Threads;
 
 /// Decides the blocks of one file on the book of another, each on the book after those before it, and puts the replies and the new book
-/// in place. `decide` has to return the fold. Where a block can't be read, decided or answered, the blocks before it are kept: the new
-/// book is the one after them. After any other fault all files are as they were; after each, where blocks are refused that have bodies
-/// that are no message.
-pub fn decide_blocks<
-    R: Threads + Wait + Sync,
-    F: Files,
-    E: Fn(&Book, &[Frame]) -> Result<RunOutcome, AllocError>,
->(
+/// in place. Where a block can't be read, decided or answered, the blocks before it are kept: the new book is the one after them. After any
+/// other fault all files are as they were; after each, where blocks are refused that have bodies that are no message.
+pub fn decide_blocks<R: Threads + Wait + Sync, F: Files, D: DecideBlock>(
     rt: &R,
     alloc: Global,
     files: &mut F,
     names: &BatchNames,
     strictness: Strictness,
-    decide: &E,
+    decider: &D,
 ) -> Result<BlockCount, Halt>
-    // It may be called with a block, and what it returns is the fold.
-    requires decider { IsDecider E.pre E.post (λ rows. rows.now) (λ frames. frames.now) decide.now }
     ensures decides { DecidesBlockFiles F.is_known F.holds F.failing strictness files.old files.new (names_of names.now) result }
 {
     let book = open_book(rt, alloc, files, names.book.as_str())?;
-    let (processed, replies) = answer_blocks(alloc, files, names, book, decide)?;
+    let (processed, replies) = answer_blocks(alloc, files, names, book, decider)?;
     match processed {
         Ok(outcome) => {
             admit(strictness, outcome.messages)?;
@@ -64,14 +55,13 @@ pub fn decide_blocks<
 }
 
 // Decides the blocks on a book, and writes their replies. Where not all are kept, it returns which are.
-fn answer_blocks<F: Files, E: Fn(&Book, &[Frame]) -> Result<RunOutcome, AllocError>>(
+fn answer_blocks<F: Files, D: DecideBlock>(
     alloc: Global,
     files: &F,
     names: &BatchNames,
     book: Book,
-    decide: &E,
+    decider: &D,
 ) -> Result<(Result<BlocksOutcome, Halted>, F::Output), JobFault>
-    requires decider { IsDecider E.pre E.post (λ rows. rows.now) (λ frames. frames.now) decide.now }
     ensures there { IfOk result (λ processed. F.is_known files.now → IsThere (F.holds files.now) (string_bytes names.now.batch)) }
     ensures known { IfOk result (λ processed. F.is_known files.now → F.Output.is_known processed.1) }
     ensures ok { IfOk result (λ processed. IfOk processed.0 (λ outcome. AreBlocksAnswered (F.is_known files.now) (F.holds files.now)
@@ -84,7 +74,7 @@ fn answer_blocks<F: Files, E: Fn(&Book, &[Frame]) -> Result<RunOutcome, AllocErr
 {
     let mut blocks = files.open(names.batch.as_str())?;
     let mut replies = files.create(names.replies.as_str())?;
-    let processed = process_blocks(alloc, book, &mut blocks, &mut replies, decide);
+    let processed = process_blocks(alloc, book, &mut blocks, &mut replies, decider);
     Ok((processed, replies))
 }
 

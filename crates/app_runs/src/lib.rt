@@ -2,6 +2,7 @@
 #![tactic(auto)]
 
 mod answers;
+mod blocks_by;
 mod hexadecimal;
 mod running;
 mod running_blocks;

@@ -1,21 +1,18 @@
-ghost use Rattle.std.specs.Prelude.{◌≤◌, length};
-ghost use Rattle.file_batch.specs.Processing.{AnswersFold};
 ghost use Rattle.file_devices.specs.BatchNames.{names_of};
 ghost use Rattle.app_jobs.specs.Deciding.{DecidesBlockFiles};
 
-use crate::running::decide_by;
+use crate::blocks_by::BlocksBy;
 use app_jobs::{BlockCount, Halt, JobFault, decide_blocks};
 use engine_workers::{Engine, Workers};
 use file_batch::Strictness;
 use file_devices::{BatchNames, Files};
-use issuer_fold::RunOutcome;
-use issuer_rows::{Book, Frame};
-use std::alloc::{AllocError, Global};
+use std::alloc::Global;
 use std::sync::Wait;
 use std::thread::Threads;
 use std::time::Clock;
 
-/// Decides a block file by so many workers of an engine, block after block, files to files. Where a block can't be read, decided or
+/// Decides a block file by so many workers of an engine, block after block, files to files. A block of fewer than 8,192 bodies is decided
+/// by one worker on the book itself: an engine's copy of the book costs more than it gains there. Where a block can't be read, decided or
 /// answered, the blocks before it are kept. Returns how many blocks and bodies were decided, or why not all, and which blocks are kept.
 pub fn run_blocks<R: Clock + Threads + Wait + Sync, F: Files>(
     rt: &R,
@@ -28,9 +25,11 @@ pub fn run_blocks<R: Clock + Threads + Wait + Sync, F: Files>(
 ) -> Result<BlockCount, Halt>
     ensures decides { DecidesBlockFiles F.is_known F.holds F.failing strictness files.old files.new (names_of names.now) result }
 {
-    let decide = |book: &Book, frames: &[Frame]| -> Result<RunOutcome, AllocError>
-        requires { length frames.now ≤ 65536 }
-        ensures { AnswersFold book.entry.now frames.entry.now result }
-    { decide_by(rt, alloc, book, frames, workers, engine) };
-    decide_blocks(rt, alloc, files, names, strictness, &decide)
+    let decider = BlocksBy {
+        rt,
+        alloc,
+        workers,
+        engine,
+    };
+    decide_blocks(rt, alloc, files, names, strictness, &decider)
 }

@@ -1,2 +1,3 @@
 pub mod Blocks
 pub mod BlockFiles
+pub mod DecidedBlock

@@ -1,15 +1,14 @@
 ghost use Rattle.std.specs.Prelude.{◌≡◌, ◌⊎◌, ◌||◌, [], IfOk, IfErr, IsTrue, OnOk};
 ghost use Rattle.file_batch_laws.specs.BatchFault.{failed_at};
 ghost use Rattle.file_blocks.specs.Blocks.{AreAllDecided, StopsBefore, StopsInHead, StopsInBlocks};
-ghost use Rattle.file_batch.specs.Processing.{IsDecider};
 
+use crate::decide_block::DecideBlock;
 use crate::kept_blocks::KeptBlocks;
 use file_batch::BodyCount;
 use file_batch_laws::BatchFault;
 use file_devices::{Sink, Source};
-use issuer_fold::RunOutcome;
-use issuer_rows::{Book, Frame};
-use std::alloc::{AllocError, Global};
+use issuer_rows::Book;
+use std::alloc::Global;
 
 /// What deciding all blocks of a block file came to.
 #[derive(Drop)]
@@ -35,19 +34,16 @@ pub struct Halted {
 
 /// Reads a block file, decides each block on the book after those before it, and writes each block's replies before the next is read. The
 /// block file is `I83M`, version 1, the number of blocks, at most 1,000, and for each block its count and its bodies as in a batch; the
-/// replies are `I83T` and the like. `decide` has to return the fold. A fault while the head is read leaves the sink as it was. One while
-/// a block is read or decided leaves the head and the replies of the kept blocks. One while writing leaves a beginning of the text. A
-/// byte after the last block is `Trailing`, with all blocks kept. `Device` is the fault exactly where a call of the source or of the sink
-/// failed.
-pub fn process_blocks<R: Source, W: Sink, E: Fn(&Book, &[Frame]) -> Result<RunOutcome, AllocError>>(
+/// replies are `I83T` and the like. A fault while the head is read leaves the sink as it was. One while a block is read or decided leaves
+/// the head and the replies of the kept blocks. One while writing leaves a beginning of the text. A byte after the last block is
+/// `Trailing`, with all blocks kept. `Device` is the fault exactly where a call of the source or of the sink failed.
+pub fn process_blocks<R: Source, W: Sink, D: DecideBlock>(
     alloc: Global,
     book: Book,
     source: &mut R,
     sink: &mut W,
-    decide: &E,
+    decider: &D,
 ) -> Result<BlocksOutcome, Halted>
-    // It may be called with a block, and what it returns is the fold.
-    requires decider { IsDecider E.pre E.post (λ rows. rows.now) (λ frames. frames.now) decide.now }
     ensures none_failed { OnOk result ((R.has_failed source.new || W.has_failed sink.new) ≡ (R.has_failed source.old || W.has_failed sink.old)) }
     ensures failed { IfErr result (λ halted.
         (R.has_failed source.new || W.has_failed sink.new) ≡ failed_at halted.fault (R.has_failed source.old || W.has_failed sink.old)) }
@@ -69,7 +65,7 @@ pub fn process_blocks<R: Source, W: Sink, E: Fn(&Book, &[Frame]) -> Result<RunOu
         messages: BodyCount::none(),
         book,
     };
-    let processed = kept.process(alloc, source, sink, decide);
+    let processed = kept.process(alloc, source, sink, decider);
     let KeptBlocks {
         blocks,
         messages,

@@ -9,16 +9,15 @@ ghost use Rattle.file_batch_laws.specs.Replies.{AreReplyBodies};
 ghost use Rattle.file_blocks.specs.Blocks.{AreDecided, AreAllDecided, BeginsBlock, StopsBehind, StopsBefore, StopsInHead, StopsInBlocks, IsAnswered, HasRoom, IsWithinBlock};
 ghost use Rattle.file_batch.specs.Counting.{count_of, plus};
 ghost use Rattle.file_batch.specs.Writing.{AppendsPart};
-ghost use Rattle.file_batch.specs.Processing.{IsDecider};
 ghost use Rattle.file_batch.specs.Window.{ahead};
 
 use crate::blocks::{read_block, read_block_head, write_block};
+use crate::decide_block::DecideBlock;
 use file_batch::{BodyCount, Window, add_head, put_all};
 use file_batch_laws::BatchFault;
 use file_devices::{Sink, Source};
-use issuer_fold::RunOutcome;
 use issuer_rows::{Book, Frame};
-use std::alloc::{AllocError, Global};
+use std::alloc::Global;
 
 /// The blocks whose replies were written whole.
 #[derive(Drop)]
@@ -45,31 +44,29 @@ fn write_head<W: Sink>(alloc: Global, count: u32, sink: &mut W) -> Result<(), Ba
 }
 
 impl KeptBlocks {
-    // Keeps a block of these bodies, whose replies were written.
-    fn keep(&mut self, outcome: RunOutcome, frames: &[Frame])
+    // Keeps a block of these bodies, after which the book is and whose replies were written.
+    fn keep(&mut self, frames: &[Frame])
         requires count { length frames.now ≤ 65536 }
         requires blocks { self.old.blocks + 1 < 2 ^ 32 }
         requires room { HasRoom self.old.messages }
         ensures blocks { self.new.blocks ≡ self.old.blocks + 1 }
         ensures messages { self.new.messages ≡ plus self.old.messages (count_of frames.now) }
         ensures within { IsWithinBlock self.old.messages self.new.messages }
-        ensures book { self.new.book ≡ outcome.book }
+        ensures book { self.new.book ≡ self.old.book }
     {
-        self.book = outcome.book;
         self.blocks += 1;
         self.messages = self.messages.plus(BodyCount::of(frames));
     }
 
-    // Decides a block on the book and writes its replies. After a fault what is kept is as it was.
-    fn answer<W: Sink, E: Fn(&Book, &[Frame]) -> Result<RunOutcome, AllocError>>(
+    // Decides a block on the book and writes its replies. After a fault what is kept is as it was, the book too.
+    fn answer<W: Sink, D: DecideBlock>(
         &mut self,
         alloc: Global,
         frames: &[Frame],
         sink: &mut W,
-        decide: &E,
+        decider: &D,
     ) -> Result<(), BatchFault>
         requires count { length frames.now ≤ 65536 }
-        requires decider { IsDecider E.pre E.post (λ rows. rows.now) (λ frames. frames.now) decide.now }
         requires blocks { self.old.blocks + 1 < 2 ^ 32 }
         requires room { HasRoom self.old.messages }
         ensures device { UsesDevice W.is_known W.has_failed W.may_fail sink.old sink.new result }
@@ -84,22 +81,28 @@ impl KeptBlocks {
         ensures err { OnErr result ((sink.new ≡ sink.old) ⊎ ((IsTrue (W.has_failed sink.new) × W.may_fail sink.old)
             × (W.is_known sink.old → AppendsPart (W.written sink.old) (W.written sink.new) (block_text (replies_to self.old.book frames.now))))) }
     {
-        let outcome = decide(&self.book, frames)?;
-        write_block(alloc, &outcome.replies, sink)?;
-        self.keep(outcome, frames);
-        Ok(())
+        let decided = decider.decide(&mut self.book, frames)?;
+        match write_block(alloc, &decided.replies, sink) {
+            Ok(()) => {
+                self.keep(frames);
+                Ok(())
+            }
+            Err(fault) => {
+                decided.before.give_back(&mut self.book);
+                Err(fault)
+            }
+        }
     }
 
     // Reads a block, decides it on the book and writes its replies. After a fault what is kept is as it was.
-    fn step<R: Source, W: Sink, E: Fn(&Book, &[Frame]) -> Result<RunOutcome, AllocError>>(
+    fn step<R: Source, W: Sink, D: DecideBlock>(
         &mut self,
         alloc: Global,
         window: &mut Window,
         source: &mut R,
         sink: &mut W,
-        decide: &E,
+        decider: &D,
     ) -> Result<(), BatchFault>
-        requires decider { IsDecider E.pre E.post (λ rows. rows.now) (λ frames. frames.now) decide.now }
         requires blocks { self.old.blocks + 1 < 2 ^ 32 }
         requires room { HasRoom self.old.messages }
         ensures devices { UsesDevices R.is_known R.has_failed R.may_fail W.is_known W.has_failed W.may_fail source.old source.new sink.old sink.new result }
@@ -113,21 +116,20 @@ impl KeptBlocks {
             (W.is_known sink.old) (W.written sink.old) (W.written sink.new) (IsTrue (W.has_failed sink.new) × W.may_fail sink.old)) }
     {
         let frames = read_block(window, alloc, source)?;
-        self.answer(alloc, &frames, sink, decide)
+        self.answer(alloc, &frames, sink, decider)
     }
 
     // Decides so many blocks, one after another, each on the book after those before it, and writes each one's replies before the next is
     // read.
-    fn decide_blocks<R: Source, W: Sink, E: Fn(&Book, &[Frame]) -> Result<RunOutcome, AllocError>>(
+    fn decide_blocks<R: Source, W: Sink, D: DecideBlock>(
         &mut self,
         alloc: Global,
         window: &mut Window,
         source: &mut R,
         sink: &mut W,
-        decide: &E,
+        decider: &D,
         count: u32,
     ) -> Result<(), BatchFault>
-        requires decider { IsDecider E.pre E.post (λ rows. rows.now) (λ frames. frames.now) decide.now }
         requires none { (self.old.blocks ≡ 0) × (self.old.messages ≡ count_of []) }
         requires most { count ≤ 1000 }
         ensures devices { UsesDevices R.is_known R.has_failed R.may_fail W.is_known W.has_failed W.may_fail source.old source.new sink.old sink.new result }
@@ -140,18 +142,19 @@ impl KeptBlocks {
             (W.is_known sink.old) (W.written sink.old) (W.written sink.new) e (IsTrue (W.has_failed sink.new) × W.may_fail sink.old)) }
     {
         for _ in 0..count {
-            self.step(alloc, window, source, sink, decide)?;
+            self.step(alloc, window, source, sink, decider)?;
         }
         Ok(())
     }
 
     /// Reads a block file, and decides and answers one block after another. Its own head is written once the input's is read.
-    pub(crate) fn process<
-        R: Source,
-        W: Sink,
-        E: Fn(&Book, &[Frame]) -> Result<RunOutcome, AllocError>,
-    >(&mut self, alloc: Global, source: &mut R, sink: &mut W, decide: &E) -> Result<(), BatchFault>
-        requires decider { IsDecider E.pre E.post (λ rows. rows.now) (λ frames. frames.now) decide.now }
+    pub(crate) fn process<R: Source, W: Sink, D: DecideBlock>(
+        &mut self,
+        alloc: Global,
+        source: &mut R,
+        sink: &mut W,
+        decider: &D,
+    ) -> Result<(), BatchFault>
         requires none { (self.old.blocks ≡ 0) × (self.old.messages ≡ count_of []) }
         ensures devices { UsesDevices R.is_known R.has_failed R.may_fail W.is_known W.has_failed W.may_fail source.old source.new sink.old sink.new result }
         ensures end { OnOk result (R.is_known source.old → R.remaining source.new ≡ []) }
@@ -167,7 +170,7 @@ impl KeptBlocks {
         let mut window = Window::new(alloc)?;
         let count = read_block_head(&mut window, source, b"I83M")?;
         write_head(alloc, count, sink)?;
-        self.decide_blocks(alloc, &mut window, source, sink, decide, count)?;
+        self.decide_blocks(alloc, &mut window, source, sink, decider, count)?;
         window.read_end(source)?;
         Ok(())
     }

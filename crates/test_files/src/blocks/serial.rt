@@ -1,14 +1,10 @@
 //! Block files that are decided on a book, one body after another.
 
-ghost use Rattle.std.specs.Prelude.{◌≤◌, length};
-ghost use Rattle.file_batch.specs.Processing.{AnswersFold};
-
 use file_batch::BatchFault;
-use file_blocks::process_blocks;
+use file_blocks::{OneByOne, process_blocks};
 use file_devices::{Sink, Source};
-use issuer_fold::{Prefix, RunOutcome};
-use issuer_rows::{Book, Frame};
-use issuer_rules::decide_all;
+use issuer_rows::Book;
+use issuer_rules::Shipped;
 use std::alloc::{AllocError, Global};
 
 // How many blocks are kept, the book after them, and why no further one is.
@@ -19,19 +15,6 @@ pub(crate) struct Came {
     pub fault: Option<BatchFault>,
 }
 
-fn decide_serially(alloc: Global, book: &Book, frames: &[Frame]) -> Result<RunOutcome, AllocError>
-    requires { length frames.now ≤ 65536 }
-    ensures { AnswersFold book.now frames.now result }
-{
-    let prefix = decide_all(alloc, Prefix::new(alloc, book.copy()?), frames)?;
-    Ok(RunOutcome {
-        replies: prefix.replies,
-        book: prefix.book,
-        started: 1,
-        committed: 0,
-    })
-}
-
 // Decides the block file on the book and writes the replies.
 pub(crate) fn decided<R: Source, W: Sink>(
     alloc: Global,
@@ -39,11 +22,8 @@ pub(crate) fn decided<R: Source, W: Sink>(
     source: &mut R,
     sink: &mut W,
 ) -> Result<Came, AllocError> {
-    let decide = |book: &Book, frames: &[Frame]| -> Result<RunOutcome, AllocError>
-        requires { length frames.now ≤ 65536 }
-        ensures { AnswersFold book.entry.now frames.entry.now result }
-    { decide_serially(alloc, book, frames) };
-    match process_blocks(alloc, book.copy()?, source, sink, &decide) {
+    let decider = OneByOne::new(alloc, &Shipped);
+    match process_blocks(alloc, book.copy()?, source, sink, &decider) {
         Ok(outcome) => Ok(Came {
             kept: outcome.blocks,
             book: outcome.book,

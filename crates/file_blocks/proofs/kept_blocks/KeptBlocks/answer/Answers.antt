@@ -7,26 +7,33 @@ pub write_block-requires : goal.write_block-requires
 write_block-requires g c =
     let book = c.args.self.now.book in
     let frames = c.args.frames.now in
-    let same : length c.in_ok-outcome.outcome.replies.items ≡ length frames = ap length (c.requires.decider.fold _ c.args.frames _ c.in_ok-outcome.ensures).0 ∙ as_many book frames in
+    let same : length c.in_ok-decided.decided.replies.items ≡ length frames = ap length c.in_ok-decided.ensures.ok.replies ∙ as_many book frames in
     record { many = omega (arith, ap length c.deref.ensures.value, same, c.requires.count) }
 
-pub returns-in_err-outcome-clause-err : goal.returns-in_err-outcome-clause-err
-returns-in_err-outcome-clause-err g c =
+pub returns-in_err-decided-clause-err : goal.returns-in_err-decided-clause-err
+returns-in_err-decided-clause-err g c =
     let p = err_from_is_err_and c.from_residual.result c.from_residual.ensures.1 in
     rw p.1 (inl refl)
 
-pub returns-in_err-write_block-clause-err : goal.returns-in_err-write_block-clause-err
-returns-in_err-write_block-clause-err g c =
-    let p = err_from_is_err_and c.from_residual-in_err-write_block.result c.from_residual-in_err-write_block.ensures.1 in
-    let folded = (c.requires.decider.fold _ c.args.frames _ c.in_ok-outcome.ensures).0 in
-    rw p.1 (rw (c.deref.ensures.value, folded) at c.in_err-write_block.ensures.err)
+pub returns-in_err-decided-clause-kept : goal.returns-in_err-decided-clause-kept
+returns-in_err-decided-clause-kept g c =
+    let p = err_from_is_err_and c.from_residual.result c.from_residual.ensures.1 in
+    rw (p.1, c.in_err-decided.ensures.err) refl
 
-pub returns-clause-put : goal.returns-clause-put
-returns-clause-put g c = λ known.
-    let folded = (c.requires.decider.fold _ c.args.frames _ c.in_ok-outcome.ensures).0 in
-    rw (c.deref.ensures.value, folded) at (c.in_ok-write_block.ensures.ok known)
+pub returns-in-Ok-clause-book : goal.returns-in-Ok-clause-book
+returns-in-Ok-clause-book g c = c.keep.ensures.book ∙ c.in_ok-decided.ensures.ok.book
 
-pub returns-clause-bodies : goal.returns-clause-bodies
-returns-clause-bodies g c =
-    let folded = (c.requires.decider.fold _ c.args.frames _ c.in_ok-outcome.ensures).0 in
-    rw (c.deref.ensures.value, folded) at c.in_ok-write_block.ensures.bodies
+pub returns-in-Ok-clause-put : goal.returns-in-Ok-clause-put
+returns-in-Ok-clause-put g c = λ known. rw (c.deref.ensures.value, c.in_ok-decided.ensures.ok.replies) at (c.in-Ok.ensures.ok known)
+
+pub returns-in-Ok-clause-bodies : goal.returns-in-Ok-clause-bodies
+returns-in-Ok-clause-bodies g c = rw (c.deref.ensures.value, c.in_ok-decided.ensures.ok.replies) at c.in-Ok.ensures.bodies
+
+pub give_back-requires : goal.give_back-requires
+give_back-requires g c = c.in_ok-decided.ensures.ok.can
+
+pub returns-in-Err-clause-kept : goal.returns-in-Err-clause-kept
+returns-in-Err-clause-kept g c = rw (c.give_back.ensures, c.in_ok-decided.ensures.ok.back) refl
+
+pub returns-in-Err-clause-err : goal.returns-in-Err-clause-err
+returns-in-Err-clause-err g c = rw (c.deref.ensures.value, c.in_ok-decided.ensures.ok.replies) at c.in-Err.ensures.err
