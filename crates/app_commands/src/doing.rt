@@ -173,7 +173,7 @@ fn run_with_journal<R: Clock + Threads + Wait + Sync, F: Files>(
     Ok(Report::Decided(count))
 }
 
-// Blocks are decided, one after another, each by several workers of this engine.
+// Blocks are decided, one after another, on the book itself. So many workers of this engine would change nothing in what comes of it.
 fn blocks<R: Clock + Threads + Wait + Sync, F: Files>(
     rt: &R,
     alloc: Global,
@@ -188,7 +188,8 @@ fn blocks<R: Clock + Threads + Wait + Sync, F: Files>(
         (IsFaultIn (F.is_known files.old) (F.holds files.old) (F.holds files.new) (F.failing files.old) (blocks (names_of names.now) workers engine strictness)) }
     ensures others { (other : List ℕ) → Spares (blocks (names_of names.now) workers engine strictness) other → IsAsItWas (F.holds files.old) (F.holds files.new) other }
 {
-    let count = run_blocks(rt, alloc, files, names, workers, engine, strictness)?;
+    let _ = (workers, engine);
+    let count = run_blocks(rt, alloc, files, names, strictness)?;
     Ok(Report::DecidedBlocks(count))
 }
 

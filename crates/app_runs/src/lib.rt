@@ -2,7 +2,6 @@
 #![tactic(auto)]
 
 mod answers;
-mod blocks_by;
 mod hexadecimal;
 mod running;
 mod running_blocks;
