@@ -1,0 +1,5 @@
+//! Tests of parts.
+#![tactic(auto)]
+
+#[cfg(test)]
+mod plans;
