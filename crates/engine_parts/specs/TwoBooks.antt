@@ -3,6 +3,11 @@ use Rattle.std.specs.Prelude.{List, [], ◌∷◌, Option, Some, None}
 use Rattle.std.specs.FinMap as map
 use Rattle.issuer_view.specs.Words.{Frame, RowVal, Rows, overlay, rows_after_one, writes_of}
 
+-- a row that was written, else the one below
+abbrev pub first_of : Option RowVal → Option RowVal → Option RowVal
+first_of (Some row) below = Some row
+first_of None below = below
+
 -- the rows of a book with those written over them that another has
 abbrev pub joined : Rows → Rows → Rows
 joined below written = overlay below (map.entries written)

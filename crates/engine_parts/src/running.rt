@@ -7,7 +7,7 @@ ghost use Rattle.issuer_view.specs.Words.{replies_to, rows_after};
 
 use crate::decided_part::DecidedPart;
 use crate::deciding::decide_part;
-use crate::joining::{in_order, put_parts};
+use crate::joining::join_parts;
 use crate::on_copy::decide_on_copy;
 use engine_workers::Workers;
 use issuer_fold::{Prefix, RunOutcome, decide_all_by};
@@ -86,23 +86,15 @@ fn decide_apart<R: Threads + Sync, F: Decide + Sync>(
     requires apart { AreApart book.now (zip plan.now.parts frames.now) }
     ensures { IfOk result (IsRun book.now frames.now workers) }
 {
-    let last = plan.count() as usize - 1;
-    let (others, mine) = decide_all_parts(rt, alloc, book, frames, plan.parts(), last, decision)?;
-    let Prefix {
-        mut book,
-        replies: mine,
-        ..
-    } = mine;
-    put_parts(&mut book, &others)?;
-    let mut replies = Vec::with_capacity(alloc, plan.count() as usize)?;
-    for part in others {
-        replies.push(part.replies)?;
-    }
-    replies.push(mine)?;
+    let count = plan.count();
+    let last = count as usize - 1;
+    let parts = plan.parts();
+    let (others, mine) = decide_all_parts(rt, alloc, book, frames, parts, last, decision)?;
+    let (book, replies) = join_parts(alloc, parts, &others, mine)?;
     Ok(RunOutcome {
-        replies: in_order(alloc, plan.parts(), &replies)?,
+        replies,
         book,
-        started: plan.count(),
+        started: count,
         committed: frames.len() as u32,
     })
 }

@@ -1,5 +1,7 @@
-//! Tests of parts.
+//! Tests of parts: how a batch falls into parts, and batches that are decided in parts.
 #![tactic(auto)]
 
 #[cfg(test)]
 mod plans;
+#[cfg(test)]
+mod runs;

@@ -1,0 +1,11 @@
+use Rattle.std.proofs.Common.{◌≤◌, drop, zip}
+use Rattle.issuer_laws.specs.Parts.{of_part}
+use Rattle.engine_parts.specs.Decided.{AreDecidedOn, bodies_of}
+use Rattle.engine_parts.proofs.on_copy.decide_on_copy.Given as goal
+
+-- the messages of the part before this one are decided
+abbrev pub invariant-loop-index : goal.invariant-loop-index
+invariant-loop-index g l = record {
+  so_far : AreDecidedOn l.opening.now (bodies_of l.part l.parts.now l.frames.now) l.prefix.replies.items l.prefix.book (of_part l.part (drop l.index (zip l.parts.now l.frames.now)));
+  count : l.prefix.count ≤ l.index;
+}
