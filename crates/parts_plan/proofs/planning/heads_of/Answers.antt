@@ -9,7 +9,7 @@ loop-frame-preserved c =
     let frames = c.args.frames.now in
     let frame = c.frame-item.result in
     let old = c.loop-frame.ties in
-    let new = c.head_of.new.ties in
+    let new = c.head_of.new.self in
     let at : slice_get frames (length c.loop-frame.heads.items) ≡ Some frame
     = subst (λ (i : ℕ). slice_get frames i ≡ Some frame) (sym so_far.each) (slice_get_read frames (length frames) c.loop-frame.frame-index frame refl c.loop-frame-test.true c.frame-item.is) in
     record {
