@@ -121,4 +121,6 @@ joined_overlay below own (w ∷ ws) = joined_overlay below (map.insert own w.0 w
 
 -- where nothing was written, the book is seen as it is
 pub joined_nothing : (below : Rows) → joined below map.empty ≡ below
-joined_nothing below = map.same_map key_cmp_total key_cmp_antisymmetric _ _ (λ k. get_joined below map.empty k)
+joined_nothing below =
+    map.same_map key_cmp_total key_cmp_antisymmetric (joined below map.empty) below (λ k.
+    get_joined below map.empty k ∙ ap (λ (o : Option RowVal). first_of o (map.get below k)) (map.get-empty key_cmp k))

@@ -7,7 +7,7 @@ use Rattle.issuer_laws.proofs.Keys.{get-other, same_or_other}
 use Rattle.issuer_laws.proofs.Needed.{IsFollowing, follows_itself, follows_one, written_needed}
 use Rattle.issuer_laws.proofs.Parts.{decided_alone, each_of, unwritten}
 use Rattle.issuer_laws.specs.Parts.{IsIn, may_need, Parted, bodies, of_part, IsOfPart, AreApart, HasPart}
-use Rattle.issuer_view.specs.Words.{Frame, RowKey, RowVal, Rows, Writes, overlay, rows_after, rows_after_one, writes_of}
+use Rattle.issuer_view.specs.Words.{Frame, RowKey, RowVal, Rows, Writes, key_cmp, overlay, rows_after, rows_after_one, writes_of}
 use Rattle.engine_parts.proofs.JoinLaws.{joined_nothing, joined_overlay}
 use Rattle.engine_parts.specs.TwoBooks.{joined, rows_written, rows_of_part}
 
@@ -124,7 +124,7 @@ written_is_whole opening ms p k apart own =
 -- it wrote no row of another part
 pub written_of_part : (opening : Rows) (ms : Parted) (p : ℕ) (k : RowKey) → map.get (rows_of_part opening (of_part p ms)) k ≢ None → IsOfPart opening ms p k
 written_of_part opening ms p k some =
-    written_by opening opening map.empty (follows_itself opening) (of_part p ms) k (IsOfPart opening ms p k) (λ found. absurd (found refl)) (part_each opening ms p k (IsOfPart opening ms p k) (λ h. h)) some
+    written_by opening opening map.empty (follows_itself opening) (of_part p ms) k (IsOfPart opening ms p k) (λ found. absurd (found (map.get-empty key_cmp k))) (part_each opening ms p k (IsOfPart opening ms p k) (λ h. h)) some
 
 -- a row that isn't of the part stays
 pub others_stay : (opening : Rows) (ms : Parted) (p : ℕ) (k : RowKey) → (IsOfPart opening ms p k → ⊥) → map.get (rows_after opening (of_part p ms)) k ≡ map.get opening k

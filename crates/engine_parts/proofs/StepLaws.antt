@@ -23,7 +23,7 @@ other_left parts frames i p part f at here apart =
 -- nothing is decided yet
 pub begins : (opening : Rows) (all : List Frame) → AreDecidedTo opening all [] map.empty all
 begins opening all = record {
-  replies = ap (λ (rows : Rows). replies_to rows all) (joined_nothing opening);
+  answers = ap (λ (rows : Rows). replies_to rows all) (joined_nothing opening);
   rows = ap (λ (rows : Rows). rows_written map.empty rows all) (joined_nothing opening);
 }
 
@@ -33,7 +33,7 @@ pub goes_on : (opening : Rows) (all : List Frame) (replies : List ReplyBody) (wr
 goes_on opening all replies written f left so =
     let seen = joined_overlay opening written (writes_of (joined opening written) f) in
     record {
-      replies = ap (λ (rows : Rows). (replies ++ reply_of (joined opening written) f ∷ []) ++ replies_to rows left) seen ∙ append_assoc replies (reply_of (joined opening written) f ∷ []) _ ∙ so.replies;
+      answers = ap (λ (rows : Rows). (replies ++ reply_of (joined opening written) f ∷ []) ++ replies_to rows left) seen ∙ append_assoc replies (reply_of (joined opening written) f ∷ []) _ ∙ so.answers;
       rows = ap (λ (rows : Rows). rows_written (overlay written (writes_of (joined opening written) f)) rows left) seen ∙ so.rows;
     }
 
@@ -41,4 +41,4 @@ goes_on opening all replies written f left so =
 pub goes_on_copy : (opening : Rows) (all : List Frame) (replies : List ReplyBody) (book : Rows) (f : Frame) (left : List Frame) → AreDecidedOn opening all replies book (f ∷ left)
     → AreDecidedOn opening all (replies ++ reply_of book f ∷ []) (rows_after_one book f) left
 goes_on_copy opening all replies book f left so =
-    record { replies = append_assoc replies (reply_of book f ∷ []) (replies_to (rows_after_one book f) left) ∙ so.replies; book = so.book }
+    record { answers = append_assoc replies (reply_of book f ∷ []) (replies_to (rows_after_one book f) left) ∙ so.answers; rows = so.rows }

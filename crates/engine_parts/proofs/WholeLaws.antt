@@ -1,6 +1,6 @@
 -- Parts that were decided alone, put together: the rows and the replies of the whole batch.
-use Rattle.std.proofs.Common.{◌≡◌, ◌≢◌, ℕ, zero, suc, ◌+◌, ◌<◌, ◌≤◌, List, [], ◌∷◌, length, map, zip, Option, Some, None, option_map, slice_get, ◌⊎◌, inl, inr, refl, sym, ap, ◌∙◌, subst, arith}
-use Rattle.std.proofs.lemmas.Option.{none-some, same_Some, slice_get-map}
+use Rattle.std.proofs.Common.{◌≡◌, ◌≢◌, ℕ, zero, suc, ◌+◌, ◌<◌, ◌≤◌, true, slice_index_or, List, [], ◌∷◌, length, map, zip, Option, Some, None, option_map, slice_get, ◌⊎◌, inl, inr, refl, sym, ap, ◌∙◌, subst, arith}
+use Rattle.std.proofs.lemmas.Option.{get_or_from_slice_get, none-some, same_Some, slice_get-map, slice_get_within}
 use Rattle.std.proofs.lemmas.List.{length-map}
 use Rattle.std.specs.FinMap as finite
 use Rattle.std.specs.List.{AllByRecursion}
@@ -11,6 +11,7 @@ use Rattle.issuer_view.specs.Words.{Frame, ReplyBody, RowKey, RowVal, Rows, repl
 use Rattle.engine_parts.proofs.JoinLaws.{get_joined}
 use Rattle.engine_parts.proofs.OrderLaws.{bodies_zip, parts_zip, zip_below}
 use Rattle.engine_parts.proofs.PartLaws.{alone_is_whole, of_or_not, others_stay, written_is_whole, written_of_part}
+use Rattle.engine_parts.proofs.QueueLaws.{length_replies}
 use Rattle.engine_parts.specs.Decided.{AreDecided, HaveParts, bodies_of, list_at, replies_of}
 use Rattle.engine_parts.specs.declared.decided_part.DecidedPart.{DecidedPart}
 use Rattle.engine_parts.specs.TwoBooks.{first_of, joined, joined_all, rows_of_part}
@@ -140,10 +141,6 @@ replies_from (one ∷ others) last R from each is zero within = each 0 (from + 0
 replies_from (one ∷ others) last R from each is (suc i) within =
     replies_from others last R (suc from) (λ j p o e at. each (suc j) p o (omega (arith, e)) at) (is ∙ ap R (omega arith)) i (omega arith) ∙ ap R (omega arith)
 
-length_replies : (others : List DecidedPart) (last : List ReplyBody) → length (replies_of others last) ≡ length others + 1
-length_replies [] last = refl
-length_replies (one ∷ others) last = ap suc (length_replies others last)
-
 pub have_parts : (opening : Rows) (parts : List ℕ) (frames : List Frame) (others : List DecidedPart) (last : List ReplyBody) → length parts ≡ length frames → AreApart opening (zip parts frames)
     → ((p : ℕ) (one : DecidedPart) → slice_get others p ≡ Some one → AreDecided opening (bodies_of p parts frames) one)
     → last ≡ replies_to opening (bodies_of (length others) parts frames)
@@ -177,3 +174,18 @@ whole_book opening parts frames others book same apart below each is =
     let owns = map (λ (part : DecidedPart). part.rows) others in
     ap (λ (rows : Rows). joined_all rows owns) is
     ∙ whole_rows opening parts frames (length others) owns same apart below (length-map others (λ (part : DecidedPart). part.rows)) (owns_written opening parts frames others each)
+
+all_at : {A : Type 0} (P : A → Type 0) (xs : List A) (i : ℕ) (x : A) → AllByRecursion P xs → slice_get xs i ≡ Some x → P x
+all_at P [] i x all at = absurd (none-some x at)
+all_at P (y ∷ xs) zero x all at = subst P (same_Some y x at) all.0
+all_at P (y ∷ xs) (suc i) x all at = all_at P xs i x all.1 at
+
+-- parts of which each is decided where it is whole, and each is whole
+pub all_decided : (opening : Rows) (parts : List ℕ) (frames : List Frame) (ones : List DecidedPart) → AllByRecursion (λ (one : DecidedPart). one.is_whole ≡ true) ones
+    → ((p : ℕ) (d : DecidedPart) → p < length ones → (slice_index_or ones p d).is_whole ≡ true → AreDecided opening (bodies_of p parts frames) (slice_index_or ones p d))
+    → (p : ℕ) (one : DecidedPart) → slice_get ones p ≡ Some one → AreDecided opening (bodies_of p parts frames) one
+all_decided opening parts frames ones whole each p one at =
+    let same = get_or_from_slice_get ones p one one at in
+    let is_whole = all_at (λ (d : DecidedPart). d.is_whole ≡ true) ones p one whole at in
+    subst (λ (d : DecidedPart). AreDecided opening (bodies_of p parts frames) d) same
+    (each p one (slice_get_within ones p one at) (ap (λ (d : DecidedPart). d.is_whole) same ∙ is_whole))

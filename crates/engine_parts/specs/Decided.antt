@@ -16,13 +16,13 @@ pub record AreDecided (opening : Rows) (frames : List Frame) (decided : DecidedP
 
 -- of these bodies some are decided over this book, with these replies and these rows, and those are left
 pub record AreDecidedTo (opening : Rows) (all : List Frame) (replies : List ReplyBody) (written : Rows) (left : List Frame) : Type 0 where
-  pub replies : replies ++ replies_to (joined opening written) left ≡ replies_to opening all
+  pub answers : replies ++ replies_to (joined opening written) left ≡ replies_to opening all
   pub rows : rows_written written (joined opening written) left ≡ rows_of_part opening all
 
 -- the same on a copy of the book
 pub record AreDecidedOn (opening : Rows) (all : List Frame) (replies : List ReplyBody) (book : Rows) (left : List Frame) : Type 0 where
-  pub replies : replies ++ replies_to book left ≡ replies_to opening all
-  pub book : rows_after book left ≡ rows_after opening all
+  pub answers : replies ++ replies_to book left ≡ replies_to opening all
+  pub rows : rows_after book left ≡ rows_after opening all
 
 -- the list of a part
 abbrev pub list_at : {A : Type 0} → List (List A) → ℕ → List A
@@ -36,10 +36,10 @@ HaveParts parts all lists = (part : ℕ) → part < length lists → list_at lis
 abbrev pub replies_of : List DecidedPart → List ReplyBody → List (List ReplyBody)
 replies_of others last = map (λ (part : DecidedPart). part.replies.items) others ++ last ∷ []
 
--- what is read of a list, if there is something
-abbrev pub listed : {A : Type 0} → Option A → List A
-listed None = []
-listed (Some item) = item ∷ []
+-- a list with what was read behind it, if there is something
+abbrev pub with_next : {A : Type 0} → List A → Option A → List A
+with_next items None = items
+with_next items (Some item) = items ++ item ∷ []
 
 -- the first of all are in order, and each part's list is read as far
 abbrev pub AreInOrder : {A : Type 0} → List ℕ → List (List A) → ℕ → List ℕ → List A → Type 0

@@ -1,4 +1,5 @@
-ghost use Rattle.std.specs.Prelude.{◌≡◌, ◌∷◌, [], ◌++◌, length, Some, IfOk, IfErr, OnOk};
+ghost use Rattle.std.specs.Prelude.{◌≡◌, ◌∷◌, [], ◌++◌, length, true, Some, IfOk, IfErr, OnOk};
+ghost use Rattle.std.specs.FinMap as map;
 ghost use Rattle.issuer_rows.specs.Agreement.{IsLocal};
 ghost use Rattle.issuer_view.specs.Words.{AgreesWithBook, overlay, reply_of, writes_of};
 ghost use Rattle.engine_parts.specs.Decided.{AreDecided, bodies_of};
@@ -11,8 +12,8 @@ use issuer_rows::{Book, Frame, Places, ReplyBody};
 use issuer_view::{Decide, ReadSet, Recorder, Stop, WriteSet};
 use std::alloc::{AllocError, Global};
 
-/// Decides the messages of a part in their order, over the opening book, which stays as it is, and rows of their own. It fails only where
-/// memory runs out.
+/// Decides the messages of a part in their order, over the opening book, which stays as it is, and rows of their own, unless memory runs
+/// out.
 pub(crate) fn decide_part<F: Decide>(
     alloc: Global,
     opening: &Book,
@@ -20,31 +21,51 @@ pub(crate) fn decide_part<F: Decide>(
     parts: &[u32],
     part: usize,
     decision: &F,
-) -> Result<DecidedPart, AllocError>
+) -> DecidedPart
     requires { length parts.now ≡ length frames.now }
-    ensures { IfOk result (AreDecided opening.now (bodies_of part parts.now frames.now)) }
+    ensures { result.is_whole ≡ true → AreDecided opening.now (bodies_of part parts.now frames.now) result }
 {
-    let mut decided = DecidedPart {
-        replies: Vec::new(alloc),
-        rows: Book::new(alloc),
-    };
-    let mut reads = ReadSet::new(alloc);
-    let mut writes = WriteSet::new(alloc);
-    for index in 0..frames.len() {
-        if parts[index] as usize == part {
-            (reads, writes) = decided.decide_next(
-                opening,
-                &frames[index],
-                decision,
-                reads,
-                writes,
-            )?;
-        }
+    let mut decided = DecidedPart::new(alloc);
+    if let Ok(()) = decided.decide_each(alloc, opening, frames, parts, part, decision) {
+        decided.is_whole = true;
     }
-    Ok(decided)
+    decided
 }
 
 impl DecidedPart {
+    // Decides the messages of a part in their order. It fails only where memory runs out.
+    fn decide_each<F: Decide>(
+        &mut self,
+        alloc: Global,
+        opening: &Book,
+        frames: &[Frame],
+        parts: &[u32],
+        part: usize,
+        decision: &F,
+    ) -> Result<(), AllocError>
+        requires each { length parts.now ≡ length frames.now }
+        requires replies { self.old.replies.items ≡ [] }
+        requires rows { self.old.rows ≡ map.empty }
+        ensures decided { OnOk result (AreDecided opening.now (bodies_of part parts.now frames.now) self.new) }
+        ensures whole { self.new.is_whole ≡ self.old.is_whole }
+    {
+        let mut reads = ReadSet::new(alloc);
+        let mut writes = WriteSet::new(alloc);
+        for index in 0..frames.len() {
+            let owner = parts[index] as usize;
+            if owner == part {
+                (reads, writes) = self.decide_next(
+                    opening,
+                    &frames[index],
+                    decision,
+                    reads,
+                    writes,
+                )?;
+            }
+        }
+        Ok(())
+    }
+
     // Decides the next message by any local decision. It goes over the memory of two sets, which are handed back with the rows that were
     // read and written. It fails only where memory runs out.
     fn decide_next<F: Decide>(
@@ -55,6 +76,7 @@ impl DecidedPart {
         reads: ReadSet,
         writes: WriteSet,
     ) -> Result<(ReadSet, WriteSet), AllocError>
+        ensures whole { self.new.is_whole ≡ self.old.is_whole }
         ensures rows { OnOk result (self.new.rows ≡ overlay self.old.rows (writes_of (joined opening.now self.old.rows) frame.now)) }
         ensures replies { OnOk result (self.new.replies.items ≡ self.old.replies.items ++ reply_of (joined opening.now self.old.rows) frame.now ∷ []) }
     {
@@ -80,10 +102,12 @@ impl DecidedPart {
         requires local { IfOk decided.now (λ reply. IsLocal frame.now reads.now writes.now reply) }
         requires agrees { AgreesWithBook (Some (joined opening.now self.old.rows)) reads.now }
         requires stops { IfErr decided.now (λ stop. stop ≡ Stop.OutOfMemory) }
+        ensures whole { self.new.is_whole ≡ self.old.is_whole }
         ensures rows { OnOk result (self.new.rows ≡ overlay self.old.rows (writes_of (joined opening.now self.old.rows) frame.now)) }
         ensures replies { OnOk result (self.new.replies.items ≡ self.old.replies.items ++ reply_of (joined opening.now self.old.rows) frame.now ∷ []) }
     {
-        let _ = (opening, reads);
+        let _ = opening;
+        let _ = reads;
         match decided {
             Ok(reply) => {
                 put_all(&mut self.rows, writes, places)?;

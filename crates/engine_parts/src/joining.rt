@@ -1,6 +1,6 @@
-ghost use Rattle.std.specs.Prelude.{◌≡◌, ◌+◌, ◌<◌, ◌≤◌, ◌++◌, List, length, map, slice_get, IfOk, OnOk};
+ghost use Rattle.std.specs.Prelude.{◌≡◌, ◌+◌, ◌<◌, ◌≤◌, List, length, map, slice_get, IfOk, OnOk};
 ghost use Rattle.std.specs.List.{AllByRecursion};
-ghost use Rattle.engine_parts.specs.Decided.{HaveParts, list_at, listed, replies_of};
+ghost use Rattle.engine_parts.specs.Decided.{HaveParts, list_at, replies_of, with_next};
 ghost use Rattle.engine_parts.specs.TwoBooks.{joined_all};
 ghost use Rattle.issuer_view.specs.Words.{ReplyBody};
 
@@ -71,7 +71,7 @@ fn push_reply(
     replies: &[ReplyBody],
     place: usize,
 ) -> Result<(), AllocError>
-    ensures { OnOk result (ordered.new.items ≡ ordered.old.items ++ listed (slice_get replies.now place)) }
+    ensures { OnOk result (ordered.new.items ≡ with_next ordered.old.items (slice_get replies.now place)) }
 {
     match replies.get(place) {
         Some(reply) => {

@@ -26,7 +26,8 @@ pub(crate) fn decide_on_copy<F: Decide>(
     let mut reads = ReadSet::new(alloc);
     let mut writes = WriteSet::new(alloc);
     for index in 0..frames.len() {
-        if parts[index] as usize == part {
+        let owner = parts[index] as usize;
+        if owner == part {
             let places = prefix.places_of(&frames[index]);
             (reads, writes) = prefix.decide_one(&frames[index], decision, places, reads, writes)?;
         }

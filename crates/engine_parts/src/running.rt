@@ -1,4 +1,5 @@
-ghost use Rattle.std.specs.Prelude.{◌≡◌, ℕ, ◌<◌, ◌≤◌, length, IfOk, Some, slice_get, zip};
+ghost use Rattle.std.specs.Prelude.{◌≡◌, ℕ, ◌<◌, ◌≤◌, length, true, IfOk, IsTrue, Some, slice_get, zip};
+ghost use Rattle.std.specs.List.{AllByRecursion};
 ghost use Rattle.std.specs.Thread.{IsSync};
 ghost use Rattle.engine_parts.specs.Decided.{AreDecided, bodies_of};
 ghost use Rattle.issuer_fold.specs.Run.{IsRun};
@@ -146,28 +147,29 @@ fn decide_others<R: Threads + Sync, F: Decide + Sync>(
     ensures others { IfOk result (λ decided. length decided.items ≡ count) }
     ensures decided { IfOk result (λ decided. (part : ℕ) (one : DecidedPart) → slice_get decided.items part ≡ Some one → AreDecided opening.now (bodies_of part parts.now frames.now) one) }
 {
-    let results = thread::map_indices(
+    let decided = thread::map_indices(
         rt,
         alloc,
         count,
-        &|part| -> Result<DecidedPart, AllocError>
+        &|part| -> DecidedPart
             requires { length parts.now ≡ length frames.now }
-            ensures { IfOk result (AreDecided opening.entry.now (bodies_of part parts.entry.now frames.entry.now)) }
+            ensures { result.is_whole ≡ true → AreDecided opening.entry.now (bodies_of part parts.entry.now frames.entry.now) result }
         { decide_part(alloc, opening, frames, parts, part, decision) },
     )?;
-    all_of(alloc, results)
+    if !are_whole(&decided) {
+        return Err(AllocError);
+    }
+    Ok(decided)
 }
 
-// The parts, unless memory ran out at one of them.
-fn all_of(
-    alloc: Global,
-    results: Vec<Result<DecidedPart, AllocError>>,
-) -> Result<Vec<DecidedPart>, AllocError>
-    ensures { IfOk result (λ all. map Ok all.items ≡ results.items) }
+// Whether all messages of these parts are decided.
+fn are_whole(parts: &[DecidedPart]) -> bool
+    ensures { IsTrue result → AllByRecursion (λ part. part.is_whole ≡ true) parts.now }
 {
-    let mut all = Vec::with_capacity(alloc, results.len())?;
-    for result in results {
-        all.push(result?)?;
+    for part in parts {
+        if !part.is_whole {
+            return false;
+        }
     }
-    Ok(all)
+    true
 }

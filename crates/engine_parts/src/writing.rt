@@ -25,8 +25,11 @@ pub(crate) fn put_all(
 pub(crate) fn put_book(book: &mut Book, written: &Book) -> Result<(), AllocError>
     ensures { OnOk result (book.new ≡ joined book.old written.now) }
 {
-    for (key, row) in written.rows() {
-        book.put_copy(key, row)?;
+    for (key, _) in written.rows() {
+        match written.row(key) {
+            Some(row) => book.put_copy(key, row)?,
+            None => unreachable!(),
+        }
     }
     Ok(())
 }

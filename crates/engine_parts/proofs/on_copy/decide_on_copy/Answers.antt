@@ -7,5 +7,5 @@ loop-index-init g c = ?
 pub loop-index-preserved : goal.loop-index-preserved
 loop-index-preserved g c = ?
 
-pub returns : goal.returns
-returns g c = ?
+pub returns-clause-replies : goal.returns-clause-replies
+returns-clause-replies g c = ?
