@@ -1,7 +1,5 @@
-//! Tests of parts: how a batch falls into parts, and batches that are decided in parts.
+//! Tests of parts: how a batch falls into them.
 #![tactic(auto)]
 
 #[cfg(test)]
 mod plans;
-#[cfg(test)]
-mod runs;

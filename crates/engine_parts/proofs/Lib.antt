@@ -1,6 +1,0 @@
-pub mod JoinLaws
-pub mod OrderLaws
-pub mod PartLaws
-pub mod QueueLaws
-pub mod StepLaws
-pub mod WholeLaws
