@@ -1,8 +1,8 @@
 -- Where each message is of its head's part, and no link leads from one part to another, no two parts may need one row.
-use Rattle.std.proofs.Common.{◌≡◌, ◌≢◌, ℕ, zero, suc, ◌<◌, List, [], ◌∷◌, ◌++◌, length, map, zip, Option, Some, None, slice_get, slice_index, ◌⊎◌, inl, inr, refl, sym, ap, ◌∙◌, subst}
+use Rattle.std.proofs.Common.{◌≡◌, ℕ, zero, suc, ◌<◌, List, [], ◌∷◌, ◌++◌, length, map, zip, Some, slice_get, ◌⊎◌, inl, inr, refl, sym, ap, ◌∙◌, subst}
 use Rattle.std.proofs.lemmas.Option.{none-some, same_Some}
 use Rattle.std.specs.List.{AllByRecursion}
-use Rattle.issuer_laws.specs.Parts.{IsIn, may_need, AreApart, IsOfPart}
+use Rattle.issuer_laws.specs.Parts.{IsIn, may_need, AreApart}
 use Rattle.issuer_rows.specs.Fold.{Rows}
 use Rattle.issuer_rows.specs.declared.frame.Frame.{Frame}
 use Rattle.issuer_rows.specs.declared.row_key.RowKey.{RowKey}

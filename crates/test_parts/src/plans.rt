@@ -65,22 +65,15 @@ const PLANS: &[(&str, u32)] = &[
     ("body bad\nbody bad", 1),
 ];
 
-// How many parts there are of 64, if the batch can be read.
-fn parts_of(alloc: Global, batch: &str) -> Option<u32> {
-    let book = opening(alloc, batch)?;
-    let bodies = frames(alloc, batch).ok()?;
-    Some(plan_parts(alloc, &book, &bodies, 64).ok()?.count())
-}
-
-// How many parts there are where there may be so many.
-fn parts_of_at_most(alloc: Global, batch: &str, most: u32) -> Option<u32> {
+// How many parts there are where there may be so many, if the batch can be read.
+fn parts_of(alloc: Global, batch: &str, most: u32) -> Option<u32> {
     let book = opening(alloc, batch)?;
     let bodies = frames(alloc, batch).ok()?;
     Some(plan_parts(alloc, &book, &bodies, most.max(1)).ok()?.count())
 }
 
 fn assert_parts<R: Abort>(rt: &R, alloc: Global, batch: &str, count: u32) {
-    let found = parts_of(alloc, batch);
+    let found = parts_of(alloc, batch, 64);
     assert!(rt; found == Some(count), "{found:?} for {count} of {batch}");
 }
 
@@ -95,6 +88,6 @@ fn falls_into_parts(rt: HostRuntime) {
 #[test]
 fn packs_onto_one_part(rt: HostRuntime) {
     let batch = "body 1100 000001 A 100\nbody 1100 000002 B 100";
-    let found = parts_of_at_most(rt.alloc(), batch, 1);
+    let found = parts_of(rt.alloc(), batch, 1);
     assert!(&rt; found == Some(1), "{found:?}");
 }

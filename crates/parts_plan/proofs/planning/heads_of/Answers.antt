@@ -1,5 +1,5 @@
-use Rattle.std.proofs.Common.{ℕ, ◌≡◌, Some, slice_get, sym, ap, ◌∙◌, subst, refl, arith, length, length-append}
-use Rattle.std.proofs.lemmas.Option.{none-some, slice_get_read}
+use Rattle.std.proofs.Common.{ℕ, ◌≡◌, Some, slice_get, sym, subst, refl, arith, length, length-append}
+use Rattle.std.proofs.lemmas.Option.{slice_get_read}
 use Rattle.parts_plan.proofs.ApartLaws.{one_more}
 use Rattle.parts_plan.proofs.planning.heads_of.Goals as goal
 
