@@ -26,10 +26,13 @@ pub(crate) fn decide_part<F: Decide>(
     ensures { result.is_whole ≡ true → AreDecided opening.now (bodies_of part parts.now frames.now) result }
 {
     let mut decided = DecidedPart::new(alloc);
-    if let Ok(()) = decided.decide_each(alloc, opening, frames, parts, part, decision) {
-        decided.is_whole = true;
+    match decided.decide_each(alloc, opening, frames, parts, part, decision) {
+        Ok(()) => DecidedPart {
+            is_whole: true,
+            ..decided
+        },
+        Err(_) => decided,
     }
-    decided
 }
 
 impl DecidedPart {
