@@ -1,6 +1,5 @@
-ghost use Rattle.std.specs.Prelude.{◌≡◌, ◌≢◌, ◌≤◌, drop, length, None, OnOk, OnErr, IfSome};
+ghost use Rattle.std.specs.Prelude.{◌≡◌, ◌≢◌, ◌≤◌, drop, length, None, OnOk, OnErr};
 ghost use Rattle.std.specs.FinMap as map;
-ghost use Rattle.issuer_fold.specs.Former.{with_former};
 ghost use Rattle.issuer_view.specs.Words.{IsOfKind, overlay};
 
 use issuer_rows::{Book, Places, RowKey, RowVal};
@@ -19,8 +18,8 @@ pub(crate) fn put_all_or_none(
     put_from(book, writes, 0, places)
 }
 
-// Writes the rows from this place on, or none of them: where a later one finds no room, each is given back what it was. What the last one
-// was is not asked for.
+// Writes the rows from this place on, or none of them. A row that wasn't there is written before the rest, and is taken out again where
+// a later one finds no room; one that was there is written after the rest, since it needs none.
 fn put_from(
     book: &mut Book,
     writes: &WriteSet,
@@ -38,30 +37,30 @@ fn put_from(
     if index + 1 == writes.len() {
         return book.put_copy_near(key, row, places);
     }
-    let former = book.replace_near(key, row, places)?;
+    let new = book.put_if_absent(key, row, places)?;
     match put_from(book, writes, index + 1, places) {
-        Ok(()) => Ok(()),
+        Ok(()) => {
+            if !new {
+                put_over(book, key, row, places);
+            }
+            Ok(())
+        }
         Err(fault) => {
-            give_back(book, key, former);
+            if new {
+                book.remove(key);
+            }
             Err(fault)
         }
     }
 }
 
-// Gives a row that is there back what it was.
-fn give_back(book: &mut Book, key: &RowKey, former: Option<RowVal>)
+// Writes a row over one that is there.
+fn put_over(book: &mut Book, key: &RowKey, row: &RowVal, places: &mut Places)
+    requires kind { IsOfKind key.now row.now }
     requires there { map.get book.old key.now ≢ None }
-    requires kind { IfSome former (IsOfKind key.now) }
-    ensures { book.new ≡ with_former book.old key.now former }
+    ensures { book.new ≡ map.insert book.old key.now row.now }
 {
-    match former {
-        Some(row) => {
-            if book.put_copy(key, &row).is_err() {
-                unreachable!()
-            }
-        }
-        None => {
-            book.remove(key);
-        }
+    if book.put_copy_near(key, row, places).is_err() {
+        unreachable!()
     }
 }

@@ -51,7 +51,8 @@ impl Formers {
         ensures err { OnErr result ((book.new ≡ book.old) × (self.new ≡ self.old)) }
     {
         self.rows.reserve(1)?;
-        let former = book.replace_near(key, row, places)?;
+        let former = book.find(key, places).copied();
+        book.put_copy_near(key, row, places)?;
         self.rows.push_reserved((*key, former));
         Ok(())
     }

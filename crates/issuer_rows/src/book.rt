@@ -1,4 +1,4 @@
-ghost use Rattle.std.specs.Prelude.{◌≡◌, ◌<◌, ◌↔◌, length, slice_get, option_copied, OnOk, OnErr, OnSome, IfOk, IfSome, IfNone, IsTrue, IsPermutation, None, Some};
+ghost use Rattle.std.specs.Prelude.{◌≡◌, ◌≢◌, ◌<◌, ◌↔◌, length, slice_get, option_copied, OnOk, OnErr, IfOk, IfSome, IsTrue, IsFalse, IsPermutation, None, Some};
 ghost use Rattle.std.specs.FinMap as map;
 ghost use Rattle.indexmap.specs.IndexMap.{IsUnchanged, Updates};
 ghost use Rattle.issuer_rows.specs.Book.{AllOfKind, IsWithin, value_at};
@@ -137,8 +137,7 @@ impl Book {
         ensures err { OnErr result (self.new ≡ self.old) }
         ensures full { OnErr result (map.get self.old key.now ≡ None) }
     {
-        self.replace(key, val)?;
-        Ok(())
+        put_entry(&mut self.rows, key, val)
     }
 
     /// The same, without a look-up where the row stands at its noted place; the place of a row that wasn't there is noted.
@@ -154,38 +153,36 @@ impl Book {
         ensures err { OnErr result (self.new ≡ self.old) }
         ensures full { OnErr result (map.get self.old key.now ≡ None) }
     {
-        self.replace_near(key, val, places)?;
-        Ok(())
+        if copy_at(&mut self.rows, places.last(key), key, val) {
+            return Ok(());
+        }
+        put_noting(&mut self.rows, key, val, places)
     }
 
-    /// Writes a copy of the value at the key, and returns what was there. Only a row that wasn't there takes memory.
-    pub fn replace(&mut self, key: &RowKey, val: &RowVal) -> Result<Option<RowVal>, AllocError>
-        requires { IsOfKind key.now val.now }
-        ensures ok { OnOk result (self.new ≡ map.insert self.old key.now val.now) }
-        ensures former { IfOk result (λ former. former ≡ map.get self.old key.now) }
-        ensures kind { IfOk result (λ former. IfSome former (IsOfKind key.now)) }
-        ensures err { OnErr result (self.new ≡ self.old) }
-        ensures full { OnErr result (map.get self.old key.now ≡ None) }
-    {
-        replace(&mut self.rows, key, val)
-    }
-
-    /// The same, without a look-up where the row stands at its noted place; the place of a row that wasn't there is noted.
+    /// Writes a copy of the value at the key if there is no such row, and says whether there was none. It fails only where memory runs
+    /// out, and then there was none. There is no look-up where the row stands at its noted place; the place of a new row is noted.
     #[inline(always)]
-    pub fn replace_near(
+    pub fn put_if_absent(
         &mut self,
         key: &RowKey,
         val: &RowVal,
         places: &mut Places,
-    ) -> Result<Option<RowVal>, AllocError>
+    ) -> Result<bool, AllocError>
         requires { IsOfKind key.now val.now }
-        ensures ok { OnOk result (self.new ≡ map.insert self.old key.now val.now) }
-        ensures former { IfOk result (λ former. former ≡ map.get self.old key.now) }
-        ensures kind { IfOk result (λ former. IfSome former (IsOfKind key.now)) }
+        ensures new { IfOk result (λ new. IsTrue new → (map.get self.old key.now ≡ None) × (self.new ≡ map.insert self.old key.now val.now)) }
+        ensures there { IfOk result (λ new. IsFalse new → (map.get self.old key.now ≢ None) × (self.new ≡ self.old)) }
         ensures err { OnErr result (self.new ≡ self.old) }
         ensures full { OnErr result (map.get self.old key.now ≡ None) }
     {
-        replace_near(&mut self.rows, key, val, places)
+        let count = self.rows.len();
+        if stands_at(&self.rows, places.last(key), key) {
+            return Ok(false);
+        }
+        let new = put_vacant(&mut self.rows, key, val)?;
+        if new {
+            places.note(key, count);
+        }
+        Ok(new)
     }
 
     /// Takes the row out, and returns its value, if there was such a row.
@@ -266,91 +263,79 @@ impl Book {
     }
 }
 
-// Writes a copy of a row, by one look-up, and returns what was there.
-fn replace(
+// Writes a copy of a row, by one look-up. An entry takes the value without handing one back.
+fn put_entry(
     rows: &mut IndexMap<RowKey, RowVal>,
     key: &RowKey,
     val: &RowVal,
-) -> Result<Option<RowVal>, AllocError>
+) -> Result<(), AllocError>
     ensures updates { OnOk result (Updates key_eq rows.old rows.new key.now (Some val.now)) }
-    ensures former { IfOk result (λ former. former ≡ value_at rows.old.entries key.now) }
     ensures err { OnErr result (rows.new.entries ≡ rows.old.entries) }
     ensures absent { OnErr result (value_at rows.old.entries key.now ≡ None) }
 {
     match rows.entry(*key)? {
         Entry::Occupied(entry) => {
-            let there = entry.into_mut();
-            let former = *there;
-            there.copy_from(val);
-            Ok(Some(former))
+            entry.into_mut().copy_from(val);
         }
         Entry::Vacant(entry) => {
             entry.insert(*val);
-            Ok(None)
         }
     }
+    Ok(())
 }
 
 // The same; where the row wasn't there, its place is noted.
 #[inline(always)]
-fn replace_noting(
+fn put_noting(
     rows: &mut IndexMap<RowKey, RowVal>,
     key: &RowKey,
     val: &RowVal,
     places: &mut Places,
-) -> Result<Option<RowVal>, AllocError>
+) -> Result<(), AllocError>
     ensures updates { OnOk result (Updates key_eq rows.old rows.new key.now (Some val.now)) }
-    ensures former { IfOk result (λ former. former ≡ value_at rows.old.entries key.now) }
     ensures err { OnErr result (rows.new.entries ≡ rows.old.entries) }
     ensures absent { OnErr result (value_at rows.old.entries key.now ≡ None) }
 {
     let count = rows.len();
-    let former = replace(rows, key, val)?;
-    if former.is_none() {
+    put_entry(rows, key, val)?;
+    if count < rows.len() {
         places.note(key, count);
     }
-    Ok(former)
+    Ok(())
 }
 
-// The same, without a look-up where the row stands at its noted place.
+// Writes a copy of a row over it, if it stands at this place.
 #[inline(always)]
-fn replace_near(
+fn copy_at(rows: &mut IndexMap<RowKey, RowVal>, place: usize, key: &RowKey, val: &RowVal) -> bool
+    ensures found { IsTrue result → Updates key_eq rows.old rows.new key.now (Some val.now) }
+    ensures not_found { IsFalse result → rows.new.entries ≡ rows.old.entries }
+{
+    if !stands_at(rows, place, key) {
+        return false;
+    }
+    let (_, there) = rows.pair_mut(place);
+    there.copy_from(val);
+    true
+}
+
+// Writes a copy of a row that isn't there, by one look-up, and says whether it wasn't.
+fn put_vacant(
     rows: &mut IndexMap<RowKey, RowVal>,
     key: &RowKey,
     val: &RowVal,
-    places: &mut Places,
-) -> Result<Option<RowVal>, AllocError>
-    ensures updates { OnOk result (Updates key_eq rows.old rows.new key.now (Some val.now)) }
-    ensures former { IfOk result (λ former. former ≡ value_at rows.old.entries key.now) }
+) -> Result<bool, AllocError>
+    ensures new { IfOk result (λ new. IsTrue new → (value_at rows.old.entries key.now ≡ None) × Updates key_eq rows.old rows.new key.now (Some val.now)) }
+    ensures there { IfOk result (λ new. IsFalse new → (value_at rows.old.entries key.now ≢ None) × (rows.new.entries ≡ rows.old.entries)) }
     ensures err { OnErr result (rows.new.entries ≡ rows.old.entries) }
     ensures absent { OnErr result (value_at rows.old.entries key.now ≡ None) }
 {
-    let _count = rows.len();
-    if let Some(former) = replace_at(rows, places.last(key), key, val) {
-        return Ok(Some(former));
+    match rows.entry(*key)? {
+        Entry::Occupied(_) => Ok(false),
+        Entry::Vacant(entry) => {
+            entry.insert(*val);
+            Ok(true)
+        }
     }
-    replace_noting(rows, key, val, places)
-}
-
-// Writes a copy of a row over it, if it stands at this place, and returns what was there.
-#[inline(always)]
-fn replace_at(
-    rows: &mut IndexMap<RowKey, RowVal>,
-    place: usize,
-    key: &RowKey,
-    val: &RowVal,
-) -> Option<RowVal>
-    ensures former { IfSome result (λ former. slice_get rows.old.entries place ≡ Some (key.now, former)) }
-    ensures found { OnSome result (Updates key_eq rows.old rows.new key.now (Some val.now)) }
-    ensures not_found { IfNone result (rows.new.entries ≡ rows.old.entries) }
-{
-    if !stands_at(rows, place, key) {
-        return None;
-    }
-    let (_, there) = rows.pair_mut(place);
-    let former = *there;
-    there.copy_from(val);
-    Some(former)
 }
 
 // The row's value where it stands, if that is this place.
