@@ -40,13 +40,13 @@ pub enum Command {
         /// Whether bodies that are no message are answered.
         strictness: Strictness,
     },
-    /// Decide blocks, one after another, each by several workers. The batch is their file.
+    /// Decide blocks, one after another. The batch is their file.
     Blocks {
         /// The names of their files.
         names: BatchNames,
-        /// How many workers decide.
+        /// How many workers may decide. One does.
         workers: Workers,
-        /// How they share their work.
+        /// How they would share their work.
         engine: Engine,
         /// Whether bodies that are no message are answered.
         strictness: Strictness,

@@ -93,7 +93,13 @@ fn run_line<'a>(alloc: Global) -> Result<Command<'a>, AllocError>
         "run",
         "Decides a batch on several threads; the answers are those of deciding one message after another",
     )?;
-    let logged = with_engine(alloc, files)?.arg(journal_setting(
+    let shared = with_engine(
+        alloc,
+        files,
+        "How many threads may decide: 1 to 64",
+        "How they share their work: split, each row, message and commit under a lock of its own, and of a long batch only what takes long to decide; locked, all of it under one lock, slower, with a journal. Without it: split, and locked with --journal",
+    )?;
+    let logged = shared.arg(journal_setting(
         alloc,
         "Puts the run's journal into this file: a line for each thing that a worker asked of the core; the locked engine alone keeps one",
     ))?;
@@ -117,7 +123,13 @@ fn blocks_line<'a>(alloc: Global) -> Result<Command<'a>, AllocError>
         "blocks",
         "Decides blocks, each on the book after those before it, and answers each before the next is read; a fault keeps the blocks that were answered",
     )?;
-    with_engine(alloc, files)?.arg(strict_flag(alloc))
+    let shared = with_engine(
+        alloc,
+        files,
+        "How many threads may decide: 1 to 64; one does, since each block is decided on the book itself",
+        "How they would share their work: split or locked",
+    )?;
+    shared.arg(strict_flag(alloc))
 }
 
 // `audit BOOK BATCH REPLIES NEWBOOK [--journal FILE]`.
@@ -221,24 +233,18 @@ fn files_line<'a>(
     replies.arg(operand(alloc, "NEWBOOK", "The book after it: JSON of version 3"))
 }
 
-// A subcommand that decides, with `[--workers N] [--engine ENGINE]`.
-fn with_engine<'a>(alloc: Global, line: Command<'a>) -> Result<Command<'a>, AllocError>
+// A subcommand that decides, with `[--workers N] [--engine ENGINE]`, and what is said of them.
+fn with_engine<'a>(
+    alloc: Global,
+    line: Command<'a>,
+    workers_help: &'a str,
+    engine_help: &'a str,
+) -> Result<Command<'a>, AllocError>
     ensures { (app : _) → IsLine app line.entry → IfOk result (IsLine (with_engine app)) }
 {
-    let workers = setting(
-        alloc,
-        "workers",
-        "N",
-        "How many threads may decide: 1 to 64",
-    );
+    let workers = setting(alloc, "workers", "N", workers_help);
     let counted = line.arg(workers.default_value("4"))?;
-    let engine = setting(
-        alloc,
-        "engine",
-        "ENGINE",
-        "How they share their work: split, each row, message and commit under a lock of its own, and of a long batch only what takes long to decide; locked, all of it under one lock, slower, with a journal. Without it: split, and locked with --journal",
-    );
-    counted.arg(engine)
+    counted.arg(setting(alloc, "engine", "ENGINE", engine_help))
 }
 
 // `--strict`.

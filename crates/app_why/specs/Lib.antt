@@ -1,2 +1,3 @@
+pub mod Sought
 pub mod Why
 pub mod WhyAsked

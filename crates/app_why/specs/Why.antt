@@ -12,7 +12,9 @@ use Rattle.app_jobs.specs.Decided.{IsBookOf}
 use Rattle.app_jobs.specs.Faults.{IsBatchFault, IsBookFault, IsSomeBook}
 use Rattle.reason_text.specs.Lines.{lines_of}
 use Rattle.app_why.specs.declared.asking.WhyAsked.{WhyAsked}
-use Rattle.app_why.specs.declared.asking.WhyAsked.TheVariants.{Message, Help, Wrong}
+use Rattle.app_why.specs.declared.asking.WhyAsked.TheVariants.{Message, Messages, Help, Wrong}
+use Rattle.app_why.specs.Sought.{sought_lines}
+use Rattle.app_why.specs.declared.sought.Sought.{Sought}
 use Rattle.app_why.specs.declared.why_fault.WhyFault.{WhyFault}
 use Rattle.app_why.specs.declared.why_fault.WhyFault.TheVariants.{Job, Index}
 
@@ -46,9 +48,18 @@ abbrev pub status_of_fault : WhyFault → ℕ
 status_of_fault (Job fault) = 1
 status_of_fault (Index count) = 2
 
--- What is asked for is said, behind what was said before: of a message its lines.
+-- These are the lines of the messages that are sought in the batch of this name. Where it is known what files hold, it was there.
+pub record AreLines (known : Type 0) (holds : Holding) (batch : List ℕ) (sought : Sought) (text : List ℕ) : Type 0 where
+  pub frames : List Frame
+  pub batch_there : known → IsThere holds batch
+  pub messages : (bytes : List ℕ) → holds batch bytes → IsBatchOf bytes frames
+  pub lines : text ≡ sought_lines sought 0 frames
+
+-- What is asked for is said, behind what was said before: of a message its lines; of messages that are sought the line of each.
 abbrev pub IsSaid : Type 0 → Holding → WhyAsked → Option (List ℕ) → Option (List ℕ) → Type 0
 IsSaid known holds (Message book batch index) before after =
     (e : Explanation) × IsWhy known holds book.now batch.now index e × Appends before after (lines_of index e)
+IsSaid known holds (Messages batch sought) before after =
+    (text : List ℕ) × AreLines known holds batch.now sought text × Appends before after text
 IsSaid known holds Help before after = ⊤
 IsSaid known holds Wrong before after = ⊥

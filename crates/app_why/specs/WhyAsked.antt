@@ -1,9 +1,11 @@
 -- What words ask of `why`.
-use Rattle.std.specs.Prelude.{◌≡◌, ℕ, ◌<◌, ◌^◌, List, Some, length, slice_get}
+use Rattle.std.specs.Prelude.{◌≡◌, ◌⊎◌, ℕ, ◌<◌, ◌^◌, List, Some, codes, length, slice_get}
 use Rattle.std.specs.Str.Parse.{IsNumeral, digits_value, without_leading_plus}
 use Rattle.app_words.specs.Words.{AsksHelp}
 use Rattle.app_why.specs.declared.asking.WhyAsked.{WhyAsked}
-use Rattle.app_why.specs.declared.asking.WhyAsked.TheVariants.{Message, Help, Wrong}
+use Rattle.app_why.specs.declared.asking.WhyAsked.TheVariants.{Message, Messages, Help, Wrong}
+use Rattle.app_why.specs.declared.sought.Sought.{Sought}
+use Rattle.app_why.specs.declared.sought.Sought.TheVariants.{Trace, Card}
 
 -- the number that a word stands for
 abbrev pub place_of : List ℕ → ℕ
@@ -16,14 +18,28 @@ IsPlace word = IsNumeral 10 (without_leading_plus word) × (place_of word < 2 ^ 
 -- the words BOOK, BATCH and INDEX ask for that message, where the last is a place
 abbrev pub IsAskedOf : List ℕ → List ℕ → List ℕ → WhyAsked → Type 0
 IsAskedOf book batch index (Message named from place) = (named.now ≡ book) × (from.now ≡ batch) × IsPlace index × (place ≡ place_of index)
+IsAskedOf book batch index (Messages from sought) = ⊥
 IsAskedOf book batch index Help = ⊥
 IsAskedOf book batch index Wrong = ¬ IsPlace index
 
+-- the words `--trace TRACE` or `--card CARD`, behind those of the command and of two files, say what is sought
+abbrev pub IsSoughtBy : List (List ℕ) → Sought → Type 0
+IsSoughtBy words (Trace trace) = (slice_get words 4 ≡ Some (codes "--trace")) × (slice_get words 5 ≡ Some trace.now)
+IsSoughtBy words (Card card) = (slice_get words 4 ≡ Some (codes "--card")) × (slice_get words 5 ≡ Some card.now)
+
+-- such words are there
+abbrev pub IsSearch : List (List ℕ) → Type 0
+IsSearch words = (slice_get words 4 ≡ Some (codes "--trace")) ⊎ (slice_get words 4 ≡ Some (codes "--card"))
+
 -- Words of which the second is `why` ask for a message: the third names the book's file, the fourth the batch's, and the fifth is the place;
--- one word behind it may ask what it takes; other words are wrong.
+-- or for the messages of a trace or of a card, of the batch that the fourth names; one word behind `why` may ask what it takes; other words
+-- are wrong.
 abbrev pub IsAskedBy : List (List ℕ) → WhyAsked → Type 0
 IsAskedBy words (Message book batch place) =
     (length words ≡ 5) × (slice_get words 2 ≡ Some book.now) × (slice_get words 3 ≡ Some batch.now)
     × (word : List ℕ) × (slice_get words 4 ≡ Some word) × IsPlace word × (place ≡ place_of word)
+IsAskedBy words (Messages batch sought) = (length words ≡ 6) × (slice_get words 3 ≡ Some batch.now) × IsSoughtBy words sought
 IsAskedBy words Help = AsksHelp words
-IsAskedBy words Wrong = (¬ AsksHelp words) × (length words ≡ 5 → (word : List ℕ) → slice_get words 4 ≡ Some word → ¬ IsPlace word)
+IsAskedBy words Wrong =
+    (¬ AsksHelp words) × (length words ≡ 5 → (word : List ℕ) → slice_get words 4 ≡ Some word → ¬ IsPlace word)
+    × (length words ≡ 6 → ¬ IsSearch words)

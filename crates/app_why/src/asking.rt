@@ -1,15 +1,18 @@
-ghost use Rattle.std.specs.Prelude.{IfSome, IfNone, OnSome, codes, map, string_bytes};
+ghost use Rattle.std.specs.Prelude.{◌≡◌, ◌<◌, IfSome, IfNone, OnSome, codes, length, map, string_bytes};
 ghost use Rattle.std.specs.Option.{SomeIff};
-ghost use Rattle.app_why.specs.WhyAsked.{IsAskedBy, IsAskedOf, IsPlace, place_of};
+ghost use Rattle.app_why.specs.WhyAsked.{IsAskedBy, IsAskedOf, IsPlace, IsSearch, IsSoughtBy, place_of};
 ghost use Rattle.app_words.specs.Words.{IsCommand};
 
-use app_words::{asks_help, is_command};
+use crate::sought::Sought;
+use app_words::{asks_help, is_command, is_word};
 
 /// What words ask of `why`.
 #[derive(Clone, Copy)]
 pub enum WhyAsked<'a> {
     /// Why, on the book of the first file, the message at this place of the batch in the second was answered so.
     Message(&'a str, &'a str, usize),
+    /// Which messages of the batch in this file are of a trace or of a card.
+    Messages(&'a str, Sought<'a>),
     /// What `why` takes.
     Help,
     /// Nothing: they begin with `why` and don't go on so.
@@ -36,10 +39,30 @@ fn asked_behind(words: &[String]) -> WhyAsked<'_>
     if words.len() == 5 {
         return asked_of(words[2].as_str(), words[3].as_str(), words[4].as_str());
     }
+    if let Some(sought) = sought_by(words) {
+        return WhyAsked::Messages(words[3].as_str(), sought);
+    }
     if asks_help(words) {
         return WhyAsked::Help;
     }
     WhyAsked::Wrong
+}
+
+// What is sought by the words BOOK, BATCH and `--trace TRACE` or `--card CARD`, if they are that.
+fn sought_by(words: &[String]) -> Option<Sought<'_>>
+    ensures some { IfSome result (λ sought. (length words.now ≡ 6) × IsSoughtBy (map string_bytes words.now) sought) }
+    ensures none { IfNone result (length words.now ≡ 6 → ¬ IsSearch (map string_bytes words.now)) }
+{
+    if words.len() != 6 {
+        return None;
+    }
+    if is_word(words, 4, "--trace") {
+        return Some(Sought::Trace(words[5].as_str()));
+    }
+    if is_word(words, 4, "--card") {
+        return Some(Sought::Card(words[5].as_str()));
+    }
+    None
 }
 
 // What is asked by the words BOOK, BATCH and INDEX.

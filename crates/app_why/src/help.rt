@@ -3,6 +3,8 @@ pub const WHY_HELP: &str =
     "Says why a message of a batch was answered so: its rule, the rows that it read and wrote, and its reply
 
 Usage: switch why <BOOK> <BATCH> <INDEX>
+       switch why <BOOK> <BATCH> --trace <TRACE>
+       switch why <BOOK> <BATCH> --card <CARD>
 
 Arguments:
   <BOOK>   The book that the batch is decided on: JSON of version 1, 2 or 3
@@ -10,7 +12,9 @@ Arguments:
   <INDEX>  The message's place in the batch, from 0, as `switch show` numbers them
 
 Options:
-  -h, --help  Print help
+      --trace <TRACE>  List the messages of this trace number (element 11): a line `message` each; BOOK isn't read
+      --card <CARD>    List the messages of this card (element 2) so
+  -h, --help           Print help
 
 The messages before it are decided on the book first, one after another. Files are read alone. Lines:
   message  the place, and the message; or why the body is none
@@ -33,4 +37,4 @@ A fault is printed on standard error as what it is of and its number there:
 
 // What is said of words that are no command.
 pub(crate) const USAGE: &str =
-    "usage: switch why <BOOK> <BATCH> <INDEX>; `switch why --help` says more\n";
+    "usage: switch why <BOOK> <BATCH> <INDEX>, or --trace <TRACE> or --card <CARD> for it; `switch why --help` says more\n";

@@ -4,12 +4,15 @@
 mod answering;
 mod asking;
 mod help;
+mod listing;
 mod opening;
+mod sought;
 mod telling;
 mod why_fault;
 
 pub use answering::why_of;
 pub use asking::{WhyAsked, why_asked};
 pub use help::WHY_HELP;
+pub use sought::Sought;
 pub use telling::answer_why;
 pub use why_fault::WhyFault;

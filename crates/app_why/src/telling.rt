@@ -2,15 +2,20 @@ ghost use Rattle.std.specs.Prelude.{◌≡◌, ◌≤◌, IfOk, IfErr, IsOk, OnO
 ghost use Rattle.std.specs.Io.KnownBytes.{Appends};
 ghost use Rattle.issuer_reasons.specs.declared.explanation.Explanation.{Explanation};
 ghost use Rattle.reason_text.specs.Lines.{lines_of};
-ghost use Rattle.app_why.specs.Why.{IsSaid, IsWhy, IsWhyFault};
+ghost use Rattle.app_jobs.specs.Faults.{IsBatchFault};
+ghost use Rattle.app_why.specs.Why.{AreLines, IsSaid, IsWhy, IsWhyFault};
 
 use crate::answering::why_of;
 use crate::asking::WhyAsked;
 use crate::help::{USAGE, WHY_HELP};
+use crate::listing::lines_of_sought;
+use crate::opening::open_batch;
+use crate::sought::Sought;
 use crate::why_fault::WhyFault;
+use app_jobs::JobFault;
 use file_devices::Files;
 use reason_text::lines_of;
-use std::alloc::Global;
+use std::alloc::{AllocError, Global};
 use std::io;
 use std::io::Write;
 use std::thread::Threads;
@@ -38,6 +43,13 @@ pub fn answer_why<R: Threads, F: Files, O: Write, E: Write>(
                 }
             }
         }
+        WhyAsked::Messages(batch, sought) => match lines_of_batch(alloc, files, batch, sought) {
+            Ok(text) => put(out, &text),
+            Err(fault) => {
+                tell(err, &WhyFault::Job(fault), batch);
+                return 1;
+            }
+        },
         WhyAsked::Help => put(out, WHY_HELP.as_bytes()),
         WhyAsked::Wrong => {
             let _ = err.write_all(USAGE.as_bytes());
@@ -74,6 +86,23 @@ fn lines_of_files<R: Threads, F: Files>(
 {
     let explanation = why_of(rt, alloc, files, book, batch, index)?;
     Ok(lines_of(alloc, index, &explanation)?)
+}
+
+// The lines of the messages that are sought in this batch.
+fn lines_of_batch<F: Files>(
+    alloc: Global,
+    files: &F,
+    batch: &str,
+    sought: &Sought<'_>,
+) -> Result<Vec<u8>, JobFault>
+    ensures lines { IfOk result (λ text. AreLines (F.is_known files.now) (F.holds files.now) batch.now sought.now text.items) }
+    ensures fault { IfErr result (IsBatchFault (F.holds files.now) (F.failing files.now) batch.now) }
+{
+    let frames = open_batch(alloc, files, batch)?;
+    match lines_of_sought(alloc, &frames, sought) {
+        Ok(text) => Ok(text),
+        Err(AllocError) => Err(JobFault::OutOfMemory),
+    }
 }
 
 // Writes all of the text.

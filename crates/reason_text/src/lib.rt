@@ -33,5 +33,6 @@ mod settlement_words;
 mod status_words;
 mod transaction_words;
 
+pub use frame_words::FrameWords;
 pub use lines::lines_of;
 pub use rule_words::RuleWords;

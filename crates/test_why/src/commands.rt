@@ -1,6 +1,6 @@
 //! The command over files in memory: its statuses, and what stands on standard error.
 
-use app_why::{WhyAsked, answer_why};
+use app_why::{WhyAsked, answer_why, why_asked};
 use file_devices::MemoryFiles;
 use std::alloc::Global;
 use std::process::Abort;
@@ -12,6 +12,22 @@ const BOOK: &str =
 
 // A batch with one body, which is no message.
 const BATCH: &[u8] = b"I83B\x00\x01\x00\x00\x00\x01\x00\x04\x31\x31\x30\x30";
+
+// A batch with a request of trace number 000001, and a body that is no message.
+const DAY: &[u8] =
+    b"I83B\x00\x01\x00\x00\x00\x02\x00\x621100\x72\x30\x01\x01\x00\x80\x80\x00164111110000000005000000000000000100011012000000000126011012000010006123456TERM0001978\x00\x041100";
+
+// The line of the request.
+const REQUEST: &str =
+    "message  0: 1100 of card 411111******0005, amount 100, currency 978, processing code 000000, trace 000001, time 260110120000, acquirer 123456\n";
+
+// Commands that list messages, and what stands on standard output.
+const LISTS: &[(&str, &str)] = &[
+    ("switch why book day --trace 000001", REQUEST),
+    ("switch why book day --card 4111110000000005", REQUEST),
+    ("switch why book day --trace 000002", ""),
+    ("switch why book day --card 000001", ""),
+];
 
 // Commands: the names of their files and the place, the status, what stands on standard output, and on standard error.
 const COMMANDS: &[(&str, &str, usize, u8, &str, &str)] = &[
@@ -47,6 +63,7 @@ fn files(alloc: Global) -> Option<MemoryFiles> {
     let mut files = MemoryFiles::new(alloc);
     files.put("book", bytes_of(alloc, BOOK.as_bytes())?).ok()?;
     files.put("batch", bytes_of(alloc, BATCH)?).ok()?;
+    files.put("day", bytes_of(alloc, DAY)?).ok()?;
     Some(files)
 }
 
@@ -73,4 +90,24 @@ fn answers_the_commands(rt: HostRuntime) {
             "{book} {batch} {index}"
         );
     }
+}
+
+// What a line of words comes to, if it asks for `why`.
+fn said_of<R: Threads>(rt: &R, alloc: Global, line: &str) -> Option<(u8, Vec<u8>, Vec<u8>)> {
+    let mut words = Vec::new(alloc);
+    for word in line.split(' ') {
+        words.push(String::from_str(alloc, word).ok()?).ok()?;
+    }
+    said(rt, alloc, &why_asked(&words)?)
+}
+
+#[test]
+fn lists_what_is_sought(rt: HostRuntime) {
+    for (line, out) in LISTS {
+        let said = said_of(&rt, rt.alloc(), line).expect(&rt, "words of `why`");
+        assert!(rt; said.0 == 0 && said.2.is_empty(), "{line}");
+        assert!(rt; said.1.as_slice() == out.as_bytes(), "{line}");
+    }
+    let said = said_of(&rt, rt.alloc(), "switch why book day --amount 5");
+    assert!(rt; said.expect(&rt, "words of `why`").0 == 2);
 }

@@ -4,4 +4,4 @@ use Rattle.app_arguments.proofs.command_line.blocks_line.Goals as goal
 
 pub returns : goal.returns
 returns c =
-    IfOk-weaker c.arg.result _ _ (λ command adds. with_word _ _ _ _ _ adds (c.in_ok-with_engine.ensures _ c.in_ok-files.ensures) c.strict_flag.ensures) c.arg.ensures
+    IfOk-weaker c.arg.result _ _ (λ command adds. with_word _ _ _ _ _ adds (c.in_ok-shared.ensures _ c.in_ok-files.ensures) c.strict_flag.ensures) c.arg.ensures
