@@ -1,0 +1,26 @@
+use Rattle.std.proofs.Common.{◌≡◌, ◌∷◌, ◌+◌, ◌++◌, [], List, drop, refl, subst, sym, ap, ◌∙◌, length, arith, append-nil}
+use Rattle.std.proofs.lemmas.List.{drop_all}
+use Rattle.issuer_view.specs.Words.{Frame, overlay, reply_of, writes_of}
+use Rattle.issuer_fold.proofs.FoldLaws.{left_in_turn}
+use Rattle.engine_parts.specs.Decided.{AreDecidedTo}
+use Rattle.engine_parts.specs.TwoBooks.{joined}
+use Rattle.engine_parts.proofs.StepLaws.{all_decided_to, begins, goes_on}
+use Rattle.engine_parts.proofs.decided_part.DecidedPart.decide_each.Goals as goal
+
+pub loop-frame-init : goal.loop-frame-init
+loop-frame-init g c = rw (c.requires.replies, c.requires.rows) (begins c.args.opening.now c.args.own.now)
+
+pub loop-frame-preserved : goal.loop-frame-preserved
+loop-frame-preserved g c =
+    let own = c.args.own.now in
+    let i = c.loop-frame.frame-index in
+    let frame = c.frame-item.result in
+    let was = c.loop-frame.self in
+    let opening = c.args.opening.now in
+    let next = left_in_turn own i frame c.loop-frame-test.true c.frame-item.is in
+    let step = goes_on opening own was.replies.items was.rows frame (drop (i + 1) own)
+    (subst (λ (left : List Frame). AreDecidedTo opening own was.replies.items was.rows left) next c.loop-frame.invariant) in
+    rw (c.in_ok-reads.ensures.replies, c.in_ok-reads.ensures.rows) step
+
+pub returns : goal.returns
+returns g c = ?
