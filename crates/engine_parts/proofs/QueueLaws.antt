@@ -12,7 +12,8 @@ use Rattle.engine_parts.proofs.OrderLaws.{part_other, part_own, zip_done, zip_le
 use Rattle.engine_parts.specs.Decided.{AreInOrder, HaveParts, list_at, replies_of, with_next}
 
 module _ {A : Type 0} where
-  some_at : (xs : List A) (i : ℕ) → i < length xs → (x : A) × (slice_get xs i ≡ Some x)
+  -- an item at each place of a list
+  pub some_at : (xs : List A) (i : ℕ) → i < length xs → (x : A) × (slice_get xs i ≡ Some x)
   some_at [] i h = absurd (omega arith)
   some_at (x ∷ xs) zero h = (x, refl)
   some_at (x ∷ xs) (suc i) h = some_at xs i (omega arith)

@@ -1,6 +1,6 @@
 use Rattle.std.proofs.Common.{◌≡◌, ◌≤◌, ◌<◌, ◌+◌, ℕ, List, [], Some, length, get_or, slice_get, slice_index, replicate, subst, sym, ap, ◌∙◌, arith, rules, length-set}
 use Rattle.std.proofs.Math.ListN.{set}
-use Rattle.std.proofs.lemmas.Option.{slice_get-get_or}
+use Rattle.std.proofs.lemmas.Option.{get_or_from_slice_get, slice_get-get_or}
 use Rattle.issuer_view.specs.Words.{ReplyBody}
 use Rattle.engine_parts.proofs.QueueLaws.{below_at, in_order_all, in_order_first, in_order_next, length_replies, small_next, zeros}
 use Rattle.engine_parts.specs.Decided.{AreInOrder, list_at, replies_of, with_next}
@@ -32,9 +32,11 @@ loop-part-preserved c =
     let next = c.loop-part.next.items in
     let ordered = c.loop-part.ordered.items in
     let inside : i < length parts = c.loop-part-test.true in
-    let look = c.index-place in
-    let place_is : c.index-place.result.now ≡ slice_index next part = ? in
     let within : part < length others + 1 = below_at parts (length others + 1) i c.requires.below inside in
+    let in_next : part < length next = subst (λ (n : ℕ). part < n) (sym so.long) within in
+    let read_at = slice_get-get_or next part c.index-place.result.now in_next in
+    let place_is : c.index-place.result.now ≡ slice_index next part
+    = c.index-place.ensures ∙ sym (get_or_from_slice_get next part (get_or next part c.index-place.result.now) 0 read_at) in
     let pushed : c.push_reply.new.ordered.items ≡ with_next ordered (slice_get (list_at lists part) (slice_index next part))
     = c.in_ok-push_reply.ensures ∙ (λ j. with_next ordered (slice_get (c.of_part.ensures j) (place_is j))) in
     let read = in_order_next parts lists i part next ordered (slice_get-get_or parts i 0 inside) inside

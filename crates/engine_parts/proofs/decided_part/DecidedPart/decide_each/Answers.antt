@@ -23,4 +23,8 @@ loop-frame-preserved g c =
     rw (c.in_ok-reads.ensures.replies, c.in_ok-reads.ensures.rows) step
 
 pub returns : goal.returns
-returns g c = ?
+returns g c =
+    let own = c.args.own.now in
+    let i = c.loop-frame.frame-index in
+    let done = all_decided_to c.args.opening.now own c.loop-frame.self.replies.items c.loop-frame.self.rows (drop i own) c.loop-frame.invariant (drop_all i own c.loop-frame-test.false) in
+    record { replies = done.0; rows = done.1 }
