@@ -1,5 +1,5 @@
 -- A book that is seen through the rows that were written since.
-use Rattle.std.proofs.Common.{◌≡◌, ◌≢◌, Bool, true, false, ◌&&◌, if◌then◌else◌, List, [], ◌∷◌, Option, Some, None, IfSome, Ordering, Less, Equal, Greater, ◌⊎◌, inl, inr, refl, sym, ap, ◌∙◌, IsPermutation}
+use Rattle.std.proofs.Common.{◌≡◌, ◌≢◌, Bool, true, false, ◌&&◌, [], ◌∷◌, Option, Some, None, IfSome, Ordering, Less, Equal, Greater, ◌⊎◌, inl, inr, refl, sym, ap, ◌∙◌, IsPermutation}
 use Rattle.std.proofs.ByRecursion.{all_shuffled}
 use Rattle.std.proofs.lemmas.List.Sorted.{IsPermutation-sym}
 use Rattle.std.specs.FinMap as map
@@ -10,7 +10,6 @@ use Rattle.std.specs.Ordering.{is_eq, is_lt}
 use lib.Dec.{T}
 use Rattle.issuer_rows.proofs.BookLaws.{within_rows}
 use Rattle.issuer_rows.proofs.KeyLaws.{key_cmp_total, key_cmp_antisymmetric, key_eq_decides, same_test}
-use Rattle.issuer_rows.specs.Book.{value_at}
 use Rattle.issuer_laws.proofs.Keys.{get-put, get-other, same_or_other}
 use Rattle.issuer_view.specs.Words.{RowKey, RowVal, Rows, Writes, key_cmp, key_eq, overlay}
 use Rattle.engine_parts.specs.TwoBooks.{first_of, joined}

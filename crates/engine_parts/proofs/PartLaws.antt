@@ -1,5 +1,5 @@
 -- One part that is decided alone: which rows it writes, and what they are.
-use Rattle.std.proofs.Common.{◌≡◌, ◌≢◌, ℕ, ◌==◌, true, false, if◌then◌else◌, List, [], ◌∷◌, Option, Some, None, ◌⊎◌, inl, inr, refl, sym, ap, ◌∙◌, subst, arith}
+use Rattle.std.proofs.Common.{◌≡◌, ◌≢◌, ℕ, ◌==◌, true, false, if◌then◌else◌, List, [], ◌∷◌, None, ◌⊎◌, inl, inr, refl, sym, ap, ◌∙◌, subst, arith}
 use Rattle.std.proofs.lemmas.Bool.Decides.{nat_tests}
 use Rattle.std.specs.FinMap as map
 use Rattle.std.specs.List.{AllByRecursion}
@@ -7,7 +7,7 @@ use Rattle.issuer_laws.proofs.Keys.{get-other, same_or_other}
 use Rattle.issuer_laws.proofs.Needed.{IsFollowing, follows_itself, follows_one, written_needed}
 use Rattle.issuer_laws.proofs.Parts.{decided_alone, each_of, unwritten}
 use Rattle.issuer_laws.specs.Parts.{IsIn, may_need, Parted, bodies, of_part, IsOfPart, AreApart, HasPart}
-use Rattle.issuer_view.specs.Words.{Frame, RowKey, RowVal, Rows, Writes, key_cmp, overlay, rows_after, rows_after_one, writes_of}
+use Rattle.issuer_view.specs.Words.{Frame, RowKey, Rows, Writes, key_cmp, overlay, rows_after, rows_after_one, writes_of}
 use Rattle.engine_parts.proofs.JoinLaws.{joined_nothing, joined_overlay}
 use Rattle.engine_parts.specs.TwoBooks.{joined, rows_written, rows_of_part}
 

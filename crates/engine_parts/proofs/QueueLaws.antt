@@ -1,14 +1,13 @@
 -- Lists that are read in turn, each item as the next one of its part.
-use Rattle.std.proofs.Common.{◌≡◌, ◌≢◌, ℕ, zero, suc, ◌+◌, ◌<◌, ◌≤◌, ◌==◌, true, false, List, [], ◌∷◌, ◌++◌, length, drop, get_or, replicate, zip, Option, Some, None, slice_get, slice_index, refl, sym, ap, ◌∙◌, subst, arith, add-one, append_assoc, append-nil, get_or-set_other, get_or-set_same}
+use Rattle.std.proofs.Common.{◌≡◌, ◌≢◌, ℕ, zero, suc, ◌+◌, ◌<◌, ◌≤◌, ◌==◌, true, false, List, [], ◌∷◌, ◌++◌, length, drop, get_or, replicate, zip, Option, Some, slice_get, slice_index, refl, sym, ap, ◌∙◌, subst, arith, add-one, append_assoc, append-nil, get_or-set_other, get_or-set_same}
 use Rattle.std.proofs.Math.ListN.{set}
 use Rattle.std.proofs.lemmas.Bool.Decides.{nat_tests}
-use Rattle.std.proofs.lemmas.Option.{same_Some}
 use Rattle.std.specs.List.{AllByRecursion}
 use Rattle.issuer_view.specs.Words.{ReplyBody}
 use Rattle.engine_parts.specs.declared.decided_part.DecidedPart.{DecidedPart}
 use Rattle.issuer_fold.proofs.FoldLaws.{left_at}
 use Rattle.issuer_laws.specs.Parts.{of_part}
-use Rattle.engine_parts.proofs.OrderLaws.{part_other, part_own, zip_done, zip_left}
+use Rattle.engine_parts.proofs.OrderLaws.{part_other, part_own, zip_left}
 use Rattle.engine_parts.specs.Decided.{AreInOrder, HaveParts, list_at, replies_of, with_next}
 
 module _ {A : Type 0} where

@@ -1,4 +1,4 @@
-use Rattle.std.proofs.Common.{◌≡◌, rules, sym, subst, List, ◌∙◌, ap, Some}
+use Rattle.std.proofs.Common.{◌≡◌, sym, subst, List, Some}
 use Rattle.std.proofs.ByRecursion.{all_shuffled}
 use Rattle.std.specs.FinMap as map
 use Rattle.std.specs.List.{AllByRecursion}

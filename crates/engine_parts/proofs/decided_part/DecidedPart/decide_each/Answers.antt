@@ -1,9 +1,8 @@
-use Rattle.std.proofs.Common.{◌≡◌, ◌∷◌, ◌+◌, ◌++◌, [], List, drop, refl, subst, sym, ap, ◌∙◌, length, arith, append-nil}
+use Rattle.std.proofs.Common.{◌+◌, List, drop, subst}
 use Rattle.std.proofs.lemmas.List.{drop_all}
-use Rattle.issuer_view.specs.Words.{Frame, overlay, reply_of, writes_of}
+use Rattle.issuer_view.specs.Words.{Frame}
 use Rattle.issuer_fold.proofs.FoldLaws.{left_in_turn}
 use Rattle.engine_parts.specs.Decided.{AreDecidedTo}
-use Rattle.engine_parts.specs.TwoBooks.{joined}
 use Rattle.engine_parts.proofs.StepLaws.{all_decided_to, begins, goes_on}
 use Rattle.engine_parts.proofs.decided_part.DecidedPart.decide_each.Goals as goal
 

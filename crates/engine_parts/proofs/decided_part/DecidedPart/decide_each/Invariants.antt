@@ -1,4 +1,4 @@
-use Rattle.std.proofs.Common.{◌≡◌, drop}
+use Rattle.std.proofs.Common.{drop}
 use Rattle.engine_parts.specs.Decided.{AreDecidedTo}
 use Rattle.engine_parts.proofs.decided_part.DecidedPart.decide_each.Given as goal
 
