@@ -2,7 +2,7 @@ ghost use Rattle.std.specs.Prelude.{◌≡◌, [], false};
 ghost use Rattle.std.specs.FinMap as map;
 
 use issuer_rows::{Book, ReplyBody};
-use std::alloc::Global;
+use std::alloc::{AllocError, Global};
 
 /// A part of a batch, decided over the opening book.
 #[derive(Drop)]
@@ -27,5 +27,15 @@ impl DecidedPart {
             rows: Book::new(alloc),
             is_whole: false,
         }
+    }
+
+    /// Makes room for so many messages. It fails only where memory runs out; what is decided is the same either way.
+    pub(crate) fn make_room(&mut self, messages: usize) -> Result<(), AllocError>
+        ensures replies { self.new.replies.items ≡ self.old.replies.items }
+        ensures rows { self.new.rows ≡ self.old.rows }
+    {
+        self.rows.reserve(messages)?;
+        self.replies.reserve(messages)?;
+        Ok(())
     }
 }

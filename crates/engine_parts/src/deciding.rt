@@ -5,6 +5,7 @@ ghost use Rattle.issuer_view.specs.Words.{AgreesWithBook, overlay, reply_of, wri
 ghost use Rattle.engine_parts.specs.Decided.{AreDecided, bodies_of};
 ghost use Rattle.engine_parts.specs.TwoBooks.{joined};
 
+use crate::card_hints::CardHints;
 use crate::decided_part::DecidedPart;
 use crate::gathering::gather;
 use crate::part_rows::PartRows;
@@ -46,10 +47,14 @@ impl DecidedPart {
         requires rows { self.old.rows ≡ map.empty }
         ensures { OnOk result (AreDecided opening.now own.now self.new) }
     {
+        self.make_room(own.len())?;
+        let mut hints = CardHints::new(alloc, opening, own.len())?;
         let mut reads = ReadSet::new(alloc);
         let mut writes = WriteSet::new(alloc);
         for frame in own {
-            (reads, writes) = self.decide_next(opening, frame, decision, reads, writes)?;
+            (reads, writes) = self.decide_next(
+                opening, frame, decision, &mut hints, reads, writes,
+            )?;
         }
         Ok(())
     }
@@ -61,18 +66,21 @@ impl DecidedPart {
         opening: &Book,
         frame: &Frame,
         decision: &F,
+        hints: &mut CardHints,
         reads: ReadSet,
         writes: WriteSet,
     ) -> Result<(ReadSet, WriteSet), AllocError>
         ensures rows { OnOk result (self.new.rows ≡ overlay self.old.rows (writes_of (joined opening.now self.old.rows) frame.now)) }
         ensures replies { OnOk result (self.new.replies.items ≡ self.old.replies.items ++ reply_of (joined opening.now self.old.rows) frame.now ∷ []) }
     {
-        let rows = PartRows::new(opening, &self.rows, Places::new(), Places::new());
+        let (seen, own) = hints.places_of(frame);
+        let rows = PartRows::new(opening, &self.rows, seen, own);
         let mut recorder = Recorder::over(rows, reads, writes);
         let decided = decision.decide(frame, &mut recorder);
         let (source, reads, writes) = recorder.into_parts();
-        let (_seen, mut own) = source.into_places();
+        let (seen, mut own) = source.into_places();
         self.append(opening, frame, &decided, &reads, &writes, &mut own)?;
+        hints.note(frame, &seen, &own);
         Ok((reads, writes))
     }
 

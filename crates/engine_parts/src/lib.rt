@@ -1,6 +1,7 @@
 //! Decides a batch in parts of which no two need the same row, each on a thread of its own, without a lock.
 #![tactic(auto)]
 
+mod card_hints;
 mod decided_part;
 mod deciding;
 mod gathering;

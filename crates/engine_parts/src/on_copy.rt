@@ -8,7 +8,8 @@ use issuer_rows::{Book, Frame};
 use issuer_view::Decide;
 use std::alloc::{AllocError, Global};
 
-/// Decides the messages of a part in their order, on a copy of the opening book. It fails only where memory runs out.
+/// Decides the messages of a part in their order, on a copy of the opening book, with room for the rows of all parts. It fails only
+/// where memory runs out.
 pub(crate) fn decide_on_copy<F: Decide>(
     alloc: Global,
     opening: &Book,
@@ -24,6 +25,7 @@ pub(crate) fn decide_on_copy<F: Decide>(
 {
     let own = gather(alloc, frames, parts, part)?;
     let mut prefix = Prefix::new(alloc, opening.copy()?);
+    prefix.make_ready(frames.len())?;
     prefix.decide_each(alloc, &own, decision)?;
     Ok(prefix)
 }

@@ -7,7 +7,7 @@ use Rattle.engine_parts.proofs.StepLaws.{all_decided_to, begins, goes_on}
 use Rattle.engine_parts.proofs.decided_part.DecidedPart.decide_each.Goals as goal
 
 pub loop-frame-init : goal.loop-frame-init
-loop-frame-init g c = rw (c.requires.replies, c.requires.rows) (begins c.args.opening.now c.args.own.now)
+loop-frame-init g c = rw (c.make_room.ensures.replies, c.make_room.ensures.rows, c.requires.replies, c.requires.rows) (begins c.args.opening.now c.args.own.now)
 
 pub loop-frame-preserved : goal.loop-frame-preserved
 loop-frame-preserved g c =
