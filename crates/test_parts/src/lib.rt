@@ -1,5 +1,7 @@
-//! Tests of parts: how a batch falls into them.
+//! Tests of parts: how a batch falls into them, and what it comes to, decided in parts.
 #![tactic(auto)]
 
 #[cfg(test)]
 mod plans;
+#[cfg(test)]
+mod runs;

@@ -1,0 +1,6 @@
+pub mod JoinLaws
+pub mod OrderLaws
+pub mod PartLaws
+pub mod QueueLaws
+pub mod StepLaws
+pub mod WholeLaws

@@ -1,0 +1,115 @@
+ghost use Rattle.std.specs.Prelude.{◌≡◌, ◌∷◌, [], ◌++◌, length, true, Some, IfOk, IfErr, OnOk};
+ghost use Rattle.std.specs.FinMap as map;
+ghost use Rattle.issuer_rows.specs.Agreement.{IsLocal};
+ghost use Rattle.issuer_view.specs.Words.{AgreesWithBook, overlay, reply_of, writes_of};
+ghost use Rattle.engine_parts.specs.Decided.{AreDecided, bodies_of};
+ghost use Rattle.engine_parts.specs.TwoBooks.{joined};
+
+use crate::card_hints::CardHints;
+use crate::decided_part::DecidedPart;
+use crate::gathering::gather;
+use crate::part_rows::PartRows;
+use crate::writing::put_all;
+use issuer_rows::{Book, Frame, Places, ReplyBody};
+use issuer_view::{Decide, ReadSet, Recorder, Stop, WriteSet};
+use std::alloc::{AllocError, Global};
+
+/// Decides the messages of a part in their order, over the opening book, which stays as it is, and rows of their own, unless memory runs
+/// out.
+pub(crate) fn decide_part<F: Decide>(
+    alloc: Global,
+    opening: &Book,
+    frames: &[Frame],
+    parts: &[u32],
+    part: usize,
+    decision: &F,
+) -> DecidedPart
+    requires { length parts.now ≡ length frames.now }
+    ensures { result.is_whole ≡ true → AreDecided opening.now (bodies_of part parts.now frames.now) result }
+{
+    let mut decided = DecidedPart::new(alloc);
+    if let Ok(own) = gather(alloc, frames, parts, part) {
+        decided.is_whole = decided.decide_each(alloc, opening, &own, decision).is_ok();
+    }
+    decided
+}
+
+impl DecidedPart {
+    // Decides these messages in their order, before which none was. It fails only where memory runs out.
+    fn decide_each<F: Decide>(
+        &mut self,
+        alloc: Global,
+        opening: &Book,
+        own: &[Frame],
+        decision: &F,
+    ) -> Result<(), AllocError>
+        requires replies { self.old.replies.items ≡ [] }
+        requires rows { self.old.rows ≡ map.empty }
+        ensures { OnOk result (AreDecided opening.now own.now self.new) }
+    {
+        self.make_room(own.len())?;
+        let mut hints = CardHints::new(alloc, opening, own.len())?;
+        let mut reads = ReadSet::new(alloc);
+        let mut writes = WriteSet::new(alloc);
+        for frame in own {
+            (reads, writes) = self.decide_next(
+                opening, frame, decision, &mut hints, reads, writes,
+            )?;
+        }
+        Ok(())
+    }
+
+    // Decides the next message by any local decision. It goes over the memory of two sets, which are handed back with the rows that were
+    // read and written. It fails only where memory runs out.
+    fn decide_next<F: Decide>(
+        &mut self,
+        opening: &Book,
+        frame: &Frame,
+        decision: &F,
+        hints: &mut CardHints,
+        reads: ReadSet,
+        writes: WriteSet,
+    ) -> Result<(ReadSet, WriteSet), AllocError>
+        ensures rows { OnOk result (self.new.rows ≡ overlay self.old.rows (writes_of (joined opening.now self.old.rows) frame.now)) }
+        ensures replies { OnOk result (self.new.replies.items ≡ self.old.replies.items ++ reply_of (joined opening.now self.old.rows) frame.now ∷ []) }
+    {
+        let (seen, own) = hints.places_of(frame);
+        let rows = PartRows::new(opening, &self.rows, seen, own);
+        let mut recorder = Recorder::over(rows, reads, writes);
+        let decided = decision.decide(frame, &mut recorder);
+        let (source, reads, writes) = recorder.into_parts();
+        let (seen, mut own) = source.into_places();
+        self.append(opening, frame, &decided, &reads, &writes, &mut own)?;
+        hints.note(frame, &seen, &own);
+        Ok((reads, writes))
+    }
+
+    // One more message, as it was decided by the rows that the part sees. What was read is for the clauses alone.
+    fn append(
+        &mut self,
+        opening: &Book,
+        frame: &Frame,
+        decided: &Result<ReplyBody, Stop>,
+        reads: &ReadSet,
+        writes: &WriteSet,
+        places: &mut Places,
+    ) -> Result<(), AllocError>
+        requires local { IfOk decided.now (λ reply. IsLocal frame.now reads.now writes.now reply) }
+        requires agrees { AgreesWithBook (Some (joined opening.now self.old.rows)) reads.now }
+        requires stops { IfErr decided.now (λ stop. stop ≡ Stop.OutOfMemory) }
+        ensures rows { OnOk result (self.new.rows ≡ overlay self.old.rows (writes_of (joined opening.now self.old.rows) frame.now)) }
+        ensures replies { OnOk result (self.new.replies.items ≡ self.old.replies.items ++ reply_of (joined opening.now self.old.rows) frame.now ∷ []) }
+    {
+        let _ = opening;
+        let _ = reads;
+        match decided {
+            Ok(reply) => {
+                put_all(&mut self.rows, writes, places)?;
+                self.replies.push(*reply)?;
+                Ok(())
+            }
+            Err(Stop::OutOfMemory) => Err(AllocError),
+            Err(_) => unreachable!(),
+        }
+    }
+}

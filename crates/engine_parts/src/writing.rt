@@ -1,0 +1,48 @@
+ghost use Rattle.std.specs.Prelude.{◌≡◌, OnOk, Some};
+ghost use Rattle.std.specs.FinMap as map;
+ghost use Rattle.engine_parts.specs.TwoBooks.{joined};
+ghost use Rattle.issuer_view.specs.Words.{IsOfKind, overlay};
+
+use issuer_rows::{Book, Places, RowKey, RowVal};
+use issuer_view::WriteSet;
+use std::alloc::AllocError;
+
+/// Writes these rows, one after another, each where it was found. It fails only where memory runs out, and some are written then.
+pub(crate) fn put_all(
+    book: &mut Book,
+    writes: &WriteSet,
+    places: &mut Places,
+) -> Result<(), AllocError>
+    ensures { OnOk result (book.new ≡ overlay book.old writes.now) }
+{
+    for index in 0..writes.len() {
+        let (key, row) = writes.row(index);
+        book.put_copy_near(key, row, places)?;
+    }
+    Ok(())
+}
+
+/// Writes the rows of the other book over those of this one. It fails only where memory runs out, and some are written then.
+pub(crate) fn put_book(book: &mut Book, written: &Book) -> Result<(), AllocError>
+    ensures { OnOk result (book.new ≡ joined book.old written.now) }
+{
+    for (key, val) in written.rows() {
+        book.put_copy(key, row_of(written, key, val))?;
+    }
+    Ok(())
+}
+
+// A row of the book where it stands. Each is of its key's kind, so that none is looked up.
+fn row_of<'a>(written: &'a Book, key: &RowKey, val: &'a RowVal) -> &'a RowVal
+    requires { map.get written.now key.now ≡ Some val.now }
+    ensures same { result.now ≡ val.now }
+    ensures kind { IsOfKind key.now result.now }
+{
+    if val.suits(key) {
+        return val;
+    }
+    match written.row(key) {
+        Some(row) => row,
+        None => unreachable!(),
+    }
+}
