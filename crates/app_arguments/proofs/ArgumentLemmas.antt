@@ -13,7 +13,7 @@ use Rattle.clap.specs.declared.error.kind.ErrorKind.TheVariants as kinds
 use Rattle.file_batch.specs.declared.strictness.Strictness.{Strictness}
 use Rattle.file_listing.specs.Bodies.{body_of}
 use Rattle.engine_workers.specs.declared.engine.Engine.{Engine}
-use Rattle.engine_workers.specs.declared.engine.Engine.TheVariants.{Locked, Split}
+use Rattle.engine_workers.specs.declared.engine.Engine.TheVariants.{Locked, Split, Parts}
 use Rattle.app_arguments.specs.Asked.{Asked, Names, asked, asked_of, audit, audit_blocks, audit_blocks_in, audit_in, blocks, blocks_in, engine_for, engine_in, help, names_in, one, one_in, pack, pack_in, run, run_by, run_in, run_with_journal, serial, serial_in, show, show_in, strictness_in, version, workers_in}
 use Rattle.app_arguments.specs.CommandLine.{command_line}
 use Rattle.app_arguments.specs.Arguments.{IsRead, IsReadAs, IsReadOfKind, asked_in}
@@ -85,6 +85,7 @@ of_run : (names : Names) (workers : ℕ) (engine : Engine) (strictness : Strictn
 of_run names workers engine strictness None what h = let same : run names workers engine strictness ≡ what = cc in rw (← same) refl
 of_run names workers Locked strictness (Some journal) what h = let same : run_with_journal names workers journal strictness ≡ what = cc in rw (← same) refl
 of_run names workers Split strictness (Some journal) what h = cc
+of_run names workers Parts strictness (Some journal) what h = cc
 
 of_subcommand : (a b c d e f g i : Bool) (rows : List Row) (what : Asked)
     → (if a then one_in rows

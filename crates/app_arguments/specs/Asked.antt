@@ -3,7 +3,7 @@ use Rattle.std.specs.Prelude.{◌&&◌, ℕ, List, Option, Some, None, codes, na
 use Rattle.std.specs.Str.{bytes_eq}
 use Rattle.clap.specs.Walk.{Row, Text, byte_or_zero, first_of}
 use Rattle.engine_workers.specs.declared.engine.Engine.{Engine}
-use Rattle.engine_workers.specs.declared.engine.Engine.TheVariants.{Locked, Split}
+use Rattle.engine_workers.specs.declared.engine.Engine.TheVariants.{Locked, Split, Parts}
 use Rattle.file_batch.specs.declared.strictness.Strictness.{Strictness}
 use Rattle.file_batch.specs.declared.strictness.Strictness.TheVariants.{Lenient, Strict}
 use Rattle.file_listing.specs.Bodies.{body_of}
@@ -38,7 +38,10 @@ workers_in rows = option_and_then worker_count (first_of (codes "workers") rows)
 
 -- the engine of this name
 abbrev pub engine_named : Text → Option Engine
-engine_named text = if bytes_eq text (codes "locked") then Some Locked else (if bytes_eq text (codes "split") then Some Split else None)
+engine_named text =
+    if bytes_eq text (codes "locked") then Some Locked
+    else (if bytes_eq text (codes "split") then Some Split
+    else (if bytes_eq text (codes "parts") then Some Parts else None))
 
 -- the engine of this name; where there is none, this one
 abbrev pub engine_or : Engine → Option Text → Option Engine
@@ -88,6 +91,7 @@ abbrev pub run_by : Names → ℕ → Engine → Strictness → Option Text → 
 run_by names workers engine strictness None = Some (run names workers engine strictness)
 run_by names workers Locked strictness (Some journal) = Some (run_with_journal names workers journal strictness)
 run_by names workers Split strictness (Some journal) = None
+run_by names workers Parts strictness (Some journal) = None
 
 -- the files, the workers and the engine behind `run`, and the journal
 abbrev pub run_in : List Row → Option Asked

@@ -80,12 +80,12 @@ fn wrong_word(matches: &ArgMatches<'_>) -> &'static str {
 // What is wrong with the settings of a subcommand that decides.
 fn wrong_setting(deciding: &ArgMatches<'_>) -> &'static str {
     if engine_of(deciding, Engine::Split).is_none() {
-        return "--engine is locked or split";
+        return "--engine is locked, split or parts";
     }
     if workers_of(deciding).is_none() {
         return "--workers is a number from 1 to 64";
     }
-    "--journal asks for --engine locked: the split engine keeps no journal"
+    "--journal asks for --engine locked: the others keep no journal"
 }
 
 // The word of this name.
@@ -138,7 +138,7 @@ fn run_of(alloc: Global, matches: &ArgMatches<'_>) -> Result<Option<Command>, Al
     Ok(run_by(names, workers, engine, strictness_of(matches), journal))
 }
 
-// A run by this engine. The split engine keeps no journal.
+// A run by this engine. The locked engine alone keeps a journal.
 fn run_by(
     names: BatchNames,
     workers: Workers,
@@ -162,7 +162,7 @@ fn run_by(
                 journal,
                 strictness,
             }),
-            Engine::Split => None,
+            Engine::Split | Engine::Parts => None,
         },
     }
 }
@@ -245,6 +245,7 @@ fn engine_of(matches: &ArgMatches<'_>, engine: Engine) -> Option<Engine>
         None => Some(engine),
         Some("locked") => Some(Engine::Locked),
         Some("split") => Some(Engine::Split),
+        Some("parts") => Some(Engine::Parts),
         Some(_) => None,
     }
 }

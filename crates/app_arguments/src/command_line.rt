@@ -97,7 +97,7 @@ fn run_line<'a>(alloc: Global) -> Result<Command<'a>, AllocError>
         alloc,
         files,
         "How many threads may decide: 1 to 64",
-        "How they share their work: split, each row, message and commit under a lock of its own, and of a long batch only what takes long to decide; locked, all of it under one lock, slower, with a journal. Without it: split, and locked with --journal",
+        "How they share their work: split, each row, message and commit under a lock of its own, and of a long batch only what takes long to decide; parts, no lock at all, where a batch falls into parts that share no row, each with a worker of its own; locked, all of it under one lock, slower, with a journal. Without it: split, and locked with --journal",
     )?;
     let logged = shared.arg(journal_setting(
         alloc,
@@ -127,7 +127,7 @@ fn blocks_line<'a>(alloc: Global) -> Result<Command<'a>, AllocError>
         alloc,
         files,
         "How many threads may decide: 1 to 64; one does, since each block is decided on the book itself",
-        "How they would share their work: split or locked",
+        "How they would share their work: split, parts or locked",
     )?;
     shared.arg(strict_flag(alloc))
 }

@@ -5,6 +5,7 @@ ghost use Rattle.app_jobs.specs.Deciding.{DecidesFiles};
 
 use app_jobs::{JobFault, decide_batch};
 use engine_locked::run;
+use engine_parts::run_parts;
 use engine_split::run_split;
 use engine_workers::{Engine, NoHook, Workers};
 use file_batch::{BodyCount, Strictness};
@@ -53,5 +54,6 @@ pub fn decide_by<R: Clock + Threads + Wait + Sync>(
     match engine {
         Engine::Locked => run(rt, alloc, book, frames, workers, &Shipped, &NoHook),
         Engine::Split => run_split(rt, alloc, book, frames, workers, &Shipped, &NoHook),
+        Engine::Parts => run_parts(rt, alloc, book, frames, workers, &Shipped),
     }
 }

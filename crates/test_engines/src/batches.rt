@@ -21,6 +21,9 @@ const RUNS: &[(Engine, u32)] = &[
     (Engine::Split, 1),
     (Engine::Split, 4),
     (Engine::Split, 64),
+    (Engine::Parts, 1),
+    (Engine::Parts, 4),
+    (Engine::Parts, 64),
 ];
 
 // Holds each message a little, so that several workers take part in a short batch too.

@@ -2,6 +2,7 @@
 ghost use Rattle.std.specs.Prelude.{◌≤◌, length};
 
 use engine_locked::run;
+use engine_parts::run_parts;
 use engine_split::run_split;
 use engine_workers::{Engine, Hook, Workers};
 use issuer_fold::RunOutcome;
@@ -21,7 +22,7 @@ pub(crate) struct Commits {
     pub(crate) bodies: usize,
 }
 
-/// The bodies, decided on the book by so many workers of this engine; nothing where memory runs out.
+/// The bodies, decided on the book by so many workers of this engine; nothing where memory runs out. Parts have no hook.
 pub(crate) fn decided_by<R: Clock + Threads + Wait + Sync, F: Decide + Sync, G: Hook>(
     rt: &R,
     alloc: Global,
@@ -37,6 +38,7 @@ pub(crate) fn decided_by<R: Clock + Threads + Wait + Sync, F: Decide + Sync, G: 
     match run_by.0 {
         Engine::Locked => run(rt, alloc, book, frames, workers, decision, hook).ok(),
         Engine::Split => run_split(rt, alloc, book, frames, workers, decision, hook).ok(),
+        Engine::Parts => run_parts(rt, alloc, book, frames, workers, decision).ok(),
     }
 }
 

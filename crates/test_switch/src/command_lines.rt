@@ -100,9 +100,9 @@ const WORDS: &str = r#"# Words that are none.
 2 switch run book batch replies after --engine 00*0
 2 switch run book batch replies after --engine split_
 
-# The split engine keeps no journal, and a word says so.
+# The locked engine alone keeps a journal, and a word says so.
 2 switch run book batch replies after --engine split --journal journal
-! --journal asks for --engine locked: the split engine keeps no journal
+! --journal asks for --engine locked: the others keep no journal
 
 # The version.
 0 switch --version
