@@ -4,12 +4,11 @@
 mod asking;
 mod help;
 mod telling;
-
 mod unpack_fault;
 mod unpacking;
 
+pub use asking::{UnpackAsked, unpack_asked};
 pub use help::UNPACK_HELP;
 pub use telling::answer_unpack;
-pub use asking::{UnpackAsked, unpack_asked};
 pub use unpack_fault::UnpackFault;
 pub use unpacking::unpack;

@@ -2,8 +2,8 @@ ghost use Rattle.std.specs.Prelude.{◌≡◌, ◌≤◌, IsOk, OnOk};
 ghost use Rattle.std.specs.Io.KnownBytes.{Appends};
 ghost use Rattle.app_messages.specs.Unpacked.{IsSaid};
 
-use crate::help::{UNPACK_HELP, UNPACK_USAGE};
 use crate::asking::UnpackAsked;
+use crate::help::{UNPACK_HELP, UNPACK_USAGE};
 use crate::unpacking::unpack;
 use file_devices::Files;
 use std::alloc::Global;

@@ -2,6 +2,7 @@
 #![tactic(auto)]
 
 use app_commands::{Fault, Printer, act, print_fault};
+use app_messages::{UnpackAsked, answer_unpack, unpack_asked};
 use app_why::{answer_why, why_asked};
 use app_words::topic_asked;
 use file_devices::{FromRead, HostFiles, IntoWrite};
@@ -41,6 +42,8 @@ fn main(rt: HostRuntime) -> ExitCode {
         replay_words(&rt, rt, &mut files, asked, &mut out, &mut err)
     } else if let Some(asked) = audit_log_asked(&words) {
         audit_log_words(&rt, rt, &files, asked, &mut out, &mut err)
+    } else if let Some(asked) = unpack_asked(&words) {
+        unpack_words(rt, &files, &asked)
     } else {
         act(&rt, rt.alloc(), &mut files, &words, &mut out, &mut err)
     };
@@ -123,6 +126,17 @@ fn audit_log_words<R: Threads, O: Write, E: Write>(
             err,
         ),
     }
+}
+
+// Does what is asked of a batch's bodies.
+fn unpack_words(host: HostRuntime, files: &HostFiles<HostRuntime>, asked: &UnpackAsked<'_>) -> u8 {
+    answer_unpack(
+        host.alloc(),
+        files,
+        asked,
+        &mut host.stdout(),
+        &mut host.stderr(),
+    )
 }
 
 // Prints what a command takes.

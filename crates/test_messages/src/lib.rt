@@ -1,0 +1,5 @@
+//! Tests of messages that are written by hand and of batches that are taken apart, over files in memory.
+#![tactic(auto)]
+
+#[cfg(test)]
+mod unpacking;
