@@ -39,8 +39,8 @@ pub fn answer_unpack<F: Files, O: Write, E: Write>(
     status_of(said, err)
 }
 
-// 0, or 1 where it wasn't all written.
-fn status_of<E: Write>(said: io::Result<()>, err: &mut E) -> u8
+/// 0, or 1 where it wasn't all written.
+pub(crate) fn status_of<E: Write>(said: io::Result<()>, err: &mut E) -> u8
     ensures bound { result ≤ 1 }
     ensures done { result ≡ 0 → IsOk said }
 {
@@ -51,8 +51,8 @@ fn status_of<E: Write>(said: io::Result<()>, err: &mut E) -> u8
     1
 }
 
-// Writes all of the text.
-fn put<W: Write>(writer: &mut W, text: &[u8]) -> io::Result<()>
+/// Writes all of the text.
+pub(crate) fn put<W: Write>(writer: &mut W, text: &[u8]) -> io::Result<()>
     ensures { OnOk result (Appends (W.contents writer.old) (W.contents writer.new) text.now) }
 {
     writer.write_all(text)

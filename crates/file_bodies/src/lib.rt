@@ -8,4 +8,4 @@ mod laws;
 mod lines;
 
 pub use laws::lines_are_packed_again;
-pub use lines::lines_of_batch;
+pub use lines::{line_of_body, lines_of_batch};

@@ -57,3 +57,12 @@ fn add_line(alloc: Global, text: &mut Vec<u8>, body: &[u8]) -> Result<(), AllocE
     text.push(b'\n')?;
     Ok(())
 }
+
+/// The line of a body, in hexadecimal digits of lower case, with its line feed.
+pub fn line_of_body(alloc: Global, body: &[u8]) -> Result<Vec<u8>, AllocError>
+    ensures { IfOk result (λ line. line.items ≡ body_line body.now) }
+{
+    let mut line = Vec::new(alloc);
+    add_line(alloc, &mut line, body)?;
+    Ok(line)
+}
