@@ -24,11 +24,14 @@ impl fmt::Display for MakeWords<'_> {
                 "make: word {} behind the type is no NAME=VALUE; `switch make --help` lists the names",
                 place.saturating_add(1)
             ),
-            MakeFault::Twice(element) => {
-                write!(f, "make: {} is given twice", Named(element))
-            }
+            MakeFault::Twice(element) => { write!(f, "make: {} is given twice", Named(element)) }
             MakeFault::Value(element) => {
-                write!(f, "make: {} can't be so: {}", Named(element), format_of(element))
+                write!(
+                    f,
+                    "make: {} can't be so: {}",
+                    Named(element),
+                    format_of(element)
+                )
             }
             MakeFault::Body(fault) => put_body_fault(f, self.kind, fault),
             MakeFault::OutOfMemory => write!(f, "memory 1"),

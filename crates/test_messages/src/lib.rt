@@ -2,4 +2,6 @@
 #![tactic(auto)]
 
 #[cfg(test)]
+mod making;
+#[cfg(test)]
 mod unpacking;
