@@ -2,6 +2,7 @@
 #![tactic(auto)]
 
 use app_commands::{Fault, Printer, act, print_fault};
+use app_messages::{MakeAsked, UnpackAsked, answer_make, answer_unpack, make_asked, unpack_asked};
 use app_why::{answer_why, why_asked};
 use app_words::topic_asked;
 use file_devices::{FromRead, HostFiles, IntoWrite};
@@ -41,6 +42,10 @@ fn main(rt: HostRuntime) -> ExitCode {
         replay_words(&rt, rt, &mut files, asked, &mut out, &mut err)
     } else if let Some(asked) = audit_log_asked(&words) {
         audit_log_words(&rt, rt, &files, asked, &mut out, &mut err)
+    } else if let Some(asked) = make_asked(&words) {
+        make_words(rt, &asked)
+    } else if let Some(asked) = unpack_asked(&words) {
+        unpack_words(rt, &files, &asked)
     } else {
         act(&rt, rt.alloc(), &mut files, &words, &mut out, &mut err)
     };
@@ -123,6 +128,22 @@ fn audit_log_words<R: Threads, O: Write, E: Write>(
             err,
         ),
     }
+}
+
+// Does what is asked of a message from words.
+fn make_words(host: HostRuntime, asked: &MakeAsked<'_>) -> u8 {
+    answer_make(host.alloc(), asked, &mut host.stdout(), &mut host.stderr())
+}
+
+// Does what is asked of a batch's bodies.
+fn unpack_words(host: HostRuntime, files: &HostFiles<HostRuntime>, asked: &UnpackAsked<'_>) -> u8 {
+    answer_unpack(
+        host.alloc(),
+        files,
+        asked,
+        &mut host.stdout(),
+        &mut host.stderr(),
+    )
 }
 
 // Prints what a command takes.

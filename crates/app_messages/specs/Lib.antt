@@ -1,0 +1,4 @@
+pub mod Unpacked
+pub mod UnpackAsked
+pub mod MakeAsked
+pub mod Made

@@ -1,0 +1,2 @@
+mod Steps
+mod PackedAgain

@@ -1,0 +1,4 @@
+pub mod Names
+pub mod Texts
+pub mod Givens
+pub mod Made
