@@ -91,7 +91,7 @@ fn decide_apart<R: Threads + Sync, F: Decide + Sync>(
     let last = count as usize - 1;
     let parts = plan.parts();
     let (others, mine) = decide_all_parts(rt, alloc, book, frames, parts, last, decision)?;
-    let (book, replies) = join_parts(alloc, parts, &others, mine)?;
+    let (book, replies) = join_parts(rt, alloc, parts, &others, mine)?;
     Ok(RunOutcome {
         replies,
         book,
