@@ -9,10 +9,13 @@ use crate::writing::put_book;
 use issuer_fold::Prefix;
 use issuer_rows::{Book, ReplyBody};
 use std::alloc::{AllocError, Global};
+use std::thread;
+use std::thread::Threads;
 
 /// The book behind all parts, and the replies in the order of arrival: the last part was decided on the book, the others over the opening
-/// one. It fails only where memory runs out.
-pub(crate) fn join_parts(
+/// one. Rows and replies are put together beside one another. It fails only where memory runs out.
+pub(crate) fn join_parts<R: Threads + Sync>(
+    rt: &R,
     alloc: Global,
     parts: &[u32],
     others: &[DecidedPart],
@@ -23,14 +26,29 @@ pub(crate) fn join_parts(
     ensures book { IfOk result (λ whole. whole.0 ≡ joined_all last.book (map (λ part. part.rows) others.now)) }
     ensures replies { (all : List ReplyBody) → length all ≡ length parts.now → HaveParts parts.now all (replies_of others.now last.replies.items) → IfOk result (λ whole. whole.1.items ≡ all) }
 {
-    let Prefix {
-        mut book,
-        replies,
-        ..
-    } = last;
-    put_parts(&mut book, others)?;
-    let ordered = in_order(alloc, parts, others, &replies)?;
-    Ok((book, ordered))
+    let Prefix { book, replies, .. } = last;
+    let mine = replies.as_slice();
+    let (whole, ordered) = thread::join(
+        rt,
+        || -> Result<Book, AllocError>
+            ensures { IfOk result (λ whole. whole ≡ joined_all book (map (λ part. part.rows) others.entry.now)) }
+        { with_rows_of(book, others) },
+        || -> Result<Vec<ReplyBody>, AllocError>
+            requires few { length parts.now ≤ 65536 }
+            requires below { AllByRecursion (λ part. part < length others.now + 1) parts.now }
+            ensures { (all : List ReplyBody) → length all ≡ length parts.entry.now → HaveParts parts.entry.now all (replies_of others.entry.now mine.entry.now) → IfOk result (λ ordered. ordered.items ≡ all) }
+        { in_order(alloc, parts, others, mine) },
+    );
+    Ok((whole?, ordered?))
+}
+
+// The book with the rows of these parts.
+fn with_rows_of(book: Book, decided: &[DecidedPart]) -> Result<Book, AllocError>
+    ensures { IfOk result (λ whole. whole ≡ joined_all book (map (λ part. part.rows) decided.now)) }
+{
+    let mut whole = book;
+    put_parts(&mut whole, decided)?;
+    Ok(whole)
 }
 
 // Writes the rows of these parts to the book.

@@ -11,4 +11,4 @@ mod part_rows;
 mod running;
 mod writing;
 
-pub use running::run_parts;
+pub use running::{run_apart, run_parts};

@@ -19,11 +19,33 @@ use std::alloc::{AllocError, Global};
 use std::thread;
 use std::thread::Threads;
 
+// Batches of fewer messages are decided one after another: starting threads costs more than they save.
+const LONG: usize = 4096;
+
 /// Decides a batch of at most 65,536 bodies in parts of which no two need the same row, as many as there are workers at most, each part on
 /// a thread of its own, without a lock. Whatever the number of workers, replies and book are those of deciding the messages one after
 /// another in the order of their arrival. The only fault is out of memory. `started` is how many parts there are: a part whose thread
-/// can't be started is decided by the one that would have started it. A batch of one part is decided one message after another.
+/// can't be started is decided by the one that would have started it. A batch of one part, or of fewer than 4,096 bodies, is decided one
+/// message after another.
 pub fn run_parts<R: Threads + Sync, F: Decide + Sync>(
+    rt: &R,
+    alloc: Global,
+    book: &Book,
+    frames: &[Frame],
+    workers: Workers,
+    decision: &F,
+) -> Result<RunOutcome, AllocError>
+    requires { length frames.now ≤ 65536 }
+    ensures { IfOk result (IsRun book.now frames.now workers) }
+{
+    if frames.len() < LONG {
+        return decide_alone(alloc, book, frames, workers, decision);
+    }
+    run_apart(rt, alloc, book, frames, workers, decision)
+}
+
+/// The same, in parts however few the bodies are.
+pub fn run_apart<R: Threads + Sync, F: Decide + Sync>(
     rt: &R,
     alloc: Global,
     book: &Book,
@@ -91,7 +113,7 @@ fn decide_apart<R: Threads + Sync, F: Decide + Sync>(
     let last = count as usize - 1;
     let parts = plan.parts();
     let (others, mine) = decide_all_parts(rt, alloc, book, frames, parts, last, decision)?;
-    let (book, replies) = join_parts(alloc, parts, &others, mine)?;
+    let (book, replies) = join_parts(rt, alloc, parts, &others, mine)?;
     Ok(RunOutcome {
         replies,
         book,
