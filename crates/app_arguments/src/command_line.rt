@@ -11,6 +11,7 @@ const AFTER_HELP: &str = "Commands with help of their own, as `switch serve --he
   replay     Makes the replies and the next book of such a log
   audit-log  Says whether replies and a book are those of such a log
   why        Tells why a message of a batch was answered so
+  report     Says how a day went: totals of a batch and its replies, as lines or as a page
   make       Prints the body of a message as a line that `pack` reads, from its elements by name
   unpack     Prints the bodies of a batch as the text that `pack` reads
 
