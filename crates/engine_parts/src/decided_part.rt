@@ -4,6 +4,9 @@ ghost use Rattle.std.specs.FinMap as map;
 use issuer_rows::{Book, ReplyBody};
 use std::alloc::{AllocError, Global};
 
+// How many new rows a message writes at most: its original's and its day's.
+pub(crate) const NEW_ROWS: usize = 2;
+
 /// A part of a batch, decided over the opening book.
 #[derive(Drop)]
 pub(crate) struct DecidedPart {
@@ -34,7 +37,7 @@ impl DecidedPart {
         ensures replies { self.new.replies.items ≡ self.old.replies.items }
         ensures rows { self.new.rows ≡ self.old.rows }
     {
-        self.rows.reserve(messages)?;
+        self.rows.reserve(messages.saturating_mul(NEW_ROWS))?;
         self.replies.reserve(messages)?;
         Ok(())
     }

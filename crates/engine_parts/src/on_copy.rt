@@ -2,6 +2,7 @@ ghost use Rattle.std.specs.Prelude.{◌≡◌, ◌≤◌, length, IfOk};
 ghost use Rattle.engine_parts.specs.Decided.{bodies_of};
 ghost use Rattle.issuer_view.specs.Words.{replies_to, rows_after};
 
+use crate::decided_part::NEW_ROWS;
 use crate::gathering::gather;
 use issuer_fold::Prefix;
 use issuer_rows::{Book, Frame};
@@ -25,7 +26,7 @@ pub(crate) fn decide_on_copy<F: Decide>(
 {
     let own = gather(alloc, frames, parts, part)?;
     let mut prefix = Prefix::new(alloc, opening.copy()?);
-    prefix.make_ready(frames.len())?;
+    prefix.make_ready(frames.len().saturating_mul(NEW_ROWS))?;
     prefix.decide_each(alloc, &own, decision)?;
     Ok(prefix)
 }
