@@ -2,7 +2,7 @@
 ghost use Rattle.std.specs.Prelude.{◌≤◌, length};
 
 use engine_locked::run;
-use engine_parts::run_parts;
+use engine_parts::run_apart;
 use engine_split::run_split;
 use engine_workers::{Engine, Hook, Workers};
 use issuer_fold::RunOutcome;
@@ -38,7 +38,7 @@ pub(crate) fn decided_by<R: Clock + Threads + Wait + Sync, F: Decide + Sync, G: 
     match run_by.0 {
         Engine::Locked => run(rt, alloc, book, frames, workers, decision, hook).ok(),
         Engine::Split => run_split(rt, alloc, book, frames, workers, decision, hook).ok(),
-        Engine::Parts => run_parts(rt, alloc, book, frames, workers, decision).ok(),
+        Engine::Parts => run_apart(rt, alloc, book, frames, workers, decision).ok(),
     }
 }
 
