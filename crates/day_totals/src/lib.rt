@@ -1,0 +1,15 @@
+//! How a day went: totals over the bodies of a batch and the replies to them.
+#![tactic(auto)]
+
+mod counted;
+mod counting;
+mod exchange;
+mod figure;
+mod naming;
+mod totals;
+
+pub use counted::Counted;
+pub use counting::counted_of;
+pub use exchange::Exchange;
+pub use figure::Figure;
+pub use totals::{Totals, totals_of};
