@@ -1,7 +1,12 @@
 -- How a day went: what is counted and summed over the bodies of a batch and the replies to them.
-use Rattle.std.specs.Prelude.{◌≡◌, ℕ, ◌-◌, ◌<◌, Bool, true, false, ◌==◌, if◌then◌else◌, List, length, map, take, drop, sum_by, Option, Some, None, codes, is_some, unwrap_or, option_map, String}
+use Rattle.std.specs.Prelude.{◌≡◌, ℕ, ◌-◌, ◌<◌, Bool, true, false, ◌==◌, if◌then◌else◌, List, length, map, take, drop, sum_by, Option, Some, None, codes, is_some, unwrap_or, option_map, String, string_bytes}
 use Rattle.std.specs.BTreeMap.{get_by_text, BTreeMap}
+use Rattle.std.specs.Cmp.Lexicographic.{slice_cmp}
 use Rattle.std.specs.List.{list_any}
+use Rattle.std.specs.List.Sorted.{IsPermutation, IsSortedBy, IsStrictlySortedBy}
+use Rattle.std.specs.Map.{keys_of, lookup}
+use Rattle.std.specs.Ordering.{is_lt, nat_cmp, ordering_then}
+use Rattle.std.specs.declared.cmp.Ordering.{Ordering}
 use Rattle.std.specs.Str.{bytes_eq}
 use Rattle.iso8583.specs.Number.{fixed_digits}
 use Rattle.iso8583.specs.declared.answer.Answer.{Answer}
@@ -23,6 +28,7 @@ use Rattle.day_totals.specs.declared.counted.Counted.{Counted}
 use Rattle.day_totals.specs.declared.exchange.Exchange.{Exchange}
 use Rattle.day_totals.specs.declared.figure.Figure.{Figure}
 use Rattle.day_totals.specs.declared.figure.Figure.TheVariants as figure
+use Rattle.day_totals.specs.declared.total.Total.{Total}
 
 -- ---- messages
 
@@ -155,7 +161,31 @@ total f day name = sum_by (λ e. under name (entry f e)) day
 abbrev pub is_named : Figure → List Exchange → List ℕ → Bool
 is_named f day name = list_any (λ e. is_under name (entry f e)) day
 
--- The totals of a figure over a day: the names are those under which something is counted, and each has the sum of what is.
-pub record AreTotals {Y : Type 0} (f : Figure) (day : List Exchange) (totals : BTreeMap (String Y) ℕ) : Type 0 where
-  pub sums : (name : List ℕ) → unwrap_or (get_by_text totals name) 0 ≡ total f day name
-  pub names : (name : List ℕ) → is_some (get_by_text totals name) ≡ is_named f day name
+-- totals as pairs of a name and a sum
+abbrev pub shown : List Total → List (List ℕ × ℕ)
+shown totals = map (λ t. (string_bytes t.name, t.sum)) totals
+
+-- The totals of a figure over a day: the names are those under which something is counted, in their order, each once, and each has the
+-- sum of what is.
+pub record AreTotals (f : Figure) (day : List Exchange) (totals : List (List ℕ × ℕ)) : Type 0 where
+  pub sums : (name : List ℕ) → unwrap_or (lookup (bytes_eq name) totals) 0 ≡ total f day name
+  pub names : (name : List ℕ) → is_some (lookup (bytes_eq name) totals) ≡ is_named f day name
+  pub order : IsStrictlySortedBy (slice_cmp nat_cmp) (keys_of totals)
+
+-- the same of a map
+pub record AreTallied {Y : Type 0} (f : Figure) (day : List Exchange) (tally : BTreeMap (String Y) ℕ) : Type 0 where
+  pub sums : (name : List ℕ) → unwrap_or (get_by_text tally name) 0 ≡ total f day name
+  pub names : (name : List ℕ) → is_some (get_by_text tally name) ≡ is_named f day name
+
+-- ---- the greatest totals
+
+-- the greater total comes first, and of equal ones the one whose name comes first
+abbrev pub rank : List ℕ × ℕ → List ℕ × ℕ → Ordering
+rank t u = ordering_then (nat_cmp u.1 t.1) (slice_cmp nat_cmp t.0 u.0)
+
+-- the ten greatest of these totals, or all where there are no more, in the order of their rank
+pub record AreGreatest (totals greatest : List (List ℕ × ℕ)) : Type 0 where
+  pub ranked : List (List ℕ × ℕ)
+  pub same : IsPermutation totals ranked
+  pub order : IsSortedBy (λ t u. is_lt (rank t u)) ranked
+  pub front : greatest ≡ take 10 ranked

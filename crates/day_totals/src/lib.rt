@@ -5,11 +5,15 @@ mod counted;
 mod counting;
 mod exchange;
 mod figure;
+mod greatest;
 mod naming;
+mod total;
 mod totals;
 
 pub use counted::Counted;
 pub use counting::counted_of;
 pub use exchange::Exchange;
 pub use figure::Figure;
-pub use totals::{Totals, totals_of};
+pub use greatest::greatest_of;
+pub use total::Total;
+pub use totals::totals_of;
