@@ -189,3 +189,7 @@ pub record AreGreatest (totals greatest : List (List ℕ × ℕ)) : Type 0 where
   pub same : IsPermutation totals ranked
   pub order : IsSortedBy (λ t u. is_lt (rank t u)) ranked
   pub front : greatest ≡ take 10 ranked
+
+-- the same of the totals of a figure over a day
+abbrev pub AreGreatestOf : Figure → List Exchange → List (List ℕ × ℕ) → Type 0
+AreGreatestOf f day greatest = (totals : List (List ℕ × ℕ)) × AreTotals f day totals × AreGreatest totals greatest
