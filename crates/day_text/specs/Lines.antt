@@ -21,9 +21,9 @@ lines label totals = flat_map (line label) totals
 abbrev pub action_lines : List Total → List ℕ
 action_lines totals = flat_map action_line totals
 
--- bodies by type, repeats by type, and replies by action code
-abbrev pub message_lines : DayTotals → List ℕ
-message_lines day = lines (codes "bodies    ") day.types.items ++ (lines (codes "repeats   ") day.repeats.items ++ action_lines day.actions.items)
+-- bodies by type, and repeats by type
+abbrev pub type_lines : DayTotals → List ℕ
+type_lines day = lines (codes "bodies    ") day.types.items ++ lines (codes "repeats   ") day.repeats.items
 
 -- sums of money by currency
 abbrev pub money_lines : MoneyTotals → List ℕ
@@ -35,4 +35,4 @@ request_lines requests = lines (codes "hour      ") requests.hours.items ++ (lin
 
 -- all of it
 abbrev pub lines_of : DayTotals → List ℕ
-lines_of day = message_lines day ++ (money_lines day.money ++ request_lines day.requests)
+lines_of day = type_lines day ++ (action_lines day.actions.items ++ (money_lines day.money ++ request_lines day.requests))

@@ -1,5 +1,5 @@
 ghost use Rattle.std.specs.Prelude.{◌≡◌, ◌++◌, IfOk, OnOk};
-ghost use Rattle.day_text.specs.Lines.{action_line, action_lines, line, lines, lines_of, message_lines, money_lines, request_lines};
+ghost use Rattle.day_text.specs.Lines.{action_line, action_lines, line, lines, lines_of, type_lines, money_lines, request_lines};
 
 use crate::meaning::meaning_of;
 use day_totals::{DayTotals, MoneyTotals, RequestTotals, Total};
@@ -9,19 +9,19 @@ use std::alloc::{AllocError, Global};
 pub fn lines_of(alloc: Global, day: &DayTotals) -> Result<Vec<u8>, AllocError>
     ensures { IfOk result (λ text. text.items ≡ lines_of day.now) }
 {
-    let mut text = message_lines(alloc, day)?;
+    let mut text = type_lines(alloc, day)?;
+    text.extend_from_slice(&action_lines(alloc, &day.actions)?)?;
     text.extend_from_slice(&money_lines(alloc, &day.money)?)?;
     text.extend_from_slice(&request_lines(alloc, &day.requests)?)?;
     Ok(text)
 }
 
-// Bodies, repeats and replies.
-fn message_lines(alloc: Global, day: &DayTotals) -> Result<Vec<u8>, AllocError>
-    ensures { IfOk result (λ text. text.items ≡ message_lines day.now) }
+// Bodies and repeats.
+fn type_lines(alloc: Global, day: &DayTotals) -> Result<Vec<u8>, AllocError>
+    ensures { IfOk result (λ text. text.items ≡ type_lines day.now) }
 {
     let mut text = lines(alloc, "bodies    ", &day.types)?;
     text.extend_from_slice(&lines(alloc, "repeats   ", &day.repeats)?)?;
-    text.extend_from_slice(&action_lines(alloc, &day.actions)?)?;
     Ok(text)
 }
 
