@@ -1,0 +1,10 @@
+//! The totals of a day as a page of HTML that needs nothing else.
+#![tactic(auto)]
+
+mod bars;
+mod escaping;
+mod laws;
+mod rows;
+
+pub use escaping::escape;
+pub use laws::texts_are_escaped;
