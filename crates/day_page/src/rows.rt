@@ -1,5 +1,6 @@
-ghost use Rattle.std.specs.Prelude.{◌≡◌, ◌++◌, ℕ, List, OnOk};
-ghost use Rattle.day_page.specs.Page.{action_row, action_rows, bar_cell, bar_row, bar_rows, number_cell, row, rows, text_cell};
+ghost use Rattle.std.specs.Prelude.{◌≡◌, ◌++◌, ℕ, List, OnOk, string_bytes};
+ghost use Rattle.day_text.specs.Meaning.{meaning_of};
+ghost use Rattle.day_page.specs.Page.{action_row, action_rows, bar_cell, bar_row, bar_rows, bar_width, number_cell, row, rows, text_cell};
 
 use crate::bars::{bar_width, most_of};
 use crate::escaping::escape;
@@ -44,9 +45,10 @@ fn add_row(alloc: Global, html: &mut Vec<u8>, total: &Total) -> Result<(), Alloc
     ensures { OnOk result (html.new.items ≡ html.old.items ++ row total.now) }
 {
     html.extend_from_slice(b"<tr>")?;
-    add_text_cell(html, total.name.as_str())?;
+    add_name_cell(html, &total.name)?;
     add_number_cell(alloc, html, total.sum)?;
-    html.extend_from_slice(b"</tr>\n")
+    html.extend_from_slice(b"</tr>\n")?;
+    Ok(())
 }
 
 // Appends a row with a bar.
@@ -54,10 +56,11 @@ fn add_bar_row(alloc: Global, html: &mut Vec<u8>, most: u64, total: &Total) -> R
     ensures { OnOk result (html.new.items ≡ html.old.items ++ bar_row most total.now) }
 {
     html.extend_from_slice(b"<tr>")?;
-    add_text_cell(html, total.name.as_str())?;
+    add_name_cell(html, &total.name)?;
     add_number_cell(alloc, html, total.sum)?;
-    add_bar_cell(alloc, html, bar_width(most, total.sum))?;
-    html.extend_from_slice(b"</tr>\n")
+    add_share_cell(alloc, html, most, total.sum)?;
+    html.extend_from_slice(b"</tr>\n")?;
+    Ok(())
 }
 
 // Appends a row with a bar and the meaning of its action code.
@@ -65,11 +68,33 @@ fn add_action_row(alloc: Global, html: &mut Vec<u8>, most: u64, total: &Total) -
     ensures { OnOk result (html.new.items ≡ html.old.items ++ action_row most total.now) }
 {
     html.extend_from_slice(b"<tr>")?;
-    add_text_cell(html, total.name.as_str())?;
+    add_name_cell(html, &total.name)?;
     add_number_cell(alloc, html, total.sum)?;
-    add_bar_cell(alloc, html, bar_width(most, total.sum))?;
-    add_text_cell(html, meaning_of(total.name.as_str()))?;
-    html.extend_from_slice(b"</tr>\n")
+    add_share_cell(alloc, html, most, total.sum)?;
+    add_meaning_cell(html, &total.name)?;
+    html.extend_from_slice(b"</tr>\n")?;
+    Ok(())
+}
+
+// Appends a cell with the name of a total.
+fn add_name_cell(html: &mut Vec<u8>, name: &String) -> Result<(), AllocError>
+    ensures { OnOk result (html.new.items ≡ html.old.items ++ text_cell (string_bytes name.now)) }
+{
+    add_text_cell(html, name.as_str())
+}
+
+// Appends a cell with the meaning of an action code.
+fn add_meaning_cell(html: &mut Vec<u8>, name: &String) -> Result<(), AllocError>
+    ensures { OnOk result (html.new.items ≡ html.old.items ++ text_cell (meaning_of (string_bytes name.now))) }
+{
+    add_text_cell(html, meaning_of(name.as_str()))
+}
+
+// Appends a cell with the bar of a total, beside the greatest.
+fn add_share_cell(alloc: Global, html: &mut Vec<u8>, most: u64, sum: u64) -> Result<(), AllocError>
+    ensures { OnOk result (html.new.items ≡ html.old.items ++ bar_cell (bar_width most sum)) }
+{
+    add_bar_cell(alloc, html, bar_width(most, sum))
 }
 
 // Appends a cell with a text.
