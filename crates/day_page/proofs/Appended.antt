@@ -15,6 +15,11 @@ appended f xs i x before old new within at so_far_is more =
     more ∙ ap (λ (text : List ℕ). text ++ f x) so_far_is ∙ append_assoc before (flat_map f (take i xs)) (f x)
     ∙ ap (λ (text : List ℕ). before ++ text) (sym (rw add-one (so_far f xs i x within at)))
 
+-- three pieces
+pub three : (h a b c t u v : List ℕ) → t ≡ h ++ a → u ≡ t ++ b → v ≡ u ++ c → v ≡ h ++ (a ++ (b ++ c))
+three h a b c t u v e f g =
+    g ∙ ap (λ (x : List ℕ). x ++ c) (f ∙ ap (λ (x : List ℕ). x ++ b) e) ∙ append_assoc (h ++ a) b c ∙ append_assoc h a (b ++ c)
+
 -- four pieces
 pub four : (h a b c d t u v w : List ℕ) → t ≡ h ++ a → u ≡ t ++ b → v ≡ u ++ c → w ≡ v ++ d → w ≡ h ++ (a ++ (b ++ (c ++ d)))
 four h a b c d t u v w e f g k =
