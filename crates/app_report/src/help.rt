@@ -17,7 +17,7 @@ Files are read alone. Lines, each a total with its name and what it comes to:
   replies   an action code (element 39), how many replies have it, and what it means
   approved  a currency code, and the amounts of its approved requests together
   declined  the same of declined requests
-  reversed  the same of what reversals gave back
+  reversed  the same of what accepted reversals (400) take back, those of an original that wasn't posted too
   hour      an hour of the local time (element 12), and how many requests were approved in it
   terminal  a terminal (element 41), and how many of its requests were declined: the ten most
   card      a card, and how many of its requests were declined: the ten most
