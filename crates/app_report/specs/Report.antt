@@ -12,10 +12,11 @@ use Rattle.day_totals.specs.Totals.{AreDayTotals, IsDayOf}
 use Rattle.day_totals.specs.declared.day_totals.DayTotals.{DayTotals}
 use Rattle.day_totals.specs.declared.exchange.Exchange.{Exchange}
 use Rattle.day_text.specs.Lines.{lines_of}
+use Rattle.day_page.specs.Page.{page_of}
 use Rattle.app_report.specs.declared.asking.ReportAsked.{ReportAsked}
-use Rattle.app_report.specs.declared.asking.ReportAsked.TheVariants.{Day, Help, Wrong}
+use Rattle.app_report.specs.declared.asking.ReportAsked.TheVariants.{Day, Page, Help, Wrong}
 use Rattle.app_report.specs.declared.report_fault.ReportFault.{ReportFault}
-use Rattle.app_report.specs.declared.report_fault.ReportFault.TheVariants.{Job, Replies}
+use Rattle.app_report.specs.declared.report_fault.ReportFault.TheVariants.{Job, Replies, OneFile}
 
 -- The totals are those of the bodies of the batch of this name, each with its reply in the file of that name. Where it is known what files
 -- hold, both were there.
@@ -45,10 +46,25 @@ abbrev pub IsReportFault : Holding → Failing → List ℕ → List ℕ → Rep
 IsReportFault holds failing batch replies (Job fault) =
     IsBatchFault holds failing batch fault ⊎ (IsSomeBatch holds batch × IsReplyFileFault holds failing replies fault)
 IsReportFault holds failing batch replies (Replies count) = HasOtherCount holds batch replies count
+IsReportFault holds failing batch replies (OneFile role) = ⊥
 
--- What is asked for is said, behind what was said before: of a day its lines.
-abbrev pub IsSaid : Type 0 → Holding → ReportAsked → Option (List ℕ) → Option (List ℕ) → Type 0
-IsSaid known holds (Day batch replies) before after =
-    (totals : DayTotals) × IsReport known holds batch.now replies.now totals × Appends before after (lines_of totals)
-IsSaid known holds Help before after = ⊤
-IsSaid known holds Wrong before after = ⊥
+-- the exit status of a fault
+abbrev pub status_of_fault : ReportFault → ℕ
+status_of_fault (OneFile role) = 2
+status_of_fault _ = 1
+
+-- What is asked for is said, behind what was said before: of a day its lines. Where a page is asked for, its file holds the page then, where
+-- it is known what files hold.
+abbrev pub IsSaid : Type 0 → Holding → Holding → ReportAsked → Option (List ℕ) → Option (List ℕ) → Type 0
+IsSaid known old new (Day batch replies) before after =
+    (totals : DayTotals) × IsReport known old batch.now replies.now totals × Appends before after (lines_of totals)
+IsSaid known old new (Page batch replies page) before after =
+    (totals : DayTotals) × IsReport known old batch.now replies.now totals × Appends before after (lines_of totals)
+    × (known → new page.now (page_of totals))
+IsSaid known old new Help before after = ⊤
+IsSaid known old new Wrong before after = ⊥
+
+-- the file of this name may be written: it is the page's
+abbrev pub IsPage : ReportAsked → List ℕ → Type 0
+IsPage (Page batch replies page) name = name ≡ page.now
+IsPage _ name = ⊥

@@ -2,13 +2,15 @@ ghost use Rattle.std.specs.Prelude.{IfSome, IfNone, OnSome, codes, map, string_b
 ghost use Rattle.app_report.specs.ReportAsked.{IsAskedBy};
 ghost use Rattle.app_words.specs.Words.{IsCommand};
 
-use app_words::{asks_help, is_command};
+use app_words::{asks_help, is_command, is_word};
 
 /// What words ask of `report`.
 #[derive(Clone, Copy)]
 pub enum ReportAsked<'a> {
     /// How the day went that is the batch of the first file, with the replies in the second.
     Day(&'a str, &'a str),
+    /// The same, and a page of it in the third file.
+    Page(&'a str, &'a str, &'a str),
     /// What `report` takes.
     Help,
     /// Nothing: they begin with `report` and don't go on so.
@@ -34,6 +36,9 @@ fn asked_behind(words: &[String]) -> ReportAsked<'_>
 {
     if words.len() == 4 {
         return ReportAsked::Day(words[2].as_str(), words[3].as_str());
+    }
+    if words.len() == 6 && is_word(words, 4, "--html") {
+        return ReportAsked::Page(words[2].as_str(), words[3].as_str(), words[5].as_str());
     }
     if asks_help(words) {
         return ReportAsked::Help;

@@ -2,9 +2,11 @@
 #![tactic(auto)]
 
 mod answering;
+mod apart;
 mod asking;
 mod help;
 mod opening;
+mod paging;
 mod report_fault;
 mod telling;
 

@@ -1,5 +1,6 @@
 ghost use Rattle.std.specs.Prelude.{◌≡◌};
 ghost use Rattle.app_jobs.specs.declared.job_fault.JobFault.TheVariants.{OutOfMemory};
+ghost use Rattle.app_report.specs.Report.{status_of_fault};
 ghost use Rattle.app_report.specs.declared.report_fault.ReportFault.TheVariants.{Job};
 
 use app_jobs::JobFault;
@@ -14,6 +15,20 @@ pub enum ReportFault {
     Job(JobFault),
     /// There are so many replies, and another number of bodies.
     Replies(usize),
+    /// The page's file is the one that has this role in the help.
+    OneFile(&'static str),
+}
+
+impl ReportFault {
+    /// The exit status: 1, or 2 where the page would be written over the batch or the replies.
+    pub fn status(&self) -> u8
+        ensures { result ≡ status_of_fault self.now }
+    {
+        match self {
+            ReportFault::Job(_) | ReportFault::Replies(_) => 1,
+            ReportFault::OneFile(_) => 2,
+        }
+    }
 }
 
 impl fmt::Display for ReportFault {
@@ -21,6 +36,7 @@ impl fmt::Display for ReportFault {
         match self {
             ReportFault::Job(fault) => fault.fmt(f),
             ReportFault::Replies(count) => write!(f, "replies {count}"),
+            ReportFault::OneFile(role) => write!(f, "FILE and {role} are one file"),
         }
     }
 }

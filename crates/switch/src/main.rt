@@ -35,7 +35,7 @@ fn main(rt: HostRuntime) -> ExitCode {
     }
     if let Some(asked) = report_asked(&words) {
         let (mut out, mut err) = (rt.stdout(), rt.stderr());
-        let status = answer_report(rt.alloc(), &files, &asked, &mut out, &mut err);
+        let status = answer_report(rt.alloc(), &mut files, &asked, &mut out, &mut err);
         return ExitCode::from(status);
     }
     let mut out = Printer::new(rt.stdout());

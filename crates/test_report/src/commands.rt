@@ -44,9 +44,9 @@ fn files(alloc: Global) -> Option<MemoryFiles> {
 
 // What the command comes to: its status, and what it said.
 fn said(alloc: Global, asked: &ReportAsked<'_>) -> Option<(u8, Vec<u8>, Vec<u8>)> {
-    let files = files(alloc)?;
+    let mut files = files(alloc)?;
     let (mut out, mut err) = (Vec::new(alloc), Vec::new(alloc));
-    let status = answer_report(alloc, &files, asked, &mut out, &mut err);
+    let status = answer_report(alloc, &mut files, asked, &mut out, &mut err);
     Some((status, out, err))
 }
 
