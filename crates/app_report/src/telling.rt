@@ -135,6 +135,9 @@ fn put<W: Write>(writer: &mut W, text: &[u8]) -> io::Result<()>
 fn tell<W: Write>(err: &mut W, fault: &ReportFault, replies: &str) {
     let _ = write!(err, "{fault}\n");
     if let ReportFault::Replies(count) = fault {
-        let _ = write!(err, "{replies}: it has {count} replies, and the batch another number of bodies\n");
+        let _ = write!(
+            err,
+            "{replies}: it has {count} replies, and the batch another number of bodies\n"
+        );
     }
 }

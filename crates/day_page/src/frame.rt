@@ -1,6 +1,5 @@
 // What stands before the sections of a page.
-pub(crate) const PAGE_HEAD: &str =
-    "<!DOCTYPE html>
+pub(crate) const PAGE_HEAD: &str = "<!DOCTYPE html>
 <html lang=\"en\">
 <head>
 <meta charset=\"utf-8\">

@@ -7,5 +7,4 @@ pub fn texts_are_escaped()
     ensures plain { (text : List ℕ) → IsPlain (escaped text) }
     // It is read as the text.
     ensures read { (text : List ℕ) → IsReadAs (escaped text) text }
-{
-}
+{}

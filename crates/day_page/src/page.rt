@@ -47,19 +47,48 @@ fn add_messages(alloc: Global, html: &mut Vec<u8>, day: &DayTotals) -> Result<()
 fn add_money(alloc: Global, html: &mut Vec<u8>, money: &MoneyTotals) -> Result<(), AllocError>
     ensures { OnOk result (html.new.items ≡ html.old.items ++ money_sections money.now) }
 {
-    add_section(alloc, html, "Amounts of approved requests by currency", &money.approved)?;
-    add_section(alloc, html, "Amounts of declined requests by currency", &money.declined)?;
-    add_section(alloc, html, "Amounts given back by reversals, by currency", &money.reversed)?;
+    add_section(
+        alloc,
+        html,
+        "Amounts of approved requests by currency",
+        &money.approved,
+    )?;
+    add_section(
+        alloc,
+        html,
+        "Amounts of declined requests by currency",
+        &money.declined,
+    )?;
+    add_section(
+        alloc,
+        html,
+        "Amounts given back by reversals, by currency",
+        &money.reversed,
+    )?;
     Ok(())
 }
 
 // Appends the sections of requests.
-fn add_requests(alloc: Global, html: &mut Vec<u8>, requests: &RequestTotals) -> Result<(), AllocError>
+fn add_requests(
+    alloc: Global,
+    html: &mut Vec<u8>,
+    requests: &RequestTotals,
+) -> Result<(), AllocError>
     ensures { OnOk result (html.new.items ≡ html.old.items ++ request_sections requests.now) }
 {
     add_bar_section(alloc, html, "Approved requests by hour", &requests.hours)?;
-    add_section(alloc, html, "Declined requests by terminal: the ten most", &requests.terminals)?;
-    add_section(alloc, html, "Declined requests by card: the ten most", &requests.cards)?;
+    add_section(
+        alloc,
+        html,
+        "Declined requests by terminal: the ten most",
+        &requests.terminals,
+    )?;
+    add_section(
+        alloc,
+        html,
+        "Declined requests by card: the ten most",
+        &requests.cards,
+    )?;
     Ok(())
 }
 

@@ -9,7 +9,11 @@ use day_totals::Total;
 use std::alloc::{AllocError, Global};
 
 // Appends the rows of totals.
-pub(crate) fn add_rows(alloc: Global, html: &mut Vec<u8>, totals: &[Total]) -> Result<(), AllocError>
+pub(crate) fn add_rows(
+    alloc: Global,
+    html: &mut Vec<u8>,
+    totals: &[Total],
+) -> Result<(), AllocError>
     ensures { OnOk result (html.new.items ≡ html.old.items ++ rows totals.now) }
 {
     for total in totals {
@@ -19,7 +23,11 @@ pub(crate) fn add_rows(alloc: Global, html: &mut Vec<u8>, totals: &[Total]) -> R
 }
 
 // Appends the rows of totals with bars.
-pub(crate) fn add_bar_rows(alloc: Global, html: &mut Vec<u8>, totals: &[Total]) -> Result<(), AllocError>
+pub(crate) fn add_bar_rows(
+    alloc: Global,
+    html: &mut Vec<u8>,
+    totals: &[Total],
+) -> Result<(), AllocError>
     ensures { OnOk result (html.new.items ≡ html.old.items ++ bar_rows totals.now) }
 {
     let most = most_of(totals);
@@ -30,7 +38,11 @@ pub(crate) fn add_bar_rows(alloc: Global, html: &mut Vec<u8>, totals: &[Total]) 
 }
 
 // Appends the rows of totals by action code, with bars and meanings.
-pub(crate) fn add_action_rows(alloc: Global, html: &mut Vec<u8>, totals: &[Total]) -> Result<(), AllocError>
+pub(crate) fn add_action_rows(
+    alloc: Global,
+    html: &mut Vec<u8>,
+    totals: &[Total],
+) -> Result<(), AllocError>
     ensures { OnOk result (html.new.items ≡ html.old.items ++ action_rows totals.now) }
 {
     let most = most_of(totals);
@@ -52,7 +64,12 @@ fn add_row(alloc: Global, html: &mut Vec<u8>, total: &Total) -> Result<(), Alloc
 }
 
 // Appends a row with a bar.
-fn add_bar_row(alloc: Global, html: &mut Vec<u8>, most: u64, total: &Total) -> Result<(), AllocError>
+fn add_bar_row(
+    alloc: Global,
+    html: &mut Vec<u8>,
+    most: u64,
+    total: &Total,
+) -> Result<(), AllocError>
     ensures { OnOk result (html.new.items ≡ html.old.items ++ bar_row most total.now) }
 {
     html.extend_from_slice(b"<tr>")?;
@@ -64,7 +81,12 @@ fn add_bar_row(alloc: Global, html: &mut Vec<u8>, most: u64, total: &Total) -> R
 }
 
 // Appends a row with a bar and the meaning of its action code.
-fn add_action_row(alloc: Global, html: &mut Vec<u8>, most: u64, total: &Total) -> Result<(), AllocError>
+fn add_action_row(
+    alloc: Global,
+    html: &mut Vec<u8>,
+    most: u64,
+    total: &Total,
+) -> Result<(), AllocError>
     ensures { OnOk result (html.new.items ≡ html.old.items ++ action_row most total.now) }
 {
     html.extend_from_slice(b"<tr>")?;
@@ -118,6 +140,8 @@ fn add_number_cell(alloc: Global, html: &mut Vec<u8>, number: u64) -> Result<(),
 fn add_bar_cell(alloc: Global, html: &mut Vec<u8>, width: u64) -> Result<(), AllocError>
     ensures { OnOk result (html.new.items ≡ html.old.items ++ bar_cell width) }
 {
-    let cell = format!(in alloc; "<td><svg width=\"300\" height=\"12\" aria-hidden=\"true\"><rect width=\"{width}\" height=\"12\"/></svg></td>")?;
+    let cell = format!(in alloc;
+        "<td><svg width=\"300\" height=\"12\" aria-hidden=\"true\"><rect width=\"{width}\" height=\"12\"/></svg></td>"
+    )?;
     html.extend_from_slice(cell.as_bytes())
 }

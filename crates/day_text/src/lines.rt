@@ -57,12 +57,7 @@ fn lines(alloc: Global, label: &str, totals: &[Total]) -> Result<Vec<u8>, AllocE
 }
 
 // Appends a total.
-fn add_line(
-    alloc: Global,
-    text: &mut Vec<u8>,
-    label: &str,
-    total: &Total,
-) -> Result<(), AllocError>
+fn add_line(alloc: Global, text: &mut Vec<u8>, label: &str, total: &Total) -> Result<(), AllocError>
     ensures { OnOk result (text.new.items ≡ text.old.items ++ line label.now total.now) }
 {
     let (name, sum) = (total.name.as_str(), total.sum);

@@ -7,7 +7,9 @@ ghost use Rattle.day_totals.specs.Day.{action_entry, entry, has_answer, hour_of,
 use crate::counted::Counted;
 use crate::exchange::Exchange;
 use crate::figure::Figure;
-use crate::naming::{action_of, card_name, hour_name, is_repeat, taken_back, terminal_name, type_of};
+use crate::naming::{
+    action_of, card_name, hour_name, is_repeat, taken_back, terminal_name, type_of,
+};
 use iso8583::{Action, Answer, Message, Reversal, Transaction, Verdict};
 use issuer_rows::{Frame, ReplyBody};
 use std::alloc::{AllocError, Global};
@@ -82,7 +84,10 @@ fn action_counted(alloc: Global, reply: &ReplyBody) -> Result<Option<Counted>, A
 }
 
 // The amount of a transaction, under its currency.
-fn money_counted(alloc: Global, transaction: Option<Transaction>) -> Result<Option<Counted>, AllocError>
+fn money_counted(
+    alloc: Global,
+    transaction: Option<Transaction>,
+) -> Result<Option<Counted>, AllocError>
     ensures entry { IfOk result (λ counted. option_map (λ c. (string_bytes c.name, c.amount)) counted ≡ option_map money transaction) }
     ensures bound { IfOk result (λ counted. IfSome counted (λ c. c.amount < 10 ^ 12)) }
 {
@@ -95,7 +100,10 @@ fn money_counted(alloc: Global, transaction: Option<Transaction>) -> Result<Opti
 }
 
 // What a reversal takes back, under its currency.
-fn money_back_counted(alloc: Global, reversal: Option<Reversal>) -> Result<Option<Counted>, AllocError>
+fn money_back_counted(
+    alloc: Global,
+    reversal: Option<Reversal>,
+) -> Result<Option<Counted>, AllocError>
     ensures entry { IfOk result (λ counted. option_map (λ c. (string_bytes c.name, c.amount)) counted ≡ option_map money_back reversal) }
     ensures bound { IfOk result (λ counted. IfSome counted (λ c. c.amount < 10 ^ 12)) }
 {
@@ -108,7 +116,10 @@ fn money_back_counted(alloc: Global, reversal: Option<Reversal>) -> Result<Optio
 }
 
 // A transaction, under its hour.
-fn hour_counted(alloc: Global, transaction: Option<Transaction>) -> Result<Option<Counted>, AllocError>
+fn hour_counted(
+    alloc: Global,
+    transaction: Option<Transaction>,
+) -> Result<Option<Counted>, AllocError>
     ensures entry { IfOk result (λ counted. option_map (λ c. (string_bytes c.name, c.amount)) counted ≡ option_map (λ t. once (hour_of t.stamp)) transaction) }
     ensures bound { IfOk result (λ counted. IfSome counted (λ c. c.amount < 10 ^ 12)) }
 {
@@ -119,7 +130,10 @@ fn hour_counted(alloc: Global, transaction: Option<Transaction>) -> Result<Optio
 }
 
 // A transaction, under its terminal.
-fn terminal_counted(alloc: Global, transaction: Option<Transaction>) -> Result<Option<Counted>, AllocError>
+fn terminal_counted(
+    alloc: Global,
+    transaction: Option<Transaction>,
+) -> Result<Option<Counted>, AllocError>
     ensures entry { IfOk result (λ counted. option_map (λ c. (string_bytes c.name, c.amount)) counted ≡ option_map (λ t. once t.terminal.0) transaction) }
     ensures bound { IfOk result (λ counted. IfSome counted (λ c. c.amount < 10 ^ 12)) }
 {
@@ -130,7 +144,10 @@ fn terminal_counted(alloc: Global, transaction: Option<Transaction>) -> Result<O
 }
 
 // A transaction, under its card.
-fn card_counted(alloc: Global, transaction: Option<Transaction>) -> Result<Option<Counted>, AllocError>
+fn card_counted(
+    alloc: Global,
+    transaction: Option<Transaction>,
+) -> Result<Option<Counted>, AllocError>
     ensures entry { IfOk result (λ counted. option_map (λ c. (string_bytes c.name, c.amount)) counted ≡ option_map (λ t. once (masked t.pan.0)) transaction) }
     ensures bound { IfOk result (λ counted. IfSome counted (λ c. c.amount < 10 ^ 12)) }
 {

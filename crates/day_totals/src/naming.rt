@@ -6,10 +6,9 @@ ghost use Rattle.day_totals.specs.Day.{action_of, hour_of, is_repeat, taken_back
 
 use iso_shown::MaskedPan;
 use iso8583::{
-    Action, Answer, Digits, LocalStamp, Message, Pan, PrintableUpTo, ReversalScope, Terminal,
-    Verdict,
+    Action, Amount, Answer, Digits, LocalStamp, Message, Pan, PrintableUpTo, ReversalScope,
+    Terminal, Verdict,
 };
-use iso8583::Amount;
 use std::alloc::{AllocError, Global};
 
 // A message's type.

@@ -18,11 +18,7 @@ use std::collections::BTreeMap;
 type Tally = BTreeMap<String, u64>;
 
 /// The totals of a figure over a day of at most 65,536 exchanges, in the order of their names. It fails only where memory runs out.
-pub fn totals_of(
-    alloc: Global,
-    figure: Figure,
-    day: &[Exchange],
-) -> Result<Vec<Total>, AllocError>
+pub fn totals_of(alloc: Global, figure: Figure, day: &[Exchange]) -> Result<Vec<Total>, AllocError>
     requires { length day.now ≤ 65536 }
     ensures { IfOk result (λ totals. AreTotals figure day.now (shown totals.items)) }
 {

@@ -100,9 +100,13 @@ fn makes_a_page(rt: HostRuntime) {
     let totals = totals(rt.alloc()).expect(&rt, "room");
     let page = page_of(rt.alloc(), &totals).expect(&rt, "room");
     let page = str::from_utf8(page.as_slice()).expect(&rt, "text");
-    let row = "<tr><td>116</td><td class=\"number\">2</td><td><svg width=\"300\" height=\"12\" aria-hidden=\"true\"><rect width=\"200\" height=\"12\"/></svg></td><td>not sufficient funds</td></tr>\n";
+    let row =
+        "<tr><td>116</td><td class=\"number\">2</td><td><svg width=\"300\" height=\"12\" aria-hidden=\"true\"><rect width=\"200\" height=\"12\"/></svg></td><td>not sufficient funds</td></tr>\n";
     assert!(rt; page.starts_with("<!DOCTYPE html>\n"), "no page");
     assert!(rt; page.contains(row), "another row of 116");
-    assert!(rt; page.contains("<tr><td>TERM0001</td><td class=\"number\">3</td></tr>\n"), "another row of a terminal");
+    assert!(rt;
+        page.contains("<tr><td>TERM0001</td><td class=\"number\">3</td></tr>\n"),
+        "another row of a terminal"
+    );
     assert!(rt; page.ends_with("</html>\n"), "no end");
 }

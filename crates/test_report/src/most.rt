@@ -31,7 +31,8 @@ fn told(alloc: Global) -> Option<String> {
     let mut text = String::new(alloc);
     for total in greatest_of(totals).ok()?.iter() {
         let (name, sum) = (total.name.as_str(), total.sum);
-        text.push_str(format!(in alloc; "{name}{sum} ").ok()?.as_str()).ok()?;
+        text.push_str(format!(in alloc; "{name}{sum} ").ok()?.as_str())
+            .ok()?;
     }
     Some(text)
 }

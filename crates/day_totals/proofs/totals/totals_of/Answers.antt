@@ -16,10 +16,10 @@ returns c =
     let tally = c.in_ok-tallied.field-0 in
     let tallied = c.in_ok-tallied.ensures in
     IfOk-weaker c.listed.result _ _ (λ totals same.
-        let found : (name : List ℕ) → lookup (bytes_eq name) (shown totals.items) ≡ get_by_text tally name
-        = λ name. found_shown totals.items name ∙ ap (lookup (λ k. is_eq (slice_cmp nat_cmp name (string_bytes k)))) same in
-        record {
-          sums = λ name. ap (λ o. unwrap_or o 0) (found name) ∙ tallied.sums name;
-          names = λ name. ap is_some (found name) ∙ tallied.names name;
-          order = rising_shown totals.items (subst (λ es. IsStrictlySortedBy string_cmp (keys_of es)) (sym same) c.listed.ensures.order);
-        }) c.listed.ensures.items
+    let found : (name : List ℕ) → lookup (bytes_eq name) (shown totals.items) ≡ get_by_text tally name
+    = λ name. found_shown totals.items name ∙ ap (lookup (λ k. is_eq (slice_cmp nat_cmp name (string_bytes k)))) same in
+    record {
+      sums = λ name. ap (λ o. unwrap_or o 0) (found name) ∙ tallied.sums name;
+      names = λ name. ap is_some (found name) ∙ tallied.names name;
+      order = rising_shown totals.items (subst (λ es. IsStrictlySortedBy string_cmp (keys_of es)) (sym same) c.listed.ensures.order);
+    }) c.listed.ensures.items
