@@ -2,9 +2,9 @@ ghost use Rattle.std.specs.Prelude.{◌≤◌, ℕ, List, IfOk, IfErr, OnOk, len
 ghost use Rattle.file_batch_laws.specs.Frames.{IsBatchOf};
 ghost use Rattle.file_batch_laws.specs.Replies.{IsReplyFileOf};
 ghost use Rattle.file_devices.specs.Holding.{IsThere};
-ghost use Rattle.app_jobs.specs.Faults.{IsBatchFault, IsReplyFileFault};
+ghost use Rattle.app_report.specs.Faults.{IsBatchFault, IsReplyFileFault};
 
-use app_jobs::JobFault;
+use crate::report_fault::ReportFault;
 use file_batch::{BatchFault, read_batch, read_replies};
 use file_devices::Files;
 use issuer_rows::{Frame, ReplyBody};
@@ -15,7 +15,7 @@ pub(crate) fn open_batch<F: Files>(
     alloc: Global,
     files: &F,
     name: &str,
-) -> Result<Vec<Frame>, JobFault>
+) -> Result<Vec<Frame>, ReportFault>
     ensures count { IfOk result (λ frames. length frames.items ≤ 65536) }
     ensures there { OnOk result (F.is_known files.now → IsThere (F.holds files.now) name.now) }
     ensures fault { IfErr result (IsBatchFault (F.holds files.now) (F.failing files.now) name.now) }
@@ -24,7 +24,7 @@ pub(crate) fn open_batch<F: Files>(
     let mut input = files.open(name)?;
     match read_batch(alloc, &mut input) {
         Ok(frames) => Ok(frames),
-        Err(fault) => Err(JobFault::Batch(fault)),
+        Err(fault) => Err(ReportFault::Batch(fault)),
     }
 }
 
@@ -33,7 +33,7 @@ pub(crate) fn open_replies<F: Files>(
     alloc: Global,
     files: &F,
     name: &str,
-) -> Result<Vec<ReplyBody>, JobFault>
+) -> Result<Vec<ReplyBody>, ReportFault>
     ensures there { OnOk result (F.is_known files.now → IsThere (F.holds files.now) name.now) }
     ensures fault { IfErr result (IsReplyFileFault (F.holds files.now) (F.failing files.now) name.now) }
     ensures replies { (bytes : List ℕ) → F.holds files.now name.now bytes → IfOk result (λ replies. IsReplyFileOf bytes replies.items) }
@@ -41,7 +41,7 @@ pub(crate) fn open_replies<F: Files>(
     let mut input = files.open(name)?;
     match read_replies(alloc, &mut input) {
         Ok(replies) => Ok(replies),
-        Err(BatchFault::Device) => Err(JobFault::Unreadable),
-        Err(fault) => Err(JobFault::Batch(fault)),
+        Err(BatchFault::Device) => Err(ReportFault::Unreadable),
+        Err(fault) => Err(ReportFault::Batch(fault)),
     }
 }

@@ -1,8 +1,8 @@
-ghost use Rattle.std.specs.Prelude.{◌≡◌, ◌≢◌, ℕ, List, [], ◌∷◌, IfOk, IfErr, OnOk, OnErr};
+ghost use Rattle.std.specs.Prelude.{◌≡◌, ◌≢◌, ℕ, List, [], ◌∷◌, IfOk, IfErr, OnOk, OnErr, string_bytes};
 ghost use Rattle.file_devices.specs.Holding.{AreAsTheyWere, IsAsItWas};
-ghost use Rattle.app_jobs.specs.Faults.{IsPuttingFault, MayNotBePut};
+ghost use Rattle.app_report.specs.Faults.{IsPageFault};
 
-use app_jobs::{JobFault, written};
+use crate::report_fault::ReportFault;
 use file_batch::put_all;
 use file_devices::{Files, Written};
 use std::alloc::{AllocError, Global};
@@ -14,9 +14,9 @@ pub(crate) fn put_page<F: Files>(
     files: &mut F,
     name: &str,
     page: &[u8],
-) -> Result<(), JobFault>
+) -> Result<(), ReportFault>
     ensures put { OnOk result (F.is_known files.old → F.holds files.new name.now page.now) }
-    ensures fault { IfErr result (IsPuttingFault (MayNotBePut (F.failing files.old) name.now)) }
+    ensures fault { IfErr result (IsPageFault (F.failing files.old) name.now) }
     ensures kept { OnErr result (AreAsTheyWere (F.holds files.old) (F.holds files.new)) }
     ensures others { (other : List ℕ) → other ≢ name.now → IsAsItWas (F.holds files.old) (F.holds files.new) other }
 {
@@ -27,15 +27,26 @@ pub(crate) fn put_page<F: Files>(
 }
 
 // Writes a page to a file that can be put in the place of this name.
-fn write_page<F: Files>(files: &F, name: &str, page: &[u8]) -> Result<F::Output, JobFault>
+fn write_page<F: Files>(files: &F, name: &str, page: &[u8]) -> Result<F::Output, ReportFault>
     ensures written { IfOk result (λ output. F.is_known files.now → F.Output.is_known output × (F.Output.written output ≡ page.now)) }
-    ensures fault { IfErr result (IsPuttingFault (MayNotBePut (F.failing files.now) name.now)) }
+    ensures fault { IfErr result (IsPageFault (F.failing files.now) name.now) }
 {
     let mut output = files.create(name)?;
     match put_all(&mut output, page) {
         Ok(()) => Ok(output),
-        Err(_) => Err(JobFault::Unwritable),
+        Err(_) => Err(ReportFault::Unwritable),
     }
+}
+
+// What was written, to be put in the place of this name.
+fn written<O: Drop>(alloc: Global, name: &str, output: O) -> Result<Written<O>, AllocError>
+    ensures name { IfOk result (λ file. string_bytes file.name ≡ name.now) }
+    ensures output { IfOk result (λ file. file.output ≡ output) }
+{
+    Ok(Written {
+        name: String::from_str(alloc, name)?,
+        output,
+    })
 }
 
 // One file that was written.

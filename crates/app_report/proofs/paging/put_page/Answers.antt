@@ -2,7 +2,7 @@ use Rattle.std.proofs.Common.{◌∙◌, ap, sym, Err}
 use Rattle.std.proofs.lemmas.Result.{err_from_is_err_and}
 use Rattle.file_devices.specs.declared.write_fault.WriteFault.{WriteFault}
 use Rattle.file_devices.proofs.Placing.{none_of_one, one_of_one, placed_one}
-use Rattle.app_jobs.proofs.Faults.{unmade_file}
+use Rattle.app_report.proofs.Pages.{unput_page}
 use Rattle.app_report.proofs.paging.put_page.Goals as goal
 
 pub returns-clause-put : goal.returns-clause-put
@@ -19,5 +19,5 @@ returns-clause-others g c other apart =
 pub returns-in_err-put_in_place-clause-fault : goal.returns-in_err-put_in_place-clause-fault
 returns-in_err-put_in_place-clause-fault g c =
     let p = err_from_is_err_and c.from_residual-in_err-put_in_place.result c.from_residual-in_err-put_in_place.ensures.1 in
-    rw (p.1, p.2) (unmade_file _ _ c.in_err-put_in_place.field-0.0 (λ is. rw c.in_ok-page.ensures.name at
+    rw (p.1, p.2) (unput_page (g.F.Files.failing c.args.files.now) c.args.name.now c.in_err-put_in_place.field-0.0 (λ is. rw c.in_ok-page.ensures.name at
     (one_of_one (g.F.Files.failing c.args.files.now).refused c.in_ok-page.page (rw c.in_ok-alone.ensures at (c.in_err-put_in_place.ensures.refused (ap (λ (e : WriteFault). Err e) is))))))
