@@ -2,7 +2,6 @@
 #![tactic(auto)]
 
 use app_commands::{Fault, Printer, act, print_fault};
-use app_report::{answer_report, report_asked};
 use app_why::{answer_why, why_asked};
 use app_words::topic_asked;
 use file_devices::{FromRead, HostFiles, IntoWrite};
@@ -31,11 +30,6 @@ fn main(rt: HostRuntime) -> ExitCode {
     if let Some(asked) = why_asked(&words) {
         let (mut out, mut err) = (rt.stdout(), rt.stderr());
         let status = answer_why(&rt, rt.alloc(), &files, &asked, &mut out, &mut err);
-        return ExitCode::from(status);
-    }
-    if let Some(asked) = report_asked(&words) {
-        let (mut out, mut err) = (rt.stdout(), rt.stderr());
-        let status = answer_report(rt.alloc(), &mut files, &asked, &mut out, &mut err);
         return ExitCode::from(status);
     }
     let mut out = Printer::new(rt.stdout());

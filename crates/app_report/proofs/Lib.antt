@@ -1,2 +1,0 @@
-mod Pages
-mod Reports
