@@ -1,0 +1,2 @@
+pub mod Day
+pub mod Totals
