@@ -3,6 +3,7 @@
 
 use app_commands::{Fault, Printer, act, print_fault};
 use app_messages::{MakeAsked, UnpackAsked, answer_make, answer_unpack, make_asked, unpack_asked};
+use app_report::{ReportAsked, answer_report, report_asked};
 use app_why::{answer_why, why_asked};
 use app_words::topic_asked;
 use file_devices::{FromRead, HostFiles, IntoWrite};
@@ -42,6 +43,8 @@ fn main(rt: HostRuntime) -> ExitCode {
         replay_words(&rt, rt, &mut files, asked, &mut out, &mut err)
     } else if let Some(asked) = audit_log_asked(&words) {
         audit_log_words(&rt, rt, &files, asked, &mut out, &mut err)
+    } else if let Some(asked) = report_asked(&words) {
+        report_words(rt, &mut files, &asked)
     } else if let Some(asked) = make_asked(&words) {
         make_words(rt, &asked)
     } else if let Some(asked) = unpack_asked(&words) {
@@ -128,6 +131,21 @@ fn audit_log_words<R: Threads, O: Write, E: Write>(
             err,
         ),
     }
+}
+
+// Does what is asked of how a day went.
+fn report_words(
+    host: HostRuntime,
+    files: &mut HostFiles<HostRuntime>,
+    asked: &ReportAsked<'_>,
+) -> u8 {
+    answer_report(
+        host.alloc(),
+        files,
+        asked,
+        &mut host.stdout(),
+        &mut host.stderr(),
+    )
 }
 
 // Does what is asked of a message from words.

@@ -1,0 +1,62 @@
+//! The command over files in memory: its statuses, and what stands on standard output and standard error.
+
+use app_report::{ReportAsked, answer_report};
+use file_devices::MemoryFiles;
+use std::alloc::Global;
+use std::process::Abort;
+
+// A batch with one body, which is no message, and the reply to it; and replies to none.
+const BATCH: &[u8] = b"I83B\x00\x01\x00\x00\x00\x01\x00\x04\x31\x31\x30\x30";
+
+const REPLIES: &[u8] = b"I83R\x00\x01\x00\x00\x00\x01\x00\x06F01000";
+
+const NONE: &[u8] = b"I83R\x00\x01\x00\x00\x00\x00";
+
+// Commands: the names of their files, the status, what stands on standard output, and on standard error.
+const COMMANDS: &[(&str, &str, u8, &str, &str)] = &[
+    ("batch", "replies", 0, "bodies    no message: 1\n", ""),
+    (
+        "batch",
+        "none",
+        1,
+        "",
+        "replies 0\nnone: it has 0 replies, and the batch another number of bodies\n",
+    ),
+    ("absent", "replies", 1, "", "file 1\n"),
+    ("batch", "absent", 1, "", "file 1\n"),
+    ("replies", "replies", 1, "", "batch 1\n"),
+    ("batch", "batch", 1, "", "batch 1\n"),
+];
+
+fn bytes_of(alloc: Global, bytes: &[u8]) -> Option<Vec<u8>> {
+    let mut copy = Vec::new(alloc);
+    copy.extend_from_slice(bytes).ok()?;
+    Some(copy)
+}
+
+fn files(alloc: Global) -> Option<MemoryFiles> {
+    let mut files = MemoryFiles::new(alloc);
+    files.put("batch", bytes_of(alloc, BATCH)?).ok()?;
+    files.put("replies", bytes_of(alloc, REPLIES)?).ok()?;
+    files.put("none", bytes_of(alloc, NONE)?).ok()?;
+    Some(files)
+}
+
+// What the command comes to: its status, and what it said.
+fn said(alloc: Global, asked: &ReportAsked<'_>) -> Option<(u8, Vec<u8>, Vec<u8>)> {
+    let mut files = files(alloc)?;
+    let (mut out, mut err) = (Vec::new(alloc), Vec::new(alloc));
+    let status = answer_report(alloc, &mut files, asked, &mut out, &mut err);
+    Some((status, out, err))
+}
+
+#[test]
+fn answers_the_commands(rt: HostRuntime) {
+    for (batch, replies, status, out, err) in COMMANDS {
+        let asked = ReportAsked::Day(batch, replies);
+        let said = said(rt.alloc(), &asked).expect(&rt, "room");
+        assert!(rt; said.0 == *status, "{batch} {replies}");
+        assert!(rt; said.1.as_slice() == out.as_bytes(), "{batch} {replies}");
+        assert!(rt; said.2.as_slice() == err.as_bytes(), "{batch} {replies}");
+    }
+}
