@@ -84,6 +84,9 @@ fn totals(alloc: Global) -> Option<DayTotals> {
         frames.push(frame).ok()?;
         replies.push(answered(&frame, action)?).ok()?;
     }
+    if frames.len() != replies.len() {
+        return None;
+    }
     let day = day_of(alloc, &frames, &replies).ok()?;
     DayTotals::of(alloc, &day).ok()
 }
