@@ -88,6 +88,9 @@ fn totals(alloc: Global) -> Option<DayTotals> {
         return None;
     }
     let day = day_of(alloc, &frames, &replies).ok()?;
+    if day.len() > 64 {
+        return None;
+    }
     DayTotals::of(alloc, &day).ok()
 }
 
