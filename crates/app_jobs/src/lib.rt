@@ -25,7 +25,7 @@ pub use deciding::decide_batch;
 pub use deciding_blocks::decide_blocks;
 pub use halt::Halt;
 pub use job_fault::JobFault;
-pub use opening::open_book;
+pub use opening::{open_batch, open_book, open_replies};
 pub use packing::pack_batch;
 pub use placing::written;
 pub use serial::serial_batch;

@@ -34,12 +34,9 @@ pub fn open_book<R: Threads, F: Files>(
     }
 }
 
-/// The messages of the batch of this name.
-pub(crate) fn open_batch<F: Files>(
-    alloc: Global,
-    files: &F,
-    name: &str,
-) -> Result<Vec<Frame>, JobFault>
+/// The messages of the batch of this name. It fails where the file can't be opened or read, with the first fault of its bytes, or where memory
+/// runs out.
+pub fn open_batch<F: Files>(alloc: Global, files: &F, name: &str) -> Result<Vec<Frame>, JobFault>
     ensures count { IfOk result (λ frames. length frames.items ≤ 65536) }
     ensures there { OnOk result (F.is_known files.now → IsThere (F.holds files.now) name.now) }
     ensures fault { IfErr result (IsBatchFault (F.holds files.now) (F.failing files.now) name.now) }
@@ -52,8 +49,8 @@ pub(crate) fn open_batch<F: Files>(
     }
 }
 
-/// The replies of the file of this name. A device that fails is an unreadable file.
-pub(crate) fn open_replies<F: Files>(
+/// The replies of the file of this name. It fails so, too; a device that fails is an unreadable file.
+pub fn open_replies<F: Files>(
     alloc: Global,
     files: &F,
     name: &str,

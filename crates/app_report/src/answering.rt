@@ -1,8 +1,8 @@
 ghost use Rattle.std.specs.Prelude.{◌≤◌, IfOk, IfErr, length};
 ghost use Rattle.app_report.specs.Report.{IsReport, IsReportFault};
 
-use crate::opening::{open_batch, open_replies};
 use crate::report_fault::ReportFault;
+use app_jobs::{open_batch, open_replies};
 use day_totals::{DayTotals, day_of};
 use file_devices::Files;
 use std::alloc::Global;

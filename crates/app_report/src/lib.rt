@@ -5,7 +5,6 @@ mod answering;
 mod apart;
 mod asking;
 mod help;
-mod opening;
 mod paging;
 mod report_fault;
 mod telling;

@@ -1,9 +1,8 @@
 ghost use Rattle.std.specs.Prelude.{IfOk, IfErr};
 ghost use Rattle.app_why.specs.Why.{IsWhy, IsWhyFault};
 
-use crate::opening::open_batch;
 use crate::why_fault::WhyFault;
-use app_jobs::open_book;
+use app_jobs::{open_batch, open_book};
 use file_devices::Files;
 use issuer_reasons::{Explanation, explain_at};
 use std::alloc::Global;

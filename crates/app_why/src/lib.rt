@@ -5,7 +5,6 @@ mod answering;
 mod asking;
 mod help;
 mod listing;
-mod opening;
 mod sought;
 mod telling;
 mod why_fault;
