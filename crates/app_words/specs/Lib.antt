@@ -1,1 +1,2 @@
+pub mod Streams
 pub mod Words

@@ -1,0 +1,46 @@
+use crate::progress::{Progress, tell_between};
+use file_devices::{Broken, Source};
+
+/// A file that tells how far it is read.
+#[derive(Drop)]
+pub struct ProgressFile<S, P> {
+    source: S,
+    progress: Option<P>,
+    // How many bytes were read. It stays at 2^64 - 1 once it is there.
+    read: u64,
+}
+
+impl<S: Source, P: Progress> ProgressFile<S, P> {
+    ghost use Rattle.std.specs.Prelude.{◌≡◌};
+
+    /// Nothing of this file is read yet. Without a place to tell it, nothing is told.
+    pub fn new(source: S, progress: Option<P>) -> ProgressFile<S, P>
+        ensures source { result.source ≡ source }
+    {
+        ProgressFile {
+            source,
+            progress,
+            read: 0,
+        }
+    }
+}
+
+impl<S: Source, P: Progress> Source for ProgressFile<S, P> {
+    ghost is_known = { λ file. S.is_known file.source };
+
+    ghost remaining = { λ file. S.remaining file.source };
+
+    ghost has_failed = { λ file. S.has_failed file.source };
+
+    ghost may_fail = { λ file. S.may_fail file.source };
+
+    fn take(&mut self, buffer: &mut [u8]) -> Result<usize, Broken> {
+        let taken = self.source.take(buffer);
+        if let Ok(count) = taken {
+            let before = self.read;
+            self.read = before.saturating_add(count as u64);
+            tell_between(&self.progress, before, self.read);
+        }
+        taken
+    }
+}

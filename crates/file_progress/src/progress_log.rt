@@ -1,0 +1,37 @@
+use crate::progress::{Progress, tell_between};
+use file_devices::Broken;
+use log_locked::LockedLog;
+
+/// A log that tells how far it is read.
+#[derive(Drop)]
+pub struct ProgressLog<L, P> {
+    log: L,
+    progress: Option<P>,
+}
+
+impl<L: LockedLog, P: Progress> ProgressLog<L, P> {
+    ghost use Rattle.std.specs.Prelude.{◌≡◌};
+
+    /// This log. Without a place to tell it, nothing is told.
+    pub fn new(log: L, progress: Option<P>) -> ProgressLog<L, P>
+        ensures log { result.log ≡ log }
+    {
+        ProgressLog { log, progress }
+    }
+}
+
+impl<L: LockedLog, P: Progress> LockedLog for ProgressLog<L, P> {
+    ghost is_known = { λ all. L.is_known all.log };
+
+    ghost bytes = { λ all. L.bytes all.log };
+
+    ghost may_fail = { λ all. L.may_fail all.log };
+
+    fn read_at(&self, at: u64, buffer: &mut [u8]) -> Result<usize, Broken> {
+        let read = self.log.read_at(at, buffer);
+        if let Ok(count) = read {
+            tell_between(&self.progress, at, at + count as u64);
+        }
+        read
+    }
+}

@@ -1,0 +1,40 @@
+use crate::progress::Progress;
+use crate::progress_log::ProgressLog;
+use log_devices::OpenFault;
+use log_locked::LockedLogs;
+
+/// Logs that tell how far they are read.
+#[derive(Drop)]
+pub struct ProgressLogs<L, P> {
+    logs: L,
+    progress: Option<P>,
+}
+
+impl<L: LockedLogs, P: Progress> ProgressLogs<L, P> {
+    ghost use Rattle.std.specs.Prelude.{◌≡◌};
+
+    /// These logs. Without a place to tell it, nothing is told.
+    pub fn new(logs: L, progress: Option<P>) -> ProgressLogs<L, P>
+        ensures logs { result.logs ≡ logs }
+    {
+        ProgressLogs { logs, progress }
+    }
+}
+
+impl<L: LockedLogs, P: Progress> LockedLogs for ProgressLogs<L, P> {
+    type Log = ProgressLog<L::Log, P>;
+
+    ghost holds = { λ all. L.holds all.logs };
+
+    ghost reading = { λ all. L.reading all.logs };
+
+    ghost in_use = { λ all. L.in_use all.logs };
+
+    fn open(&self, name: &str) -> Result<ProgressLog<L::Log, P>, OpenFault> {
+        let log = self.logs.open(name)?;
+        if let Some(progress) = &self.progress {
+            progress.is_opened(name);
+        }
+        Ok(ProgressLog::new(log, self.progress))
+    }
+}
