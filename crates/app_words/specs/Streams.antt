@@ -1,45 +1,57 @@
 -- What `-` is in place of a file's name on the command line: standard input where the file is read, standard output where it is written.
-use Rattle.std.specs.Prelude.{ℕ, ◌+◌, Bool, true, false, not, ◌&&◌, ◌||◌, nat_eq, nat_le, if◌then◌else◌, List, [], ◌∷◌, codes, take}
+use Rattle.std.specs.Prelude.{ℕ, ◌+◌, Bool, false, ◌&&◌, ◌||◌, nat_eq, nat_le, if◌then◌else◌, List, [], ◌∷◌, codes, take}
 use Rattle.std.specs.Str.{bytes_eq}
 
 -- an option, as `--workers`
 abbrev pub is_option : List ℕ → Bool
 is_option word = bytes_eq (take 2 word) (codes "--")
 
--- an option that the next word belongs to, as the 4 of `--workers 4`
-pub has_value : List ℕ → Bool
-has_value word =
-    bytes_eq word (codes "--workers") || bytes_eq word (codes "--engine") || bytes_eq word (codes "--journal") || bytes_eq word (codes "--html")
-    || bytes_eq word (codes "--trace") || bytes_eq word (codes "--card") || bytes_eq word (codes "--max-batch") || bytes_eq word (codes "--stats")
+-- an option of how a batch is decided that the next word belongs to, as the 4 of `--workers 4`
+abbrev pub chooses_engine : List ℕ → Bool
+chooses_engine word = bytes_eq word (codes "--workers") || bytes_eq word (codes "--engine") || bytes_eq word (codes "--max-batch")
+
+-- an option of what else is written or looked for that the next word belongs to
+abbrev pub names_more : List ℕ → Bool
+names_more word =
+    bytes_eq word (codes "--journal") || bytes_eq word (codes "--html") || bytes_eq word (codes "--trace") || bytes_eq word (codes "--card")
+    || bytes_eq word (codes "--stats")
+
+-- an option that the next word belongs to
+abbrev pub has_value : List ℕ → Bool
+has_value word = chooses_engine word || names_more word
 
 -- of so many names behind this command it writes the file of the one at this place: the last of `pack`; REPLIES and NEWBOOK
-pub writes : List ℕ → ℕ → ℕ → Bool
+abbrev pub writes : List ℕ → ℕ → ℕ → Bool
 writes command count place =
     (bytes_eq command (codes "pack") && nat_eq (place + 1) count)
     || (nat_le 2 place
         && (bytes_eq command (codes "serial") || bytes_eq command (codes "run") || bytes_eq command (codes "blocks") || bytes_eq command (codes "replay")))
 
 -- how many names are among the words behind a command; the first word is an option's value, where that is said
-pub names : Bool → List (List ℕ) → ℕ
+unfoldable pub names : Bool → List (List ℕ) → ℕ
 names is_value [] = 0
 names is_value (word ∷ words) =
     if is_value then names false words else (if is_option word then names (has_value word) words else 1 + names false words)
 
--- the name of a standard stream of the process
-abbrev pub stream : Bool → List ℕ
-stream is_written = if is_written then codes "/dev/stdout" else codes "/dev/stdin"
+-- the name at this place: `-` is a stream of the process
+abbrev pub named : List ℕ → ℕ → ℕ → List ℕ → List ℕ
+named command count place word =
+    if bytes_eq word (codes "-") then (if writes command count place then codes "/dev/stdout" else codes "/dev/stdin") else word
 
--- the words behind a command, with a stream's name for each `-` that is a name; so many names are behind the command, so many of them
--- before these words
-pub streamed : List ℕ → ℕ → ℕ → Bool → List (List ℕ) → List (List ℕ)
+-- the words behind a command, with streams by their names; so many names are behind the command, so many of them before these words
+unfoldable pub streamed : List ℕ → ℕ → ℕ → Bool → List (List ℕ) → List (List ℕ)
 streamed command count place is_value [] = []
 streamed command count place is_value (word ∷ words) =
     if is_value then word ∷ streamed command count place false words
     else (if is_option word then word ∷ streamed command count place (has_value word) words
-    else (if bytes_eq word (codes "-") then stream (writes command count place) else word) ∷ streamed command count (place + 1) false words)
+    else named command count place word ∷ streamed command count (place + 1) false words)
 
--- the same of all words, of which the first is the program's name, and the second the command
-pub with_streams : List (List ℕ) → List (List ℕ)
+-- the same of a command and the words behind it
+unfoldable pub streamed_command : List (List ℕ) → List (List ℕ)
+streamed_command [] = []
+streamed_command (command ∷ words) = command ∷ streamed command (names false words) 0 false words
+
+-- the same of all words, of which the first is the program's name
+unfoldable pub with_streams : List (List ℕ) → List (List ℕ)
 with_streams [] = []
-with_streams (program ∷ []) = program ∷ []
-with_streams (program ∷ command ∷ words) = program ∷ command ∷ streamed command (names false words) 0 false words
+with_streams (program ∷ words) = program ∷ streamed_command words

@@ -1,12 +1,15 @@
 ghost use Rattle.std.specs.Prelude.{◌≡◌, ◌≢◌, ◌+◌, ◌++◌, ℕ, Some, IsTrue, codes, drop, map, slice_get, string_bytes, take};
 
-/// Takes the first word `--progress` out of the words. Returns whether there is one.
+use crate::words::place_of;
+
+/// Takes a word `--progress` out of the words. Returns whether there is one.
 pub fn take_progress(words: &mut Vec<String>) -> bool
     ensures taken { IsTrue result → (place : ℕ) × (slice_get (map string_bytes words.old.items) place ≡ Some (codes "--progress"))
         × (words.new.items ≡ take place words.old.items ++ drop (place + 1) words.old.items) }
-    ensures none { ¬ IsTrue result → words.new ≡ words.old }
+    ensures none { ¬ IsTrue result → (words.new ≡ words.old)
+        × ((place : ℕ) → slice_get (map string_bytes words.old.items) place ≢ Some (codes "--progress")) }
 {
-    match words.iter().position(|word| word.as_str() == "--progress") {
+    match place_of(words, words.len(), "--progress") {
         Some(place) => {
             words.remove(place);
             true

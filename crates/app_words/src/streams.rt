@@ -1,33 +1,52 @@
-ghost use Rattle.std.specs.Prelude.{◌≡◌, ◌+◌, ◌^◌, ◌<◌, ◌++◌, ◌≤◌, ◌∷◌, [], OnOk, length, map, string_bytes};
-ghost use Rattle.app_words.specs.Streams.{has_value, is_option, names, stream, streamed, with_streams, writes};
+ghost use Rattle.std.specs.Prelude.{◌≡◌, ◌≢◌, ◌+◌, ◌^◌, ◌<◌, ◌++◌, ◌≤◌, ◌∷◌, ℕ, [], Some, IfOk, IsTrue, OnOk, codes, length, map, slice_get, string_bytes};
+ghost use Rattle.app_words.specs.Streams.{chooses_engine, has_value, is_option, names, names_more, named, streamed, streamed_command, with_streams, writes};
 
+use crate::words::place_of;
 use std::alloc::{AllocError, Global};
 
 /// The program's words, of which the first is its name, with `/dev/stdin` or `/dev/stdout` for each `-` in place of a file's name: a file
 /// that is read is standard input then, one that is written standard output. Memory can run out.
 pub fn with_streams(alloc: Global, words: &[String]) -> Result<Vec<String>, AllocError>
-    ensures { OnOk result (map string_bytes result.items ≡ with_streams (map string_bytes words.now)) }
+    ensures { IfOk result (λ streamed. map string_bytes streamed.items ≡ with_streams (map string_bytes words.now)) }
 {
     let mut streamed = Vec::new(alloc);
-    let Some((program, behind)) = words.split_first() else {
-        return Ok(streamed);
-    };
-    add(alloc, program.as_str(), &mut streamed)?;
-    let Some((command, rest)) = behind.split_first() else {
-        return Ok(streamed);
-    };
-    add(alloc, command.as_str(), &mut streamed)?;
-    let named = Named {
-        command: command.as_str(),
-        count: count_names(false, rest),
-    };
-    named.add_streamed(alloc, 0, false, rest, &mut streamed)?;
-    Ok(streamed)
+    match words.split_first() {
+        None => Ok(streamed),
+        Some((program, behind)) => {
+            add(alloc, program.as_str(), &mut streamed)?;
+            add_behind_program(alloc, behind, &mut streamed)?;
+            Ok(streamed)
+        }
+    }
 }
 
-/// Whether a word is standard output as a file.
-pub fn names_standard_output(words: &[String]) -> bool {
-    words.iter().any(|word| word.as_str() == "/dev/stdout")
+// Adds the words behind the program's name, of which the first is the command.
+fn add_behind_program(
+    alloc: Global,
+    words: &[String],
+    to: &mut Vec<String>,
+) -> Result<(), AllocError>
+    ensures { OnOk result (map string_bytes to.new.items ≡ map string_bytes to.old.items ++ streamed_command (map string_bytes words.now)) }
+{
+    match words.split_first() {
+        None => Ok(()),
+        Some((command, rest)) => {
+            let command = Named {
+                command: command.as_str(),
+                count: count_names(false, rest),
+            };
+            add(alloc, command.command, to)?;
+            command.add_streamed(alloc, 0, false, rest, to)
+        }
+    }
+}
+
+/// Whether a word names standard output as a file.
+pub fn names_standard_output(words: &[String]) -> bool
+    ensures yes { IsTrue result → (place : ℕ) × (slice_get (map string_bytes words.now) place ≡ Some (codes "/dev/stdout")) }
+    ensures no { ¬ IsTrue result → (place : ℕ) → slice_get (map string_bytes words.now) place ≢ Some (codes "/dev/stdout") }
+{
+    place_of(words, words.len(), "/dev/stdout").is_some()
 }
 
 // Whether this is an option.
@@ -37,18 +56,29 @@ fn is_option(word: &str) -> bool
     word.as_bytes().starts_with(b"--")
 }
 
+// Whether this option says how a batch is decided, by the word behind it.
+fn chooses_engine(word: &str) -> bool
+    ensures { result ≡ chooses_engine word.now }
+{
+    word == "--workers" || word == "--engine" || word == "--max-batch"
+}
+
+// Whether this option says what else is written or looked for, by the word behind it.
+fn names_more(word: &str) -> bool
+    ensures { result ≡ names_more word.now }
+{
+    word == "--journal"
+        || word == "--html"
+        || word == "--trace"
+        || word == "--card"
+        || word == "--stats"
+}
+
 // Whether the word behind this option belongs to it.
 fn has_value(word: &str) -> bool
     ensures { result ≡ has_value word.now }
 {
-    word == "--workers"
-        || word == "--engine"
-        || word == "--journal"
-        || word == "--html"
-        || word == "--trace"
-        || word == "--card"
-        || word == "--max-batch"
-        || word == "--stats"
+    chooses_engine(word) || names_more(word)
 }
 
 // How many names are among these words.
@@ -58,10 +88,12 @@ fn count_names(is_value: bool, words: &[String]) -> usize
 {
     match words.split_first() {
         None => 0,
-        Some((_, rest)) if is_value => count_names(false, rest),
         Some((word, rest)) => {
-            if is_option(word.as_str()) {
-                count_names(has_value(word.as_str()), rest)
+            let word = word.as_str();
+            if is_value {
+                count_names(false, rest)
+            } else if is_option(word) {
+                count_names(has_value(word), rest)
             } else {
                 1 + count_names(false, rest)
             }
@@ -80,7 +112,7 @@ fn add(alloc: Global, word: &str, words: &mut Vec<String>) -> Result<(), AllocEr
 }
 
 // A command with so many names behind it.
-#[derive(Clone, Copy)]
+#[derive(Drop)]
 struct Named<'a> {
     command: &'a str,
     count: usize,
@@ -88,9 +120,9 @@ struct Named<'a> {
 
 impl Named<'_> {
     // Whether it writes the file of the name at this place.
-    fn writes(self, place: usize) -> bool
+    fn writes(&self, place: usize) -> bool
         requires room { place + 1 < 2 ^ 64 }
-        ensures { result ≡ writes self.command.now self.count place }
+        ensures { result ≡ writes self.now.command.now self.now.count place }
     {
         if self.command == "pack" {
             return place + 1 == self.count;
@@ -104,36 +136,43 @@ impl Named<'_> {
 
     // Adds the words behind the command, before which so many of its names stand.
     fn add_streamed(
-        self,
+        &self,
         alloc: Global,
         place: usize,
         is_value: bool,
         words: &[String],
-        streamed: &mut Vec<String>,
+        to: &mut Vec<String>,
     ) -> Result<(), AllocError>
         requires room { place + length words.now < 2 ^ 64 }
-        ensures { OnOk result (map string_bytes streamed.new.items
-            ≡ map string_bytes streamed.old.items ++ streamed self.command.now self.count place is_value (map string_bytes words.now)) }
+        ensures { OnOk result (map string_bytes to.new.items
+            ≡ map string_bytes to.old.items ++ streamed self.now.command.now self.now.count place is_value (map string_bytes words.now)) }
     {
-        let Some((word, rest)) = words.split_first() else {
-            return Ok(());
-        };
-        let word = word.as_str();
-        if is_value || is_option(word) {
-            add(alloc, word, streamed)?;
-            return self.add_streamed(alloc, place, !is_value && has_value(word), rest, streamed);
+        match words.split_first() {
+            None => Ok(()),
+            Some((word, rest)) => {
+                let word = word.as_str();
+                if is_value {
+                    add(alloc, word, to)?;
+                    self.add_streamed(alloc, place, false, rest, to)
+                } else if is_option(word) {
+                    add(alloc, word, to)?;
+                    self.add_streamed(alloc, place, has_value(word), rest, to)
+                } else {
+                    add(alloc, self.name(place, word), to)?;
+                    self.add_streamed(alloc, place + 1, false, rest, to)
+                }
+            }
         }
-        let name = if word == "-" { self.stream(place) } else { word };
-        add(alloc, name, streamed)?;
-        self.add_streamed(alloc, place + 1, false, rest, streamed)
     }
 
-    // The stream that `-` is at this place.
-    fn stream(self, place: usize) -> &'static str
+    // The name at this place: for `-` that of a stream.
+    fn name<'a>(&self, place: usize, word: &'a str) -> &'a str
         requires room { place + 1 < 2 ^ 64 }
-        ensures { result.now ≡ stream (writes self.command.now self.count place) }
+        ensures { result.now ≡ named self.now.command.now self.now.count place word.now }
     {
-        if self.writes(place) {
+        if word != "-" {
+            word
+        } else if self.writes(place) {
             "/dev/stdout"
         } else {
             "/dev/stdin"

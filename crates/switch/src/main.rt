@@ -5,8 +5,9 @@ use app_commands::{Fault, Printer, act, print_fault};
 use app_messages::{MakeAsked, UnpackAsked, answer_make, answer_unpack, make_asked, unpack_asked};
 use app_report::{ReportAsked, answer_report, report_asked};
 use app_why::{answer_why, why_asked};
-use app_words::topic_asked;
-use file_devices::{FromRead, HostFiles, IntoWrite};
+use app_words::{names_standard_output, take_progress, topic_asked, with_streams};
+use file_devices::{Files, FromRead, HostFiles, IntoWrite};
+use file_progress::{Progress, ProgressFiles, ProgressLogs};
 use host_commands::{HostAsked, HostLogs, SERVE_HELP, host_asked, serve};
 use log_commands::{
     AUDIT_LOG_HELP, LogAsked, REPLAY_HELP, audit_log, audit_log_asked, replay, replay_asked,
@@ -21,14 +22,14 @@ use std::{env, io};
 
 fn main(rt: HostRuntime) -> ExitCode {
     let mut err = Printer::new(rt.stderr());
-    let words = match arguments_of(&rt) {
-        Ok(words) => words,
+    let (words, progress) = match asked_words(&rt) {
+        Ok(asked) => asked,
         Err(fault) => {
             print_fault(&fault, &mut err);
             return ExitCode::from(fault.status());
         }
     };
-    let mut files = HostFiles::new(rt, rt.alloc());
+    let mut files = ProgressFiles::new(HostFiles::new(rt, rt.alloc()), progress);
     if let Some(asked) = why_asked(&words) {
         let (mut out, mut err) = (rt.stdout(), rt.stderr());
         let status = answer_why(&rt, rt.alloc(), &files, &asked, &mut out, &mut err);
@@ -40,15 +41,19 @@ fn main(rt: HostRuntime) -> ExitCode {
     } else if let Some(asked) = host_asked(&words) {
         serve_words(&rt, rt, &files, asked, &mut out, &mut err)
     } else if let Some(asked) = replay_asked(&words) {
-        replay_words(&rt, rt, &mut files, asked, &mut out, &mut err)
+        replay_words(&rt, rt, &mut files, progress, asked, &mut out, &mut err)
     } else if let Some(asked) = audit_log_asked(&words) {
-        audit_log_words(&rt, rt, &files, asked, &mut out, &mut err)
+        audit_log_words(&rt, rt, &files, progress, asked, &mut out, &mut err)
     } else if let Some(asked) = report_asked(&words) {
         report_words(rt, &mut files, &asked)
     } else if let Some(asked) = make_asked(&words) {
         make_words(rt, &asked)
     } else if let Some(asked) = unpack_asked(&words) {
         unpack_words(rt, &files, &asked)
+    } else if names_standard_output(&words) {
+        // What is said doesn't stand between the bytes of a file.
+        let mut said = Printer::new(rt.stderr());
+        act(&rt, rt.alloc(), &mut files, &words, &mut said, &mut err)
     } else {
         act(&rt, rt.alloc(), &mut files, &words, &mut out, &mut err)
     };
@@ -56,10 +61,10 @@ fn main(rt: HostRuntime) -> ExitCode {
 }
 
 // Does what is asked of a live host, over standard input and output.
-fn serve_words<R: Threads + Wait + Copy + Sync, O: Write, E: Write>(
+fn serve_words<R: Threads + Wait + Copy + Sync, F: Files, O: Write, E: Write>(
     rt: &R,
     host: HostRuntime,
-    files: &HostFiles<HostRuntime>,
+    files: &F,
     asked: HostAsked<'_>,
     out: &mut Printer<O>,
     err: &mut Printer<E>,
@@ -85,17 +90,18 @@ fn serve_words<R: Threads + Wait + Copy + Sync, O: Write, E: Write>(
 }
 
 // Does what is asked of a log that is decided again.
-fn replay_words<R: Threads + Wait + Sync, O: Write, E: Write>(
+fn replay_words<R: Threads + Wait + Sync, F: Files, O: Write, E: Write>(
     rt: &R,
     host: HostRuntime,
-    files: &mut HostFiles<HostRuntime>,
+    files: &mut F,
+    progress: Option<OnStandardError>,
     asked: LogAsked<'_>,
     out: &mut Printer<O>,
     err: &mut Printer<E>,
 ) -> u8 {
     match asked {
         LogAsked::Files(names) => {
-            let logs = HostLockedLogs::new(host);
+            let logs = ProgressLogs::new(HostLockedLogs::new(host), progress);
             replay(rt, host.alloc(), files, &logs, &names, &mut host.stderr())
         }
         LogAsked::Help => help(REPLAY_HELP, out),
@@ -107,10 +113,11 @@ fn replay_words<R: Threads + Wait + Sync, O: Write, E: Write>(
 }
 
 // Does what is asked of a log whose replies and new book are audited.
-fn audit_log_words<R: Threads, O: Write, E: Write>(
+fn audit_log_words<R: Threads, F: Files, O: Write, E: Write>(
     rt: &R,
     host: HostRuntime,
-    files: &HostFiles<HostRuntime>,
+    files: &F,
+    progress: Option<OnStandardError>,
     asked: LogAsked<'_>,
     out: &mut Printer<O>,
     err: &mut Printer<E>,
@@ -120,7 +127,7 @@ fn audit_log_words<R: Threads, O: Write, E: Write>(
             rt,
             host.alloc(),
             files,
-            &HostLockedLogs::new(host),
+            &ProgressLogs::new(HostLockedLogs::new(host), progress),
             &names,
             &mut host.stdout(),
             &mut host.stderr(),
@@ -134,11 +141,7 @@ fn audit_log_words<R: Threads, O: Write, E: Write>(
 }
 
 // Does what is asked of how a day went.
-fn report_words(
-    host: HostRuntime,
-    files: &mut HostFiles<HostRuntime>,
-    asked: &ReportAsked<'_>,
-) -> u8 {
+fn report_words<F: Files>(host: HostRuntime, files: &mut F, asked: &ReportAsked<'_>) -> u8 {
     answer_report(
         host.alloc(),
         files,
@@ -154,7 +157,7 @@ fn make_words(host: HostRuntime, asked: &MakeAsked<'_>) -> u8 {
 }
 
 // Does what is asked of a batch's bodies.
-fn unpack_words(host: HostRuntime, files: &HostFiles<HostRuntime>, asked: &UnpackAsked<'_>) -> u8 {
+fn unpack_words<F: Files>(host: HostRuntime, files: &F, asked: &UnpackAsked<'_>) -> u8 {
     answer_unpack(
         host.alloc(),
         files,
@@ -174,6 +177,31 @@ fn help<O: Write>(text: &str, out: &mut Printer<O>) -> u8 {
 fn usage<E: Write>(text: &[u8], err: &mut Printer<E>) -> u8 {
     err.line(text);
     2
+}
+
+// Where a person sees how far files are read.
+#[derive(Clone, Copy)]
+struct OnStandardError(HostRuntime);
+
+impl Progress for OnStandardError {
+    fn is_opened(&self, name: &str) {
+        let _ = write!(self.0.stderr(), "reading {name}\n");
+    }
+
+    fn has_read(&self, mebibytes: u64) {
+        let _ = write!(self.0.stderr(), "read {mebibytes} MiB\n");
+    }
+}
+
+// The words that the program was started with, with streams by their names, and where it is told how far files are read.
+fn asked_words(rt: &HostRuntime) -> Result<(Vec<String>, Option<OnStandardError>), Fault> {
+    let mut words = arguments_of(rt)?;
+    let progress = if take_progress(&mut words) {
+        Some(OnStandardError(*rt))
+    } else {
+        None
+    };
+    Ok((with_streams(rt.alloc(), &words)?, progress))
 }
 
 // The words that the program was started with.
