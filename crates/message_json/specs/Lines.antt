@@ -1,5 +1,6 @@
 -- Bodies and replies as lines of JSON. A message is an object of its elements, by the names that `make` takes.
 use Rattle.std.specs.Prelude.{ℕ, List, [], ◌∷◌, ◌++◌, Option, Some, None, ◌==◌, if◌then◌else◌, map, codes}
+use Rattle.std.specs.List.{flat_map}
 use Rattle.iso8583.specs.CodecFault.{element_of_fault}
 use Rattle.iso8583.specs.declared.codec_fault.CodecFault.{CodecFault}
 use Rattle.iso8583.specs.declared.message.Message.{Message}
@@ -8,6 +9,7 @@ use Rattle.iso_laws.specs.Messages.{fields_of, mti_of}
 use Rattle.iso_laws.specs.Replies.{reply_fields, reply_mti}
 use Rattle.iso_laws.specs.Spelling.{Field}
 use Rattle.iso_laws.specs.Types.{mti_text}
+use Rattle.iso_laws.specs.declared.element.Element.{Element}
 use Rattle.iso_laws.specs.declared.mti.Mti.{Mti}
 use Rattle.issuer_rows.specs.FrameFault.{fault_body}
 use Rattle.issuer_rows.specs.declared.frame.Frame.{Frame}
@@ -88,3 +90,15 @@ reply_line place cards reply = compact_text (reply_data place cards reply) ++ co
 
 abbrev pub member_tokens : Member → List Token
 member_tokens m = key m.0 ∷ tokens_of m.1
+
+abbrev pub all_tokens : List Member → List Token
+all_tokens ms = flat_map member_tokens ms
+
+-- the elements that are there
+abbrev pub elements_tokens : CardNumbers → List Field → List Token
+elements_tokens cards fields = all_tokens (map (element_member cards) fields)
+
+-- an element, if it is there
+abbrev pub element_tokens : Element → Option Data → List Token
+element_tokens e None = []
+element_tokens e (Some value) = key (name_of e) ∷ tokens_of value

@@ -1,9 +1,8 @@
 -- What JSON says of an element. Amounts are numbers, in minor units; all else is text.
-use Rattle.std.specs.Prelude.{◌≡◌, ℕ, Bool, ◌&&◌, nat_le, if◌then◌else◌, List, ◌++◌, length, take, drop, Option, option_map, codes}
+use Rattle.std.specs.Prelude.{◌≡◌, ℕ, Bool, ◌&&◌, nat_le, if◌then◌else◌, List, length, take, Option, option_map}
 use Rattle.iso8583.specs.Class.{is_digits}
 use Rattle.iso8583.specs.Number.{fixed_digits, number_of}
-use Rattle.iso8583.specs.declared.original_ref.OriginalRef.{OriginalRef}
-use Rattle.iso_laws.specs.Elements.{original_type}
+use Rattle.iso_laws.specs.Elements.{original_text}
 use Rattle.iso_laws.specs.declared.element.Element.{Element}
 use Rattle.iso_laws.specs.declared.element.Element.TheVariants as element
 use Rattle.iso_shown.specs.Masked.{masked}
@@ -27,30 +26,24 @@ is_like_card text = nat_le 12 (length text) && (nat_le (length text) 19 && is_di
 abbrev pub shown_account : CardNumbers → List ℕ → List ℕ
 shown_account cards name = if is_like_card name then shown_card cards name else name
 
--- The value of an element by its text: of an amount its number; of element 30 the first of its two amounts; of element 56 its parts
--- without the length between them, as `make` takes it; of others the text, with card numbers masked unless they are asked for in full.
+-- The value of an element by its text: of an amount its number; of element 30 the first of its two amounts; of others the text, with card
+-- numbers masked unless they are asked for in full.
 abbrev pub value_of : CardNumbers → Element → List ℕ → Data
 value_of cards element.Pan text = string (shown_card cards text)
 value_of cards element.Account text = string (shown_account cards text)
 value_of cards element.Amount text = numeral (number_of text)
 value_of cards element.OriginalAmount text = numeral (number_of (take 12 text))
-value_of cards element.Original text = string (take 22 text ++ drop 24 text)
 value_of cards e text = string text
 
 -- ---- for private clauses: values as messages and replies keep them
 
--- type, trace number, local date and time, and acquirer
-abbrev pub original_parts : OriginalRef → List ℕ
-original_parts o = original_type o.kind o.repeat ++ (o.identity.stan.0 ++ (o.identity.stamp ++ o.identity.acquirer.0))
-
-abbrev pub value_data : CardNumbers → ElementValue → Data
-value_data cards (value.Card pan) = string (shown_card cards pan.now.0)
-value_data cards (value.Account id) = string (shown_account cards id.now.0)
-value_data cards (value.Amount amount) = numeral amount
-value_data cards (value.Action action) = string (fixed_digits 3 action)
-value_data cards (value.Original original) = string (original_parts original.now)
-value_data cards (value.Text text) = string text.now
+abbrev pub value_data : ElementValue → Data
+value_data (value.Masked pan) = string (masked pan.0)
+value_data (value.Number n) = numeral n
+value_data (value.Action action) = string (fixed_digits 3 action)
+value_data (value.Original original) = string (original_text original.now)
+value_data (value.Text text) = string text.now
 
 -- it is the value of an element that has this text, or is absent
-abbrev pub IsValueOf : Element → Option (List ℕ) → Option ElementValue → Type 0
-IsValueOf e text found = (cards : CardNumbers) → option_map (value_data cards) found ≡ option_map (value_of cards e) text
+abbrev pub IsValueOf : CardNumbers → Element → Option (List ℕ) → Option ElementValue → Type 0
+IsValueOf cards e text found = option_map value_data found ≡ option_map (value_of cards e) text

@@ -1,14 +1,12 @@
-use iso8583::{AccountId, Action, Amount, OriginalRef, Pan};
+use iso8583::{Action, OriginalRef, Pan};
 
 /// The value of an element that is there, as a message or a reply keeps it.
 #[derive(Clone, Copy)]
 pub(crate) enum ElementValue<'a> {
-    /// A card number.
-    Card(&'a Pan),
-    /// The name of an account, which may be a card number.
-    Account(&'a AccountId),
-    /// An amount.
-    Amount(Amount),
+    /// A card number, to be masked.
+    Masked(Pan),
+    /// An amount in minor units.
+    Number(u64),
     /// An action code.
     Action(Action),
     /// What a reversal takes back.

@@ -1,6 +1,7 @@
 ghost use Rattle.iso_laws.specs.Spelling.{Texts};
 ghost use Rattle.message_json.specs.Values.{IsValueOf};
 
+use crate::card_numbers::CardNumbers;
 use crate::element_value::ElementValue;
 use iso_laws::Element;
 
@@ -10,6 +11,6 @@ pub(crate) trait HasElements {
     ghost texts: { Self → Texts };
 
     /// The value of an element, if it is there.
-    fn value(&self, element: Element) -> Option<ElementValue<'_>>
-        ensures { IsValueOf element (texts self.now element) result };
+    fn value(&self, cards: CardNumbers, element: Element) -> Option<ElementValue<'_>>
+        ensures { IsValueOf cards element (texts self.now element) result };
 }

@@ -1,9 +1,8 @@
 //! Bodies and replies as members of an object.
 
-ghost use Rattle.std.specs.Prelude.{◌≡◌, OnOk};
-ghost use Rattle.std.specs.List.{flat_map};
+ghost use Rattle.std.specs.Prelude.{OnOk};
 ghost use Rattle.book_laws.specs.Text.{Adds};
-ghost use Rattle.message_json.specs.Lines.{frame_members, member_tokens, message_members, answer_members, reply_members};
+ghost use Rattle.message_json.specs.Lines.{all_tokens, answer_members, frame_members, message_members, reply_members};
 
 use crate::card_numbers::CardNumbers;
 use crate::message_values::type_of_message;
@@ -21,7 +20,7 @@ fn put_message(
     cards: CardNumbers,
     message: &Message,
 ) -> Result<(), AllocError>
-    ensures { OnOk result (Adds out.old out.new (flat_map member_tokens (message_members cards message.now))) }
+    ensures { OnOk result (Adds out.old out.new (all_tokens (message_members cards message.now))) }
 {
     text_member(out, "type", type_of_message(message))?;
     put_elements(out, alloc, cards, message)
@@ -34,7 +33,7 @@ pub fn put_frame(
     cards: CardNumbers,
     frame: &Frame,
 ) -> Result<(), AllocError>
-    ensures { OnOk result (Adds out.old out.new (flat_map member_tokens (frame_members cards frame.now))) }
+    ensures { OnOk result (Adds out.old out.new (all_tokens (frame_members cards frame.now))) }
 {
     match frame {
         Frame::Good(message) => put_message(out, alloc, cards, message),
@@ -49,7 +48,7 @@ fn put_answer(
     cards: CardNumbers,
     reply: &Reply,
 ) -> Result<(), AllocError>
-    ensures { OnOk result (Adds out.old out.new (flat_map member_tokens (answer_members cards reply.now))) }
+    ensures { OnOk result (Adds out.old out.new (all_tokens (answer_members cards reply.now))) }
 {
     text_member(out, "type", type_of_reply(reply))?;
     put_elements(out, alloc, cards, reply)
@@ -62,7 +61,7 @@ pub fn put_reply(
     cards: CardNumbers,
     reply: &ReplyBody,
 ) -> Result<(), AllocError>
-    ensures { OnOk result (Adds out.old out.new (flat_map member_tokens (reply_members cards reply.now))) }
+    ensures { OnOk result (Adds out.old out.new (all_tokens (reply_members cards reply.now))) }
 {
     match reply {
         ReplyBody::Reply(reply) => put_answer(out, alloc, cards, reply),

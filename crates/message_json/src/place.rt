@@ -2,7 +2,7 @@
 #[derive(Clone, Copy, Debug, PartialEq, Eq)]
 pub struct Place {
     /// The block, from 0, where the file has blocks.
-    pub block: Option<u32>,
+    pub block: Option<usize>,
     /// The place in the file or the block, from 0.
-    pub index: u32,
+    pub index: usize,
 }
