@@ -1,1 +1,1 @@
-mod Members
+mod Elements

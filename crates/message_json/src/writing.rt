@@ -99,13 +99,13 @@ fn put_element(
     out: &mut Writer,
     alloc: Global,
     element: Element,
-    value: Option<ElementValue<'_>>,
+    value: &Option<ElementValue<'_>>,
 ) -> Result<(), AllocError>
-    ensures { OnOk result (Adds out.old out.new (element_tokens element (option_map value_data value))) }
+    ensures { OnOk result (Adds out.old out.new (element_tokens element (option_map value_data value.now))) }
 {
     if let Some(value) = value {
         out.key(name_of(element))?;
-        put_value(out, alloc, &value)?;
+        put_value(out, alloc, value)?;
     }
     Ok(())
 }
@@ -121,7 +121,8 @@ pub(crate) fn put_elements<M: HasElements>(
 {
     let mut rest = elements();
     while let Some((element, more)) = rest.split_first() {
-        put_element(out, alloc, *element, message.value(cards, *element))?;
+        let value = message.value(cards, *element);
+        put_element(out, alloc, *element, &value)?;
         rest = more;
     }
     Ok(())

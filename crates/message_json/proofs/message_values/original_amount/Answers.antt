@@ -1,4 +1,4 @@
-use Rattle.message_json.proofs.Members.{first_amount_again}
+use Rattle.message_json.proofs.Elements.{first_amount_again}
 use Rattle.message_json.proofs.message_values.original_amount.Goals as goal
 
 pub returns-in-Partial : goal.returns-in-Partial

@@ -1,4 +1,4 @@
-use Rattle.message_json.proofs.Members.{amount_again}
+use Rattle.message_json.proofs.Elements.{amount_again}
 use Rattle.message_json.proofs.transaction_values.value_in_transaction.Goals as goal
 
 pub returns-in-Amount : goal.returns-in-Amount
