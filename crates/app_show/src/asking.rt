@@ -59,7 +59,10 @@ fn name_at(words: &[String], place: usize) -> Option<&str>
     ensures some { IfSome result (λ name. IsNameAt (map string_bytes words.now) place name.now) }
     ensures none { IfNone result ((name : List ℕ) → ¬ IsNameAt (map string_bytes words.now) place name) }
 {
-    if place >= words.len() || is_word(words, place, "--json") || is_word(words, place, "--full-pan") {
+    if place >= words.len()
+        || is_word(words, place, "--json")
+        || is_word(words, place, "--full-pan")
+    {
         return None;
     }
     Some(words[place].as_str())

@@ -14,8 +14,8 @@ use crate::card_numbers::CardNumbers;
 use crate::element_value::ElementValue;
 use crate::has_elements::HasElements;
 use crate::place::Place;
-use iso_shown::MaskedPan;
 use iso_laws::Element;
+use iso_shown::MaskedPan;
 use iso8583::{Digits, OriginalKind, OriginalRef, Pan};
 use issuer_rows::FrameFault;
 use json::Writer;
@@ -61,15 +61,14 @@ fn type_of_original(kind: OriginalKind, repeat: bool) -> &'static str
 
 // Writes what a reversal takes back.
 #[tactic(auto, unfolding(iso_laws::specs::Elements::original_text))]
-fn put_original(
-    out: &mut Writer,
-    alloc: Global,
-    original: &OriginalRef,
-) -> Result<(), AllocError>
+fn put_original(out: &mut Writer, alloc: Global, original: &OriginalRef) -> Result<(), AllocError>
     ensures { OnOk result (Adds out.old out.new (string_token (original_text original.now) ∷ [])) }
 {
     let kind = type_of_original(original.kind, original.repeat);
-    let (stan, stamp) = (original.identity.stan.as_str(), original.identity.stamp.as_str());
+    let (stan, stamp) = (
+        original.identity.stan.as_str(),
+        original.identity.stamp.as_str(),
+    );
     let acquirer = original.identity.acquirer.as_str();
     let size = Digits::<2>::of_number(acquirer.len() as u64);
     let size = size.as_str();
@@ -78,11 +77,7 @@ fn put_original(
 }
 
 // Writes the value of an element.
-fn put_value(
-    out: &mut Writer,
-    alloc: Global,
-    value: &ElementValue<'_>,
-) -> Result<(), AllocError>
+fn put_value(out: &mut Writer, alloc: Global, value: &ElementValue<'_>) -> Result<(), AllocError>
     ensures { OnOk result (Adds out.old out.new (tokens_of (value_data value.now))) }
 {
     match value {

@@ -8,26 +8,31 @@ use std::process::Abort;
 
 // A batch: a request; the four digits 1100, which are no message; an advice whose account is named by its card's number; and a partial
 // reversal.
-const BATCH: &[u8] = b"I83B\x00\x01\x00\x00\x00\x04\x00\x621100\x72\x30\x01\x01\x00\x80\x80\x00164111110000000005000000000000000600112812000000000126112812000010006400001TERM0001978\x00\x041100\x00\x8b1121\xf2\x30\x01\x01\x0a\x80\x80\x00\x00\x00\x00\x00\x04\x00\x00\x00164111110000000005000000000000000600112812000000000126112812000010006400001REF 00000001900A\"\\B/ 01978164111110000000005\x00\x9a1421\x72\x30\x01\x05\x00\x80\x81\x00164111110000000005000000000000000200112812000000000226112812000040100000000060000000000000006400001TERM000197830110000000126112812000006400001";
+const BATCH: &[u8] =
+    b"I83B\x00\x01\x00\x00\x00\x04\x00\x621100\x72\x30\x01\x01\x00\x80\x80\x00164111110000000005000000000000000600112812000000000126112812000010006400001TERM0001978\x00\x041100\x00\x8b1121\xf2\x30\x01\x01\x0a\x80\x80\x00\x00\x00\x00\x00\x04\x00\x00\x00164111110000000005000000000000000600112812000000000126112812000010006400001REF 00000001900A\"\\B/ 01978164111110000000005\x00\x9a1421\x72\x30\x01\x05\x00\x80\x81\x00164111110000000005000000000000000200112812000000000226112812000040100000000060000000000000006400001TERM000197830110000000126112812000006400001";
 
 // Its lines.
-const LINES: &str = r#"{"index":0,"type":"1100","pan":"411111******0005","processing":"000000","amount":600,"transmission":"1128120000","trace":"000001","local-time":"261128120000","function":"100","acquirer":"400001","terminal":"TERM0001","currency":"978"}
+const LINES: &str =
+    r#"{"index":0,"type":"1100","pan":"411111******0005","processing":"000000","amount":600,"transmission":"1128120000","trace":"000001","local-time":"261128120000","function":"100","acquirer":"400001","terminal":"TERM0001","currency":"978"}
 {"index":1,"fault":"F01000"}
 {"index":2,"type":"1121","pan":"411111******0005","processing":"000000","amount":600,"transmission":"1128120000","trace":"000001","local-time":"261128120000","function":"100","acquirer":"400001","reference":"REF 00000001","action":"900","terminal":"A\"\\B/ 01","currency":"978","account":"411111******0005"}
 {"index":3,"type":"1421","pan":"411111******0005","processing":"000000","amount":200,"transmission":"1128120000","trace":"000002","local-time":"261128120000","function":"401","original-amount":600,"acquirer":"400001","terminal":"TERM0001","currency":"978","original":"110000000126112812000006400001"}
 "#;
 
 // Replies: to a request that is approved, and to a body whose element 49 is missing.
-const REPLIES: &[u8] = b"I83R\x00\x01\x00\x00\x00\x02\x00\x69R1110\x72\x30\x00\x01\x06\x80\x80\x00164111110000000005000000000000000600112812000000000126112812000006400001A00001000TERM0001978\x00\x06F05049";
+const REPLIES: &[u8] =
+    b"I83R\x00\x01\x00\x00\x00\x02\x00\x69R1110\x72\x30\x00\x01\x06\x80\x80\x00164111110000000005000000000000000600112812000000000126112812000006400001A00001000TERM0001978\x00\x06F05049";
 
 // Their lines, in full.
-const FULL: &str = r#"{"index":0,"type":"1110","pan":"4111110000000005","processing":"000000","amount":600,"transmission":"1128120000","trace":"000001","local-time":"261128120000","acquirer":"400001","approval":"A00001","action":"000","terminal":"TERM0001","currency":"978"}
+const FULL: &str =
+    r#"{"index":0,"type":"1110","pan":"4111110000000005","processing":"000000","amount":600,"transmission":"1128120000","trace":"000001","local-time":"261128120000","acquirer":"400001","approval":"A00001","action":"000","terminal":"TERM0001","currency":"978"}
 {"index":1,"fault":"F05049","element":49}
 "#;
 
 // Blocks: one with a body that ends within its bitmap, an empty one, and one with a body that ends within its type and one of another
 // type.
-const BLOCKS: &[u8] = b"I83M\x00\x01\x00\x00\x00\x03\x00\x00\x00\x01\x00\x041100\x00\x00\x00\x00\x00\x00\x00\x02\x00\x011\x00\x042100";
+const BLOCKS: &[u8] =
+    b"I83M\x00\x01\x00\x00\x00\x03\x00\x00\x00\x01\x00\x041100\x00\x00\x00\x00\x00\x00\x00\x02\x00\x011\x00\x042100";
 
 // Their lines.
 const BLOCK_LINES: &str = r#"{"block":0,"index":0,"fault":"F01000"}
@@ -136,8 +141,14 @@ fn words_of(alloc: Global, words: &[&str]) -> Option<Vec<String>> {
 
 // Words behind `show`, and which card numbers they ask for of the file `day`; none where they are wrong.
 const WORDS: &[(&[&str], Option<CardNumbers>)] = &[
-    (&["switch", "show", "day", "--json"], Some(CardNumbers::Masked)),
-    (&["switch", "show", "--json", "day"], Some(CardNumbers::Masked)),
+    (
+        &["switch", "show", "day", "--json"],
+        Some(CardNumbers::Masked),
+    ),
+    (
+        &["switch", "show", "--json", "day"],
+        Some(CardNumbers::Masked),
+    ),
     (
         &["switch", "show", "--full-pan", "day", "--json"],
         Some(CardNumbers::Full),
