@@ -1,4 +1,4 @@
-ghost use Rattle.std.specs.Prelude.{◌≡◌, ◌×◌, ℕ, List, IfSome, IfNone, OnSome, IsTrue, codes, map, string_bytes};
+ghost use Rattle.std.specs.Prelude.{ℕ, List, IfSome, IfNone, OnSome, IsTrue, codes, map, string_bytes};
 ghost use Rattle.app_show.specs.ShowAsked.{AsksHelp, AsksJson, HasOptions, HasWord, IsAskedBy, IsName, IsNameAt};
 
 use app_words::{is_command, is_word};

@@ -5,7 +5,7 @@ ghost use Rattle.message_json.specs.Lines.{frame_line, reply_line};
 use crate::card_numbers::CardNumbers;
 use crate::members::{put_frame, put_reply};
 use crate::place::Place;
-use crate::writing::put_place;
+use crate::writing::{begin, end, put_place};
 use issuer_rows::{Frame, ReplyBody};
 use json::Writer;
 use std::alloc::{AllocError, Global};
@@ -31,10 +31,10 @@ pub fn frame_line(
     ensures { IfOk result (λ line. line.items ≡ frame_line place cards frame.now) }
 {
     let mut out = Writer::new(Vec::new(alloc));
-    out.begin_object()?;
+    begin(&mut out)?;
     put_place(&mut out, place)?;
     put_frame(&mut out, alloc, cards, frame)?;
-    out.end_object()?;
+    end(&mut out)?;
     ended(out)
 }
 
@@ -49,9 +49,9 @@ pub fn reply_line(
     ensures { IfOk result (λ line. line.items ≡ reply_line place cards reply.now) }
 {
     let mut out = Writer::new(Vec::new(alloc));
-    out.begin_object()?;
+    begin(&mut out)?;
     put_place(&mut out, place)?;
     put_reply(&mut out, alloc, cards, reply)?;
-    out.end_object()?;
+    end(&mut out)?;
     ended(out)
 }

@@ -51,7 +51,8 @@ fn put_answer(
     ensures { OnOk result (Adds out.old out.new (all_tokens (answer_members cards reply.now))) }
 {
     text_member(out, "type", type_of_reply(reply))?;
-    put_elements(out, alloc, cards, reply)
+    put_elements(out, alloc, cards, reply)?;
+    Ok(())
 }
 
 /// Writes the members of a reply: its own, or the fault of a body that is no message. It fails only where memory runs out.

@@ -5,7 +5,7 @@ ghost use Rattle.iso_laws.specs.Elements.{original_text, original_type};
 ghost use Rattle.iso_laws.specs.Spelling.{fields};
 ghost use Rattle.iso_shown.specs.Masked.{masked};
 ghost use Rattle.issuer_rows.specs.FrameFault.{fault_body};
-ghost use Rattle.json.specs.Token.{key as key_token, string as string_token, number as number_token};
+ghost use Rattle.json.specs.Token.{begin_object, end_object, key as key_token, string as string_token, number as number_token};
 ghost use Rattle.book_laws.specs.Text.{Adds, tokens_of};
 ghost use Rattle.message_json.specs.Lines.{all_tokens, block_members, element_tokens, elements_tokens, fault_element, fault_members, place_members};
 ghost use Rattle.message_json.specs.Values.{value_data};
@@ -21,6 +21,20 @@ use issuer_rows::FrameFault;
 use json::Writer;
 use message_words::{elements, name_of};
 use std::alloc::{AllocError, Global};
+
+/// Writes the opening brace of an object.
+pub(crate) fn begin(out: &mut Writer) -> Result<(), AllocError>
+    ensures { OnOk result (Adds out.old out.new (begin_object ∷ [])) }
+{
+    out.begin_object()
+}
+
+/// Writes the closing brace of an object.
+pub(crate) fn end(out: &mut Writer) -> Result<(), AllocError>
+    ensures { OnOk result (Adds out.old out.new (end_object ∷ [])) }
+{
+    out.end_object()
+}
 
 /// Writes a member that is a text.
 pub(crate) fn text_member(out: &mut Writer, name: &str, text: &str) -> Result<(), AllocError>
