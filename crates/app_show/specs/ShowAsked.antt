@@ -14,18 +14,19 @@ HasWord word words = (slice_get words 2 ≡ Some word) ⊎ ((slice_get words 3 �
 abbrev pub AsksJson : List (List ℕ) → Type 0
 AsksJson words = IsCommand (codes "show") words × (HasWord (codes "--json") words ⊎ HasWord (codes "--full-pan") words)
 
--- the word at this place names a file: it is no option
-abbrev pub IsNameAt : List (List ℕ) → ℕ → List ℕ → Type 0
-IsNameAt words place name = (slice_get words place ≡ Some name) × (name ≢ codes "--json") × (name ≢ codes "--full-pan")
+-- the word at this place is no option
+abbrev pub IsFree : List (List ℕ) → ℕ → Type 0
+IsFree words place = (slice_get words place ≢ Some (codes "--json")) × (slice_get words place ≢ Some (codes "--full-pan"))
 
--- a file is named behind the command's word
-abbrev pub IsName : List (List ℕ) → List ℕ → Type 0
-IsName words name = IsNameAt words 2 name ⊎ (IsNameAt words 3 name ⊎ IsNameAt words 4 name)
+-- The words ask for the file that the word at this place names: two stand behind the command's, and the other is `--json`; or three, and the
+-- others are `--json` and `--full-pan`, for card numbers in full.
+abbrev pub AsksFile : List (List ℕ) → ℕ → CardNumbers → Type 0
+AsksFile words place Masked = (length words ≡ 4) × HasWord (codes "--json") words × IsFree words place
+AsksFile words place Full = (length words ≡ 5) × HasWord (codes "--json") words × HasWord (codes "--full-pan") words × IsFree words place
 
--- the words behind the command's are as many as a file and its options; card numbers in full are an option
-abbrev pub HasOptions : List (List ℕ) → CardNumbers → Type 0
-HasOptions words Masked = (length words ≡ 4) × HasWord (codes "--json") words × ¬ HasWord (codes "--full-pan") words
-HasOptions words Full = (length words ≡ 5) × HasWord (codes "--json") words × HasWord (codes "--full-pan") words
+-- the same, and this is the file's name
+abbrev pub NamesFile : List (List ℕ) → ℕ → List ℕ → CardNumbers → Type 0
+NamesFile words place name cards = AsksFile words place cards × (slice_get words place ≡ Some name)
 
 -- two words behind the command's ask what it takes
 abbrev pub AsksHelp : List (List ℕ) → Type 0
@@ -35,6 +36,9 @@ AsksHelp words =
 -- Words of `show` for JSON name a file, in any order with `--json` and maybe `--full-pan`, each once; or they ask what it takes; other words
 -- are wrong.
 abbrev pub IsAskedBy : List (List ℕ) → ShowAsked → Type 0
-IsAskedBy words (File name cards) = IsName words name.now × HasOptions words cards
+IsAskedBy words (File name cards) =
+    NamesFile words 2 name.now cards ⊎ (NamesFile words 3 name.now cards ⊎ NamesFile words 4 name.now cards)
 IsAskedBy words Help = AsksHelp words
-IsAskedBy words Wrong = (cards : CardNumbers) → HasOptions words cards → (name : List ℕ) → ¬ IsName words name
+IsAskedBy words Wrong =
+    (¬ AsksFile words 2 Masked) × (¬ AsksFile words 3 Masked)
+    × (¬ AsksFile words 2 Full) × (¬ AsksFile words 3 Full) × (¬ AsksFile words 4 Full)

@@ -1,5 +1,6 @@
-ghost use Rattle.std.specs.Prelude.{ℕ, List, IfSome, IfNone, OnSome, IsTrue, codes, map, string_bytes};
-ghost use Rattle.app_show.specs.ShowAsked.{AsksHelp, AsksJson, HasOptions, HasWord, IsAskedBy, IsName, IsNameAt};
+ghost use Rattle.std.specs.Prelude.{IfSome, IfNone, OnSome, IsTrue, codes, map, string_bytes};
+ghost use Rattle.message_json.specs.declared.card_numbers.CardNumbers.TheVariants.{Masked, Full};
+ghost use Rattle.app_show.specs.ShowAsked.{AsksFile, AsksHelp, AsksJson, HasWord, IsAskedBy, IsFree};
 
 use app_words::{is_command, is_word};
 use message_json::CardNumbers;
@@ -54,48 +55,31 @@ fn asks_help(words: &[String]) -> bool
         && (has_word(words, "--help") || has_word(words, "-h"))
 }
 
-// The word at this place, where it names a file: it is no option.
-fn name_at(words: &[String], place: usize) -> Option<&str>
-    ensures some { IfSome result (λ name. IsNameAt (map string_bytes words.now) place name.now) }
-    ensures none { IfNone result ((name : List ℕ) → ¬ IsNameAt (map string_bytes words.now) place name) }
+// Whether the word at this place is no option.
+fn is_free(words: &[String], place: usize) -> bool
+    ensures yes { IsTrue result → IsFree (map string_bytes words.now) place }
+    ensures no { ¬ IsTrue result → ¬ IsFree (map string_bytes words.now) place }
 {
-    if place >= words.len()
-        || is_word(words, place, "--json")
-        || is_word(words, place, "--full-pan")
-    {
-        return None;
-    }
-    Some(words[place].as_str())
+    !is_word(words, place, "--json") && !is_word(words, place, "--full-pan")
 }
 
-// The first word behind the command's that names a file.
-fn name_in(words: &[String]) -> Option<&str>
-    ensures some { IfSome result (λ name. IsName (map string_bytes words.now) name.now) }
-    ensures none { IfNone result ((name : List ℕ) → ¬ IsName (map string_bytes words.now) name) }
+// Whether they ask for the file that is named at this place.
+fn asks_masked(words: &[String], place: usize) -> bool
+    ensures yes { IsTrue result → AsksFile (map string_bytes words.now) place Masked }
+    ensures no { ¬ IsTrue result → ¬ AsksFile (map string_bytes words.now) place Masked }
 {
-    if let Some(name) = name_at(words, 2) {
-        return Some(name);
-    }
-    if let Some(name) = name_at(words, 3) {
-        return Some(name);
-    }
-    name_at(words, 4)
+    words.len() == 4 && has_word(words, "--json") && is_free(words, place)
 }
 
-// Which digits of card numbers are asked for, where the options are right.
-fn cards_asked(words: &[String]) -> Option<CardNumbers>
-    ensures some { IfSome result (HasOptions (map string_bytes words.now)) }
-    ensures none { IfNone result ((cards : CardNumbers) → ¬ HasOptions (map string_bytes words.now) cards) }
+// The same with card numbers in full.
+fn asks_full(words: &[String], place: usize) -> bool
+    ensures yes { IsTrue result → AsksFile (map string_bytes words.now) place Full }
+    ensures no { ¬ IsTrue result → ¬ AsksFile (map string_bytes words.now) place Full }
 {
-    if !has_word(words, "--json") {
-        return None;
-    }
-    let full = has_word(words, "--full-pan");
-    match words.len() {
-        4 if !full => Some(CardNumbers::Masked),
-        5 if full => Some(CardNumbers::Full),
-        _ => None,
-    }
+    words.len() == 5
+        && has_word(words, "--json")
+        && has_word(words, "--full-pan")
+        && is_free(words, place)
 }
 
 // What is asked by words of `show` with an option for JSON.
@@ -105,8 +89,20 @@ fn asked_behind(words: &[String]) -> ShowAsked<'_>
     if asks_help(words) {
         return ShowAsked::Help;
     }
-    match (cards_asked(words), name_in(words)) {
-        (Some(cards), Some(name)) => ShowAsked::File(name, cards),
-        _ => ShowAsked::Wrong,
+    if asks_masked(words, 2) {
+        return ShowAsked::File(words[2].as_str(), CardNumbers::Masked);
     }
+    if asks_masked(words, 3) {
+        return ShowAsked::File(words[3].as_str(), CardNumbers::Masked);
+    }
+    if asks_full(words, 2) {
+        return ShowAsked::File(words[2].as_str(), CardNumbers::Full);
+    }
+    if asks_full(words, 3) {
+        return ShowAsked::File(words[3].as_str(), CardNumbers::Full);
+    }
+    if asks_full(words, 4) {
+        return ShowAsked::File(words[4].as_str(), CardNumbers::Full);
+    }
+    ShowAsked::Wrong
 }

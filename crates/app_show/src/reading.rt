@@ -25,7 +25,8 @@ pub fn show_json<F: Files>(
     ensures fault { IfErr result (IsShowFault (F.holds files.now) (F.failing files.now) name.now) }
 {
     let bytes = read_file(alloc, files, name)?;
-    Ok(lines_of(alloc, cards, &bytes)?)
+    let kind = kind_of(&bytes);
+    Ok(lines_as(alloc, cards, kind, &bytes)?)
 }
 
 // Whether the text is this one.
@@ -58,12 +59,24 @@ fn kind_named(letters: &[u8]) -> ShownKind
     }
 }
 
-// The lines of these bytes.
-fn lines_of(alloc: Global, cards: CardNumbers, bytes: &[u8]) -> Result<Vec<u8>, BatchFault>
-    ensures lines { IfOk result (λ text. AreLinesAs cards (kind_of bytes.now) bytes.now text.items) }
-    ensures fault { IfErr result (FailsAs (kind_of bytes.now) bytes.now) }
+// What the bytes are read as.
+fn kind_of(bytes: &[u8]) -> ShownKind
+    ensures { result ≡ kind_of bytes.now }
 {
-    match kind_named(letters_of(bytes)) {
+    kind_named(letters_of(bytes))
+}
+
+// The lines of bytes that are read as this.
+fn lines_as(
+    alloc: Global,
+    cards: CardNumbers,
+    kind: ShownKind,
+    bytes: &[u8],
+) -> Result<Vec<u8>, BatchFault>
+    ensures lines { IfOk result (λ text. AreLinesAs cards kind bytes.now text.items) }
+    ensures fault { IfErr result (FailsAs kind bytes.now) }
+{
+    match kind {
         ShownKind::Batch => batch_lines(alloc, cards, bytes),
         ShownKind::Replies => replies_lines(alloc, cards, bytes),
         ShownKind::Blocks => blocks_lines(alloc, cards, bytes),
