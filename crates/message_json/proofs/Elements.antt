@@ -78,5 +78,5 @@ pub line_of : {E : Type 0} {before after : Written} (r : Result (Vec ℕ) E) (ps
 line_of {before = before} {after = after} r ps ms adds none h =
     let whole = begin_object ∷ (all_tokens ps ++ (all_tokens ms ++ end_object ∷ [])) in
     let are : after.tokens ≡ tokens_of (object (members (ps ++ ms))) =
-        adds.written ∙ ap (λ (ts : List Token). ts ++ whole) none ∙ object_tokens ps ms in
+    adds.written ∙ ap (λ (ts : List Token). ts ++ whole) none ∙ object_tokens ps ms in
     subst (λ (text : List ℕ). IfOk r (λ line. line.items ≡ text ++ codes "\n")) (ap print are ∙ print-outline (object (members (ps ++ ms)))) h
