@@ -15,4 +15,4 @@ mod words;
 pub use body::body_of_words;
 pub use given::Given;
 pub use make_fault::MakeFault;
-pub use names::{element_named, element_numbered, name_of};
+pub use names::{element_named, element_numbered, elements, name_of};

@@ -57,7 +57,7 @@ const ELEMENTS: [Element; 16] = [
 ];
 
 /// All elements, in rising number.
-pub(crate) fn elements() -> &'static [Element]
+pub fn elements() -> &'static [Element]
     ensures { result.now ≡ elements }
 {
     &ELEMENTS

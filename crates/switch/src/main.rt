@@ -4,6 +4,7 @@
 use app_commands::{Fault, Printer, act, print_fault};
 use app_messages::{MakeAsked, UnpackAsked, answer_make, answer_unpack, make_asked, unpack_asked};
 use app_report::{ReportAsked, answer_report, report_asked};
+use app_show::{ShowAsked, answer_show, show_asked};
 use app_why::{answer_why, why_asked};
 use app_words::{names_standard_output, take_progress, topic_asked, with_streams};
 use file_devices::{Files, FromRead, HostFiles, IntoWrite};
@@ -50,6 +51,8 @@ fn main(rt: HostRuntime) -> ExitCode {
         make_words(rt, &asked)
     } else if let Some(asked) = unpack_asked(&words) {
         unpack_words(rt, &files, &asked)
+    } else if let Some(asked) = show_asked(&words) {
+        show_words(rt, &files, &asked)
     } else if names_standard_output(&words) {
         // What is said doesn't stand between the bytes of a file.
         let mut said = Printer::new(rt.stderr());
@@ -159,6 +162,17 @@ fn make_words(host: HostRuntime, asked: &MakeAsked<'_>) -> u8 {
 // Does what is asked of a batch's bodies.
 fn unpack_words<F: Files>(host: HostRuntime, files: &F, asked: &UnpackAsked<'_>) -> u8 {
     answer_unpack(
+        host.alloc(),
+        files,
+        asked,
+        &mut host.stdout(),
+        &mut host.stderr(),
+    )
+}
+
+// Does what is asked of a file's messages or replies as JSON.
+fn show_words<F: Files>(host: HostRuntime, files: &F, asked: &ShowAsked<'_>) -> u8 {
+    answer_show(
         host.alloc(),
         files,
         asked,

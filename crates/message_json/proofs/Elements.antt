@@ -1,0 +1,82 @@
+-- Values and members of elements.
+use Rattle.std.proofs.Common.{◌≡◌, ℕ, ◌<◌, ◌^◌, List, [], ◌∷◌, ◌++◌, Option, Some, None, refl, sym, ap, ◌∙◌, append_assoc, take, subst}
+use Rattle.std.specs.Prelude.{option_map, Result, IfOk, codes}
+use Rattle.std.specs.Global.{Vec}
+use Rattle.std.proofs.lemmas.List.{take_at}
+use Rattle.iso8583.specs.Number.{number_of, fixed_digits}
+use Rattle.iso8583.proofs.NumberLaws.{length-fixed_digits, number_of-fixed_digits}
+use Rattle.iso_laws.specs.Elements.{twelve_zeros}
+use Rattle.iso_laws.specs.Spelling.{Field, Texts, fields_among, with_field}
+use Rattle.iso_laws.specs.declared.element.Element.{Element}
+use Rattle.json.specs.Print.{print}
+use Rattle.json.specs.Token.{Token, begin_object, end_object, key}
+use Rattle.json.specs.Tree.{members_tokens}
+use Rattle.json.specs.Written.{Written}
+use Rattle.serde_json.specs.Data.{Data, object}
+use Rattle.serde_json.specs.Written.{compact_text, members_outline}
+use Rattle.serde_json.proofs.Texts.{print-outline}
+use Rattle.book_laws.specs.Text.{Adds, members, numeral, tokens_of}
+use Rattle.message_json.specs.Lines.{Member, all_tokens, element_tokens, elements_tokens, member_tokens}
+use Rattle.message_json.specs.Values.{value_of}
+use Rattle.message_json.specs.declared.card_numbers.CardNumbers.{CardNumbers}
+
+-- the number of an amount's digits
+pub amount_again : (minor amount : ℕ) → minor ≡ amount → minor < 10 ^ 12 → Some (numeral minor) ≡ Some (numeral (number_of (fixed_digits 12 amount)))
+amount_again minor amount is fits =
+    ap (λ (n : ℕ). Some (numeral n)) (sym (number_of-fixed_digits 12 minor fits) ∙ ap (λ (n : ℕ). number_of (fixed_digits 12 n)) is)
+
+-- the first of the two amounts of element 30
+pub first_amount_again : (minor amount : ℕ) → minor ≡ amount → minor < 10 ^ 12
+    → Some (numeral minor) ≡ Some (numeral (number_of (take 12 (fixed_digits 12 amount ++ twelve_zeros))))
+first_amount_again minor amount is fits =
+    amount_again minor amount is fits
+    ∙ ap (λ (digits : List ℕ). Some (numeral (number_of digits))) (sym (take_at (fixed_digits 12 amount) twelve_zeros 12 (length-fixed_digits 12 amount)))
+
+-- an element in front of others
+in_front : (cards : CardNumbers) (e : Element) (text : Option (List ℕ)) (fs : List Field)
+    → elements_tokens cards (with_field e text fs) ≡ element_tokens e (option_map (value_of cards e) text) ++ elements_tokens cards fs
+in_front cards e None fs = refl
+in_front cards e (Some text) fs = refl
+
+-- once an element is written, those that are left are those behind it
+pub one_more : (cards : CardNumbers) (texts : Texts) (e : Element) (rest more : List Element) (before after all : List Token) (value : Option Data)
+    → rest ≡ e ∷ more → value ≡ option_map (value_of cards e) (texts e) → after ≡ before ++ element_tokens e value
+    → before ++ elements_tokens cards (fields_among rest texts) ≡ all → after ++ elements_tokens cards (fields_among more texts) ≡ all
+one_more cards texts e rest more before after all value are is written so =
+    let left = elements_tokens cards (fields_among more texts) in
+    ap (λ (ts : List Token). ts ++ left) (written ∙ ap (λ (v : Option Data). before ++ element_tokens e v) is)
+    ∙ append_assoc before (element_tokens e (option_map (value_of cards e) (texts e))) left
+    ∙ ap (λ (ts : List Token). before ++ ts) (sym (in_front cards e (texts e) (fields_among more texts)))
+    ∙ ap (λ (es : List Element). before ++ elements_tokens cards (fields_among es texts)) (sym are)
+    ∙ so
+
+-- ---- objects
+
+all_append : (ps ms : List Member) → all_tokens (ps ++ ms) ≡ all_tokens ps ++ all_tokens ms
+all_append [] ms = refl
+all_append (p ∷ ps) ms =
+    ap (λ (ts : List Token). member_tokens p ++ ts) (all_append ps ms) ∙ sym (append_assoc (member_tokens p) (all_tokens ps) (all_tokens ms))
+
+-- the tokens of members, and the closing brace
+members_are : (ms : List Member) → members_tokens (members_outline (members ms)) ≡ all_tokens ms ++ end_object ∷ []
+members_are [] = refl
+members_are (m ∷ ms) =
+    ap (λ (ts : List Token). key m.0 ∷ (tokens_of m.1 ++ ts)) (members_are ms)
+    ∙ ap (λ (ts : List Token). key m.0 ∷ ts) (sym (append_assoc (tokens_of m.1) (all_tokens ms) (end_object ∷ [])))
+
+-- the tokens of an object whose members are written one behind another
+object_tokens : (ps ms : List Member) → begin_object ∷ (all_tokens ps ++ (all_tokens ms ++ end_object ∷ [])) ≡ tokens_of (object (members (ps ++ ms)))
+object_tokens ps ms =
+    ap (λ (ts : List Token). begin_object ∷ ts)
+    (sym (append_assoc (all_tokens ps) (all_tokens ms) (end_object ∷ [])) ∙ ap (λ (ts : List Token). ts ++ end_object ∷ []) (sym (all_append ps ms))
+    ∙ sym (members_are (ps ++ ms)))
+
+-- the line of an object that was written into nothing
+pub line_of : {E : Type 0} {before after : Written} (r : Result (Vec ℕ) E) (ps ms : List Member)
+    → Adds before after (begin_object ∷ (all_tokens ps ++ (all_tokens ms ++ end_object ∷ []))) → before.tokens ≡ []
+    → IfOk r (λ line. line.items ≡ print after.tokens ++ codes "\n") → IfOk r (λ line. line.items ≡ compact_text (object (members (ps ++ ms))) ++ codes "\n")
+line_of {before = before} {after = after} r ps ms adds none h =
+    let whole = begin_object ∷ (all_tokens ps ++ (all_tokens ms ++ end_object ∷ [])) in
+    let are : after.tokens ≡ tokens_of (object (members (ps ++ ms))) =
+    adds.written ∙ ap (λ (ts : List Token). ts ++ whole) none ∙ object_tokens ps ms in
+    subst (λ (text : List ℕ). IfOk r (λ line. line.items ≡ text ++ codes "\n")) (ap print are ∙ print-outline (object (members (ps ++ ms)))) h

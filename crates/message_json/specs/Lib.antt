@@ -1,0 +1,2 @@
+pub mod Values
+pub mod Lines

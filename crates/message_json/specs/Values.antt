@@ -1,0 +1,49 @@
+-- What JSON says of an element. Amounts are numbers, in minor units; all else is text.
+use Rattle.std.specs.Prelude.{◌≡◌, ℕ, Bool, ◌&&◌, nat_le, if◌then◌else◌, List, length, take, Option, option_map}
+use Rattle.iso8583.specs.Class.{is_digits}
+use Rattle.iso8583.specs.Number.{fixed_digits, number_of}
+use Rattle.iso_laws.specs.Elements.{original_text}
+use Rattle.iso_laws.specs.declared.element.Element.{Element}
+use Rattle.iso_laws.specs.declared.element.Element.TheVariants as element
+use Rattle.iso_shown.specs.Masked.{masked}
+use Rattle.serde_json.specs.Data.{Data, string}
+use Rattle.book_laws.specs.Text.{numeral}
+use Rattle.message_json.specs.declared.card_numbers.CardNumbers.{CardNumbers}
+use Rattle.message_json.specs.declared.card_numbers.CardNumbers.TheVariants.{Masked, Full}
+use Rattle.message_json.specs.declared.element_value.ElementValue.{ElementValue}
+use Rattle.message_json.specs.declared.element_value.ElementValue.TheVariants as value
+
+-- a card number, masked unless it is asked for in full
+abbrev pub shown_card : CardNumbers → List ℕ → List ℕ
+shown_card Masked digits = masked digits
+shown_card Full digits = digits
+
+-- a text of as many digits as a card number has
+abbrev pub is_like_card : List ℕ → Bool
+is_like_card text = nat_le 12 (length text) && (nat_le (length text) 19 && is_digits text)
+
+-- the name of an account, which may be a card number
+abbrev pub shown_account : CardNumbers → List ℕ → List ℕ
+shown_account cards name = if is_like_card name then shown_card cards name else name
+
+-- The value of an element by its text: of an amount its number; of element 30 the first of its two amounts; of others the text, with card
+-- numbers masked unless they are asked for in full.
+abbrev pub value_of : CardNumbers → Element → List ℕ → Data
+value_of cards element.Pan text = string (shown_card cards text)
+value_of cards element.Account text = string (shown_account cards text)
+value_of cards element.Amount text = numeral (number_of text)
+value_of cards element.OriginalAmount text = numeral (number_of (take 12 text))
+value_of cards e text = string text
+
+-- ---- for private clauses: values as messages and replies keep them
+
+abbrev pub value_data : ElementValue → Data
+value_data (value.Masked pan) = string (masked pan.0)
+value_data (value.Number n) = numeral n
+value_data (value.Action action) = string (fixed_digits 3 action)
+value_data (value.Original original) = string (original_text original.now)
+value_data (value.Text text) = string text.now
+
+-- it is the value of an element that has this text, or is absent
+abbrev pub IsValueOf : CardNumbers → Element → Option (List ℕ) → Option ElementValue → Type 0
+IsValueOf cards e text found = option_map value_data found ≡ option_map (value_of cards e) text

@@ -1,0 +1,57 @@
+ghost use Rattle.std.specs.Prelude.{◌≡◌, ◌++◌, [], IfOk, codes};
+ghost use Rattle.json.specs.Print.{print};
+ghost use Rattle.message_json.specs.Lines.{frame_line, reply_line};
+
+use crate::card_numbers::CardNumbers;
+use crate::members::{put_frame, put_reply};
+use crate::place::Place;
+use crate::writing::{begin, end, put_place};
+use issuer_rows::{Frame, ReplyBody};
+use json::Writer;
+use std::alloc::{AllocError, Global};
+
+// The text of an object that was written into nothing, with a line feed behind it.
+fn ended(out: Writer) -> Result<Vec<u8>, AllocError>
+    requires { out.before ≡ [] }
+    ensures { IfOk result (λ line. line.items ≡ print out.tokens ++ codes "\n") }
+{
+    let mut line = out.into_inner();
+    line.push(b'\n')?;
+    Ok(line)
+}
+
+/// The line of a body of a batch: an object of JSON with its place, and its type and elements, or how its fault is answered. It fails
+/// only where memory runs out.
+pub fn frame_line(
+    alloc: Global,
+    place: Place,
+    cards: CardNumbers,
+    frame: &Frame,
+) -> Result<Vec<u8>, AllocError>
+    ensures { IfOk result (λ line. line.items ≡ frame_line place cards frame.now) }
+{
+    let mut out = Writer::new(Vec::new(alloc));
+    begin(&mut out)?;
+    put_place(&mut out, place)?;
+    put_frame(&mut out, alloc, cards, frame)?;
+    end(&mut out)?;
+    ended(out)
+}
+
+/// The line of a reply: an object of JSON with its place, and its type and elements, or the fault of a body that is no message. It fails
+/// only where memory runs out.
+pub fn reply_line(
+    alloc: Global,
+    place: Place,
+    cards: CardNumbers,
+    reply: &ReplyBody,
+) -> Result<Vec<u8>, AllocError>
+    ensures { IfOk result (λ line. line.items ≡ reply_line place cards reply.now) }
+{
+    let mut out = Writer::new(Vec::new(alloc));
+    begin(&mut out)?;
+    put_place(&mut out, place)?;
+    put_reply(&mut out, alloc, cards, reply)?;
+    end(&mut out)?;
+    ended(out)
+}
