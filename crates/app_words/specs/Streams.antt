@@ -25,7 +25,7 @@ abbrev pub writes : List ℕ → ℕ → ℕ → Bool
 writes command count place =
     (bytes_eq command (codes "pack") && nat_eq (place + 1) count)
     || (nat_le 2 place
-        && (bytes_eq command (codes "serial") || bytes_eq command (codes "run") || bytes_eq command (codes "blocks") || bytes_eq command (codes "replay")))
+    && (bytes_eq command (codes "serial") || bytes_eq command (codes "run") || bytes_eq command (codes "blocks") || bytes_eq command (codes "replay")))
 
 -- how many names are among the words behind a command; the first word is an option's value, where that is said
 unfoldable pub names : Bool → List (List ℕ) → ℕ

@@ -8,4 +8,4 @@ returns-in-None c = no_command c.args.words.now (map string_bytes c.args.to.now.
 pub returns-in_ok-add-in-Some : goal.returns-in_ok-add-in-Some
 returns-in_ok-add-in-Some c =
     on_ok c.add_streamed.result (λ behind. command_streamed c.args.words.now c.in-Some.rest.now c.in-Some.command.now (map string_bytes c.args.to.now.items)
-        (map string_bytes c.add.new.words.items) (map string_bytes c.add_streamed.new.to.items) (search rules) (search rules) behind) (search rules)
+    (map string_bytes c.add.new.words.items) (map string_bytes c.add_streamed.new.to.items) (search rules) (search rules) behind) (search rules)
