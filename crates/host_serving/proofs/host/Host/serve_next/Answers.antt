@@ -11,7 +11,7 @@ returns-in_err-link-clause-err g c =
     let p = err_from_is_err_and c.from_residual-in_err-link.result c.from_residual-in_err-link.ensures.1 in
     let before = ahead c.args.link.now.reader (g.R.Source.remaining c.args.source.now) in
     let left = ahead c.next.new.self (g.R.Source.remaining c.next.new.source) in
-    let taken = subst (λ (x : List ℕ). HasTaken x [] c.take_turn.new.turn) c.frames.ensures c.in_ok-take_turn.ensures in
+    let taken = subst (λ (x : List ℕ). HasTaken x [] c.take_turn.new.turn) c.frames.ensures c.in_ok-take_turn.ensures.taken in
     rw (p.1, p.2) (inr record {
       incoming = taken.incoming;
       left = left;
@@ -24,7 +24,7 @@ pub returns-clause-next : goal.returns-clause-next
 returns-clause-next g c = λ _.
     let before = ahead c.args.link.now.reader (g.R.Source.remaining c.args.source.now) in
     let left = ahead c.next.new.self (g.R.Source.remaining c.next.new.source) in
-    let taken = subst (λ (x : List ℕ). HasTaken x [] c.take_turn.new.turn) c.frames.ensures c.in_ok-take_turn.ensures in
+    let taken = subst (λ (x : List ℕ). HasTaken x [] c.take_turn.new.turn) c.frames.ensures c.in_ok-take_turn.ensures.taken in
     record {
       incoming = taken.incoming;
       came = λ known. given_came before (given c.next.new.self) left (frames_of taken.incoming) (c.next.ensures.order known) taken.came;
