@@ -86,7 +86,7 @@ impl<E: Write> Watch for Teller<E> {
     fn entry_synced(&mut self, before: Tally, messages: &[Frame]) {
         self.entries = self.entries.saturating_add(1);
         if !self.is_stuck {
-            self.is_stuck = self.tell(before, messages).is_err();
+            self.is_stuck = !self.tell(before, messages);
         }
     }
 }
