@@ -44,7 +44,18 @@ pub fn serve<
 {
     let mut teller = Teller::new(alloc, err, settings.stats);
     let most = settings.max_batch;
-    match served(rt, alloc, files, logs, book, log, most, source, sink, &mut teller) {
+    match served(
+        rt,
+        alloc,
+        files,
+        logs,
+        book,
+        log,
+        most,
+        source,
+        sink,
+        &mut teller,
+    ) {
         Ok(()) => 0,
         // One of serving was told at once.
         Err(ServeFault::Serving(_)) => 1,

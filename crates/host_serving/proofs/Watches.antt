@@ -104,7 +104,7 @@ module _ {N : Type 0} (most : ℕ) (hears : N → Tally → List Frame → N →
     watched_before fault old mid new had text has before between f b = (
       b.0,
       joined (Grows is_known synced unsynced old mid) (LogAfter is_known synced unsynced fault mid new) (LogAfter is_known synced unsynced fault old new) had text has before between b.0
-      (λ some more. log_more fault old mid new some more) f b.1,
+          (λ some more. log_more fault old mid new some more) f b.1,
     )
 
     log_appending : (fault : LogFault) (old new : LogWriter G) (bodies : List (List ℕ)) → ((digest : List ℕ) (had : Entries) → HasLog is_known synced unsynced digest had old → IsCutOff is_known synced unsynced digest had bodies new.file)

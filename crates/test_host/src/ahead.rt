@@ -46,7 +46,16 @@ fn comes_to<R: Threads + Wait + Copy + Sync>(
 fn a_link_is_served_in_any_pieces(rt: HostRuntime) -> Result<(), Fail> {
     let book = first_book_with(rt.alloc(), &[])?;
     for piece in [1, 7, 100, 1000] {
-        assert!(rt; comes_to(&rt, rt.alloc(), &book, piece, 1000, (0, REPLIES, b"unreadable 1 F01000\n")));
+        assert!(rt;
+            comes_to(
+                &rt,
+                rt.alloc(),
+                &book,
+                piece,
+                1000,
+                (0, REPLIES, b"unreadable 1 F01000\n")
+            )
+        );
     }
     Ok(())
 }

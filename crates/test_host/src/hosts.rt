@@ -162,7 +162,15 @@ fn is_served<R: Threads + Wait + Copy + Sync>(
     mut link: &[u8],
     outcome: (u8, &[u8], &[u8]),
 ) -> bool {
-    match served(rt, alloc, book, Vec::new(alloc), name, Settings::plain(), &mut link) {
+    match served(
+        rt,
+        alloc,
+        book,
+        Vec::new(alloc),
+        name,
+        Settings::plain(),
+        &mut link,
+    ) {
         Some((status, replies, said)) => {
             status == outcome.0 && replies.as_slice() == outcome.1 && said.as_slice() == outcome.2
         }
@@ -173,7 +181,16 @@ fn is_served<R: Threads + Wait + Copy + Sync>(
 #[test]
 fn a_link_is_served_over_files(rt: HostRuntime) -> Result<(), Fail> {
     let book = first_book_with(rt.alloc(), &[])?;
-    assert!(rt; is_served(&rt, rt.alloc(), &book, "book", LINK, (0, REPLIES, b"unreadable 1 F01000\n")));
+    assert!(rt;
+        is_served(
+            &rt,
+            rt.alloc(),
+            &book,
+            "book",
+            LINK,
+            (0, REPLIES, b"unreadable 1 F01000\n")
+        )
+    );
     assert!(rt; is_served(&rt, rt.alloc(), &book, "none", LINK, (1, b"", b"file 1\n")));
     assert!(rt;
         is_served(

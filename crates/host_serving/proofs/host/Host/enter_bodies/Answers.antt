@@ -81,11 +81,14 @@ returns-in_err-answer-clause-told_before g c most few =
     let p = err_from_is_err_and c.from_residual-in_err-answer.result c.from_residual-in_err-answer.ensures.1 in
     let file = g.G.GrowingFile in
     let tally = c.decide.new.self.tally in
-    rw (p.1, p.2) (tally, told_one most g.N.Watch.hears (LogAfter file.is_known file.synced file.unsynced (Link c.in_err-answer.field-0.0) c.args.self.now.log c.append.new.self)
-    c.args.watch.now c.entry_synced.new.self c.args.self.now.decider.tally tally c.args.turn.bodies c.decide.new.self.frames.items
-    (λ digest first begun. subst (λ (bodies : List (List ℕ)). HasLog file.is_known file.synced file.unsynced digest (first ++ bodies ∷ []) c.append.new.self) c.replace-bodies.ensures.value
-    (c.in_ok-synced.ensures.synced digest first begun))
-    few c.in_ok-decide.ensures.frames (rw (c.before.ensures, c.frames.ensures) at c.entry_synced.ensures) c.in_ok-decide.ensures.tally)
+    rw (p.1, p.2) (
+      tally,
+      told_one most g.N.Watch.hears (LogAfter file.is_known file.synced file.unsynced (Link c.in_err-answer.field-0.0) c.args.self.now.log c.append.new.self)
+          c.args.watch.now c.entry_synced.new.self c.args.self.now.decider.tally tally c.args.turn.bodies c.decide.new.self.frames.items
+          (λ digest first begun. subst (λ (bodies : List (List ℕ)). HasLog file.is_known file.synced file.unsynced digest (first ++ bodies ∷ []) c.append.new.self) c.replace-bodies.ensures.value
+          (c.in_ok-synced.ensures.synced digest first begun))
+          few c.in_ok-decide.ensures.frames (rw (c.before.ensures, c.frames.ensures) at c.entry_synced.ensures) c.in_ok-decide.ensures.tally,
+    )
 
 pub returns-clause-told : goal.returns-clause-told
 returns-clause-told g c most few =
