@@ -1,5 +1,5 @@
 -- Entries that a watch is told of, one turn after another.
-use Rattle.std.proofs.Common.{◌≡◌, ◌≤◌, ◌⊎◌, inl, inr, ℕ, length, List, [], ◌∷◌, ◌++◌, Result, Ok, Err, OnOk, refl, sym, ap, subst, append_assoc}
+use Rattle.std.proofs.Common.{◌≡◌, ◌≤◌, ◌⊎◌, inl, inr, ℕ, length, List, [], ◌∷◌, ◌++◌, Result, Ok, Err, OnOk, IfErr, refl, sym, ap, subst, append_assoc}
 use Rattle.std.specs.List.{AllByRecursion, AllZip}
 use Rattle.std.proofs.lemmas.List.{append-nil}
 use Rattle.issuer_rows.specs.declared.frame.Frame.{Frame}
@@ -123,3 +123,14 @@ module _ {N : Type 0} (most : ℕ) (hears : N → Tally → List Frame → N →
         → WatchedSoFar (LogAfter is_known synced unsynced (Log fault) old new) most hears same before same
     untold_appending fault old new same before bodies cut memory kind =
         (before, untold (LogAfter is_known synced unsynced (Log fault) old new) same before (log_appending fault old new bodies cut memory kind))
+
+    -- a turn without bodies tells nothing
+    pub untold_alone : {X : Type 0} (result : Result X HostFault) (log : LogWriter G) (same : N) (before : Tally) → OnOk result (Watched (Grows is_known synced unsynced log log) most hears same before same)
+    untold_alone (Ok x) log same before = untold (Grows is_known synced unsynced log log) same before (grows_none is_known synced unsynced log)
+    untold_alone (Err e) log same before = tt
+
+    -- one that stops tells nothing either
+    pub untold_stopped : {X : Type 0} (result : Result X HostFault) (log : LogWriter G) (same : N) (before : Tally) → IfErr result (λ e. LogAfter is_known synced unsynced e log log [])
+        → IfErr result (λ e. WatchedSoFar (LogAfter is_known synced unsynced e log log) most hears same before same)
+    untold_stopped (Ok x) log same before stays = tt
+    untold_stopped (Err e) log same before stays = (before, untold (LogAfter is_known synced unsynced e log log) same before stays)
