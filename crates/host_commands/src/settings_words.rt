@@ -1,6 +1,6 @@
 //! The words that say how a host is to serve.
 
-ghost use Rattle.std.specs.Prelude.{◌≡◌, ◌+◌, ◌<◌, ◌≤◌, ◌-◌, ◌^◌, ℕ, IfSome, IfNone, length, map, string_bytes};
+ghost use Rattle.std.specs.Prelude.{◌≡◌, ◌+◌, ◌<◌, ◌≤◌, ◌-◌, ◌^◌, ℕ, IfSome, IfNone, OnSome, length, map, string_bytes};
 ghost use Rattle.std.specs.Option.{SomeIff};
 ghost use Rattle.host_commands.specs.Settings.{IsNumberTo, number_of, SaySettings, SaysMaxBatch, SaysStats};
 ghost use Rattle.host_commands.specs.declared.settings.Settings.{Settings as Said};
@@ -89,6 +89,7 @@ fn two_settings(words: &[String]) -> Option<Settings>
 /// The settings that the words behind the names of the files say, if they do.
 pub(crate) fn settings_in(words: &[String]) -> Option<Settings>
     ensures some { IfSome result (SaySettings (map string_bytes words.now)) }
+    ensures room { OnSome result (4 ≤ length words.now) }
     ensures none { IfNone result ((settings : Said) → ¬ SaySettings (map string_bytes words.now) settings) }
 {
     match words.len() {

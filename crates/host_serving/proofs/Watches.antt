@@ -56,7 +56,7 @@ module _ {N : Type 0} (most : ℕ) (hears : N → Tally → List Frame → N →
     stand = stands;
     few = (few, tt);
     read = (are, tt);
-    told = (has, heard, refl, count);
+    told = (has, heard, (refl, count));
   }
 
   joined : (front back whole : Entries → Type 0) (had mid has : N) (before between after : Tally) → ((some more : Entries) → front some → back more → whole (some ++ more))

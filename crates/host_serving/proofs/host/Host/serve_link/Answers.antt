@@ -94,3 +94,8 @@ returns-in_err-serve_next-clause-told_before g c =
 
 pub returns-clause-told_before : goal.returns-clause-told_before
 returns-clause-told_before g c = (c.loop.self.decider.tally, c.loop.invariant.told)
+
+pub returns-then-not-branch-clause-told : goal.returns-then-not-branch-clause-told
+returns-then-not-branch-clause-told g c =
+    let end = c.in_ok-serve_next.ensures.end (search rules) in
+    rw (end.0, c.in_ok-serve_next.ensures.untold (search rules)) c.loop.invariant.told
