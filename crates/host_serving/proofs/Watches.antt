@@ -125,7 +125,7 @@ module _ {N : Type 0} (most : ℕ) (hears : N → Tally → List Frame → N →
         (before, untold (LogAfter is_known synced unsynced (Log fault) old new) same before (log_appending fault old new bodies cut memory kind))
 
     -- a turn without bodies tells nothing
-    pub untold_alone : {X : Type 0} (result : Result X HostFault) (log : LogWriter G) (same : N) (before : Tally) → OnOk result (Watched (Grows is_known synced unsynced log log) most hears same before same)
+    pub untold_alone : {X : Type 0} (result : Result X HostFault) (log : LogWriter G) (same : N) (before : Tally) → OnOk result (Watched (Grows is_known synced unsynced log log) most hears same before same before)
     untold_alone (Ok x) log same before = untold (Grows is_known synced unsynced log log) same before (grows_none is_known synced unsynced log)
     untold_alone (Err e) log same before = tt
 

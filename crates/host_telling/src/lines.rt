@@ -1,6 +1,7 @@
 //! The lines of one entry.
 
 ghost use Rattle.std.specs.Prelude.{◌≡◌, ◌++◌, ◌∷◌, codes, decimal, OnOk, IfOk};
+ghost use Rattle.issuer_rows.specs.FrameFault.{fault_body};
 ghost use Rattle.host_serving.specs.Tally.{counted};
 ghost use Rattle.host_telling.specs.Lines.{entry_lines, stats_line, stats_lines, unreadable_line, unreadable_line_of, unreadable_lines};
 
@@ -18,14 +19,28 @@ fn add_number(text: &mut Vec<u8>, number: u64) -> Result<(), AllocError>
     text.extend_from_slice(digits.format(number).as_bytes())
 }
 
+// Appends that the body of this number is no message.
+fn add_place(text: &mut Vec<u8>, number: u64) -> Result<(), AllocError>
+    ensures { OnOk result (text.new.items ≡ text.old.items ++ codes "unreadable " ++ decimal number) }
+{
+    text.extend_from_slice(b"unreadable ")?;
+    add_number(text, number)
+}
+
+// Appends its fault.
+fn add_fault(text: &mut Vec<u8>, fault: &FrameFault) -> Result<(), AllocError>
+    ensures { OnOk result (text.new.items ≡ text.old.items ++ codes " " ++ fault_body fault.now) }
+{
+    text.extend_from_slice(b" ")?;
+    text.extend_from_slice(&fault.body())
+}
+
 // Appends the line of a body that is no message: its number, and its fault.
 fn add_unreadable(text: &mut Vec<u8>, number: u64, fault: &FrameFault) -> Result<(), AllocError>
     ensures { OnOk result (text.new.items ≡ text.old.items ++ unreadable_line number fault.now) }
 {
-    text.extend_from_slice(b"unreadable ")?;
-    add_number(text, number)?;
-    text.extend_from_slice(b" ")?;
-    text.extend_from_slice(&fault.body())?;
+    add_place(text, number)?;
+    add_fault(text, fault)?;
     text.extend_from_slice(b"\n")
 }
 

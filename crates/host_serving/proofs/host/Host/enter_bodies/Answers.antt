@@ -87,7 +87,7 @@ returns-in_err-answer-clause-told_before g c most few =
           c.args.watch.now c.entry_synced.new.self c.args.self.now.decider.tally tally c.args.turn.bodies c.decide.new.self.frames.items
           (λ digest first begun. subst (λ (bodies : List (List ℕ)). HasLog file.is_known file.synced file.unsynced digest (first ++ bodies ∷ []) c.append.new.self) c.replace-bodies.ensures.value
           (c.in_ok-synced.ensures.synced digest first begun))
-          few c.in_ok-decide.ensures.frames (rw (c.tally.ensures, c.frames.ensures) at c.entry_synced.ensures) c.in_ok-decide.ensures.tally,
+          few c.in_ok-decide.ensures.frames (rw (c.tally-before.ensures, c.frames.ensures) at c.entry_synced.ensures) c.in_ok-decide.ensures.tally,
     )
 
 pub returns-clause-told : goal.returns-clause-told
@@ -98,4 +98,4 @@ returns-clause-told g c most few =
     c.args.watch.now c.entry_synced.new.self c.args.self.now.decider.tally tally c.args.turn.bodies c.decide.new.self.frames.items
     (λ digest first begun. subst (λ (bodies : List (List ℕ)). HasLog file.is_known file.synced file.unsynced digest (first ++ bodies ∷ []) c.append.new.self) c.replace-bodies.ensures.value
     (c.in_ok-synced.ensures.synced digest first begun))
-    few c.in_ok-decide.ensures.frames (rw (c.tally.ensures, c.frames.ensures) at c.entry_synced.ensures) c.in_ok-decide.ensures.tally
+    few c.in_ok-decide.ensures.frames (rw (c.tally-before.ensures, c.frames.ensures) at c.entry_synced.ensures) c.in_ok-decide.ensures.tally
