@@ -55,6 +55,7 @@ fn stats_at(words: &[String], place: usize) -> Option<StatsInterval>
 }
 
 // The settings that two words behind the names of the files say.
+#[tactic(auto, using(crate::proofs::SettingWords::none_of_six))]
 fn one_setting(words: &[String]) -> Option<Settings>
     requires { length words.now ≡ 6 }
     ensures some { IfSome result (SaySettings (map string_bytes words.now)) }
@@ -72,6 +73,7 @@ fn one_setting(words: &[String]) -> Option<Settings>
 }
 
 // The settings that four words behind the names of the files say.
+#[tactic(auto, using(crate::proofs::SettingWords::none_of_eight, crate::proofs::SettingWords::not_both))]
 fn two_settings(words: &[String]) -> Option<Settings>
     requires { length words.now ≡ 8 }
     ensures some { IfSome result (SaySettings (map string_bytes words.now)) }
@@ -87,6 +89,7 @@ fn two_settings(words: &[String]) -> Option<Settings>
 }
 
 /// The settings that the words behind the names of the files say, if they do.
+#[tactic(auto, using(crate::proofs::SettingWords::none_of_others))]
 pub(crate) fn settings_in(words: &[String]) -> Option<Settings>
     ensures some { IfSome result (SaySettings (map string_bytes words.now)) }
     ensures room { OnSome result (4 ≤ length words.now) }
