@@ -43,8 +43,11 @@ returns-in_err-count-clause-told_before g c =
     let file = g.G.GrowingFile in
     let before = c.args.self.now.decider.tally in
     let log = c.args.self.now.log in
-    rw (p.1, p.2) (before, untold c.args.most g.N.Watch.hears (LogAfter file.is_known file.synced file.unsynced (Link c.in_err-count.field-0.0) log log) c.args.watch.now before
-    (grows_none file.is_known file.synced file.unsynced log))
+    rw (p.1, p.2) (
+      before,
+      untold c.args.most g.N.Watch.hears (LogAfter file.is_known file.synced file.unsynced (Link c.in_err-count.field-0.0) log log) c.args.watch.now before
+          (grows_none file.is_known file.synced file.unsynced log),
+    )
 
 pub returns-in_err-take_turn-clause-told_before : goal.returns-in_err-take_turn-clause-told_before
 returns-in_err-take_turn-clause-told_before g c =
@@ -52,8 +55,11 @@ returns-in_err-take_turn-clause-told_before g c =
     let file = g.G.GrowingFile in
     let before = c.args.self.now.decider.tally in
     let log = c.args.self.now.log in
-    rw (p.1, p.2) (before, untold c.args.most g.N.Watch.hears (LogAfter file.is_known file.synced file.unsynced OutOfMemory log log) c.args.watch.now before
-    (grows_none file.is_known file.synced file.unsynced log))
+    rw (p.1, p.2) (
+      before,
+      untold c.args.most g.N.Watch.hears (LogAfter file.is_known file.synced file.unsynced OutOfMemory log log) c.args.watch.now before
+          (grows_none file.is_known file.synced file.unsynced log),
+    )
 
 pub returns-in_err-link-clause-told_before : goal.returns-in_err-link-clause-told_before
 returns-in_err-link-clause-told_before g c =
