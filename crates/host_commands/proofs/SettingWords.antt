@@ -1,5 +1,5 @@
 -- Words that say no settings.
-use Rattle.std.proofs.Common.{◌≡◌, ◌≢◌, ℕ, List, Option, Some, None, length, inl, inr, sym, ap, ◌∙◌, arith}
+use Rattle.std.proofs.Common.{◌≡◌, ◌≢◌, ℕ, List, Option, Some, None, IfNone, length, inl, inr, sym, ap, ◌∙◌, arith}
 use Rattle.host_commands.specs.Settings.{SaySettings, SaysMaxBatch, SaysStats}
 use Rattle.host_commands.specs.declared.settings.Settings.{Settings}
 
@@ -28,7 +28,7 @@ none_of_eight words eight first second settings (inr (inr (inl said))) = omega (
 none_of_eight words eight first second settings (inr (inr (inr (inl said)))) = first said.1 said.2 said.3 said.4
 none_of_eight words eight first second settings (inr (inr (inr (inr said)))) = second said.1 said.2 said.3 said.4
 
-size_of : Option (List ℕ) → ℕ
+abbrev size_of : Option (List ℕ) → ℕ
 size_of None = 0
 size_of (Some word) = length word
 
@@ -36,3 +36,8 @@ size_of (Some word) = length word
 pub not_both : (words : List (List ℕ)) (place most every : ℕ) → SaysMaxBatch words place most → SaysStats words place every → ⊥
 not_both words place most every max stats =
     let sizes : ◌≡◌ {A = ℕ} 11 7 = ap size_of (sym max.0 ∙ stats.0) in omega (arith, sizes)
+
+-- what holds in any case
+pub if_none : {X P : Type 0} (result : Option X) → P → IfNone result P
+if_none None holds = holds
+if_none (Some x) holds = tt
