@@ -1,2 +1,3 @@
 pub mod Answering
 pub mod SameLink
+pub mod SettingWords

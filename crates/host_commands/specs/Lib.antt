@@ -1,2 +1,3 @@
 pub mod HostAsked
+pub mod Settings
 pub mod Served

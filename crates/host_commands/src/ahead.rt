@@ -7,7 +7,8 @@ ghost use Rattle.host_serving.specs.Serving.{Served, Stopped};
 ghost use Rattle.host_serving.specs.declared.host_fault.HostFault.TheVariants.{Link as OfLink};
 
 use file_devices::{Sink, Source};
-use host_serving::{Host, HostFault};
+use host_serving::{Host, HostFault, MaxBatch};
+use host_telling::Teller;
 use issuer_rules::Shipped;
 use link_ahead::{Link, Reading, Signals, ends_of_link};
 use log_devices::GrowingFile;
@@ -17,10 +18,10 @@ use std::marker::Brand;
 use std::sync::{Arc, Wait};
 use std::thread::{Threads, join_mut};
 
-// Tells a fault. What `err` doesn't take is dropped.
-fn tell<E: Write>(err: &mut E, served: &Result<(), HostFault>) {
+// Tells a fault.
+fn tell<E: Write>(teller: &mut Teller<E>, served: &Result<(), HostFault>) {
     if let Err(fault) = served {
-        let _ = write!(err, "{fault}\n");
+        teller.fault(*fault);
     }
 }
 
@@ -31,7 +32,8 @@ fn serve_there<A: Source, G: GrowingFile + Drop, O: Sink, E: Write>(
     signals: &Signals,
     host: &mut Host<G>,
     sink: &mut O,
-    err: &mut E,
+    most: MaxBatch,
+    teller: &mut Teller<E>,
 ) -> Option<Result<(), HostFault>>
     ensures none { IfNone result ((host.new ≡ host.old) × (sink.new ≡ sink.old)) }
     ensures ok { IfSome result (λ served. OnOk served (Served G.is_known G.synced G.unsynced host.old host.new
@@ -43,8 +45,8 @@ fn serve_there<A: Source, G: GrowingFile + Drop, O: Sink, E: Write>(
     if !signals.wait_for_reader() {
         return None;
     }
-    let served = host.serve_link(alloc, ahead, sink, &Shipped);
-    tell(err, &served);
+    let served = host.serve_link(alloc, ahead, sink, &Shipped, most, teller);
+    tell(teller, &served);
     signals.stop();
     Some(served)
 }
@@ -67,7 +69,8 @@ fn serve_together<
     host: &mut Host<G>,
     source: &mut I,
     sink: &mut O,
-    err: &mut E,
+    most: MaxBatch,
+    teller: &mut Teller<E>,
 ) -> (bool, Option<Result<(), HostFault>>)
     requires reading { HasReadNone reading.old }
     requires link { IsBehind I.is_known I.remaining I.may_fail L.is_known L.bytes L.may_fail [] source.old }
@@ -93,7 +96,7 @@ fn serve_together<
             ensures stopped { IfSome result (λ served. IfErr served (λ e. Stopped G.is_known G.synced G.unsynced e host.entry.now host.exit.now
                 (A.is_known ahead.entry.now) (A.remaining ahead.entry.now) (O.is_known sink.entry.now) (O.written sink.entry.now) (O.written sink.exit.now))) }
             ensures unreadable { IfSome result (λ served. served ≡ Err (OfLink Unreadable) → A.may_fail ahead.entry.now) }
-        { serve_there(alloc, ahead, signals, host, sink, err) },
+        { serve_there(alloc, ahead, signals, host, sink, most, teller) },
     );
     (has_read, served)
 }
@@ -112,7 +115,8 @@ fn serve_named<
     host: &mut Host<G>,
     source: &mut I,
     sink: &mut O,
-    err: &mut E,
+    most: MaxBatch,
+    teller: &mut Teller<E>,
 ) -> Result<(), HostFault>
     requires known { L.is_known → I.is_known source.old × (I.remaining source.old ≡ L.bytes) }
     requires may { I.may_fail source.old → L.may_fail }
@@ -135,7 +139,8 @@ fn serve_named<
         host,
         source,
         sink,
-        err,
+        most,
+        teller,
     );
     if let Some(served) = served {
         return served;
@@ -144,13 +149,13 @@ fn serve_named<
     if has_read {
         return Err(HostFault::OutOfMemory);
     }
-    let served = host.serve_link(alloc, source, sink, &Shipped);
-    tell(err, &served);
+    let served = host.serve_link(alloc, source, sink, &Shipped, most, teller);
+    tell(teller, &served);
     served
 }
 
 /// Serves a link as `Host::serve_link` does, by the decisions of the tables, while a thread of its own reads it ahead: what comes while an
-/// entry is synced becomes the next one. Where no thread can be made it is read as it is served. After a fault, which stands on `err` at
+/// entry is synced becomes the next one. Where no thread can be made it is read as it is served. After a fault, which is told at
 /// once, it returns where the link ends or the next bytes come, since a thread that waits for bytes can't be stopped.
 pub(crate) fn serve_ahead<
     R: Threads + Wait + Copy + Sync,
@@ -164,7 +169,8 @@ pub(crate) fn serve_ahead<
     host: &mut Host<G>,
     source: &mut I,
     sink: &mut O,
-    err: &mut E,
+    most: MaxBatch,
+    teller: &mut Teller<E>,
 ) -> Result<(), HostFault>
     // Where no fault is met, all frames of the link were served.
     ensures ok { OnOk result (Served G.is_known G.synced G.unsynced host.old host.new
@@ -175,5 +181,5 @@ pub(crate) fn serve_ahead<
     // The link can't be read only where a call of its source may fail.
     ensures unreadable { result ≡ Err (OfLink Unreadable) → I.may_fail source.old }
 {
-    serve_named::<Brand, R, G, I, O, E>(rt, alloc, host, source, sink, err)
+    serve_named::<Brand, R, G, I, O, E>(rt, alloc, host, source, sink, most, teller)
 }

@@ -2,13 +2,15 @@ ghost use Rattle.std.specs.Prelude.{IfSome, IfNone, OnSome, codes, map, string_b
 ghost use Rattle.app_words.specs.Words.{IsCommand};
 ghost use Rattle.host_commands.specs.HostAsked.{IsAskedBy};
 
+use crate::settings::Settings;
+use crate::settings_words::settings_in;
 use app_words::{asks_help, is_command};
 
 /// What words ask of a live host.
 #[derive(Clone, Copy)]
 pub enum HostAsked<'a> {
-    /// To serve, on the book of the first file, with the log in the second.
-    Serve(&'a str, &'a str),
+    /// To serve, on the book of the first file, with the log in the second, by these settings.
+    Serve(&'a str, &'a str, Settings),
     /// What `serve` takes.
     Help,
     /// Nothing: they begin with `serve` and don't go on so.
@@ -32,8 +34,8 @@ pub fn host_asked(words: &[String]) -> Option<HostAsked<'_>>
 fn asked_behind(words: &[String]) -> HostAsked<'_>
     ensures { IsAskedBy (map string_bytes words.now) result }
 {
-    if words.len() == 4 {
-        return HostAsked::Serve(words[2].as_str(), words[3].as_str());
+    if let Some(settings) = settings_in(words) {
+        return HostAsked::Serve(words[2].as_str(), words[3].as_str(), settings);
     }
     if asks_help(words) {
         return HostAsked::Help;

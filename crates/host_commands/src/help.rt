@@ -2,19 +2,25 @@
 pub const SERVE_HELP: &str =
     "Answers messages as they come, on a book in memory, and loses none: a reply leaves when its message stands in the log
 
-Usage: switch serve <BOOK> <LOG>
+Usage: switch serve <BOOK> <LOG> [--max-batch <M>] [--stats <N>]
 
 Arguments:
   <BOOK>  The opening book of the log: JSON of version 1, 2 or 3. It stays as it is
   <LOG>   The log of all messages that were decided on it. It is begun where it isn't there or is empty
 
 Options:
-  -h, --help  Print help
+      --max-batch <M>  How many messages become one entry of the log, at most: 1 to 65536 [default: 65536]
+      --stats <N>      Tell on standard error how it goes, each time that N messages more came: 1 or more
+  -h, --help           Print help
 
 Messages come on standard input, replies go to standard output, each behind two bytes of its length, the higher first.
 Network management (1804: sign-on 801, sign-off 802, echo test 831) is answered 1814, and stands in no log.
 At the start the messages that the log holds are decided again; what a crash left of an entry behind them is cut, and
 `torn N` on standard error says how many bytes that was. The host ends when standard input does.
+
+What is no message is logged and gets no reply; `unreadable I F07011` on standard error tells its number, from 0 on over
+the whole log, and its fault (`switch help faults`). `decided B, U unreadable, E entries` says how it goes: how many
+messages the log has, how many of them are none, and in how many entries. Lines tell of what stands in the log.
 
 Exit status: 0 all was answered, 1 fault, 2 usage error.
 

@@ -4,8 +4,11 @@ ghost use Rattle.host_commands.specs.Served.{IsAnswered, IsServed};
 use crate::ahead::serve_ahead;
 use crate::logs::Logs;
 use crate::serve_fault::ServeFault;
+use crate::settings::Settings;
 use file_devices::{Files, Sink, Source};
 use host_opening::open_host;
+use host_serving::MaxBatch;
+use host_telling::Teller;
 use issuer_rules::Shipped;
 use std::alloc::Global;
 use std::io::Write;
@@ -13,15 +16,15 @@ use std::sync::Wait;
 use std::thread::Threads;
 
 /// Serves a link, on the book in the first file, with the log in the second, until the link ends or to the first fault. Returns the exit
-/// status: 0 where all that came was answered, else 1, and the fault stands on `err`. So does the size of a torn tail that was cut. What
-/// `err` doesn't take is dropped.
+/// status: 0 where all that came was answered, else 1, and the fault stands on `err`. So do the size of a torn tail that was cut, the
+/// bodies that are no message, and, where the settings ask it, how it goes. What `err` doesn't take is dropped.
 pub fn serve<
     R: Threads + Wait + Copy + Sync,
     F: Files,
     L: Logs,
     I: Source + Send,
     O: Sink,
-    E: Write,
+    E: Write + Drop,
 >(
     rt: &R,
     alloc: Global,
@@ -29,21 +32,35 @@ pub fn serve<
     logs: &L,
     book: &str,
     log: &str,
+    settings: Settings,
     source: &mut I,
     sink: &mut O,
-    err: &mut E,
+    err: E,
 ) -> u8
     ensures status { result ≤ 1 }
     ensures served { (text bytes : List ℕ) → F.holds files.now book.now text → L.holds logs.now log.now bytes
         → I.is_known source.old → O.is_known sink.old
         → IsServed text bytes (I.remaining source.old) result (O.written sink.old) (O.written sink.new) }
 {
-    match served(rt, alloc, files, logs, book, log, source, sink, err) {
+    let mut teller = Teller::new(alloc, err, settings.stats);
+    let most = settings.max_batch;
+    match served(
+        rt,
+        alloc,
+        files,
+        logs,
+        book,
+        log,
+        most,
+        source,
+        sink,
+        &mut teller,
+    ) {
         Ok(()) => 0,
         // One of serving was told at once.
         Err(ServeFault::Serving(_)) => 1,
         Err(fault) => {
-            let _ = write!(err, "{fault}\n");
+            teller.fault(fault);
             1
         }
     }
@@ -57,9 +74,10 @@ fn served<R: Threads + Wait + Copy + Sync, F: Files, L: Logs, I: Source + Send, 
     logs: &L,
     book: &str,
     log: &str,
+    most: MaxBatch,
     source: &mut I,
     sink: &mut O,
-    err: &mut E,
+    teller: &mut Teller<E>,
 ) -> Result<(), ServeFault>
     ensures ok { (text bytes : List ℕ) → F.holds files.now book.now text → L.holds logs.now log.now bytes
         → I.is_known source.old → O.is_known sink.old
@@ -71,9 +89,7 @@ fn served<R: Threads + Wait + Copy + Sync, F: Files, L: Logs, I: Source + Send, 
 {
     let file = logs.open(log)?;
     let mut opened = open_host(rt, alloc, files, book, file, &Shipped)?;
-    if opened.torn > 0 {
-        let _ = write!(err, "torn {}\n", opened.torn);
-    }
-    serve_ahead(rt, alloc, &mut opened.host, source, sink, err)?;
+    teller.opened(opened.entries, opened.torn);
+    serve_ahead(rt, alloc, &mut opened.host, source, sink, most, teller)?;
     Ok(())
 }

@@ -1,3 +1,4 @@
 pub mod Takes
 pub mod Turns
 pub mod Servings
+pub mod Watches

@@ -111,7 +111,7 @@ module _ {G : Type 0} (is_known : G → Type 0) (synced unsynced : G → List �
   pub grows_none : (log : LogWriter G) → Grows is_known synced unsynced log log []
   grows_none log digest had has = subst (λ (entries : Entries). HasLog is_known synced unsynced digest entries log) (sym (append-nil had)) has
 
-  grows_more : (old mid new : LogWriter G) (some more : Entries) → Grows is_known synced unsynced old mid some → Grows is_known synced unsynced mid new more → Grows is_known synced unsynced old new (some ++ more)
+  pub grows_more : (old mid new : LogWriter G) (some more : Entries) → Grows is_known synced unsynced old mid some → Grows is_known synced unsynced mid new more → Grows is_known synced unsynced old new (some ++ more)
   grows_more old mid new some more front back digest had has =
       subst (λ (entries : Entries). HasLog is_known synced unsynced digest entries new) (append_assoc had some more) (back digest (had ++ some) (front digest had has))
 
@@ -227,7 +227,7 @@ module _ {G : Type 0} (is_known : G → Type 0) (synced unsynced : G → List �
   }
 
   -- the log didn't fail, and memory ran out before a byte was written
-  same_log : (old new : LogWriter G) → new.file ≡ old.file → new.digest ≡ old.digest → new.entries ≡ old.entries → Grows is_known synced unsynced old new []
+  pub same_log : (old new : LogWriter G) → new.file ≡ old.file → new.digest ≡ old.digest → new.entries ≡ old.entries → Grows is_known synced unsynced old new []
   same_log old new file digest count book had has = record {
     are = subst (λ (x : Entries). AreEntries x) (sym (append-nil had)) has.are;
     known = subst is_known (sym file) has.known;

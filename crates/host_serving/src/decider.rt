@@ -20,7 +20,9 @@ impl Decider {
     ghost use Rattle.std.specs.Prelude.{◌≡◌, List, OnOk};
     ghost use Rattle.issuer_rows.specs.declared.frame.Frame.{Frame};
     ghost use Rattle.host_serving.specs.Entries.{AreMessagesOf};
+    ghost use Rattle.file_batch_laws.specs.Frames.{AreFramesOf};
     ghost use Rattle.host_serving.specs.Deciding.{Decides, Follows};
+    ghost use Rattle.host_serving.specs.Tally.{counted};
 
     /// Nothing is decided on this book yet.
     pub fn new(alloc: Global, book: Book) -> Decider
@@ -51,6 +53,13 @@ impl Decider {
         self.tally
     }
 
+    /// The messages that were decided last, and the faults of bodies among them that are none.
+    pub fn frames(&self) -> &[Frame]
+        ensures { result.now ≡ self.now.frames.items }
+    {
+        &self.frames
+    }
+
     /// The replies to the messages that were decided last.
     pub fn replies(&self) -> &[ReplyBody]
         ensures { result.now ≡ self.now.prefix.replies.items }
@@ -66,7 +75,9 @@ impl Decider {
         bodies: &Bodies,
         decision: &F,
     ) -> Result<(), AllocError>
-        ensures { OnOk result (Decides bodies.now self.old self.new) }
+        ensures decided { OnOk result (Decides bodies.now self.old self.new) }
+        ensures frames { OnOk result (AreFramesOf bodies.now self.new.frames.items) }
+        ensures tally { OnOk result (self.new.tally ≡ counted self.old.tally self.new.frames.items) }
     {
         read_frames(bodies, &mut self.frames)?;
         let _count = bodies.len();

@@ -1,8 +1,10 @@
 use crate::answering::answer;
 use crate::host::Host;
 use crate::host_fault::HostFault;
+use crate::max_batch::MaxBatch;
 use crate::taking::take_turn;
 use crate::turn::Turn;
+use crate::watch::Watch;
 use file_devices::{Sink, Source};
 use issuer_view::Decide;
 use link_frames::{LinkFault, LinkReader, ReplyWriter};
@@ -10,9 +12,6 @@ use log_devices::GrowingFile;
 use log_file::Bodies;
 use std::alloc::{AllocError, Global};
 use std::mem;
-
-// How many frames are served in one turn, at most: so many bodies can an entry have.
-const MOST: u32 = 65_536;
 
 // The memory of a link: what came on it, what is about to be written, and what came in one turn.
 #[derive(Drop)]
@@ -39,14 +38,15 @@ impl Link {
 }
 
 impl<G: GrowingFile + Drop> Host<G> {
-    ghost use Rattle.std.specs.Prelude.{◌≡◌, ◌≢◌, ◌⊎◌, [], List, true, false, Ok, Err, OnOk, IfErr};
+    ghost use Rattle.std.specs.Prelude.{◌≡◌, ◌≢◌, ◌⊎◌, ◌≤◌, ℕ, [], List, length, true, false, Ok, Err, OnOk, IfErr};
     ghost use Rattle.link_frames.specs.Incoming.{Incoming};
     ghost use Rattle.link_frames.specs.LinkFault.{Reads, Writes};
     ghost use Rattle.link_frames.specs.Reader.{ahead};
     ghost use Rattle.host_serving.specs.HostFault.{of_link};
-    ghost use Rattle.host_serving.specs.Entering.{Enters, StopsEntering};
+    ghost use Rattle.host_serving.specs.Entering.{Enters, Grows, StopsEntering};
     ghost use Rattle.host_serving.specs.Turn.{IsTurn};
-    ghost use Rattle.host_serving.specs.Serving.{Served, Stopped, StopsReading, EntersNext, StopsInEntry};
+    ghost use Rattle.host_serving.specs.Serving.{LogAfter, Served, Stopped, StopsReading, EntersNext, StopsInEntry};
+    ghost use Rattle.host_serving.specs.Watched.{Watched, WatchedSoFar};
 
     // Answers the network management requests that came in a turn without bodies.
     fn answer_requests<W: Sink>(
@@ -63,6 +63,7 @@ impl<G: GrowingFile + Drop> Host<G> {
             → IfErr result (λ e. StopsEntering G.is_known G.synced G.unsynced e incoming
             self.now self.now (W.is_known sink.old) (W.written sink.old) (W.written sink.new)) }
         ensures kinds { result ≢ Err (HostFault.Link LinkFault.Unreadable) }
+        ensures log { IfErr result (λ e. LogAfter G.is_known G.synced G.unsynced e self.now.log self.now.log []) }
     {
         writer.write(&[], &turn.requests, sink)?;
         Ok(turn)
@@ -70,13 +71,14 @@ impl<G: GrowingFile + Drop> Host<G> {
 
     // Decides the messages of the bodies that came in this turn, appends their entry to the log, and once it is synced answers them and the
     // network management requests between them, in order.
-    fn enter_bodies<W: Sink, F: Decide>(
+    fn enter_bodies<W: Sink, F: Decide, N: Watch>(
         &mut self,
         alloc: Global,
         turn: Turn,
         writer: &mut ReplyWriter,
         sink: &mut W,
         decision: &F,
+        watch: &mut N,
     ) -> Result<Turn, HostFault>
         requires some { turn.bodies ≢ [] }
         ensures sink { Writes W.is_known W.has_failed W.may_fail sink.old sink.new (of_link result) }
@@ -86,11 +88,17 @@ impl<G: GrowingFile + Drop> Host<G> {
             → IfErr result (λ e. StopsEntering G.is_known G.synced G.unsynced e incoming
             self.old self.new (W.is_known sink.old) (W.written sink.old) (W.written sink.new)) }
         ensures kinds { result ≢ Err (HostFault.Link LinkFault.Unreadable) }
+        ensures told { (most : ℕ) → length turn.bodies ≤ most → OnOk result (Watched (Grows G.is_known G.synced G.unsynced self.old.log self.new.log)
+            most N.hears watch.old self.old.decider.tally watch.new self.new.decider.tally) }
+        ensures told_before { (most : ℕ) → length turn.bodies ≤ most → IfErr result (λ e. WatchedSoFar (LogAfter G.is_known G.synced G.unsynced e self.old.log self.new.log)
+            most N.hears watch.old self.old.decider.tally watch.new) }
     {
         let mut turn = turn;
+        let before = self.decider.tally();
         self.decider.decide(alloc, &turn.bodies, decision)?;
         let bodies = mem::replace(&mut turn.bodies, Bodies::new(alloc));
         let synced = self.log.append(bodies)?;
+        watch.entry_synced(before, self.decider.frames());
         answer(writer, &synced, &self.decider, &turn.requests, sink)?;
         turn.bodies = synced.into_bodies();
         Ok(turn)
@@ -98,13 +106,14 @@ impl<G: GrowingFile + Drop> Host<G> {
 
     // Serves what came in a turn: its bodies become an entry, which is decided and answered; where no body came, there is no entry. The
     // turn is given back, for its memory.
-    fn enter<W: Sink, F: Decide>(
+    fn enter<W: Sink, F: Decide, N: Watch>(
         &mut self,
         alloc: Global,
         turn: Turn,
         writer: &mut ReplyWriter,
         sink: &mut W,
         decision: &F,
+        watch: &mut N,
     ) -> Result<Turn, HostFault>
         ensures sink { Writes W.is_known W.has_failed W.may_fail sink.old sink.new (of_link result) }
         ensures ok { (incoming : List Incoming) → IsTurn incoming turn → OnOk result (Enters G.is_known G.synced G.unsynced incoming
@@ -113,21 +122,27 @@ impl<G: GrowingFile + Drop> Host<G> {
             → IfErr result (λ e. StopsEntering G.is_known G.synced G.unsynced e incoming
             self.old self.new (W.is_known sink.old) (W.written sink.old) (W.written sink.new)) }
         ensures kinds { result ≢ Err (HostFault.Link LinkFault.Unreadable) }
+        ensures told { (most : ℕ) → length turn.bodies ≤ most → OnOk result (Watched (Grows G.is_known G.synced G.unsynced self.old.log self.new.log)
+            most N.hears watch.old self.old.decider.tally watch.new self.new.decider.tally) }
+        ensures told_before { (most : ℕ) → length turn.bodies ≤ most → IfErr result (λ e. WatchedSoFar (LogAfter G.is_known G.synced G.unsynced e self.old.log self.new.log)
+            most N.hears watch.old self.old.decider.tally watch.new) }
     {
         if turn.bodies.is_empty() {
             return self.answer_requests(turn, writer, sink);
         }
-        self.enter_bodies(alloc, turn, writer, sink, decision)
+        self.enter_bodies(alloc, turn, writer, sink, decision, watch)
     }
 
     // Waits for frames, and serves those that have come. Returns false at the link's end.
-    fn serve_next<R: Source, W: Sink, F: Decide>(
+    fn serve_next<R: Source, W: Sink, F: Decide, N: Watch>(
         &mut self,
         alloc: Global,
         link: &mut Link,
         source: &mut R,
         sink: &mut W,
         decision: &F,
+        most: MaxBatch,
+        watch: &mut N,
     ) -> Result<bool, HostFault>
         ensures source { Reads R.is_known R.has_failed R.may_fail source.old source.new (of_link result) }
         ensures sink { Writes W.is_known W.has_failed W.may_fail sink.old sink.new (of_link result) }
@@ -141,28 +156,35 @@ impl<G: GrowingFile + Drop> Host<G> {
             ⊎ StopsInEntry G.is_known G.synced G.unsynced e self.old self.new
             (R.is_known source.old) (ahead link.old.reader (R.remaining source.old))
             (W.is_known sink.old) (W.written sink.old) (W.written sink.new)) }
+        ensures told { result ≡ Ok true → Watched (Grows G.is_known G.synced G.unsynced self.old.log self.new.log)
+            most N.hears watch.old self.old.decider.tally watch.new self.new.decider.tally }
+        ensures untold { result ≡ Ok false → watch.new ≡ watch.old }
+        ensures told_before { IfErr result (λ e. WatchedSoFar (LogAfter G.is_known G.synced G.unsynced e self.old.log self.new.log)
+            most N.hears watch.old self.old.decider.tally watch.new) }
     {
-        let count = link.reader.next(source, MOST)?;
+        let count = link.reader.next(source, most.count())?;
         if count == 0 {
             return Ok(false);
         }
         take_turn(&mut link.turn, link.reader.frames(), count)?;
         let turn = mem::replace(&mut link.turn, Turn::new(alloc));
-        link.turn = self.enter(alloc, turn, &mut link.writer, sink, decision)?;
+        link.turn = self.enter(alloc, turn, &mut link.writer, sink, decision, watch)?;
         Ok(true)
     }
 
     /// Serves a link until it ends, or to the first fault: the bodies that have come become one entry of the log, whose messages are
     /// decided on the book, one after another, by any local decision; once the entry is synced, their replies are written. A body that is
     /// no message stands in the log, too, and gets no reply. Network management (ISO 8583:1993, 1804) is answered by the link itself, 1814
-    /// with action 800, at its place among the replies: it stands in no entry, and changes nothing. What a batch costs doesn't grow with
-    /// the book or the log.
-    pub fn serve_link<R: Source, W: Sink, F: Decide>(
+    /// with action 800, at its place among the replies: it stands in no entry, and changes nothing. At most so many frames are served in one
+    /// turn, and the watch is told of each entry once it is synced. What a batch costs doesn't grow with the book or the log.
+    pub fn serve_link<R: Source, W: Sink, F: Decide, N: Watch>(
         &mut self,
         alloc: Global,
         source: &mut R,
         sink: &mut W,
         decision: &F,
+        most: MaxBatch,
+        watch: &mut N,
     ) -> Result<(), HostFault>
         // It says that the link can't be read exactly where a call of the source failed.
         ensures source { Reads R.is_known R.has_failed R.may_fail source.old source.new (of_link result) }
@@ -174,10 +196,16 @@ impl<G: GrowingFile + Drop> Host<G> {
         // After a fault nothing was answered that isn't in the log.
         ensures stopped { IfErr result (λ e. Stopped G.is_known G.synced G.unsynced e self.old self.new
             (R.is_known source.old) (R.remaining source.old) (W.is_known sink.old) (W.written sink.old) (W.written sink.new)) }
+        // The watch was told of each entry that the log has more.
+        ensures told { OnOk result (Watched (Grows G.is_known G.synced G.unsynced self.old.log self.new.log)
+            most N.hears watch.old self.old.decider.tally watch.new self.new.decider.tally) }
+        // After a fault it was told of those that are synced.
+        ensures told_before { IfErr result (λ e. WatchedSoFar (LogAfter G.is_known G.synced G.unsynced e self.old.log self.new.log)
+            most N.hears watch.old self.old.decider.tally watch.new) }
     {
         let mut link = Link::new(alloc)?;
         for _ in 0..u64::MAX {
-            if !self.serve_next(alloc, &mut link, source, sink, decision)? {
+            if !self.serve_next(alloc, &mut link, source, sink, decision, most, watch)? {
                 return Ok(());
             }
         }

@@ -1,4 +1,4 @@
-ghost use Rattle.std.specs.Prelude.{◌≡◌, ◌≤◌, [], OnOk};
+ghost use Rattle.std.specs.Prelude.{◌≡◌, ◌≤◌, [], length, OnOk};
 ghost use Rattle.link_frames.specs.Link.{AreSoMany};
 ghost use Rattle.host_serving.specs.Turn.{HasTaken};
 
@@ -10,7 +10,8 @@ use std::alloc::AllocError;
 pub(crate) fn take_turn(turn: &mut Turn, frames: &[u8], count: u32) -> Result<(), AllocError>
     requires few { count ≤ 65536 }
     requires frames { AreSoMany count frames.now }
-    ensures { OnOk result (HasTaken frames.now [] turn.new) }
+    ensures taken { OnOk result (HasTaken frames.now [] turn.new) }
+    ensures few { OnOk result (length turn.new.bodies ≤ count) }
 {
     turn.clear();
     let mut rest = frames;

@@ -13,8 +13,8 @@ pub struct Tally {
 }
 
 impl Tally {
-    // One body more.
-    fn add_one(&mut self, frame: &Frame)
+    /// One body more.
+    pub fn add_one(&mut self, frame: &Frame)
         ensures { self.new ≡ counted_one self.old frame.now }
     {
         self.bodies = self.bodies.saturating_add(1);

@@ -73,20 +73,21 @@ fn serve_words<R: Threads + Wait + Copy + Sync, F: Files, O: Write, E: Write>(
     err: &mut Printer<E>,
 ) -> u8 {
     match asked {
-        HostAsked::Serve(book, log) => serve(
+        HostAsked::Serve(book, log, settings) => serve(
             rt,
             host.alloc(),
             files,
             &HostLogs::new(host),
             book,
             log,
+            settings,
             &mut FromRead::new(host.stdin()),
             &mut IntoWrite::new(host.stdout()),
-            &mut host.stderr(),
+            host.stderr(),
         ),
         HostAsked::Help => help(SERVE_HELP, out),
         HostAsked::Wrong => usage(
-            b"usage: switch serve <BOOK> <LOG>; `switch serve --help` says more",
+            b"usage: switch serve <BOOK> <LOG> [--max-batch <M>] [--stats <N>]; `switch serve --help` says more",
             err,
         ),
     }

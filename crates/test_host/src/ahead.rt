@@ -4,6 +4,7 @@ ghost use Rattle.std.specs.Prelude.{◌<◌};
 
 use crate::hosts::served;
 use file_devices::FailingSource;
+use host_commands::Settings;
 use issuer_rows::Book;
 use std::alloc::Global;
 use std::sync::Wait;
@@ -25,7 +26,15 @@ fn comes_to<R: Threads + Wait + Copy + Sync>(
     requires { 0 < piece }
 {
     let mut source = FailingSource::new(LINK, piece, answers);
-    match served(rt, alloc, book, Vec::new(alloc), "book", &mut source) {
+    match served(
+        rt,
+        alloc,
+        book,
+        Vec::new(alloc),
+        "book",
+        Settings::plain(),
+        &mut source,
+    ) {
         Some((status, replies, said)) => {
             status == outcome.0 && replies.as_slice() == outcome.1 && said.as_slice() == outcome.2
         }
@@ -37,7 +46,16 @@ fn comes_to<R: Threads + Wait + Copy + Sync>(
 fn a_link_is_served_in_any_pieces(rt: HostRuntime) -> Result<(), Fail> {
     let book = first_book_with(rt.alloc(), &[])?;
     for piece in [1, 7, 100, 1000] {
-        assert!(rt; comes_to(&rt, rt.alloc(), &book, piece, 1000, (0, REPLIES, b"")));
+        assert!(rt;
+            comes_to(
+                &rt,
+                rt.alloc(),
+                &book,
+                piece,
+                1000,
+                (0, REPLIES, b"unreadable 1 F01000\n")
+            )
+        );
     }
     Ok(())
 }
@@ -55,7 +73,7 @@ fn what_came_before_a_failed_read_is_answered(rt: HostRuntime) -> Result<(), Fai
             &book,
             10,
             12,
-            (1, FIRST_REPLY, b"link 4\n")
+            (1, FIRST_REPLY, b"unreadable 1 F01000\nlink 4\n")
         )
     );
     Ok(())

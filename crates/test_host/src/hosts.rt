@@ -1,8 +1,10 @@
 //! Hosts over their files: the words that ask for one, and hosts that are opened again on their log.
 
 use file_devices::{FailingSink, Source};
-use host_commands::{HostAsked, Logs, host_asked, serve};
+use host_commands::{HostAsked, Logs, Settings, host_asked, serve};
 use host_opening::OpeningFault;
+use host_serving::MaxBatch;
+use host_telling::StatsInterval;
 use issuer_rows::Book;
 use log_devices::{MemoryLog, OpenFault};
 use log_file::LogFault;
@@ -138,6 +140,7 @@ pub(crate) fn served<R: Threads + Wait + Copy + Sync, S: Source + Send>(
     book: &Book,
     log: Vec<u8>,
     name: &str,
+    settings: Settings,
     source: &mut S,
 ) -> Option<(u8, Vec<u8>, Vec<u8>)> {
     let files = files(alloc, book)?;
@@ -145,7 +148,7 @@ pub(crate) fn served<R: Threads + Wait + Copy + Sync, S: Source + Send>(
     let mut sink = FailingSink::new(alloc, 4096, 1000);
     let mut said = Vec::new(alloc);
     let status = serve(
-        rt, alloc, &files, &logs, name, "log", source, &mut sink, &mut said,
+        rt, alloc, &files, &logs, name, "log", settings, source, &mut sink, &mut said,
     );
     Some((status, copy_of(alloc, sink.taken())?, said))
 }
@@ -159,7 +162,15 @@ fn is_served<R: Threads + Wait + Copy + Sync>(
     mut link: &[u8],
     outcome: (u8, &[u8], &[u8]),
 ) -> bool {
-    match served(rt, alloc, book, Vec::new(alloc), name, &mut link) {
+    match served(
+        rt,
+        alloc,
+        book,
+        Vec::new(alloc),
+        name,
+        Settings::plain(),
+        &mut link,
+    ) {
         Some((status, replies, said)) => {
             status == outcome.0 && replies.as_slice() == outcome.1 && said.as_slice() == outcome.2
         }
@@ -170,7 +181,16 @@ fn is_served<R: Threads + Wait + Copy + Sync>(
 #[test]
 fn a_link_is_served_over_files(rt: HostRuntime) -> Result<(), Fail> {
     let book = first_book_with(rt.alloc(), &[])?;
-    assert!(rt; is_served(&rt, rt.alloc(), &book, "book", LINK, (0, REPLIES, b"")));
+    assert!(rt;
+        is_served(
+            &rt,
+            rt.alloc(),
+            &book,
+            "book",
+            LINK,
+            (0, REPLIES, b"unreadable 1 F01000\n")
+        )
+    );
     assert!(rt; is_served(&rt, rt.alloc(), &book, "none", LINK, (1, b"", b"file 1\n")));
     assert!(rt;
         is_served(
@@ -195,14 +215,20 @@ fn a_link_is_served_over_files(rt: HostRuntime) -> Result<(), Fail> {
     Ok(())
 }
 
-// What these words ask for: s serve, h help, w something else behind `serve`, - nothing of a host.
-fn asked(alloc: Global, line: &str) -> Option<char> {
+// The words of this line.
+fn words_of(alloc: Global, line: &str) -> Option<Vec<String>> {
     let mut words = Vec::new(alloc);
     for word in line.split(' ') {
         words.push(String::from_str(alloc, word).ok()?).ok()?;
     }
+    Some(words)
+}
+
+// What these words ask for: s serve, h help, w something else behind `serve`, - nothing of a host.
+fn asked(alloc: Global, line: &str) -> Option<char> {
+    let words = words_of(alloc, line)?;
     match host_asked(&words) {
-        Some(HostAsked::Serve(book, log)) if book == "b" && log == "l" => Some('s'),
+        Some(HostAsked::Serve(book, log, _)) if book == "b" && log == "l" => Some('s'),
         Some(HostAsked::Help) => Some('h'),
         Some(_) => Some('w'),
         None => Some('-'),
@@ -217,5 +243,79 @@ fn words_ask_for_a_host(rt: HostRuntime) -> Result<(), Fail> {
     assert!(rt; asked(rt.alloc(), "switch serve") == Some('w'));
     assert!(rt; asked(rt.alloc(), "switch serve b l more") == Some('w'));
     assert!(rt; asked(rt.alloc(), "switch serial b l") == Some('-'));
+    Ok(())
+}
+
+// Whether these words ask to serve by these settings.
+fn asks_for(alloc: Global, line: &str, most: u32, every: Option<u64>) -> bool {
+    let Some(words) = words_of(alloc, line) else {
+        return false;
+    };
+    let stats = match every {
+        Some(bodies) => StatsInterval::new(bodies),
+        None => None,
+    };
+    match host_asked(&words) {
+        Some(HostAsked::Serve(_, _, settings)) => {
+            settings.max_batch.count() == most && settings.stats == stats
+        }
+        _ => false,
+    }
+}
+
+#[test]
+fn words_behind_the_names_say_how_to_serve(rt: HostRuntime) {
+    assert!(rt; asks_for(rt.alloc(), "switch serve b l", 65_536, None));
+    assert!(rt; asks_for(rt.alloc(), "switch serve b l --max-batch 1", 1, None));
+    assert!(rt; asks_for(rt.alloc(), "switch serve b l --stats 9", 65_536, Some(9)));
+    let both = "switch serve b l --max-batch 65536 --stats 1";
+    assert!(rt; asks_for(rt.alloc(), both, 65_536, Some(1)));
+    let turned = "switch serve b l --stats 7 --max-batch 2";
+    assert!(rt; asks_for(rt.alloc(), turned, 2, Some(7)));
+}
+
+#[test]
+fn settings_out_of_bounds_are_wrong(rt: HostRuntime) {
+    for wrong in [
+        "switch serve b l --max-batch",
+        "switch serve b l --max-batch 0",
+        "switch serve b l --max-batch 65537",
+        "switch serve b l --stats 0",
+        "switch serve b l --stats x",
+        "switch serve b l --most 5",
+        "switch serve b l --stats 5 --stats 5",
+    ] {
+        assert!(rt; asked(rt.alloc(), wrong) == Some('w'));
+    }
+}
+
+// What a host says that serves this link in turns of one frame, and tells after each second body how it goes; its log is this one.
+fn told<R: Threads + Wait + Copy + Sync>(
+    rt: &R,
+    alloc: Global,
+    book: &Book,
+    log: Vec<u8>,
+    mut link: &[u8],
+) -> Option<Vec<u8>> {
+    let settings = Settings {
+        max_batch: MaxBatch::new(1)?,
+        stats: StatsInterval::new(2),
+    };
+    let (_, _, said) = served(rt, alloc, book, log, "book", settings, &mut link)?;
+    Some(said)
+}
+
+// The second of three bodies is no message, and each is an entry; of a log that has these three in one entry, the fifth is the next.
+#[test]
+fn a_host_tells_what_it_skips_and_how_it_goes(rt: HostRuntime) -> Result<(), Fail> {
+    let book = first_book_with(rt.alloc(), &[])?;
+    let said = told(&rt, rt.alloc(), &book, Vec::new(rt.alloc()), LINK).expect(&rt, "a host");
+    let lines: &[u8] = b"unreadable 1 F01000\ndecided 2, 1 unreadable, 2 entries\n";
+    assert!(rt; said.as_slice() == lines);
+    let log = log_of_three(&rt, rt.alloc(), &book).expect(&rt, "a log");
+    let again = told(&rt, rt.alloc(), &book, log, LINK).expect(&rt, "a host");
+    let more: &[u8] =
+        b"decided 4, 1 unreadable, 2 entries\nunreadable 4 F01000\ndecided 6, 2 unreadable, 4 entries\n";
+    assert!(rt; again.as_slice() == more);
     Ok(())
 }

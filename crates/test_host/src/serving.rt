@@ -3,7 +3,7 @@
 ghost use Rattle.std.specs.Prelude.{◌<◌};
 
 use file_devices::{FailingSink, FailingSource};
-use host_serving::{Decider, Host, HostFault, Tally};
+use host_serving::{Decider, Host, HostFault, MaxBatch, Tally, Unwatched};
 use issuer_rows::Book;
 use issuer_rules::Shipped;
 use link_frames::LinkFault;
@@ -71,7 +71,15 @@ fn serve(alloc: Global, book: &Book, link: &[u8], piece: usize, answers: Answers
     let mut host = host(alloc, book, answers.log)?;
     let mut source = FailingSource::new(link, piece, answers.source);
     let mut sink = FailingSink::new(alloc, 64, answers.sink);
-    let result = host.serve_link(alloc, &mut source, &mut sink, &Shipped);
+    let most = MaxBatch::whole_entry();
+    let result = host.serve_link(
+        alloc,
+        &mut source,
+        &mut sink,
+        &Shipped,
+        most,
+        &mut Unwatched,
+    );
     let (entries, bodies) = log_size(alloc, host.log().file().synced())?;
     let mut replies = Vec::new(alloc);
     replies.extend_from_slice(sink.taken()).ok()?;
@@ -245,7 +253,16 @@ fn the_book_is_that_after_the_link(rt: HostRuntime) -> Result<(), Fail> {
     };
     let mut source = LINK;
     let mut sink = FailingSink::new(rt.alloc(), 4096, 1000);
-    assert!(rt; host.serve_link(rt.alloc(), &mut source, &mut sink, &Shipped) == Ok(()));
+    let most = MaxBatch::whole_entry();
+    let result = host.serve_link(
+        rt.alloc(),
+        &mut source,
+        &mut sink,
+        &Shipped,
+        most,
+        &mut Unwatched,
+    );
+    assert!(rt; result == Ok(()));
     assert!(rt; has_row(host.decider().book(), "account A 9900 978"));
     Ok(())
 }

@@ -1,6 +1,7 @@
 use book_json::write_book;
 use file_devices::{FailingSink, MemoryFiles};
 use host_opening::{Opened, OpeningFault, open_host};
+use host_serving::{MaxBatch, Unwatched};
 use issuer_rows::Book;
 use issuer_rules::Shipped;
 use log_devices::MemoryLog;
@@ -48,7 +49,14 @@ pub fn serve_link<R: Threads>(
     let mut sink = FailingSink::new(alloc, 4096, 1000);
     opened
         .host
-        .serve_link(alloc, &mut source, &mut sink, &Shipped)
+        .serve_link(
+            alloc,
+            &mut source,
+            &mut sink,
+            &Shipped,
+            MaxBatch::whole_entry(),
+            &mut Unwatched,
+        )
         .ok()?;
     let kept = copy_of(alloc, opened.host.log().file().synced())?;
     Some((kept, copy_of(alloc, sink.taken())?))

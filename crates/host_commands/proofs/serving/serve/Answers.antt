@@ -5,8 +5,8 @@ pub returns-in-Ok-clause-served : goal.returns-in-Ok-clause-served
 returns-in-Ok-clause-served g c text bytes held logged reads puts =
     by_end text bytes _ _ _ (rw c.in-Ok.is at (c.served.ensures.ok text bytes held logged reads puts))
 
-pub returns-in-Err-clause-served : goal.returns-in-Err-clause-served
-returns-in-Err-clause-served g c text bytes held logged reads puts =
+pub returns-clause-served : goal.returns-clause-served
+returns-clause-served g c text bytes held logged reads puts =
     by_fault text bytes _ _ _ (rw c.in-Err.is at (c.served.ensures.err text bytes held logged reads puts))
 
 pub returns-in-Err-Serving-clause-served : goal.returns-in-Err-Serving-clause-served

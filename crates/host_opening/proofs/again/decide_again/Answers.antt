@@ -30,5 +30,5 @@ loop-preserved g c digest bytes known begins =
       entries = so_far.entries ++ c.in-Entry.bodies ∷ [];
       read = steps;
       known = c.next.ensures.file.known so_far.known;
-      decided = messages_of_more so_far.entries c.in-Entry.bodies c.args.decider.now c.loop.decider c.decide.new.self so_far.decided c.in_ok-decide-in-Entry.ensures;
+      decided = messages_of_more so_far.entries c.in-Entry.bodies c.args.decider.now c.loop.decider c.decide.new.self so_far.decided c.in_ok-decide-in-Entry.ensures.decided;
     }

@@ -30,7 +30,7 @@ loop-preserved c =
       so_far = taken_more c.args.frames.now c.loop.rest.now c.in-Frame.body.now c.in-Frame.behind.now c.loop.turn c.take.new.self so_far.so_far c.in-Frame.ensures.0 c.in-Frame.ensures.1 taken.taken;
     }
 
-pub returns : goal.returns
-returns c =
+pub returns-clause-taken : goal.returns-clause-taken
+returns-clause-taken c =
     let none : c.args.count - c.loop.counter ≡ 0 = omega arith in
     subst (λ (rest : List ℕ). HasTaken c.args.frames.now rest c.loop.turn) (no_more c.loop.rest.now (subst (λ (n : ℕ). AreSoMany n c.loop.rest.now) none c.loop.invariant.left)) c.loop.invariant.so_far

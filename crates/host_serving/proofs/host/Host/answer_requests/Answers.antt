@@ -3,7 +3,7 @@ use Rattle.std.proofs.lemmas.Result.{err_from_is_err_and}
 use Rattle.link_frames.specs.Incoming.{merged}
 use Rattle.link_frames.specs.Replies.{AppendsPart}
 use Rattle.link_frames.specs.declared.network_request.NetworkRequest.{NetworkRequest}
-use Rattle.host_serving.proofs.Servings.{enters_alone, stops_alone}
+use Rattle.host_serving.proofs.Servings.{enters_alone, stops_alone, grows_none}
 use Rattle.host_serving.proofs.host.Host.answer_requests.Goals as goal
 
 pub returns-in_err-write-clause-err : goal.returns-in_err-write-clause-err
@@ -24,3 +24,9 @@ returns-clause-ok g c incoming is =
     let has = sink.written c.write.new.sink in
     enters_alone file.is_known file.synced file.unsynced incoming c.args.turn c.args.self.now is c.requires.none (sink.is_known c.args.sink.now) had has
     (λ known. rw c.deref.ensures.value at (c.in_ok-write.ensures.ok known))
+
+pub returns-in_err-write-clause-log : goal.returns-in_err-write-clause-log
+returns-in_err-write-clause-log g c =
+    let p = err_from_is_err_and c.from_residual.result c.from_residual.ensures.1 in
+    let file = g.G.GrowingFile in
+    rw (p.1, p.2) (grows_none file.is_known file.synced file.unsynced c.args.self.now.log)
