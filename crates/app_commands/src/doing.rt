@@ -13,11 +13,10 @@ use crate::refusal::Refusal;
 use crate::report::Report;
 use app_arguments::Command;
 use app_audit::{audit_text, block_audit_text};
-use app_jobs::{
-    audit_batch, audit_batch_with_journal, audit_block_files, pack_batch, serial_batch, show_file,
-};
+use app_jobs::{audit_batch, audit_batch_with_journal, audit_block_files, serial_batch};
 use app_reasons::words_of;
 use app_runs::{decide_one, run_batch, run_batch_with_journal, run_blocks};
+use app_texts::{pack_batch, show_file};
 use engine_workers::{Engine, Workers};
 use file_batch::Strictness;
 use file_devices::{BatchNames, Files};

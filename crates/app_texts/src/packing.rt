@@ -4,10 +4,9 @@ ghost use Rattle.file_batch_laws.specs.Files.{AreBodies, batch_text};
 ghost use Rattle.file_devices.specs.Holding.{AreAsTheyWere, IsAsItWas, IsThere};
 ghost use Rattle.file_listing.specs.Bodies.{bodies_of};
 ghost use Rattle.app_jobs.specs.Faults.{IsWritingFaultOf};
-ghost use Rattle.app_jobs.specs.Packed.{IsPacked, IsPackingFault, IsTextFault};
+ghost use Rattle.app_texts.specs.Packed.{IsPacked, IsPackingFault, IsTextFault};
 
-use crate::job_fault::JobFault;
-use crate::placing::{alone, written};
+use app_jobs::{JobFault, alone, written};
 use file_batch::write_batch;
 use file_devices::{Files, read_file};
 use file_listing::read_bodies;

@@ -8,7 +8,7 @@ use Rattle.file_batch_laws.specs.BatchFault.{failed_at, is_of_bytes}
 use Rattle.file_batch_laws.specs.Reading.{replies_magic}
 use Rattle.file_batch_laws.specs.declared.batch_fault.BatchFault.{BatchFault}
 use Rattle.file_batch_laws.specs.declared.batch_fault.BatchFault.TheVariants.{Device, OutOfMemory}
-use Rattle.app_jobs.specs.Shown.{BeginsAsReplies}
+use Rattle.app_texts.specs.Shown.{BeginsAsReplies}
 
 -- no device failed
 pub of_memory : (e : BatchFault) → false ≡ failed_at e false → e ≢ OutOfMemory → IsTrue (is_of_bytes e)

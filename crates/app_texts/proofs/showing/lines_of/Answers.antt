@@ -1,7 +1,7 @@
 use Rattle.std.proofs.Common.{inl}
 use Rattle.std.proofs.lemmas.Result.{err_from_is_err_and}
-use Rattle.app_jobs.proofs.BytesFaults.{begins, of_memory}
-use Rattle.app_jobs.proofs.showing.lines_of.Goals as goal
+use Rattle.app_texts.proofs.BytesFaults.{begins, of_memory}
+use Rattle.app_texts.proofs.showing.lines_of.Goals as goal
 
 pub returns-in_err-replies-clause-fault : goal.returns-in_err-replies-clause-fault
 returns-in_err-replies-clause-fault c =

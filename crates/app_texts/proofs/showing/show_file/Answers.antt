@@ -1,5 +1,5 @@
 use Rattle.std.proofs.Common.{inl, inr}
-use Rattle.app_jobs.proofs.showing.show_file.Goals as goal
+use Rattle.app_texts.proofs.showing.show_file.Goals as goal
 
 pub returns : goal.returns
 returns g c = record {

@@ -2,7 +2,7 @@ use Rattle.std.proofs.Common.{◌∙◌, inr}
 use Rattle.std.proofs.lemmas.List.{length-map}
 use Rattle.std.proofs.lemmas.Result.{err_from_is_err_and}
 use Rattle.file_batch.specs.Bodies.{bytes_of}
-use Rattle.app_jobs.proofs.packing.pack_batch.Goals as goal
+use Rattle.app_texts.proofs.packing.pack_batch.Goals as goal
 
 pub returns-clause-packed : goal.returns-clause-packed
 returns-clause-packed g c = record {

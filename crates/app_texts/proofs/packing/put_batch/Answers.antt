@@ -3,7 +3,7 @@ use Rattle.std.proofs.lemmas.Result.{err_from_is_err_and}
 use Rattle.file_devices.specs.declared.write_fault.WriteFault.{WriteFault}
 use Rattle.file_devices.proofs.Placing.{none_of_one, one_of_one, placed_one}
 use Rattle.app_jobs.proofs.Faults.{unmade_file}
-use Rattle.app_jobs.proofs.packing.put_batch.Goals as goal
+use Rattle.app_texts.proofs.packing.put_batch.Goals as goal
 
 pub returns-clause-put : goal.returns-clause-put
 returns-clause-put g c known =

@@ -1,9 +1,9 @@
 ghost use Rattle.std.specs.Prelude.{◌≡◌, ◌≢◌, ◌⊎◌, ◌≤◌, ℕ, List, IfOk, IfErr, OnOk, IsTrue, length};
 ghost use Rattle.file_batch_laws.specs.BatchFault.{is_of_bytes};
 ghost use Rattle.file_devices.specs.Holding.{IsThere};
-ghost use Rattle.app_jobs.specs.Shown.{FailsAsShown, IsShowingFault, IsShown, frame_lines, reply_lines};
+ghost use Rattle.app_texts.specs.Shown.{FailsAsShown, IsShowingFault, IsShown, frame_lines, reply_lines};
 
-use crate::job_fault::JobFault;
+use app_jobs::JobFault;
 use file_batch::{BatchFault, read_batch, read_replies};
 use file_devices::{Files, read_file};
 use file_listing::{frame_line, reply_line};

@@ -1,0 +1,2 @@
+mod BytesFaults
+mod TextFaults
