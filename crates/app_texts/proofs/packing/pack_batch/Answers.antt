@@ -16,4 +16,4 @@ returns-clause-packed g c = record {
 pub returns-in_err-put_batch-clause-fault : goal.returns-in_err-put_batch-clause-fault
 returns-in_err-put_batch-clause-fault g c =
     let p = err_from_is_err_and c.from_residual-in_err-put_batch.result c.from_residual-in_err-put_batch.ensures.1 in
-    rw (p.1, p.2) (inr ((bytes_of c.in_ok-bodies.bodies.items, c.in_ok-bodies.ensures.bodies), c.in_err-put_batch.ensures.fault))
+    rw (p.1, p.2) (inr (bytes_of c.in_ok-bodies.bodies.items, c.in_ok-bodies.ensures.bodies, c.in_err-put_batch.ensures.fault))

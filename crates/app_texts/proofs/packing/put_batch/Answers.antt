@@ -1,23 +1,12 @@
-use Rattle.std.proofs.Common.{◌∙◌, ap, sym, Err}
-use Rattle.std.proofs.lemmas.Result.{err_from_is_err_and}
-use Rattle.file_devices.specs.declared.write_fault.WriteFault.{WriteFault}
-use Rattle.file_devices.proofs.Placing.{none_of_one, one_of_one, placed_one}
-use Rattle.app_jobs.proofs.Faults.{unmade_file}
+use Rattle.std.proofs.Common.{rules}
+use Rattle.std.proofs.lemmas.Result.{IfErr-weaker, on_ok_weaker}
+use Rattle.app_texts.proofs.PutFaults.{unput_is_unwritten}
 use Rattle.app_texts.proofs.packing.put_batch.Goals as goal
 
 pub returns-clause-put : goal.returns-clause-put
-returns-clause-put g c known =
+returns-clause-put g c = on_ok_weaker c.put_file.result (λ put known.
     let text = c.in_ok-output.ensures.written known in
-    let one = placed_one _ _ _ c.in_ok-batch.batch (rw c.in_ok-alone.ensures at (c.in_ok-put_in_place.ensures.placed known)) in
-    let held = rw (c.in_ok-batch.ensures.name, c.in_ok-batch.ensures.output) at one in
-    rw (← text.1) (held text.0)
+    rw (← text.1) (put known text.0)) c.put_file.ensures.put
 
-pub returns-clause-others : goal.returns-clause-others
-returns-clause-others g c other apart =
-    c.in_ok-put_in_place.ensures.others other (rw c.in_ok-alone.ensures (none_of_one other c.in_ok-batch.batch (λ same. apart (sym same ∙ c.in_ok-batch.ensures.name))))
-
-pub returns-in_err-put_in_place-clause-fault : goal.returns-in_err-put_in_place-clause-fault
-returns-in_err-put_in_place-clause-fault g c =
-    let p = err_from_is_err_and c.from_residual-in_err-put_in_place.result c.from_residual-in_err-put_in_place.ensures.1 in
-    rw (p.1, p.2) (unmade_file _ _ c.in_err-put_in_place.field-0.0 (λ is. rw c.in_ok-batch.ensures.name at
-    (one_of_one (g.F.Files.failing c.args.files.now).refused c.in_ok-batch.batch (rw c.in_ok-alone.ensures at (c.in_err-put_in_place.ensures.refused (ap (λ (e : WriteFault). Err e) is))))))
+pub returns-clause-fault : goal.returns-clause-fault
+returns-clause-fault g c = IfErr-weaker c.put_file.result _ _ (λ fault h. unput_is_unwritten _ _ fault h) c.put_file.ensures.fault

@@ -1,6 +1,6 @@
 use Rattle.std.proofs.Common.{◌≡◌, ◌+◌, ◌≤◌, ◌++◌, length}
 use Rattle.app_texts.specs.Shown.{frame_lines}
-use Rattle.app_texts.proofs.showing.lines_of_frames.Given as goal
+use Rattle.app_texts.proofs.lines.lines_of_frames.Given as goal
 
 -- the lines so far, and those of the rest
 abbrev pub invariant-loop-frame : goal.invariant-loop-frame

@@ -1,5 +1,5 @@
 use Rattle.app_texts.proofs.TextFaults.{text_fits}
-use Rattle.app_texts.proofs.packing.open_text.Goals as goal
+use Rattle.app_texts.proofs.opening.open_text.Goals as goal
 
 pub returns-clause-fit : goal.returns-clause-fit
 returns-clause-fit g c =
