@@ -1,5 +1,5 @@
 -- From the words' reader to what the words are read as.
-use Rattle.std.proofs.Common.{◌≡◌, ◌⊎◌, ◌≤◌, ◌&&◌, ℕ, List, [], Option, Some, None, codes, inl, inr, refl, sym, ◌∙◌, true, false, Bool, arith, nat_lt, string_bytes, option_map, option_and_then, Result, Ok, Err, if◌then◌else◌}
+use Rattle.std.proofs.Common.{◌≡◌, ◌⊎◌, ◌≤◌, ◌&&◌, ℕ, List, [], ◌∷◌, Option, Some, None, codes, inl, inr, refl, sym, ◌∙◌, true, false, Bool, arith, nat_lt, string_bytes, option_map, option_and_then, Result, Ok, Err, if◌then◌else◌}
 use Rattle.std.proofs.lemmas.Bool.Decides.{nat_tests}
 use Rattle.std.specs.Option.{SomeIff}
 use Rattle.clap.proofs.OnLiterals.{clap_on_literals}
@@ -7,18 +7,18 @@ use Rattle.clap.specs.Faults.{fault_of, is_simple_and_free}
 use Rattle.clap.specs.Kinds.{IsAmong}
 use Rattle.std.specs.Str.{bytes_eq}
 use Rattle.clap.specs.Simple.{is_simple, subcommand_of}
-use Rattle.clap.specs.Walk.{Row, Text, first_of}
+use Rattle.clap.specs.Walk.{Row, Text, all_of, first_of}
 use Rattle.clap.specs.declared.error.kind.ErrorKind.{ErrorKind}
 use Rattle.clap.specs.declared.error.kind.ErrorKind.TheVariants as kinds
 use Rattle.file_batch.specs.declared.strictness.Strictness.{Strictness}
 use Rattle.file_listing.specs.Bodies.{body_of}
 use Rattle.engine_workers.specs.declared.engine.Engine.{Engine}
 use Rattle.engine_workers.specs.declared.engine.Engine.TheVariants.{Locked, Split, Parts}
-use Rattle.app_arguments.specs.Asked.{Asked, Names, asked, asked_of, audit, audit_blocks, audit_blocks_in, audit_in, blocks, blocks_in, engine_for, engine_in, help, names_in, one, one_in, pack, pack_in, run, run_by, run_in, run_with_journal, serial, serial_in, show, show_in, strictness_in, version, workers_in}
+use Rattle.app_arguments.specs.Asked.{Asked, Names, asked, asked_of, audit, audit_blocks, audit_blocks_in, audit_in, blocks, blocks_in, engine_for, engine_in, help, names_in, one, one_in, but_last, last_of, pack, pack_as, pack_blocks, pack_by, pack_in, run, run_by, run_in, run_with_journal, serial, serial_in, show, show_in, strictness_in, version, workers_in}
 use Rattle.app_arguments.specs.CommandLine.{command_line}
 use Rattle.app_arguments.specs.Arguments.{IsRead, IsReadAs, IsReadOfKind, asked_in}
 use Rattle.app_arguments.specs.declared.command.Command.{Command}
-use Rattle.app_arguments.specs.declared.command.Command.TheVariants.{Help, Version, One, Serial, Run, RunWithJournal, Blocks, Audit, AuditBlocks, Show, Pack}
+use Rattle.app_arguments.specs.declared.command.Command.TheVariants.{Help, Version, One, Serial, Run, RunWithJournal, Blocks, Audit, AuditBlocks, Show, Pack, PackBlocks}
 use Rattle.app_arguments.specs.declared.line_fault.LineFault.{LineFault}
 use Rattle.app_arguments.specs.declared.line_fault.LineFault.TheVariants.{Usage, OutOfMemory}
 
@@ -46,7 +46,8 @@ read_of_kind words kind (Ok (Blocks names workers engine strictness)) among h = 
 read_of_kind words kind (Ok (Audit names journal)) among h = absurd h
 read_of_kind words kind (Ok (AuditBlocks names)) among h = absurd h
 read_of_kind words kind (Ok (Show file)) among h = absurd h
-read_of_kind words kind (Ok (Pack text batch)) among h = absurd h
+read_of_kind words kind (Ok (Pack texts batch)) among h = absurd h
+read_of_kind words kind (Ok (PackBlocks texts file)) among h = absurd h
 read_of_kind words kind (Err (Usage text)) (inl memory) h = absurd (h.2 memory)
 read_of_kind words kind (Err (Usage text)) (inr among) h = inl (kind, h.0, h.1, among)
 read_of_kind words kind (Err OutOfMemory) among h = tt
@@ -63,7 +64,8 @@ is_of_subcommand (blocks names workers engine strictness) = true
 is_of_subcommand (audit names journal) = true
 is_of_subcommand (audit_blocks names) = true
 is_of_subcommand (show file) = true
-is_of_subcommand (pack text batch) = true
+is_of_subcommand (pack texts batch) = true
+is_of_subcommand (pack_blocks texts file) = true
 
 of_one : {A : Type 0} (f : A → Asked) → ((a : A) → is_of_subcommand (f a) ≡ true) → (x : Option A) (what : Asked) → option_map f x ≡ Some what
     → is_of_subcommand what ≡ true
@@ -86,6 +88,20 @@ of_run names workers engine strictness None what h = let same : run names worker
 of_run names workers Locked strictness (Some journal) what h = let same : run_with_journal names workers journal strictness ≡ what = cc in rw (← same) refl
 of_run names workers Split strictness (Some journal) what h = cc
 of_run names workers Parts strictness (Some journal) what h = cc
+
+as_packed : (is_set : Bool) (texts : List Text) (file : Text) → is_of_subcommand (if is_set then pack_blocks texts file else pack texts file) ≡ true
+as_packed true texts file = refl
+as_packed false texts file = refl
+
+as_pack : (flag : Option Text) (texts : List Text) (file : Text) → is_of_subcommand (pack_as flag texts file) ≡ true
+as_pack None texts file = refl
+as_pack (Some flag) texts file = as_packed (bytes_eq flag (codes "true")) texts file
+
+of_pack : (flag : Option Text) (text : Text) (words : List Text) (what : Asked) → pack_by flag text words ≡ Some what → is_of_subcommand what ≡ true
+of_pack flag text [] what h = cc
+of_pack flag text (word ∷ words) what h =
+    let same : pack_as flag (text ∷ but_last word words) (last_of word words) ≡ what = cc in
+    rw (← same) (as_pack flag (text ∷ but_last word words) (last_of word words))
 
 of_subcommand : (a b c d e f g i : Bool) (rows : List Row) (what : Asked)
     → (if a then one_in rows
@@ -112,7 +128,9 @@ of_subcommand false false false false true f g i rows what h =
 of_subcommand false false false false false true g i rows what h = of_one audit_blocks (λ names. refl) (names_in (codes "FILE") rows) what h
 of_subcommand false false false false false false true i rows what h = of_one show (λ file. refl) (first_of (codes "FILE") rows) what h
 of_subcommand false false false false false false false true rows what h =
-    of_two pack (λ text batch. refl) (first_of (codes "TEXT") rows) (first_of (codes "BATCH") rows) what h
+    of_each (λ text. option_and_then (pack_by (first_of (codes "blocks") rows) text) (all_of (codes "BATCH") rows))
+    (λ text. of_each (pack_by (first_of (codes "blocks") rows) text) (of_pack (first_of (codes "blocks") rows) text) (all_of (codes "BATCH") rows))
+    (first_of (codes "TEXT") rows) what h
 of_subcommand false false false false false false false false rows what h = cc
 
 met_asks : (met : Option (Text × List Row)) (what : Asked) → option_and_then asked met ≡ Some what → is_of_subcommand what ≡ true
@@ -133,7 +151,8 @@ read_as words (Blocks names workers engine strictness) fault h = (fault, sym h)
 read_as words (Audit names journal) fault h = (fault, sym h)
 read_as words (AuditBlocks names) fault h = (fault, sym h)
 read_as words (Show file) fault h = (fault, sym h)
-read_as words (Pack text batch) fault h = (fault, sym h)
+read_as words (Pack texts batch) fault h = (fault, sym h)
+read_as words (PackBlocks texts file) fault h = (fault, sym h)
 
 -- what the words are read as where their subcommand is
 pub read_met : (words : List Text) (result : Result Command LineFault) → fault_of command_line words ≡ [] → IsReadAs (asked_in words) result → IsRead words result

@@ -1,4 +1,5 @@
 pub mod LineLemmas
+pub mod PackLemmas
 pub mod PlainLemmas
 pub mod ArgumentLemmas
 pub mod PlainSteps

@@ -1,20 +1,20 @@
 -- What words ask for, subcommand by subcommand.
-use Rattle.std.specs.Prelude.{◌&&◌, ℕ, List, Option, Some, None, codes, nat_lt, option_map, option_and_then, string_bytes, if◌then◌else◌}
+use Rattle.std.specs.Prelude.{◌&&◌, ℕ, List, [], ◌∷◌, Option, Some, None, codes, map, nat_lt, option_map, option_and_then, string_bytes, if◌then◌else◌}
 use Rattle.std.specs.Str.{bytes_eq}
-use Rattle.clap.specs.Walk.{Row, Text, byte_or_zero, first_of}
+use Rattle.clap.specs.Walk.{Row, Text, all_of, byte_or_zero, first_of}
 use Rattle.engine_workers.specs.declared.engine.Engine.{Engine}
 use Rattle.engine_workers.specs.declared.engine.Engine.TheVariants.{Locked, Split, Parts}
 use Rattle.file_batch.specs.declared.strictness.Strictness.{Strictness}
 use Rattle.file_batch.specs.declared.strictness.Strictness.TheVariants.{Lenient, Strict}
 use Rattle.file_listing.specs.Bodies.{body_of}
 use Rattle.app_arguments.specs.declared.command.Command.{Command}
-use Rattle.app_arguments.specs.declared.command.Command.TheVariants.{Help, Version, One, Serial, Run, RunWithJournal, Blocks, Audit, AuditBlocks, Show, Pack}
+use Rattle.app_arguments.specs.declared.command.Command.TheVariants.{Help, Version, One, Serial, Run, RunWithJournal, Blocks, Audit, AuditBlocks, Show, Pack, PackBlocks}
 use Rattle.app_arguments.specs.declared.asked.BatchArguments.{BatchArguments}
 pub use Rattle.file_devices.specs.BatchNames.{Names, names_of}
 
 -- help; the version; one body on the sample book; a batch, one message after another, or by so many workers of an engine, or with a
 -- journal; blocks by so many workers of an engine, each of these strictly or not; an audit of a batch, against a journal or without, or of blocks; what a file
--- holds; a batch of a text
+-- holds; a batch of texts, or blocks of texts
 pub data Asked : Type 0 where
   help : Text → Asked
   version : Asked
@@ -26,7 +26,8 @@ pub data Asked : Type 0 where
   audit : Names → Option Text → Asked
   audit_blocks : Names → Asked
   show : Text → Asked
-  pack : Text → Text → Asked
+  pack : List Text → Text → Asked
+  pack_blocks : List Text → Text → Asked
 
 -- a number of workers, 1 to 64
 abbrev pub worker_count : Text → Option ℕ
@@ -125,9 +126,30 @@ audit_blocks_in rows = option_map audit_blocks (names_in (codes "FILE") rows)
 abbrev pub show_in : List Row → Option Asked
 show_in rows = option_map show (first_of (codes "FILE") rows)
 
--- the text and the batch behind `pack`
+-- words from this one on: all but the last
+abbrev pub but_last : Text → List Text → List Text
+but_last word [] = []
+but_last word (next ∷ words) = word ∷ but_last next words
+
+-- the last of them
+abbrev pub last_of : Text → List Text → Text
+last_of word [] = word
+last_of word (next ∷ words) = last_of next words
+
+-- a batch of these texts, or blocks
+abbrev pub pack_as : Option Text → List Text → Text → Asked
+pack_as None texts file = pack texts file
+pack_as (Some flag) texts file = if bytes_eq flag (codes "true") then pack_blocks texts file else pack texts file
+
+-- this text and those of the words behind it, of which the last is the file that is made
+abbrev pub pack_by : Option Text → Text → List Text → Option Asked
+pack_by flag text [] = None
+pack_by flag text (word ∷ words) = Some (pack_as flag (text ∷ but_last word words) (last_of word words))
+
+-- the texts and the file behind `pack`, and whether `--blocks` is there
 abbrev pub pack_in : List Row → Option Asked
-pack_in rows = option_and_then (λ text. option_map (pack text) (first_of (codes "BATCH") rows)) (first_of (codes "TEXT") rows)
+pack_in rows =
+    option_and_then (λ text. option_and_then (pack_by (first_of (codes "blocks") rows) text) (all_of (codes "BATCH") rows)) (first_of (codes "TEXT") rows)
 
 -- what a subcommand of this name with these words asks for
 abbrev pub asked : Text × List Row → Option Asked
@@ -161,4 +183,5 @@ asked_of (Blocks names workers engine strictness) = blocks (names_of names) work
 asked_of (Audit names journal) = audit (names_of names) (option_map string_bytes journal)
 asked_of (AuditBlocks names) = audit_blocks (names_of names)
 asked_of (Show file) = show (string_bytes file)
-asked_of (Pack text batch) = pack (string_bytes text) (string_bytes batch)
+asked_of (Pack texts batch) = pack (map string_bytes texts.items) (string_bytes batch)
+asked_of (PackBlocks texts file) = pack_blocks (map string_bytes texts.items) (string_bytes file)

@@ -2,7 +2,7 @@
 use Rattle.std.specs.Prelude.{◌≡◌, true, false, Some, [], ◌∷◌, codes}
 use Rattle.clap.specs.Simple.{App, app_of, new_app, new_rule, on_top, with_rule, with_subcommand}
 use Rattle.clap.specs.Walk.{Rule, Text, rule_of}
-use Rattle.clap.specs.declared.builder.action.ArgAction.TheVariants.{SetTrue}
+use Rattle.clap.specs.declared.builder.action.ArgAction.TheVariants.{Append, SetTrue}
 use Rattle.clap.specs.declared.builder.arg.Arg.{Arg}
 use Rattle.clap.specs.declared.builder.command.Command.{Command}
 use Rattle.clap.specs.declared.builder.command.Command.TheViews.{out-Command}
@@ -10,6 +10,10 @@ use Rattle.clap.specs.declared.builder.command.Command.TheViews.{out-Command}
 -- an operand, which has to be there
 abbrev pub operand : Text → Rule
 operand id = record (new_rule id) { required = true }
+
+-- operands of this name, at least one
+abbrev pub operands : Text → Rule
+operands id = record (operand id) { action = Some Append }
 
 -- `--NAME VALUE`
 abbrev pub setting : Text → Rule
@@ -64,9 +68,10 @@ audit_blocks_line = files_line (codes "audit-blocks") (codes "FILE")
 abbrev pub show_line : App
 show_line = with_rule (new_app (codes "show")) (operand (codes "FILE"))
 
--- `pack TEXT BATCH`
+-- `pack TEXT.. BATCH [--blocks]`: all words behind the first text are operands of one name, since the last one alone may take several
 abbrev pub pack_line : App
-pack_line = with_rule (with_rule (new_app (codes "pack")) (operand (codes "TEXT"))) (operand (codes "BATCH"))
+pack_line =
+    with_rule (with_rule (with_rule (new_app (codes "pack")) (operand (codes "TEXT"))) (operands (codes "BATCH"))) (flag (codes "blocks"))
 
 -- the program's own line: it has a version, and one of the subcommands has to be there
 abbrev pub program_line : App

@@ -1,9 +1,9 @@
-ghost use Rattle.std.specs.Prelude.{◌≡◌, IfOk, codes, map, option_map, option_and_then, string_bytes};
+ghost use Rattle.std.specs.Prelude.{◌≡◌, ◌∷◌, IfOk, codes, map, option_map, option_and_then, string_bytes};
 ghost use Rattle.clap.specs.Matches.{found_of};
 ghost use Rattle.clap.specs.Simple.{subcommand_rows_of};
 ghost use Rattle.clap.specs.Values.{kind_of};
-ghost use Rattle.clap.specs.Walk.{first_of, rows_of};
-ghost use Rattle.app_arguments.specs.Asked.{asked, asked_of, audit_blocks_in, audit_in, blocks_in, engine_for, engine_in, names_in, names_of, names_of_arguments, one_in, pack_in, run_by, run_in, serial_in, show_in, strictness_in, workers_in};
+ghost use Rattle.clap.specs.Walk.{all_of, first_of, rows_of};
+ghost use Rattle.app_arguments.specs.Asked.{asked, asked_of, audit_blocks_in, audit_in, blocks_in, engine_for, engine_in, names_in, names_of, names_of_arguments, one_in, pack_as, pack_by, pack_in, run_by, run_in, serial_in, show_in, strictness_in, workers_in};
 ghost use Rattle.app_arguments.specs.Arguments.{IsRead, IsReadAs, IsReadOfKind};
 
 use crate::command::Command;
@@ -93,6 +93,13 @@ fn word<'a>(matches: &ArgMatches<'a>, id: &str) -> Option<&'a str>
     ensures { option_map (λ s. s.now) result ≡ first_of id.now (rows_of (found_of matches.now)) }
 {
     matches.get_str(id)
+}
+
+// The words of this name.
+fn words<'m, 'a>(matches: &'m ArgMatches<'a>, id: &str) -> Option<&'m [&'a str]>
+    ensures { option_map (λ words. map (λ word. word.now) words.now) result ≡ all_of id.now (rows_of (found_of matches.now)) }
+{
+    matches.get_raw(id)
 }
 
 // The body behind `one`.
@@ -221,20 +228,60 @@ fn show_of(alloc: Global, matches: &ArgMatches<'_>) -> Result<Option<Command>, A
     }
 }
 
-// The text and the batch behind `pack`.
+// The texts and the file behind `pack`, and whether `--blocks` is there.
 fn pack_of(alloc: Global, matches: &ArgMatches<'_>) -> Result<Option<Command>, AllocError>
     ensures { IfOk result (λ command. option_map asked_of command ≡ pack_in (rows_of (found_of matches.now))) }
 {
     let Some(text) = word(matches, "TEXT") else {
         return Ok(None);
     };
-    let Some(batch) = word(matches, "BATCH") else {
+    let Some(behind) = words(matches, "BATCH") else {
         return Ok(None);
     };
-    Ok(Some(Command::Pack {
-        text: String::from_str(alloc, text)?,
-        batch: String::from_str(alloc, batch)?,
-    }))
+    pack_by(alloc, word(matches, "blocks"), text, behind)
+}
+
+// The same of this text and the words behind it, of which the last is the file that is made.
+fn pack_by(
+    alloc: Global,
+    flag: Option<&str>,
+    text: &str,
+    behind: &[&str],
+) -> Result<Option<Command>, AllocError>
+    ensures { IfOk result (λ command. option_map asked_of command
+        ≡ pack_by (option_map (λ flag. flag.now) flag.entry) text.now (map (λ word. word.now) behind.now)) }
+{
+    let Some((file, words)) = behind.split_last() else {
+        return Ok(None);
+    };
+    let texts = texts_of(alloc, text, words)?;
+    let file = String::from_str(alloc, file)?;
+    Ok(Some(pack_as(flag, texts, file)))
+}
+
+// A word and those behind it.
+fn texts_of(alloc: Global, text: &str, words: &[&str]) -> Result<Vec<String>, AllocError>
+    ensures { IfOk result (λ texts. map string_bytes texts.items ≡ text.now ∷ map (λ word. word.now) words.now) }
+{
+    let mut texts = Vec::new(alloc);
+    texts.push(String::from_str(alloc, text)?)?;
+    for word in words {
+        texts.push(String::from_str(alloc, word)?)?;
+    }
+    Ok(texts)
+}
+
+// A batch of these texts or, by the flag, blocks.
+fn pack_as(flag: Option<&str>, texts: Vec<String>, file: String) -> Command
+    ensures { asked_of result ≡ pack_as (option_map (λ flag. flag.now) flag.entry) (map string_bytes texts.items) (string_bytes file) }
+{
+    match flag {
+        Some("true") => Command::PackBlocks {
+            texts,
+            blocks: file,
+        },
+        _ => Command::Pack { texts, batch: file },
+    }
 }
 
 // The engine behind `--engine`; where it isn't there, this one.

@@ -62,11 +62,18 @@ pub enum Command {
     AuditBlocks(BatchNames),
     /// Show what the file of this name holds.
     Show(String),
-    /// Make a batch of a text of bodies.
+    /// Make a batch of texts of bodies.
     Pack {
-        /// The name of the text's file.
-        text: String,
+        /// The names of the texts' files.
+        texts: Vec<String>,
         /// The name of the batch's file.
         batch: String,
+    },
+    /// Make blocks of texts of bodies, one of each.
+    PackBlocks {
+        /// The names of the texts' files.
+        texts: Vec<String>,
+        /// The name of the blocks' file.
+        blocks: String,
     },
 }

@@ -1,6 +1,6 @@
 ghost use Rattle.std.specs.Prelude.{◌≡◌, IfOk, codes};
 ghost use Rattle.clap.specs.Simple.{app_of, with_subcommand};
-ghost use Rattle.app_arguments.specs.CommandLine.{IsLine, IsWord, audit_blocks_line, audit_line, blocks_line, command_line, files_line, flag, one_line, operand, pack_line, program_line, run_line, serial_line, setting, setting_or, show_line, with_engine};
+ghost use Rattle.app_arguments.specs.CommandLine.{IsLine, IsWord, audit_blocks_line, audit_line, blocks_line, command_line, files_line, flag, one_line, operand, operands, pack_line, program_line, run_line, serial_line, setting, setting_or, show_line, with_engine};
 
 use clap::{Arg, ArgAction, Command};
 use std::alloc::{AllocError, Global};
@@ -166,24 +166,29 @@ fn show_line<'a>(alloc: Global) -> Result<Command<'a>, AllocError>
     ensures { IfOk result (IsLine show_line) }
 {
     let line = Command::new(alloc, "show").about(
-        "Prints a line for each message: its place, type, amount and trace number; or for each reply: its place, type, action, approval code and trace number",
+        "Prints a line for each message: its place, type, amount and trace number; or for each reply: its place, type, action, approval code and trace number; of blocks also a line with the number of each",
     );
-    line.arg(operand(alloc, "FILE", "A batch, or a file of replies"))
+    line.arg(operand(alloc, "FILE", "A batch, blocks, or their replies"))
 }
 
-// `pack TEXT BATCH`.
+// `pack TEXT.. BATCH [--blocks]`.
 fn pack_line<'a>(alloc: Global) -> Result<Command<'a>, AllocError>
     ensures { IfOk result (IsLine pack_line) }
 {
-    let line = Command::new(alloc, "pack").about(
-        "Makes a batch of bodies that are written in hexadecimal",
-    );
+    let line = Command::new(alloc, "pack")
+        .about("Makes a batch of bodies that are written in hexadecimal")
+        .override_usage("switch pack [--blocks] <TEXT>... <BATCH>");
     let text = line.arg(operand(
         alloc,
         "TEXT",
         "One body a line, in hexadecimal digits; empty lines and lines that begin with # are passed over",
     ))?;
-    text.arg(operand(alloc, "BATCH", "The file for the batch"))
+    let batch = text.arg(operands(
+        alloc,
+        "BATCH",
+        "Further texts, whose bodies stand behind those before; and last the file for the batch",
+    ))?;
+    batch.arg(blocks_flag(alloc))
 }
 
 // A subcommand with the operands of a batch.
@@ -260,6 +265,16 @@ fn strict_flag<'a>(alloc: Global) -> Arg<'a>
         .help("Refuses what has a body that is no message: status 1, and no file is written")
 }
 
+// `--blocks`.
+fn blocks_flag<'a>(alloc: Global) -> Arg<'a>
+    ensures { IsWord (flag (codes "blocks")) result }
+{
+    Arg::new(alloc, "blocks")
+        .long("blocks")
+        .action(ArgAction::SetTrue)
+        .help("Makes a file for `switch blocks`: a block of each TEXT, at most 1,000")
+}
+
 // `--journal FILE`.
 fn journal_setting<'a>(alloc: Global, help: &'a str) -> Arg<'a>
     ensures { IsWord (setting (codes "journal")) result }
@@ -282,4 +297,11 @@ fn operand<'a>(alloc: Global, id: &'a str, help: &'a str) -> Arg<'a>
     ensures { IsWord (operand id.now) result }
 {
     Arg::new(alloc, id).required(true).help(help)
+}
+
+// Operands of one name, at least one.
+fn operands<'a>(alloc: Global, id: &'a str, help: &'a str) -> Arg<'a>
+    ensures { IsWord (operands id.now) result }
+{
+    operand(alloc, id, help).action(ArgAction::Append)
 }

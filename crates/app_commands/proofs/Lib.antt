@@ -1,1 +1,2 @@
+mod ApartSteps
 pub mod DoneLemmas

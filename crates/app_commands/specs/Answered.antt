@@ -1,5 +1,5 @@
 -- What the program does for its words.
-use Rattle.std.specs.Prelude.{◌≡◌, ◌≢◌, ◌⊎◌, ℕ, Bool, true, false, List, [], ◌∷◌, ◌++◌, Option, Some, None, IfSome, codes, option_map, string_bytes}
+use Rattle.std.specs.Prelude.{◌≡◌, ◌≢◌, ◌⊎◌, ℕ, Bool, true, false, List, [], ◌∷◌, ◌++◌, length, Option, Some, None, IfSome, codes, option_map, string_bytes}
 use Rattle.std.specs.Global.{Vec}
 use Rattle.app_runs.specs.Answers.{IsAnswerInDigits}
 use Rattle.app_runs.specs.SampleBook.{sample_rows}
@@ -23,15 +23,15 @@ use Rattle.app_jobs.specs.Faults.{IsAuditingFault, IsDecidingFault}
 use Rattle.app_jobs.specs.JournalFaults.{IsJournalAuditingFault}
 use Rattle.app_jobs.specs.Journaled.{IsAuditedWithJournal}
 use Rattle.app_runs.specs.Journaled.{IsDecidedWithJournal, IsDecidingFaultWithJournal}
-use Rattle.app_jobs.specs.Packed.{IsPacked, IsPackingFault}
-use Rattle.app_jobs.specs.Shown.{IsShowingFault, IsShown}
+use Rattle.app_texts.specs.Packed.{ArePacked, ArePackedInBlocks, IsBlockPackingFault, IsPackingFault}
+use Rattle.app_texts.specs.Shown.{IsShowingFault, IsShown}
 use Rattle.app_jobs.specs.declared.job_fault.JobFault.{JobFault}
 use Rattle.app_jobs.specs.declared.job_fault.JobFault.TheVariants.{Batch, InUse}
 use Rattle.app_jobs.specs.declared.job_fault.JobFault.TheVariants as job
-use Rattle.app_arguments.specs.Asked.{Asked, Names, help, version, one, serial, run, run_with_journal, blocks, audit, audit_blocks, show, pack}
+use Rattle.app_arguments.specs.Asked.{Asked, Names, help, version, one, serial, run, run_with_journal, blocks, audit, audit_blocks, show, pack, pack_blocks}
 use Rattle.app_arguments.specs.Arguments.{Asks, IsUsageFault}
 use Rattle.app_commands.specs.Fault.{status_of, text_of}
-use Rattle.app_commands.specs.Printed.{Prints, PrintsLine, behind, decided, decided_in_blocks, numbered}
+use Rattle.app_commands.specs.Printed.{Prints, PrintsLine, behind, decided, decided_in_blocks, numbered, packed_in_blocks}
 use Rattle.app_commands.specs.declared.fault.Fault.{Fault}
 use Rattle.app_commands.specs.declared.fault.Fault.TheVariants.{Usage, OutOfMemory, Job, Halted}
 use Rattle.app_reasons.specs.Tells.{Tells}
@@ -49,6 +49,7 @@ text_of_report (report.Answer text) = string_bytes text ++ 10 ∷ []
 text_of_report (report.Decided count) = decided count ++ 10 ∷ []
 text_of_report (report.DecidedBlocks count) = decided_in_blocks count ++ 10 ∷ []
 text_of_report (report.Packed count) = numbered (codes "packed") count ++ 10 ∷ []
+text_of_report (report.PackedBlocks bodies blocks) = packed_in_blocks bodies blocks ++ 10 ∷ []
 text_of_report (report.Audited found text) = text.items ++ 10 ∷ []
 text_of_report (report.AuditedBlocks found text) = text.items ++ 10 ∷ []
 text_of_report (report.Lines text) = text.items
@@ -73,7 +74,7 @@ status_of_report told = 0
 
 -- The report is of what was asked for, and that is done. It is help, or the version; the answer to a body on the sample book; that a
 -- batch was decided, or blocks were, where the files hold what that comes to, and the journal of the run where one was asked for; what an
--- audit found, in words; the lines of a file; or that a text was packed.
+-- audit found, in words; the lines of a file; or that texts were packed, into a batch or into a block each.
 abbrev pub IsDoneAs : Type 0 → Holding → Holding → Asked → Report → Type 0
 IsDoneAs known old new (help text) (report.Help told) = string_bytes told ≡ text
 IsDoneAs known old new version report.Version = Unit {0}
@@ -93,7 +94,9 @@ IsDoneAs known old new (audit names (Some journal)) (report.Audited found text) 
 IsDoneAs known old new (audit_blocks names) (report.AuditedBlocks found text) =
     AreBlocksAudited known old names found × (text.items ≡ block_audit_text found)
 IsDoneAs known old new (show file) (report.Lines text) = (known → IsThere old file) × ((bytes : List ℕ) → old file bytes → IsShown bytes text.items)
-IsDoneAs known old new (pack text batch) (report.Packed count) = IsPacked known old new text batch count
+IsDoneAs known old new (pack texts batch) (report.Packed count) = ArePacked known old new texts batch count
+IsDoneAs known old new (pack_blocks texts file) (report.PackedBlocks bodies blocks) =
+    ArePackedInBlocks known old new texts file bodies × (blocks ≡ length texts)
 IsDoneAs known old new what told = ⊥
 
 -- Some first blocks are kept, so many, and the files hold what these come to; behind them this fault came. None are where they may be
@@ -109,7 +112,8 @@ Spares (serial names strictness) file = (file ≢ names.replies) × (file ≢ na
 Spares (run names workers engine strictness) file = (file ≢ names.replies) × (file ≢ names.new_book)
 Spares (run_with_journal names workers journal strictness) file = (file ≢ names.replies) × (file ≢ names.new_book) × (file ≢ journal)
 Spares (blocks names workers engine strictness) file = (file ≢ names.replies) × (file ≢ names.new_book)
-Spares (pack text batch) file = file ≢ batch
+Spares (pack texts batch) file = file ≢ batch
+Spares (pack_blocks texts made) file = file ≢ made
 Spares what file = Unit {0}
 
 -- Why what is asked for is not done, as the files were: the first fault of what they held, in the order of reading; a call that failed, on a
@@ -127,7 +131,8 @@ IsJobFault old devices (audit names None) fault = IsAuditingFault old devices na
 IsJobFault old devices (audit names (Some journal)) fault = IsJournalAuditingFault old devices names journal fault
 IsJobFault old devices (audit_blocks names) fault = IsBlockAuditingFault old devices names fault
 IsJobFault old devices (show file) fault = IsShowingFault old devices file fault
-IsJobFault old devices (pack text batch) fault = IsPackingFault old devices text batch fault
+IsJobFault old devices (pack texts batch) fault = IsPackingFault old devices texts batch fault
+IsJobFault old devices (pack_blocks texts file) fault = IsBlockPackingFault old devices texts file fault
 
 -- of the files that a batch's answer is put in, one is in use
 abbrev pub IsAnswerInUse : (List ℕ → Type 0) → Names → Type 0
@@ -145,7 +150,8 @@ IsOneInUse in_use (run_with_journal names workers journal strictness) = IsAnswer
 IsOneInUse in_use (blocks names workers engine strictness) = IsAnswerInUse in_use names
 IsOneInUse in_use (audit names journal) = IsAuditedInUse in_use names
 IsOneInUse in_use (audit_blocks names) = IsAuditedInUse in_use names
-IsOneInUse in_use (pack text batch) = in_use batch
+IsOneInUse in_use (pack texts batch) = in_use batch
+IsOneInUse in_use (pack_blocks texts file) = in_use file
 IsOneInUse in_use what = ⊥
 
 -- why files are not claimed: another run has claimed one, or memory ran out

@@ -2,7 +2,7 @@
 use Rattle.std.specs.Prelude.{◌≡◌, ◌≢◌, ◌⊎◌, ⊤, ℕ, List, [], ◌∷◌, ◌++◌}
 use Rattle.app_commands.specs.declared.fault.Fault.{Fault}
 use Rattle.app_commands.specs.declared.fault.Fault.TheVariants.{Usage, OutOfMemory}
-use Rattle.app_arguments.specs.Asked.{Asked, Names, blocks, pack, run, run_with_journal, serial}
+use Rattle.app_arguments.specs.Asked.{Asked, Names, blocks, pack, pack_blocks, run, run_with_journal, serial}
 
 -- the pairs of names of a batch that have to be of two files: of what is written, and of what is written and what is read, but that the
 -- new book may take the place of the book
@@ -13,13 +13,19 @@ batch_apart names = (names.replies, names.new_book) ∷ (names.replies, names.bo
 abbrev pub journal_apart : Names → List ℕ → List (List ℕ × List ℕ)
 journal_apart names journal = (journal, names.replies) ∷ (journal, names.new_book) ∷ (journal, names.book) ∷ (journal, names.batch) ∷ []
 
+-- those of a file that is made of texts: it is none of them
+abbrev pub made_apart : List ℕ → List (List ℕ) → List (List ℕ × List ℕ)
+made_apart made [] = []
+made_apart made (text ∷ texts) = (made, text) ∷ made_apart made texts
+
 -- the pairs of names that have to be of two files, for what is asked for
 abbrev pub names_apart : Asked → List (List ℕ × List ℕ)
 names_apart (serial names strictness) = batch_apart names
 names_apart (run names workers engine strictness) = batch_apart names
 names_apart (run_with_journal names workers journal strictness) = journal_apart names journal ++ batch_apart names
 names_apart (blocks names workers engine strictness) = batch_apart names
-names_apart (pack text batch) = (batch, text) ∷ []
+names_apart (pack texts batch) = made_apart batch texts
+names_apart (pack_blocks texts file) = made_apart file texts
 names_apart what = []
 
 -- of each pair the names differ

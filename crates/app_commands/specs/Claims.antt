@@ -1,6 +1,6 @@
 -- Which files a command claims.
 use Rattle.std.specs.Prelude.{List, [], ◌∷◌}
-use Rattle.app_arguments.specs.Asked.{Asked, Names, help, version, one, serial, run, run_with_journal, blocks, audit, audit_blocks, show, pack}
+use Rattle.app_arguments.specs.Asked.{Asked, Names, help, version, one, serial, run, run_with_journal, blocks, audit, audit_blocks, show, pack, pack_blocks}
 use Rattle.file_devices.specs.Claims.{Claimed, alone, to_read}
 
 -- what is answered: the files of replies and of the new book, which no other run may write
@@ -19,5 +19,6 @@ claims_for (blocks names workers engine strictness) = answer_claims names
 claims_for (run_with_journal names workers journal strictness) = alone names.replies ∷ alone names.new_book ∷ alone journal ∷ []
 claims_for (audit names journal) = audit_claims names
 claims_for (audit_blocks names) = audit_claims names
-claims_for (pack text batch) = alone batch ∷ []
+claims_for (pack texts batch) = alone batch ∷ []
+claims_for (pack_blocks texts file) = alone file ∷ []
 claims_for what = []

@@ -25,6 +25,10 @@ abbrev pub behind : Option (List ℕ) → List ℕ
 behind None = []
 behind (Some line) = 10 ∷ line
 
+-- that so many bodies were packed in so many blocks
+abbrev pub packed_in_blocks : ℕ → ℕ → List ℕ
+packed_in_blocks bodies blocks = numbered (codes "packed") bodies ++ codes " in " ++ decimal blocks ++ codes " blocks"
+
 -- that so many bodies are no message
 abbrev pub count_unreadable : ℕ → List ℕ
 count_unreadable count = codes ", " ++ decimal count ++ codes " unreadable"

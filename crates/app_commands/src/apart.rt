@@ -1,6 +1,6 @@
-ghost use Rattle.std.specs.Prelude.{◌≡◌, ◌≢◌, IfErr, OnOk, string_bytes};
+ghost use Rattle.std.specs.Prelude.{◌≡◌, ◌≢◌, IfErr, OnOk, map, string_bytes};
 ghost use Rattle.app_arguments.specs.Asked.{asked_of, names_of};
-ghost use Rattle.app_commands.specs.Apart.{AreApart, IsApartFault, IsPairFault, batch_apart, journal_apart, names_apart};
+ghost use Rattle.app_commands.specs.Apart.{AreApart, IsApartFault, IsPairFault, batch_apart, journal_apart, made_apart, names_apart};
 
 use crate::fault::Fault;
 use app_arguments::Command;
@@ -24,9 +24,11 @@ pub(crate) fn check_names<F: Files>(
             check_journal(alloc, files, names, journal.as_str())?;
             check_batch(alloc, files, names)
         }
-        Command::Pack { text, batch } => {
-            let batch = Named::new("BATCH", batch.as_str());
-            check_pair(alloc, files, &batch, &Named::new("TEXT", text.as_str()))
+        Command::Pack { texts, batch } => {
+            check_made(alloc, files, &Named::new("BATCH", batch.as_str()), texts)
+        }
+        Command::PackBlocks { texts, blocks } => {
+            check_made(alloc, files, &Named::new("BATCH", blocks.as_str()), texts)
         }
         _ => Ok(()),
     }
@@ -97,6 +99,25 @@ fn check_journal<F: Files>(
         &journal,
         &Named::new("the batch", names.batch.as_str()),
     )
+}
+
+// Checks that the file that is made of texts is none of them.
+#[tactic(auto, using(crate::proofs::ApartSteps::one_more_apart, crate::proofs::ApartSteps::behind_fault, crate::proofs::ApartSteps::first_fault))]
+fn check_made<F: Files>(
+    alloc: Global,
+    files: &F,
+    made: &Named<'_>,
+    texts: &[String],
+) -> Result<(), Fault>
+    ensures apart { OnOk result (F.is_known files.now → AreApart (made_apart made.now.name.now (map string_bytes texts.now))) }
+    ensures fault { IfErr result (IsApartFault (F.is_known files.now) (made_apart made.now.name.now (map string_bytes texts.now))) }
+{
+    let mut rest = texts;
+    while let Some((text, more)) = rest.split_first() {
+        check_pair(alloc, files, made, &Named::new("TEXT", text.as_str()))?;
+        rest = more;
+    }
+    Ok(())
 }
 
 // Checks that two names are of two files.

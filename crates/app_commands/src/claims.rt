@@ -1,8 +1,8 @@
-ghost use Rattle.std.specs.Prelude.{◌≡◌, IfOk, IfErr};
+ghost use Rattle.std.specs.Prelude.{◌≡◌, [], ◌∷◌, IfOk, IfErr};
 ghost use Rattle.app_arguments.specs.Asked.{asked_of, names_of};
 ghost use Rattle.app_commands.specs.Answered.{IsAnswerInUse, IsAuditedInUse, IsClaimFault, IsOneInUse};
 ghost use Rattle.app_commands.specs.Claims.{answer_claims, audit_claims, claims_for};
-ghost use Rattle.file_devices.specs.Claims.{AreOn};
+ghost use Rattle.file_devices.specs.Claims.{AreOn, alone};
 
 use crate::fault::Fault;
 use app_arguments::Command;
@@ -32,11 +32,8 @@ pub(crate) fn claim_files<F: Files>(
         Command::Audit { names, .. } | Command::AuditBlocks(names) => {
             claim_audited(alloc, files, names)
         }
-        Command::Pack { batch, .. } => {
-            let mut claims = Vec::new(alloc);
-            claims.push(claim(files, batch.as_str())?)?;
-            Ok(claims)
-        }
+        Command::Pack { batch, .. } => claim_made(alloc, files, batch.as_str()),
+        Command::PackBlocks { blocks, .. } => claim_made(alloc, files, blocks.as_str()),
         _ => Ok(Vec::new(alloc)),
     }
 }
@@ -69,6 +66,16 @@ fn claim_audited<F: Files>(
     claims.push(claim_to_read(files, names.book.as_str())?)?;
     claims.push(claim_to_read(files, names.replies.as_str())?)?;
     claims.push(claim_to_read(files, names.new_book.as_str())?)?;
+    Ok(claims)
+}
+
+// Claims the file that is made of texts, to write it.
+fn claim_made<F: Files>(alloc: Global, files: &F, name: &str) -> Result<Vec<F::Claim>, Fault>
+    ensures claimed { IfOk result (λ claims. AreOn F.is_alone_on F.is_to_read (alone name.now ∷ []) claims.items) }
+    ensures in_use { IfErr result (IsClaimFault ((F.failing files.now).in_use name.now)) }
+{
+    let mut claims = Vec::new(alloc);
+    claims.push(claim(files, name)?)?;
     Ok(claims)
 }
 

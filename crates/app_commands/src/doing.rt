@@ -1,5 +1,5 @@
-ghost use Rattle.std.specs.Prelude.{◌≡◌, IfSome, MatchResult, OnOk, ℕ, List, None, Some, option_map, string_bytes};
-ghost use Rattle.app_arguments.specs.Asked.{asked_of, audit, audit_blocks, blocks, names_of, one, pack, run, run_with_journal, serial, show};
+ghost use Rattle.std.specs.Prelude.{◌≡◌, IfSome, MatchResult, OnOk, ℕ, List, None, Some, map, option_map, string_bytes};
+ghost use Rattle.app_arguments.specs.Asked.{asked_of, audit, audit_blocks, blocks, names_of, one, pack, pack_blocks, run, run_with_journal, serial, show};
 ghost use Rattle.file_devices.specs.Holding.{IsAsItWas};
 ghost use Rattle.app_commands.specs.Apart.{AreApart, names_apart};
 ghost use Rattle.app_commands.specs.Claims.{claims_for};
@@ -13,11 +13,10 @@ use crate::refusal::Refusal;
 use crate::report::Report;
 use app_arguments::Command;
 use app_audit::{audit_text, block_audit_text};
-use app_jobs::{
-    audit_batch, audit_batch_with_journal, audit_block_files, pack_batch, serial_batch, show_file,
-};
+use app_jobs::{audit_batch, audit_batch_with_journal, audit_block_files, serial_batch};
 use app_reasons::words_of;
 use app_runs::{decide_one, run_batch, run_batch_with_journal, run_blocks};
+use app_texts::{pack_batch, pack_blocks, show_file};
 use engine_workers::{Engine, Workers};
 use file_batch::Strictness;
 use file_devices::{BatchNames, Files};
@@ -114,7 +113,10 @@ fn act_on<R: Clock + Threads + Wait + Sync, F: Files>(
         },
         Command::AuditBlocks(names) => audited_blocks(rt, alloc, files, names),
         Command::Show(file) => show(alloc, files, file.as_str()),
-        Command::Pack { text, batch } => pack(alloc, files, text.as_str(), batch.as_str()),
+        Command::Pack { texts, batch } => packed(alloc, files, texts, batch.as_str()),
+        Command::PackBlocks { texts, blocks } => {
+            packed_in_blocks(alloc, files, texts, blocks.as_str())
+        }
     }
 }
 
@@ -252,13 +254,37 @@ fn show<F: Files>(alloc: Global, files: &F, file: &str) -> Result<Report, Fault>
     Ok(Report::Lines(text))
 }
 
-// A text is packed.
-fn pack<F: Files>(alloc: Global, files: &mut F, text: &str, batch: &str) -> Result<Report, Fault>
+// Texts are packed into a batch.
+fn packed<F: Files>(
+    alloc: Global,
+    files: &mut F,
+    texts: &[String],
+    batch: &str,
+) -> Result<Report, Fault>
     ensures done { MatchResult result
-        (IsDoneAs (F.is_known files.old) (F.holds files.old) (F.holds files.new) (pack text.now batch.now))
-        (IsFaultIn (F.is_known files.old) (F.holds files.old) (F.holds files.new) (F.failing files.old) (pack text.now batch.now)) }
-    ensures others { (other : List ℕ) → Spares (pack text.now batch.now) other → IsAsItWas (F.holds files.old) (F.holds files.new) other }
+        (IsDoneAs (F.is_known files.old) (F.holds files.old) (F.holds files.new) (pack (map string_bytes texts.now) batch.now))
+        (IsFaultIn (F.is_known files.old) (F.holds files.old) (F.holds files.new) (F.failing files.old) (pack (map string_bytes texts.now) batch.now)) }
+    ensures others { (other : List ℕ) → Spares (pack (map string_bytes texts.now) batch.now) other → IsAsItWas (F.holds files.old) (F.holds files.new) other }
 {
-    let count = pack_batch(alloc, files, text, batch)?;
+    let count = pack_batch(alloc, files, texts, batch)?;
     Ok(Report::Packed(count))
+}
+
+// Texts are packed into a block each.
+fn packed_in_blocks<F: Files>(
+    alloc: Global,
+    files: &mut F,
+    texts: &[String],
+    name: &str,
+) -> Result<Report, Fault>
+    ensures done { MatchResult result
+        (IsDoneAs (F.is_known files.old) (F.holds files.old) (F.holds files.new) (pack_blocks (map string_bytes texts.now) name.now))
+        (IsFaultIn (F.is_known files.old) (F.holds files.old) (F.holds files.new) (F.failing files.old) (pack_blocks (map string_bytes texts.now) name.now)) }
+    ensures others { (other : List ℕ) → Spares (pack_blocks (map string_bytes texts.now) name.now) other → IsAsItWas (F.holds files.old) (F.holds files.new) other }
+{
+    let bodies = pack_blocks(alloc, files, texts, name)?;
+    Ok(Report::PackedBlocks {
+        bodies,
+        blocks: texts.len(),
+    })
 }

@@ -1,7 +1,7 @@
 ghost use Rattle.std.specs.Prelude.{◌≡◌, ◌++◌, ◌∷◌, codes, [], None, OnOk, decimal, option_map, if◌then◌else◌};
 ghost use Rattle.std.specs.Io.KnownBytes.{Appends};
 ghost use Rattle.app_commands.specs.Fault.{text_of};
-ghost use Rattle.app_commands.specs.Printed.{behind, count_unreadable, decided, decided_in_blocks, numbered, printed, unreadable, Prints, PrintsLine};
+ghost use Rattle.app_commands.specs.Printed.{behind, count_unreadable, decided, decided_in_blocks, numbered, packed_in_blocks, printed, unreadable, Prints, PrintsLine};
 
 use crate::fault::Fault;
 use app_jobs::BlockCount;
@@ -83,6 +83,15 @@ impl<W: Write> Printer<W> {
         }
     }
 
+    /// Prints the line `packed N in M blocks`, for so many bodies in so many blocks.
+    pub fn packed_in_blocks(&mut self, bodies: u64, blocks: u64)
+        ensures { PrintsLine (printed W.contents self.old) (printed W.contents self.new) (packed_in_blocks bodies blocks) }
+    {
+        if !self.is_stuck {
+            self.is_stuck = write_packed_in_blocks(&mut self.writer, bodies, blocks).is_err();
+        }
+    }
+
     /// Whether the writer didn't take all that was printed.
     pub fn is_stuck(&self) -> bool
         ensures { result ≡ self.now.is_stuck }
@@ -159,6 +168,17 @@ fn write_decided_in_blocks<W: Write>(writer: &mut W, count: BlockCount) -> io::R
     write_number(writer, u64::from(count.blocks))?;
     writer.write_all(b" blocks")?;
     write_unreadable(writer, count.messages.unreadable)?;
+    end_line(writer)
+}
+
+fn write_packed_in_blocks<W: Write>(writer: &mut W, bodies: u64, blocks: u64) -> io::Result<()>
+    ensures { OnOk result (Appends (W.contents writer.old) (W.contents writer.new) (packed_in_blocks bodies blocks ++ 10 ∷ [])) }
+{
+    writer.write_all(b"packed ")?;
+    write_number(writer, bodies)?;
+    writer.write_all(b" in ")?;
+    write_number(writer, blocks)?;
+    writer.write_all(b" blocks")?;
     end_line(writer)
 }
 

@@ -89,6 +89,9 @@ fn print_report<W: Write>(report: &Report, out: &mut Printer<W>)
         Report::Decided(count) => out.decided(*count),
         Report::DecidedBlocks(count) => out.decided_in_blocks(*count),
         Report::Packed(count) => out.numbered("packed", *count as u64),
+        Report::PackedBlocks { bodies, blocks } => {
+            out.packed_in_blocks(*bodies as u64, *blocks as u64);
+        }
         Report::Audited(_, text) | Report::AuditedBlocks(_, text) => out.line(text),
         Report::Lines(text) => out.text(text),
     }

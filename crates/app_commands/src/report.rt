@@ -15,8 +15,15 @@ pub enum Report {
     Decided(BodyCount),
     /// So many blocks were decided.
     DecidedBlocks(BlockCount),
-    /// So many bodies were packed.
+    /// So many bodies were packed into a batch.
     Packed(usize),
+    /// Bodies were packed into blocks.
+    PackedBlocks {
+        /// How many bodies there are in all.
+        bodies: usize,
+        /// How many blocks there are.
+        blocks: usize,
+    },
     /// The audit found this, in these words.
     Audited(Audit, Vec<u8>),
     /// The audit of blocks found this, in these words.

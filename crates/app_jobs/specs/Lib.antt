@@ -8,5 +8,3 @@ pub mod Faults
 pub mod JobFault
 pub mod JournalFaults
 pub mod Journaled
-pub mod Packed
-pub mod Shown

@@ -25,8 +25,8 @@ pub(crate) fn put_answer<F: Files>(
     Ok(files.put_in_place(answer)?)
 }
 
-/// One file that was written.
-pub(crate) fn alone<O: Drop>(alloc: Global, file: Written<O>) -> Result<Vec<Written<O>>, AllocError>
+/// A list of one file that was written, to be put in place alone.
+pub fn alone<O: Drop>(alloc: Global, file: Written<O>) -> Result<Vec<Written<O>>, AllocError>
     ensures { IfOk result (λ files. files.items ≡ file ∷ []) }
 {
     let mut files = Vec::new(alloc);

@@ -4,7 +4,7 @@ use Rattle.clap.specs.Faults.{fault_of}
 use Rattle.clap.specs.Kinds.{IsAmong, Kinds}
 use Rattle.clap.specs.declared.error.kind.ErrorKind.{ErrorKind}
 use Rattle.clap.specs.declared.error.kind.ErrorKind.TheVariants as kinds
-use Rattle.app_arguments.specs.Asked.{Asked, Names, audit, audit_blocks, blocks, help, one, pack, run, run_with_journal, serial, show, version}
+use Rattle.app_arguments.specs.Asked.{Asked, Names, audit, audit_blocks, blocks, help, one, pack, pack_blocks, run, run_with_journal, serial, show, version}
 use Rattle.app_arguments.specs.Arguments.{Asks, asked_in}
 use Rattle.app_arguments.specs.CommandLine.{command_line}
 use Rattle.app_audit.specs.Texts.{audit_text, block_audit_text}
@@ -76,7 +76,8 @@ asked_alone words what (blocks names workers engine strictness) by h = one_asked
 asked_alone words what (audit names journal) by h = one_asked (asked_in words) what (audit names journal) by.asked h.1
 asked_alone words what (audit_blocks names) by h = one_asked (asked_in words) what (audit_blocks names) by.asked h.1
 asked_alone words what (show file) by h = one_asked (asked_in words) what (show file) by.asked h.1
-asked_alone words what (pack text batch) by h = one_asked (asked_in words) what (pack text batch) by.asked h.1
+asked_alone words what (pack texts batch) by h = one_asked (asked_in words) what (pack texts batch) by.asked h.1
+asked_alone words what (pack_blocks texts file) by h = one_asked (asked_in words) what (pack_blocks texts file) by.asked h.1
 
 -- ---- status 0
 

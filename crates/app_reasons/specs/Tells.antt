@@ -1,5 +1,5 @@
 -- What is told behind a fault: of one of the files of what is asked for, and so of what that file holds.
-use Rattle.std.specs.Prelude.{◌≡◌, ◌≢◌, ◌⊎◌, ⊤, ℕ, List, Option, Some, None}
+use Rattle.std.specs.Prelude.{◌≡◌, ◌≢◌, ◌⊎◌, ⊤, ℕ, List, [], ◌∷◌, Option, Some, None}
 use Rattle.file_batch_laws.specs.BatchFault.{number_of_fault}
 use Rattle.file_batch_laws.specs.declared.batch_fault.BatchFault.{BatchFault}
 use Rattle.file_batch_laws.specs.declared.batch_fault.BatchFault.TheVariants.{Count, Device, OutOfMemory}
@@ -12,7 +12,7 @@ use Rattle.file_devices.specs.Holding.{Holding}
 use Rattle.file_devices.specs.declared.host_reason.HostReason.TheVariants.{Failed}
 use Rattle.stm_journal_text.specs.declared.replay_fault.ReplayFault.{ReplayFault}
 use Rattle.stm_journal_text.specs.declared.replay_fault.ReplayFault.TheVariants as replay
-use Rattle.app_arguments.specs.Asked.{Asked, serial, run, run_with_journal, blocks, audit, audit_blocks, show, pack}
+use Rattle.app_arguments.specs.Asked.{Asked, serial, run, run_with_journal, blocks, audit, audit_blocks, show, pack, pack_blocks}
 use Rattle.app_jobs.specs.declared.job_fault.JobFault.{JobFault}
 use Rattle.app_jobs.specs.declared.job_fault.JobFault.TheVariants as job
 use Rattle.app_reasons.specs.Says.{Says, SaysUnread}
@@ -32,6 +32,17 @@ IsInput names name = (name ≡ names.book) ⊎ (name ≡ names.batch)
 abbrev pub IsAnswer : Names → List ℕ → Type 0
 IsAnswer names name = (name ≡ names.replies) ⊎ (name ≡ names.new_book)
 
+-- the name is one of these
+abbrev pub IsOneOf : List (List ℕ) → List ℕ → Type 0
+IsOneOf [] name = ⊥
+IsOneOf (first ∷ names) name = (name ≡ first) ⊎ IsOneOf names name
+
+-- the texts that are packed
+abbrev pub texts_for : Asked → List (List ℕ)
+texts_for (pack texts batch) = texts
+texts_for (pack_blocks texts file) = texts
+texts_for _ = []
+
 -- the file of this name is read for what is asked for
 abbrev pub IsReadFor : Asked → List ℕ → Type 0
 IsReadFor (serial names strictness) name = IsInput names name
@@ -41,7 +52,8 @@ IsReadFor (blocks names workers engine strictness) name = IsInput names name
 IsReadFor (audit names journal) name = (IsInput names name ⊎ IsAnswer names name) ⊎ (journal ≡ Some name)
 IsReadFor (audit_blocks names) name = IsInput names name ⊎ IsAnswer names name
 IsReadFor (show file) name = name ≡ file
-IsReadFor (pack text batch) name = name ≡ text
+IsReadFor (pack texts batch) name = IsOneOf texts name
+IsReadFor (pack_blocks texts file) name = IsOneOf texts name
 IsReadFor _ name = ⊥
 
 -- the file of this name is written
@@ -50,7 +62,8 @@ IsWrittenFor (serial names strictness) name = IsAnswer names name
 IsWrittenFor (run names workers engine strictness) name = IsAnswer names name
 IsWrittenFor (run_with_journal names workers journal strictness) name = IsAnswer names name ⊎ (name ≡ journal)
 IsWrittenFor (blocks names workers engine strictness) name = IsAnswer names name
-IsWrittenFor (pack text batch) name = name ≡ batch
+IsWrittenFor (pack texts batch) name = name ≡ batch
+IsWrittenFor (pack_blocks texts file) name = name ≡ file
 IsWrittenFor _ name = ⊥
 
 -- the file of this name is read as a book: the one that is decided on or, in an audit, the one after it
@@ -73,8 +86,7 @@ IsFileFor (audit names journal) name kind.Batch = name ≡ names.batch
 IsFileFor (audit names journal) name kind.Replies = name ≡ names.replies
 IsFileFor (audit_blocks names) name kind.Blocks = name ≡ names.batch
 IsFileFor (audit_blocks names) name kind.BlockReplies = name ≡ names.replies
-IsFileFor (show file) name kind.Batch = name ≡ file
-IsFileFor (show file) name kind.Replies = name ≡ file
+IsFileFor (show file) name _ = name ≡ file
 IsFileFor _ name _ = ⊥
 
 -- the file of this name is played as a journal
@@ -82,10 +94,9 @@ abbrev pub IsJournalFor : Asked → List ℕ → Type 0
 IsJournalFor (audit names journal) name = journal ≡ Some name
 IsJournalFor _ name = ⊥
 
--- the file of this name is the text that is packed
+-- the file of this name is a text that is packed
 abbrev pub IsTextFor : Asked → List ℕ → Type 0
-IsTextFor (pack text batch) name = name ≡ text
-IsTextFor _ name = ⊥
+IsTextFor what name = IsOneOf (texts_for what) name
 
 -- ---- what is told of them
 
@@ -128,7 +139,7 @@ abbrev pub IsOfLine : ℕ → Reason → Type 0
 IsOfLine line (TextLine number why) = number ≡ line
 IsOfLine line _ = ⊥
 
--- What is told of a fault of files of bodies: of a device, that it failed; that a text has too many bodies; or where the first fault of
+-- What is told of a fault of files of bodies: of a device, that it failed; that with a text there are too many bodies; or where the first fault of
 -- the file stands.
 abbrev pub TellsOfBodies : Holding → Asked → BatchFault → List ℕ → Reason → Type 0
 TellsOfBodies holds what fault name reason =

@@ -1,8 +1,8 @@
 //! The files of a command, each at its place in the order in which it is read, claimed or made.
 
-ghost use Rattle.std.specs.Prelude.{IfSome};
+ghost use Rattle.std.specs.Prelude.{◌≡◌, IfSome, length, map, string_bytes};
 ghost use Rattle.app_arguments.specs.Asked.{asked_of, names_of};
-ghost use Rattle.app_reasons.specs.Tells.{IsAnswer, IsBookFor, IsFileFor, IsInput, IsReadFor, IsWrittenFor};
+ghost use Rattle.app_reasons.specs.Tells.{IsAnswer, IsBookFor, IsFileFor, IsInput, IsOneOf, IsReadFor, IsTextFor, IsWrittenFor, texts_for};
 
 use crate::file_kind::FileKind;
 use app_arguments::Command;
@@ -30,7 +30,7 @@ fn nth_answer(names: &BatchNames, index: u8) -> Option<&str>
     }
 }
 
-/// The file that is read at this place, from 0 to 4.
+/// The file that is read at this place, from 0 to 4; of texts that are packed none.
 pub(crate) fn nth_read(command: &Command, index: u8) -> Option<&str>
     ensures { IfSome result (λ name. IsReadFor (asked_of command.now) name.now) }
 {
@@ -53,8 +53,40 @@ pub(crate) fn nth_read(command: &Command, index: u8) -> Option<&str>
             _ => None,
         },
         Command::Show(file) => Some(file.as_str()),
-        Command::Pack { text, .. } => Some(text.as_str()),
         _ => None,
+    }
+}
+
+/// How many texts are packed.
+pub(crate) fn text_count(command: &Command) -> usize
+    ensures { result ≡ length (texts_for (asked_of command.now)) }
+{
+    match command {
+        Command::Pack { texts, .. } | Command::PackBlocks { texts, .. } => texts.len(),
+        _ => 0,
+    }
+}
+
+/// The text that is packed at this place, from 0.
+pub(crate) fn nth_text(command: &Command, index: usize) -> Option<&str>
+    ensures text { IfSome result (λ name. IsTextFor (asked_of command.now) name.now) }
+    ensures read { IfSome result (λ name. IsReadFor (asked_of command.now) name.now) }
+{
+    match command {
+        Command::Pack { texts, .. } | Command::PackBlocks { texts, .. } => nth_name(texts, index),
+        _ => None,
+    }
+}
+
+// The name at this place.
+#[tactic(auto, using(crate::proofs::Named::named_at))]
+fn nth_name(names: &[String], index: usize) -> Option<&str>
+    ensures { IfSome result (λ name. IsOneOf (map string_bytes names.now) name.now) }
+{
+    if index < names.len() {
+        Some(names[index].as_str())
+    } else {
+        None
     }
 }
 
@@ -71,6 +103,7 @@ pub(crate) fn nth_written(command: &Command, index: u8) -> Option<&str>
             _ => Some(journal.as_str()),
         },
         Command::Pack { batch, .. } => Some(batch.as_str()),
+        Command::PackBlocks { blocks, .. } => Some(blocks.as_str()),
         _ => None,
     }
 }

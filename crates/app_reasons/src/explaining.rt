@@ -7,10 +7,12 @@ ghost use Rattle.app_arguments.specs.Asked.{asked_of, show};
 ghost use Rattle.app_reasons.specs.Tells.{IsJournalFor, Tells, TellsOfBodies, reason_of_journal};
 ghost use Rattle.app_jobs.specs.declared.job_fault.JobFault.TheVariants as job;
 
-use crate::command_files::{nth_audited, nth_book, nth_file, nth_read, nth_written};
+use crate::command_files::{
+    nth_audited, nth_book, nth_file, nth_read, nth_text, nth_written, text_count,
+};
 use crate::file_kind::FileKind;
 use crate::file_reasons::{
-    book_reason, file_reason, shown_kind, text_reason, unread_reason, unreadable_reason,
+    body_count, book_reason, file_reason, shown_kind, text_reason, unread_reason, unreadable_reason,
 };
 use crate::one_line::in_one_line;
 use crate::reason::Reason;
@@ -58,7 +60,12 @@ pub fn told_of<'a, F: Files>(
     ensures { IfSome result (λ told. Tells (F.holds files.now) (asked_of command.now) fault.now told.name.now told.reason) }
 {
     match fault {
-        JobFault::Unreadable => told_unread(alloc, files, command),
+        JobFault::Unreadable => match command {
+            Command::Pack { .. } | Command::PackBlocks { .. } => {
+                told_unread_text(alloc, files, command)
+            }
+            _ => told_unread(alloc, files, command),
+        },
         JobFault::Unwritable => told_unwritten(files, command),
         JobFault::InUse => told_in_use(files, command),
         JobFault::Book(fault) => told_of_book(alloc, files, command, fault),
@@ -76,6 +83,23 @@ fn told_unread<'a, F: Files>(alloc: Global, files: &F, command: &'a Command) -> 
 {
     for index in 0..5 {
         let name = nth_read(command, index)?;
+        if let Some(reason) = unread_reason(alloc, files, name) {
+            return Some(Told { name, reason });
+        }
+    }
+    None
+}
+
+// Of the first text that can't be read.
+fn told_unread_text<'a, F: Files>(
+    alloc: Global,
+    files: &F,
+    command: &'a Command,
+) -> Option<Told<'a>>
+    ensures { IfSome result (λ told. Tells (F.holds files.now) (asked_of command.now) job.Unreadable told.name.now told.reason) }
+{
+    for index in 0..text_count(command) {
+        let name = nth_text(command, index)?;
         if let Some(reason) = unread_reason(alloc, files, name) {
             return Some(Told { name, reason });
         }
@@ -174,23 +198,43 @@ fn told_of_bodies<'a, F: Files>(
         return told_of_device(alloc, files, command);
     }
     match command {
-        Command::Pack { text, .. } => told_of_count(text.as_str(), fault),
+        Command::Pack { .. } => told_of_count(alloc, files, command, fault, false),
+        Command::PackBlocks { .. } => told_of_count(alloc, files, command, fault, true),
         Command::Show(file) => told_of_shown(alloc, files, file.as_str(), fault),
         _ => told_of_files(alloc, files, command, fault),
     }
 }
 
-// Of a text that has too many bodies.
-fn told_of_count<'a>(text: &'a str, fault: &BatchFault) -> Option<Told<'a>>
-    ensures { IfSome result (λ told. (fault.now ≡ BatchFault.Count) × (told.name.now ≡ text.now) × (told.reason ≡ Reason.TooManyLines)) }
+// Of the first text with whose bodies there are too many: with those of the texts before it or, where each is a block, alone.
+fn told_of_count<'a, F: Files>(
+    alloc: Global,
+    files: &F,
+    command: &'a Command,
+    fault: &BatchFault,
+    is_each_a_block: bool,
+) -> Option<Told<'a>>
+    ensures { IfSome result (λ told. TellsOfBodies (F.holds files.now) (asked_of command.now) fault.now told.name.now told.reason) }
 {
-    match fault {
-        BatchFault::Count => Some(Told {
-            name: text,
-            reason: Reason::TooManyLines,
-        }),
-        _ => None,
+    if !matches!(fault, BatchFault::Count) {
+        return None;
     }
+    let mut count = 0u32;
+    for index in 0..text_count(command) {
+        let name = nth_text(command, index)?;
+        let own = body_count(alloc, files, name)?;
+        count = if is_each_a_block {
+            own
+        } else {
+            count.saturating_add(own)
+        };
+        if count > 65_536 {
+            return Some(Told {
+                name,
+                reason: Reason::TooManyLines,
+            });
+        }
+    }
+    None
 }
 
 // Of the first file of bodies that has the fault.
@@ -268,7 +312,7 @@ fn told_of_journal<'a>(command: &'a Command, fault: &ReplayFault) -> Option<Told
     })
 }
 
-// Of the text that is packed.
+// Of the first text that is packed whose line of this number is wrong.
 fn told_of_text<'a, F: Files>(
     alloc: Global,
     files: &F,
@@ -277,14 +321,11 @@ fn told_of_text<'a, F: Files>(
 ) -> Option<Told<'a>>
     ensures { IfSome result (λ told. Tells (F.holds files.now) (asked_of command.now) (job.Text line) told.name.now told.reason) }
 {
-    let Command::Pack { text, .. } = command else {
-        return None;
-    };
-    match text_reason(alloc, files, text.as_str(), line) {
-        Some(reason) => Some(Told {
-            name: text.as_str(),
-            reason,
-        }),
-        None => None,
+    for index in 0..text_count(command) {
+        let name = nth_text(command, index)?;
+        if let Some(reason) = text_reason(alloc, files, name, line) {
+            return Some(Told { name, reason });
+        }
     }
+    None
 }

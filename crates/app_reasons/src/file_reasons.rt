@@ -1,6 +1,6 @@
 //! What is told of one file, which is read once more.
 
-ghost use Rattle.std.specs.Prelude.{IfSome};
+ghost use Rattle.std.specs.Prelude.{◌≤◌, IfSome};
 ghost use Rattle.app_arguments.specs.Asked.{show};
 ghost use Rattle.app_reasons.specs.Tells.{IsFileFor, IsOfLine, TellsOfBook, TellsOfFile, TellsUnread, TellsUnreadable};
 
@@ -11,6 +11,7 @@ use book_laws::JsonFault;
 use book_places::place_in_book;
 use file_batch_laws::BatchFault;
 use file_devices::{Files, read_again};
+use file_listing::{ListingFault, read_bodies};
 use std::alloc::Global;
 
 /// Why the file isn't read.
@@ -80,10 +81,21 @@ pub(crate) fn shown_kind<F: Files>(alloc: Global, files: &F, name: &str) -> Opti
     ensures { IfSome result (IsFileFor (show name.now) name.now) }
 {
     let file = read_again(alloc, files, name).ok()??;
-    if file.starts_with(b"I83R") {
-        Some(FileKind::Replies)
-    } else {
-        Some(FileKind::Batch)
+    match FileKind::of_file(&file) {
+        Some(kind) => Some(kind),
+        None => Some(FileKind::Batch),
+    }
+}
+
+/// How many bodies the file has as a text; 65,537 where it has more than a batch may have.
+pub(crate) fn body_count<F: Files>(alloc: Global, files: &F, name: &str) -> Option<u32>
+    ensures { IfSome result (λ count. count ≤ 65537) }
+{
+    let text = read_again(alloc, files, name).ok()??;
+    match read_bodies(alloc, &text) {
+        Ok(bodies) => Some(bodies.len() as u32),
+        Err(ListingFault::Count) => Some(65_537),
+        Err(_) => None,
     }
 }
 

@@ -86,6 +86,32 @@ is batch BATCH
 ! lost: no such file or directory
 none none
 
+# Texts are packed into one batch, in their order; the first one that is wrong, or isn't there, is told.
+put one '31 '32 0a
+put two '# 0a '33 '34
+put nothing '# 0a
+put wrong '# 20 'none 0a '3g 0a
+0 switch pack one nothing two one batch
+> packed 3
+is batch 'I83B 000100000003 0002 '12 0002 '34 0002 '12
+1 switch pack one wrong lost none
+! text 2
+! wrong: line 2: column 2: no hexadecimal digit
+1 switch pack one lost wrong none
+! file 1
+! lost: no such file or directory
+none none
+
+# A batch is none of the texts that it is made of.
+put one '31 '32 0a
+put two '33 '34 0a
+2 switch pack one two one
+! BATCH and TEXT are one file: one
+2 switch pack --blocks one two two
+! BATCH and TEXT are one file: two
+is one '31 '32 0a
+is two '33 '34 0a
+
 # Files are shown.
 put batch BATCH
 put replies REPLIES

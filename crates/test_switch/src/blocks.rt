@@ -70,6 +70,60 @@ fn blocks_are_decided_one_after_another(rt: HostRuntime) {
     play(&rt, rt.alloc(), BLOCKS);
 }
 
+// Blocks of texts.
+const PACKED: &str =
+    r#"# Texts are packed, a block of each, also of one without a body, and shown block by block.
+put one '31 '32 0a
+put nothing '# 0a
+put two '33 '34 0a '35 0a
+0 switch pack --blocks one nothing two file
+> packed 3 in 3 blocks
+is file 'I83M 000100000003 00000001 0002 '12 00000000 00000002 0002 '34 0001 '5
+0 switch show file
+> block 0
+> 0 F01000
+> block 1
+> block 2
+> 0 F01000
+> 1 F01000
+0 switch pack one file --blocks
+> packed 1 in 1 blocks
+is file 'I83M 000100000001 00000001 0002 '12
+1 switch pack --blocks one lost none
+! file 1
+! lost: no such file or directory
+none none
+
+# Two blocks and their replies are shown.
+put file TWO_BLOCKS
+put replies TWO_REPLIES
+0 switch show file
+> block 0
+> 0 1100 6000 000001
+> block 1
+> 0 1100 6000 000002
+0 switch show replies
+> block 0
+> 0 1110 000 000001 000001
+> block 1
+> 0 1110 116 - 000002
+
+# A file of blocks that ends within one, and one of their replies with a body that is none.
+put file 'I83M 000100000001 00000001 0001
+put replies 'I83T 000100000001 00000001 0006 'F10000
+1 switch show file
+! batch 5
+! file: block 0, body 0 at byte 14: the file ends within it, 0 of 1 bodies are whole
+1 switch show replies
+! batch 9
+! replies: block 0, body 0 at byte 14: the text of no reply and of no fault
+"#;
+
+#[test]
+fn texts_are_packed_in_blocks_and_shown(rt: HostRuntime) {
+    play(&rt, rt.alloc(), PACKED);
+}
+
 // A fault keeps the blocks before it.
 const HALTS: &str = r#"# 1,001 blocks.
 put book BOOK

@@ -9,6 +9,10 @@ use Rattle.app_arguments.proofs.command_line.pack_line.Goals as goal
 
 pub returns : goal.returns
 returns c =
-    let begun : IsLine (new_app (codes "pack")) c.about-line.result = (ap app_of_fields c.about-line.ensures ∙ c.new.ensures.app, ap (λ (f : Command-F Command). f.has_globals) c.about-line.ensures ∙ c.new.ensures.local) in
+    let begun : IsLine (new_app (codes "pack")) c.override_usage-line.result = (
+      ap app_of_fields c.override_usage-line.ensures ∙ (ap app_of_fields c.about.ensures ∙ c.new.ensures.app),
+      ap (λ (f : Command-F Command). f.has_globals) c.override_usage-line.ensures ∙ (ap (λ (f : Command-F Command). f.has_globals) c.about.ensures ∙ c.new.ensures.local),
+    ) in
     let text = with_word _ _ _ _ _ c.in_ok-text.ensures begun c.operand.ensures in
-    IfOk-weaker c.arg-2.result _ _ (λ command adds. with_word _ _ _ _ _ adds text c.operand-2.ensures) c.arg-2.ensures
+    let batch = with_word _ _ _ _ _ c.in_ok-batch.ensures text c.operands.ensures in
+    IfOk-weaker c.arg-3.result _ _ (λ command adds. with_word _ _ _ _ _ adds batch c.blocks_flag.ensures) c.arg-3.ensures

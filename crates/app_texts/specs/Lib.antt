@@ -1,0 +1,4 @@
+pub mod BlockText
+pub mod Handed
+pub mod Packed
+pub mod Shown
