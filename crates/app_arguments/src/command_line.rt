@@ -14,6 +14,7 @@ const AFTER_HELP: &str = "Commands with help of their own, as `switch serve --he
   report     Says how a day went: totals of a batch and its replies, as lines or as a page
   make       Prints the body of a message as a line that `pack` reads, from its elements by name
   unpack     Prints the bodies of a batch as the text that `pack` reads
+  show --json  Prints an object of JSON for each message or reply
 
 `switch help formats`, `rules`, `faults` (of a body that is no message) and `example` tell more.
 
@@ -35,7 +36,8 @@ A fault is printed on standard error as what it is of and its number there:
 After a fault all files are as they were. If `blocks` fails, `kept M` means that the first M blocks were decided: REPLIES
 and NEWBOOK are those after them.
 Files are put in place together when all are written. Two names of one file are a usage error where one of them is
-written; NEWBOOK alone may be BOOK.";
+written; NEWBOOK alone may be BOOK. `-` as a file's name is standard input where the file is read, and standard output
+where it is written; what is printed goes to standard error then. --progress tells there how far files are read.";
 
 /// The words that the program has.
 pub(crate) fn command_line<'a>(alloc: Global) -> Result<Command<'a>, AllocError>
