@@ -1,7 +1,7 @@
 -- Words of which the last is the file that is made.
 use Rattle.std.proofs.Common.{◌≡◌, List, [], ◌∷◌, ◌++◌, Option, Some, refl, ap, ap₂}
 use Rattle.clap.specs.Walk.{Text}
-use Rattle.app_arguments.specs.Asked.{Asked, but_last, last_of, pack_as, pack_by}
+use Rattle.app_arguments.specs.Asked.{but_last, last_of, pack_as, pack_by}
 
 but_last_is : (word : Text) (words : List Text) (file : Text) → but_last word (words ++ file ∷ []) ≡ word ∷ words
 but_last_is word [] file = refl

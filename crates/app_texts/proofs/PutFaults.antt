@@ -1,5 +1,4 @@
 -- What is not put in its place is not written.
-use Rattle.std.proofs.Common.{◌≡◌}
 use Rattle.app_jobs.specs.Faults.{IsPuttingFault, IsWritingFault}
 use Rattle.app_jobs.specs.declared.job_fault.JobFault.{JobFault}
 use Rattle.app_jobs.specs.declared.job_fault.JobFault.TheVariants.{Unwritable, OutOfMemory}

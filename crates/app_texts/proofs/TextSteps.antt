@@ -1,17 +1,16 @@
 -- From a text and those behind it to all texts.
-use Rattle.std.proofs.Common.{◌≡◌, ◌⊎◌, ◌<◌, ◌≤◌, ℕ, ◌+◌, List, [], ◌∷◌, ◌++◌, length, map, string_bytes, refl, sym, subst, ap, ◌∙◌, append_assoc, inl, inr, arith}
+use Rattle.std.proofs.Common.{◌≡◌, ◌<◌, ◌≤◌, ℕ, ◌+◌, List, [], ◌∷◌, ◌++◌, length, map, string_bytes, refl, sym, subst, append_assoc, inl, inr, arith}
 use Rattle.std.specs.Prelude.{String}
-use Rattle.std.specs.Global.{Global, Vec}
+use Rattle.std.specs.Global.{Global}
 use Rattle.std.specs.List.{AllByRecursion}
 use Rattle.std.proofs.lemmas.List.{append-nil, length-append}
 use Rattle.file_batch_laws.specs.Files.{AreBodies, IsBody}
 use Rattle.file_batch_laws.specs.declared.batch_fault.BatchFault.TheVariants.{Count}
 use Rattle.file_devices.specs.Failing.{Failing}
-use Rattle.file_devices.specs.Holding.{IsThere}
 use Rattle.app_jobs.specs.Decided.{Holding}
 use Rattle.app_jobs.specs.declared.job_fault.JobFault.{JobFault}
 use Rattle.app_jobs.specs.declared.job_fault.JobFault.TheVariants.{Batch}
-use Rattle.app_texts.specs.Packed.{AreThere, HasBodies, HaveBlocks, HaveBodies, IsBodiesFault, IsOneTextFault, IsTextFault}
+use Rattle.app_texts.specs.Packed.{HasBodies, HaveBlocks, HaveBodies, IsBodiesFault}
 
 -- ---- bodies one text's behind another's
 

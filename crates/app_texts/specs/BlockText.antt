@@ -1,5 +1,5 @@
 -- The bytes of a block file of bodies.
-use Rattle.std.specs.Prelude.{◌≡◌, ◌≤◌, ℕ, List, ◌++◌, length}
+use Rattle.std.specs.Prelude.{◌≤◌, ℕ, List, ◌++◌, length}
 use Rattle.std.specs.List.{AllByRecursion, flat_map}
 use Rattle.byteorder.specs.Endian.{big_bytes}
 use Rattle.file_batch_laws.specs.Blocks.{blocks_magic}

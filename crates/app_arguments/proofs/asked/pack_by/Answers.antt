@@ -1,4 +1,4 @@
-use Rattle.std.proofs.Common.{◌≡◌, ◌∷◌, ◌++◌, [], ◌∙◌, sym, ap, ap₂, map, option_map, string_bytes, List, Option, Some}
+use Rattle.std.proofs.Common.{◌≡◌, ◌∷◌, ◌++◌, [], ◌∙◌, sym, ap, map, option_map, List, Option, Some}
 use Rattle.std.proofs.lemmas.List.{map-append}
 use Rattle.clap.specs.Walk.{Text}
 use Rattle.app_arguments.specs.Asked.{pack_as, pack_by}

@@ -1,4 +1,4 @@
-use Rattle.std.proofs.Common.{◌∙◌, inr}
+use Rattle.std.proofs.Common.{inr}
 use Rattle.std.proofs.lemmas.Result.{err_from_is_err_and}
 use Rattle.app_texts.specs.Handed.{bodies_of_blocks}
 use Rattle.app_texts.proofs.block_packing.pack_blocks.Goals as goal

@@ -1,4 +1,4 @@
-use Rattle.std.proofs.Common.{rules, ◌≡◌, ◌≤◌, ◌+◌, ◌++◌, ◌∷◌, [], ◌∙◌, ℕ, List, length, map, string_bytes, ap, inr, arith}
+use Rattle.std.proofs.Common.{rules, ◌≡◌, ◌+◌, ◌++◌, ◌∷◌, [], ◌∙◌, length, map, string_bytes, ap, inr, arith}
 use Rattle.std.proofs.lemmas.List.{length-append, map-append}
 use Rattle.file_batch.specs.Bodies.{bytes_of}
 use Rattle.app_texts.specs.Handed.{bodies_of_blocks}

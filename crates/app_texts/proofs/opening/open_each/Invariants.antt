@@ -1,4 +1,4 @@
-use Rattle.std.proofs.Common.{◌≡◌, ◌+◌, ◌≤◌, ℕ, List, ◌++◌, length, map, string_bytes}
+use Rattle.std.proofs.Common.{◌+◌, ◌≤◌, ℕ, List, ◌++◌, length, map, string_bytes}
 use Rattle.std.specs.List.{AllByRecursion}
 use Rattle.file_batch_laws.specs.Files.{AreBodies}
 use Rattle.app_jobs.specs.declared.job_fault.JobFault.{JobFault}

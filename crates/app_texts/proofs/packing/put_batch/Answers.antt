@@ -1,4 +1,3 @@
-use Rattle.std.proofs.Common.{rules}
 use Rattle.std.proofs.lemmas.Result.{IfErr-weaker, on_ok_weaker}
 use Rattle.app_texts.proofs.PutFaults.{unput_is_unwritten}
 use Rattle.app_texts.proofs.packing.put_batch.Goals as goal
