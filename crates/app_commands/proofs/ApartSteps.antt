@@ -1,5 +1,5 @@
 -- The file that is made of texts, and one text more.
-use Rattle.std.proofs.Common.{◌≡◌, ◌≢◌, ℕ, List, [], ◌∷◌, inl, inr}
+use Rattle.std.proofs.Common.{◌≢◌, ℕ, List, ◌∷◌, inl, inr}
 use Rattle.app_commands.specs.Apart.{AreApart, IsApartFault, IsPairFault, made_apart}
 use Rattle.app_commands.specs.declared.fault.Fault.{Fault}
 use Rattle.app_commands.specs.declared.fault.Fault.TheVariants.{Usage, OutOfMemory, Job, Halted}

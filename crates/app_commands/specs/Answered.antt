@@ -49,7 +49,7 @@ text_of_report (report.Answer text) = string_bytes text ++ 10 ∷ []
 text_of_report (report.Decided count) = decided count ++ 10 ∷ []
 text_of_report (report.DecidedBlocks count) = decided_in_blocks count ++ 10 ∷ []
 text_of_report (report.Packed count) = numbered (codes "packed") count ++ 10 ∷ []
-text_of_report (report.PackedBlocks bodies blocks) = packed_in_blocks bodies blocks ++ 10 ∷ []
+text_of_report (report.PackedBlocks bodies count) = packed_in_blocks bodies count ++ 10 ∷ []
 text_of_report (report.Audited found text) = text.items ++ 10 ∷ []
 text_of_report (report.AuditedBlocks found text) = text.items ++ 10 ∷ []
 text_of_report (report.Lines text) = text.items
@@ -95,8 +95,8 @@ IsDoneAs known old new (audit_blocks names) (report.AuditedBlocks found text) =
     AreBlocksAudited known old names found × (text.items ≡ block_audit_text found)
 IsDoneAs known old new (show file) (report.Lines text) = (known → IsThere old file) × ((bytes : List ℕ) → old file bytes → IsShown bytes text.items)
 IsDoneAs known old new (pack texts batch) (report.Packed count) = ArePacked known old new texts batch count
-IsDoneAs known old new (pack_blocks texts file) (report.PackedBlocks bodies blocks) =
-    ArePackedInBlocks known old new texts file bodies × (blocks ≡ length texts)
+IsDoneAs known old new (pack_blocks texts file) (report.PackedBlocks bodies count) =
+    ArePackedInBlocks known old new texts file bodies × (count ≡ length texts)
 IsDoneAs known old new what told = ⊥
 
 -- Some first blocks are kept, so many, and the files hold what these come to; behind them this fault came. None are where they may be
