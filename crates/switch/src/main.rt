@@ -40,7 +40,7 @@ fn main(rt: HostRuntime) -> ExitCode {
     let status = if let Some(topic) = topic_asked(&words) {
         help(topic.text(), &mut out)
     } else if let Some(asked) = host_asked(&words) {
-        serve_words(&rt, rt, &files, asked, &mut out, &mut err)
+        serve_words(&rt, rt, &files, &asked, &mut out, &mut err)
     } else if let Some(asked) = replay_asked(&words) {
         replay_words(&rt, rt, &mut files, progress, asked, &mut out, &mut err)
     } else if let Some(asked) = audit_log_asked(&words) {
@@ -68,7 +68,7 @@ fn serve_words<R: Threads + Wait + Copy + Sync, F: Files, O: Write, E: Write>(
     rt: &R,
     host: HostRuntime,
     files: &F,
-    asked: HostAsked<'_>,
+    asked: &HostAsked<'_>,
     out: &mut Printer<O>,
     err: &mut Printer<E>,
 ) -> u8 {
@@ -80,7 +80,7 @@ fn serve_words<R: Threads + Wait + Copy + Sync, F: Files, O: Write, E: Write>(
             &HostLogs::new(host),
             book,
             log,
-            settings,
+            *settings,
             &mut FromRead::new(host.stdin()),
             &mut IntoWrite::new(host.stdout()),
             host.stderr(),
