@@ -52,13 +52,13 @@ one_more cards texts e rest more before after all value are is written so =
 
 -- ---- objects
 
-all_append : (ps ms : List Member) → all_tokens (ps ++ ms) ≡ all_tokens ps ++ all_tokens ms
+pub all_append : (ps ms : List Member) → all_tokens (ps ++ ms) ≡ all_tokens ps ++ all_tokens ms
 all_append [] ms = refl
 all_append (p ∷ ps) ms =
     ap (λ (ts : List Token). member_tokens p ++ ts) (all_append ps ms) ∙ sym (append_assoc (member_tokens p) (all_tokens ps) (all_tokens ms))
 
 -- the tokens of members, and the closing brace
-members_are : (ms : List Member) → members_tokens (members_outline (members ms)) ≡ all_tokens ms ++ end_object ∷ []
+pub members_are : (ms : List Member) → members_tokens (members_outline (members ms)) ≡ all_tokens ms ++ end_object ∷ []
 members_are [] = refl
 members_are (m ∷ ms) =
     ap (λ (ts : List Token). key m.0 ∷ (tokens_of m.1 ++ ts)) (members_are ms)

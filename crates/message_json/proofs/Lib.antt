@@ -1,1 +1,1 @@
-mod Elements
+pub mod Elements

@@ -15,6 +15,13 @@ impl RuleWords {
     {
         name(self.0)
     }
+
+    /// What the rule says, in one sentence.
+    pub fn sentence(&self) -> &'static str
+        ensures { result.now ≡ rule_sentence self.now.0 }
+    {
+        sentence(self.0)
+    }
 }
 
 // The name of a rule.

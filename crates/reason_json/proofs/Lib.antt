@@ -1,0 +1,2 @@
+mod RowTokens
+mod Parts
