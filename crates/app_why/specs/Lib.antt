@@ -1,3 +1,4 @@
+pub mod FormAsked
 pub mod Sought
 pub mod Why
 pub mod WhyAsked

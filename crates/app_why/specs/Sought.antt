@@ -1,11 +1,14 @@
 -- The messages of a batch that are sought, and their lines.
-use Rattle.std.specs.Prelude.{ℕ, ◌+◌, List, [], ◌∷◌, ◌++◌, Bool, false, if◌then◌else◌, codes, decimal}
+use Rattle.std.specs.Prelude.{ℕ, ◌+◌, List, [], ◌∷◌, ◌++◌, Bool, false, None, if◌then◌else◌, codes, decimal}
 use Rattle.std.specs.Str.{bytes_eq}
 use Rattle.iso8583.specs.declared.transaction.Transaction.{Transaction}
 use Rattle.iso_laws.specs.Messages.{transaction_of}
 use Rattle.issuer_rows.specs.declared.frame.Frame.{Frame}
 use Rattle.issuer_rows.specs.declared.frame.Frame.TheVariants.{Good, Bad}
 use Rattle.reason_text.specs.Words.{frame_words}
+use Rattle.message_json.specs.Lines.{frame_line}
+use Rattle.app_why.specs.declared.form.Form.{Form}
+use Rattle.app_why.specs.declared.form.Form.TheVariants.{Lines, Json}
 use Rattle.app_why.specs.declared.sought.Sought.{Sought}
 use Rattle.app_why.specs.declared.sought.Sought.TheVariants.{Trace, Card}
 
@@ -23,8 +26,13 @@ is_met_by sought (Bad fault) = false
 abbrev pub message_line : ℕ → Frame → List ℕ
 message_line place frame = codes "message  " ++ decimal place ++ codes ": " ++ frame_words frame ++ codes "\n"
 
+-- the same in this form: JSON is as a file's messages are shown
+abbrev pub told_line : Form → ℕ → Frame → List ℕ
+told_line Lines place frame = message_line place frame
+told_line (Json cards) place frame = frame_line (record { block = None; index = place }) cards frame
+
 -- the lines of such messages among these bodies, of which the first stands at this place
-abbrev pub sought_lines : Sought → ℕ → List Frame → List ℕ
-sought_lines sought place [] = []
-sought_lines sought place (frame ∷ frames) =
-    (if is_met_by sought frame then message_line place frame else []) ++ sought_lines sought (place + 1) frames
+abbrev pub sought_lines : Form → Sought → ℕ → List Frame → List ℕ
+sought_lines form sought place [] = []
+sought_lines form sought place (frame ∷ frames) =
+    (if is_met_by sought frame then told_line form place frame else []) ++ sought_lines form sought (place + 1) frames

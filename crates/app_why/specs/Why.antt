@@ -10,7 +10,10 @@ use Rattle.issuer_reasons.specs.Explained.{ExplainsAt}
 use Rattle.issuer_reasons.specs.declared.explanation.Explanation.{Explanation}
 use Rattle.app_jobs.specs.Decided.{IsBookOf}
 use Rattle.app_jobs.specs.Faults.{IsBatchFault, IsBookFault, IsSomeBook}
+use Rattle.reason_json.specs.Lines.{why_line}
 use Rattle.reason_text.specs.Lines.{lines_of}
+use Rattle.app_why.specs.declared.form.Form.{Form}
+use Rattle.app_why.specs.declared.form.Form.TheVariants.{Lines, Json}
 use Rattle.app_why.specs.declared.asking.WhyAsked.{WhyAsked}
 use Rattle.app_why.specs.declared.asking.WhyAsked.TheVariants.{Message, Messages, Help, Wrong}
 use Rattle.app_why.specs.Sought.{sought_lines}
@@ -49,17 +52,22 @@ status_of_fault (Job fault) = 1
 status_of_fault (Index count) = 2
 
 -- These are the lines of the messages that are sought in the batch of this name. Where it is known what files hold, it was there.
-pub record AreLines (known : Type 0) (holds : Holding) (batch : List ℕ) (sought : Sought) (text : List ℕ) : Type 0 where
+pub record AreLines (known : Type 0) (holds : Holding) (batch : List ℕ) (sought : Sought) (form : Form) (text : List ℕ) : Type 0 where
   pub frames : List Frame
   pub batch_there : known → IsThere holds batch
   pub messages : (bytes : List ℕ) → holds batch bytes → IsBatchOf bytes frames
-  pub lines : text ≡ sought_lines sought 0 frames
+  pub lines : text ≡ sought_lines form sought 0 frames
+
+-- an explanation in this form
+abbrev pub explanation_text : Form → ℕ → Explanation → List ℕ
+explanation_text Lines index e = lines_of index e
+explanation_text (Json cards) index e = why_line cards index e
 
 -- What is asked for is said, behind what was said before: of a message its lines; of messages that are sought the line of each.
 abbrev pub IsSaid : Type 0 → Holding → WhyAsked → Option (List ℕ) → Option (List ℕ) → Type 0
-IsSaid known holds (Message book batch index) before after =
-    (e : Explanation) × IsWhy known holds book.now batch.now index e × Appends before after (lines_of index e)
-IsSaid known holds (Messages batch sought) before after =
-    (text : List ℕ) × AreLines known holds batch.now sought text × Appends before after text
+IsSaid known holds (Message book batch index form) before after =
+    (e : Explanation) × IsWhy known holds book.now batch.now index e × Appends before after (explanation_text form index e)
+IsSaid known holds (Messages batch sought form) before after =
+    (text : List ℕ) × AreLines known holds batch.now sought form text × Appends before after text
 IsSaid known holds Help before after = ⊤
 IsSaid known holds Wrong before after = ⊥

@@ -1,7 +1,9 @@
 -- What words ask of `why`.
-use Rattle.std.specs.Prelude.{◌≡◌, ◌⊎◌, ℕ, ◌<◌, ◌^◌, List, Some, codes, length, slice_get}
+use Rattle.std.specs.Prelude.{◌≡◌, ◌⊎◌, ℕ, ◌<◌, ◌^◌, List, Some, codes, slice_get}
 use Rattle.std.specs.Str.Parse.{IsNumeral, digits_value, without_leading_plus}
 use Rattle.app_words.specs.Words.{AsksHelp}
+use Rattle.app_why.specs.FormAsked.{SaysForm}
+use Rattle.app_why.specs.declared.form.Form.{Form}
 use Rattle.app_why.specs.declared.asking.WhyAsked.{WhyAsked}
 use Rattle.app_why.specs.declared.asking.WhyAsked.TheVariants.{Message, Messages, Help, Wrong}
 use Rattle.app_why.specs.declared.sought.Sought.{Sought}
@@ -15,13 +17,6 @@ place_of word = digits_value 10 (without_leading_plus word)
 abbrev pub IsPlace : List ℕ → Type 0
 IsPlace word = IsNumeral 10 (without_leading_plus word) × (place_of word < 2 ^ 32)
 
--- the words BOOK, BATCH and INDEX ask for that message, where the last is a place
-abbrev pub IsAskedOf : List ℕ → List ℕ → List ℕ → WhyAsked → Type 0
-IsAskedOf book batch index (Message named from place) = (named.now ≡ book) × (from.now ≡ batch) × IsPlace index × (place ≡ place_of index)
-IsAskedOf book batch index (Messages from sought) = ⊥
-IsAskedOf book batch index Help = ⊥
-IsAskedOf book batch index Wrong = ¬ IsPlace index
-
 -- the words `--trace TRACE` or `--card CARD`, behind those of the command and of two files, say what is sought
 abbrev pub IsSoughtBy : List (List ℕ) → Sought → Type 0
 IsSoughtBy words (Trace trace) = (slice_get words 4 ≡ Some (codes "--trace")) × (slice_get words 5 ≡ Some trace.now)
@@ -31,15 +26,21 @@ IsSoughtBy words (Card card) = (slice_get words 4 ≡ Some (codes "--card")) × 
 abbrev pub IsSearch : List (List ℕ) → Type 0
 IsSearch words = (slice_get words 4 ≡ Some (codes "--trace")) ⊎ (slice_get words 4 ≡ Some (codes "--card"))
 
+-- words ask for a message: behind those of the command and of two files stands its place, and behind that how it is told
+abbrev pub AsksMessage : List (List ℕ) → Type 0
+AsksMessage words = (form : Form) × SaysForm words 5 form × (word : List ℕ) × (slice_get words 4 ≡ Some word) × IsPlace word
+
+-- words ask for messages that are sought: by two words there, and behind those how they are told
+abbrev pub AsksMessages : List (List ℕ) → Type 0
+AsksMessages words = (form : Form) × SaysForm words 6 form × IsSearch words
+
 -- Words of which the second is `why` ask for a message: the third names the book's file, the fourth the batch's, and the fifth is the place;
 -- or for the messages of a trace or of a card, of the batch that the fourth names; one word behind `why` may ask what it takes; other words
 -- are wrong.
 abbrev pub IsAskedBy : List (List ℕ) → WhyAsked → Type 0
-IsAskedBy words (Message book batch place) =
-    (length words ≡ 5) × (slice_get words 2 ≡ Some book.now) × (slice_get words 3 ≡ Some batch.now)
+IsAskedBy words (Message book batch place form) =
+    SaysForm words 5 form × (slice_get words 2 ≡ Some book.now) × (slice_get words 3 ≡ Some batch.now)
     × (word : List ℕ) × (slice_get words 4 ≡ Some word) × IsPlace word × (place ≡ place_of word)
-IsAskedBy words (Messages batch sought) = (length words ≡ 6) × (slice_get words 3 ≡ Some batch.now) × IsSoughtBy words sought
+IsAskedBy words (Messages batch sought form) = SaysForm words 6 form × (slice_get words 3 ≡ Some batch.now) × IsSoughtBy words sought
 IsAskedBy words Help = AsksHelp words
-IsAskedBy words Wrong =
-    (¬ AsksHelp words) × (length words ≡ 5 → (word : List ℕ) → slice_get words 4 ≡ Some word → ¬ IsPlace word)
-    × (length words ≡ 6 → ¬ IsSearch words)
+IsAskedBy words Wrong = (¬ AsksHelp words) × (¬ AsksMessage words) × (¬ AsksMessages words)

@@ -1,8 +1,10 @@
-ghost use Rattle.std.specs.Prelude.{◌≡◌, ◌<◌, IfSome, IfNone, OnSome, codes, length, map, string_bytes};
+ghost use Rattle.std.specs.Prelude.{◌≤◌, IfSome, IfNone, OnSome, codes, length, map, string_bytes};
 ghost use Rattle.std.specs.Option.{SomeIff};
-ghost use Rattle.app_why.specs.WhyAsked.{IsAskedBy, IsAskedOf, IsPlace, IsSearch, IsSoughtBy, place_of};
+ghost use Rattle.app_why.specs.WhyAsked.{AsksMessage, AsksMessages, IsAskedBy, IsPlace, IsSearch, IsSoughtBy, place_of};
 ghost use Rattle.app_words.specs.Words.{IsCommand};
 
+use crate::form::Form;
+use crate::form_asked::form_in;
 use crate::sought::Sought;
 use app_words::{asks_help, is_command, is_word};
 
@@ -10,9 +12,9 @@ use app_words::{asks_help, is_command, is_word};
 #[derive(Clone, Copy)]
 pub enum WhyAsked<'a> {
     /// Why, on the book of the first file, the message at this place of the batch in the second was answered so.
-    Message(&'a str, &'a str, usize),
+    Message(&'a str, &'a str, usize, Form),
     /// Which messages of the batch in this file are of a trace or of a card.
-    Messages(&'a str, Sought<'a>),
+    Messages(&'a str, Sought<'a>, Form),
     /// What `why` takes.
     Help,
     /// Nothing: they begin with `why` and don't go on so.
@@ -36,11 +38,11 @@ pub fn why_asked(words: &[String]) -> Option<WhyAsked<'_>>
 fn asked_behind(words: &[String]) -> WhyAsked<'_>
     ensures { IsAskedBy (map string_bytes words.now) result }
 {
-    if words.len() == 5 {
-        return asked_of(words[2].as_str(), words[3].as_str(), words[4].as_str());
+    if let Some(asked) = message_asked(words) {
+        return asked;
     }
-    if let Some(sought) = sought_by(words) {
-        return WhyAsked::Messages(words[3].as_str(), sought);
+    if let Some(asked) = messages_asked(words) {
+        return asked;
     }
     if asks_help(words) {
         return WhyAsked::Help;
@@ -48,14 +50,32 @@ fn asked_behind(words: &[String]) -> WhyAsked<'_>
     WhyAsked::Wrong
 }
 
-// What is sought by the words BOOK, BATCH and `--trace TRACE` or `--card CARD`, if they are that.
-fn sought_by(words: &[String]) -> Option<Sought<'_>>
-    ensures some { IfSome result (λ sought. (length words.now ≡ 6) × IsSoughtBy (map string_bytes words.now) sought) }
-    ensures none { IfNone result (length words.now ≡ 6 → ¬ IsSearch (map string_bytes words.now)) }
+// The message that the words BOOK, BATCH and INDEX ask for, if they do.
+fn message_asked(words: &[String]) -> Option<WhyAsked<'_>>
+    ensures some { IfSome result (IsAskedBy (map string_bytes words.now)) }
+    ensures none { IfNone result (¬ AsksMessage (map string_bytes words.now)) }
 {
-    if words.len() != 6 {
-        return None;
-    }
+    let form = form_in(words, 5)?;
+    let place = place_in(words[4].as_str())?;
+    Some(WhyAsked::Message(words[2].as_str(), words[3].as_str(), place, form))
+}
+
+// The messages that the words BOOK, BATCH and `--trace TRACE` or `--card CARD` ask for, if they do.
+fn messages_asked(words: &[String]) -> Option<WhyAsked<'_>>
+    ensures some { IfSome result (IsAskedBy (map string_bytes words.now)) }
+    ensures none { IfNone result (¬ AsksMessages (map string_bytes words.now)) }
+{
+    let form = form_in(words, 6)?;
+    let sought = sought_by(words)?;
+    Some(WhyAsked::Messages(words[3].as_str(), sought, form))
+}
+
+// What is sought by the words `--trace TRACE` or `--card CARD` behind two files, if they are that.
+fn sought_by(words: &[String]) -> Option<Sought<'_>>
+    requires { 6 ≤ length words.now }
+    ensures some { IfSome result (IsSoughtBy (map string_bytes words.now)) }
+    ensures none { IfNone result (¬ IsSearch (map string_bytes words.now)) }
+{
     if is_word(words, 4, "--trace") {
         return Some(Sought::Trace(words[5].as_str()));
     }
@@ -63,16 +83,6 @@ fn sought_by(words: &[String]) -> Option<Sought<'_>>
         return Some(Sought::Card(words[5].as_str()));
     }
     None
-}
-
-// What is asked by the words BOOK, BATCH and INDEX.
-fn asked_of<'a>(book: &'a str, batch: &'a str, index: &str) -> WhyAsked<'a>
-    ensures { IsAskedOf book.now batch.now index.now result }
-{
-    match place_in(index) {
-        Some(place) => WhyAsked::Message(book, batch, place),
-        None => WhyAsked::Wrong,
-    }
 }
 
 // The place that a word says, if it is one.

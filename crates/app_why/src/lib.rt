@@ -3,6 +3,8 @@
 
 mod answering;
 mod asking;
+mod form;
+mod form_asked;
 mod help;
 mod listing;
 mod sought;
@@ -11,6 +13,7 @@ mod why_fault;
 
 pub use answering::why_of;
 pub use asking::{WhyAsked, why_asked};
+pub use form::Form;
 pub use help::WHY_HELP;
 pub use sought::Sought;
 pub use telling::answer_why;

@@ -1,8 +1,10 @@
-ghost use Rattle.std.specs.Prelude.{◌≡◌, ◌++◌, IfOk, OnOk, if◌then◌else◌, [], List};
-ghost use Rattle.app_why.specs.Sought.{message_line, sought_lines, is_met_by};
+ghost use Rattle.std.specs.Prelude.{◌≡◌, IfOk};
+ghost use Rattle.app_why.specs.Sought.{message_line, sought_lines, told_line};
 
+use crate::form::Form;
 use crate::sought::Sought;
 use issuer_rows::Frame;
+use message_json::{Place, frame_line};
 use reason_text::FrameWords;
 use std::alloc::{AllocError, Global};
 
@@ -12,29 +14,36 @@ pub(crate) fn lines_of_sought(
     alloc: Global,
     frames: &[Frame],
     sought: &Sought<'_>,
+    form: Form,
 ) -> Result<Vec<u8>, AllocError>
-    ensures { IfOk result (λ text. text.items ≡ sought_lines sought.now 0 frames.now) }
+    ensures { IfOk result (λ text. text.items ≡ sought_lines form sought.now 0 frames.now) }
 {
     let mut text = Vec::new(alloc);
     for place in 0..frames.len() {
         let frame = &frames[place];
         if sought.is_met_by(frame) {
-            add_line(alloc, &mut text, place, frame)?;
+            let line = line_of(alloc, form, place, frame)?;
+            text.extend_from_slice(&line)?;
         }
     }
     Ok(text)
 }
 
-// Appends the line of a message.
-fn add_line(
-    alloc: Global,
-    text: &mut Vec<u8>,
-    place: usize,
-    frame: &Frame,
-) -> Result<(), AllocError>
-    ensures { OnOk result (text.new.items ≡ text.old.items ++ message_line place frame.now) }
+// The line of a message in this form.
+fn line_of(alloc: Global, form: Form, index: usize, frame: &Frame) -> Result<Vec<u8>, AllocError>
+    ensures { IfOk result (λ line. line.items ≡ told_line form index frame.now) }
+{
+    match form {
+        Form::Lines => words_line(alloc, index, frame),
+        Form::Json(cards) => frame_line(alloc, Place { block: None, index }, cards, frame),
+    }
+}
+
+// The line of a message for people.
+fn words_line(alloc: Global, place: usize, frame: &Frame) -> Result<Vec<u8>, AllocError>
+    ensures { IfOk result (λ line. line.items ≡ message_line place frame.now) }
 {
     let words = FrameWords(frame);
     let line = format!(in alloc; "message  {place}: {words}\n")?;
-    text.extend_from_slice(line.as_bytes())
+    Ok(line.into_bytes())
 }

@@ -1,18 +1,20 @@
 ghost use Rattle.std.specs.Prelude.{◌≡◌, ◌≤◌, IfOk, IfErr, IsOk, OnOk};
 ghost use Rattle.std.specs.Io.KnownBytes.{Appends};
 ghost use Rattle.issuer_reasons.specs.declared.explanation.Explanation.{Explanation};
-ghost use Rattle.reason_text.specs.Lines.{lines_of};
 ghost use Rattle.app_jobs.specs.Faults.{IsBatchFault};
-ghost use Rattle.app_why.specs.Why.{AreLines, IsSaid, IsWhy, IsWhyFault};
+ghost use Rattle.app_why.specs.Why.{AreLines, explanation_text, IsSaid, IsWhy, IsWhyFault};
 
 use crate::answering::why_of;
 use crate::asking::WhyAsked;
+use crate::form::Form;
 use crate::help::{USAGE, WHY_HELP};
 use crate::listing::lines_of_sought;
 use crate::sought::Sought;
 use crate::why_fault::WhyFault;
 use app_jobs::{JobFault, open_batch};
 use file_devices::Files;
+use issuer_reasons::Explanation;
+use reason_json::why_line;
 use reason_text::lines_of;
 use std::alloc::{AllocError, Global};
 use std::io;
@@ -33,8 +35,8 @@ pub fn answer_why<R: Threads, F: Files, O: Write, E: Write>(
     ensures said { result ≡ 0 → IsSaid (F.is_known files.now) (F.holds files.now) asked.now (O.contents out.old) (O.contents out.new) }
 {
     let said = match asked {
-        WhyAsked::Message(book, batch, index) => {
-            match lines_of_files(rt, alloc, files, book, batch, *index) {
+        WhyAsked::Message(book, batch, index, form) => {
+            match text_of_files(rt, alloc, files, book, batch, *index, *form) {
                 Ok(text) => put(out, &text),
                 Err(fault) => {
                     tell(err, &fault, batch);
@@ -42,13 +44,15 @@ pub fn answer_why<R: Threads, F: Files, O: Write, E: Write>(
                 }
             }
         }
-        WhyAsked::Messages(batch, sought) => match lines_of_batch(alloc, files, batch, sought) {
-            Ok(text) => put(out, &text),
-            Err(fault) => {
-                tell(err, &WhyFault::Job(fault), batch);
-                return 1;
+        WhyAsked::Messages(batch, sought, form) => {
+            match lines_of_batch(alloc, files, batch, sought, *form) {
+                Ok(text) => put(out, &text),
+                Err(fault) => {
+                    tell(err, &WhyFault::Job(fault), batch);
+                    return 1;
+                }
             }
-        },
+        }
         WhyAsked::Help => put(out, WHY_HELP.as_bytes()),
         WhyAsked::Wrong => {
             let _ = err.write_all(USAGE.as_bytes());
@@ -70,21 +74,37 @@ fn status_of<E: Write>(said: io::Result<()>, err: &mut E) -> u8
     1
 }
 
+// An explanation in this form.
+fn text_of(
+    alloc: Global,
+    form: Form,
+    index: usize,
+    explanation: &Explanation,
+) -> Result<Vec<u8>, AllocError>
+    ensures { IfOk result (λ text. text.items ≡ explanation_text form index explanation.now) }
+{
+    match form {
+        Form::Lines => lines_of(alloc, index, explanation),
+        Form::Json(cards) => why_line(alloc, cards, index, explanation),
+    }
+}
+
 // What is said of the message at this place of a batch.
-fn lines_of_files<R: Threads, F: Files>(
+fn text_of_files<R: Threads, F: Files>(
     rt: &R,
     alloc: Global,
     files: &F,
     book: &str,
     batch: &str,
     index: usize,
+    form: Form,
 ) -> Result<Vec<u8>, WhyFault>
-    ensures lines { IfOk result (λ text. (e : Explanation) × IsWhy (F.is_known files.now) (F.holds files.now) book.now batch.now index e
-        × (text.items ≡ lines_of index e)) }
+    ensures text { IfOk result (λ text. (e : Explanation) × IsWhy (F.is_known files.now) (F.holds files.now) book.now batch.now index e
+        × (text.items ≡ explanation_text form index e)) }
     ensures fault { IfErr result (IsWhyFault (F.holds files.now) (F.failing files.now) book.now batch.now index) }
 {
     let explanation = why_of(rt, alloc, files, book, batch, index)?;
-    Ok(lines_of(alloc, index, &explanation)?)
+    Ok(text_of(alloc, form, index, &explanation)?)
 }
 
 // The lines of the messages that are sought in this batch.
@@ -93,12 +113,13 @@ fn lines_of_batch<F: Files>(
     files: &F,
     batch: &str,
     sought: &Sought<'_>,
+    form: Form,
 ) -> Result<Vec<u8>, JobFault>
-    ensures lines { IfOk result (λ text. AreLines (F.is_known files.now) (F.holds files.now) batch.now sought.now text.items) }
+    ensures lines { IfOk result (λ text. AreLines (F.is_known files.now) (F.holds files.now) batch.now sought.now form text.items) }
     ensures fault { IfErr result (IsBatchFault (F.holds files.now) (F.failing files.now) batch.now) }
 {
     let frames = open_batch(alloc, files, batch)?;
-    match lines_of_sought(alloc, &frames, sought) {
+    match lines_of_sought(alloc, &frames, sought, form) {
         Ok(text) => Ok(text),
         Err(AllocError) => Err(JobFault::OutOfMemory),
     }
