@@ -1,8 +1,8 @@
 -- What words ask of `show`, where they ask for JSON.
 use Rattle.std.specs.Prelude.{◌≡◌, ◌≢◌, ◌⊎◌, ℕ, List, Some, codes, length, slice_get}
 use Rattle.app_words.specs.Words.{IsCommand}
-use Rattle.message_json.specs.declared.card_numbers.CardNumbers.{CardNumbers}
-use Rattle.message_json.specs.declared.card_numbers.CardNumbers.TheVariants.{Masked, Full}
+use Rattle.iso_shown.specs.declared.card_numbers.CardNumbers.{CardNumbers}
+use Rattle.iso_shown.specs.declared.card_numbers.CardNumbers.TheVariants.{Masked, Full}
 use Rattle.app_show.specs.declared.asking.ShowAsked.{ShowAsked}
 use Rattle.app_show.specs.declared.asking.ShowAsked.TheVariants.{File, Help, Wrong}
 

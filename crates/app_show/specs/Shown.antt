@@ -15,7 +15,7 @@ use Rattle.file_devices.specs.declared.read_fault.ReadFault.{ReadFault}
 use Rattle.file_devices.specs.declared.read_fault.ReadFault.TheVariants as read
 use Rattle.issuer_rows.specs.declared.frame.Frame.{Frame}
 use Rattle.issuer_rows.specs.declared.reply_body.ReplyBody.{ReplyBody}
-use Rattle.message_json.specs.declared.card_numbers.CardNumbers.{CardNumbers}
+use Rattle.iso_shown.specs.declared.card_numbers.CardNumbers.{CardNumbers}
 use Rattle.app_show.specs.Lines.{block_lines, frame_lines, reply_block_lines, reply_lines}
 use Rattle.app_show.specs.declared.asking.ShowAsked.{ShowAsked}
 use Rattle.app_show.specs.declared.asking.ShowAsked.TheVariants as asked

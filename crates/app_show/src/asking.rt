@@ -1,9 +1,9 @@
 ghost use Rattle.std.specs.Prelude.{IfSome, IfNone, OnSome, IsTrue, codes, map, string_bytes};
-ghost use Rattle.message_json.specs.declared.card_numbers.CardNumbers.TheVariants.{Masked, Full};
+ghost use Rattle.iso_shown.specs.declared.card_numbers.CardNumbers.TheVariants.{Masked, Full};
 ghost use Rattle.app_show.specs.ShowAsked.{AsksFile, AsksHelp, AsksJson, HasWord, IsAskedBy, IsFree};
 
 use app_words::{is_command, is_word};
-use message_json::CardNumbers;
+use iso_shown::CardNumbers;
 
 /// What words ask of `show`, where they ask for JSON.
 #[derive(Clone, Copy)]

@@ -4,8 +4,9 @@ ghost use Rattle.std.specs.Prelude.{◌≡◌, IfOk};
 ghost use Rattle.file_blocks.specs.BlockFiles.{frames_of, replies_of};
 ghost use Rattle.app_show.specs.Lines.{block_lines, frame_lines, reply_block_lines, reply_lines};
 
+use iso_shown::CardNumbers;
 use issuer_rows::{Frame, ReplyBody};
-use message_json::{CardNumbers, Place, frame_line, reply_line};
+use message_json::{Place, frame_line, reply_line};
 use std::alloc::{AllocError, Global};
 
 /// A line for each body of a batch, or of a block.

@@ -10,7 +10,7 @@ use file_batch::{read_batch, read_replies};
 use file_batch_laws::BatchFault;
 use file_blocks::{read_block_replies, read_blocks};
 use file_devices::{Files, read_file};
-use message_json::CardNumbers;
+use iso_shown::CardNumbers;
 use std::alloc::Global;
 
 /// The lines of the file of this name: of a batch, of replies, of blocks or of replies of blocks, by the letters that it begins with. The

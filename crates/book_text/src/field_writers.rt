@@ -1,4 +1,4 @@
-//! Fields of an entry, as they are written.
+//! Members of an entry, as they are written.
 
 ghost use Rattle.std.specs.Prelude.{◌≡◌, ◌∷◌, [], ◌≤◌, ◌<◌, ◌^◌, length, decimal, OnOk, IfSome};
 ghost use Rattle.iso8583.specs.Calendar.{IsDay, IsLocalStamp};
@@ -23,23 +23,22 @@ use issuer_rows::{Balance, BudgetMode, CardStatus, Count, Expiry};
 use json::Writer;
 use std::alloc::AllocError;
 
-pub(crate) fn balance_field(
-    out: &mut Writer,
-    name: &str,
-    balance: Balance,
-) -> Result<(), AllocError>
+/// Writes a member that is a balance, in minor units. It fails only where memory runs out.
+pub fn balance_field(out: &mut Writer, name: &str, balance: Balance) -> Result<(), AllocError>
     ensures { OnOk result (Adds out.old out.new (key_token name.now ∷ number_token (decimal balance) ∷ [])) }
 {
     number_field(out, name, balance.minor())
 }
 
-pub(crate) fn amount_field(out: &mut Writer, name: &str, amount: Amount) -> Result<(), AllocError>
+/// Writes a member that is an amount, in minor units. It fails only where memory runs out.
+pub fn amount_field(out: &mut Writer, name: &str, amount: Amount) -> Result<(), AllocError>
     ensures { OnOk result (Adds out.old out.new (key_token name.now ∷ number_token (decimal amount) ∷ [])) }
 {
     number_field(out, name, amount.minor())
 }
 
-pub(crate) fn count_field(out: &mut Writer, name: &str, count: Count) -> Result<(), AllocError>
+/// Writes a member that is a count. It fails only where memory runs out.
+pub fn count_field(out: &mut Writer, name: &str, count: Count) -> Result<(), AllocError>
     ensures { OnOk result (Adds out.old out.new (key_token name.now ∷ number_token (decimal count) ∷ [])) }
 {
     number_field(out, name, u64::from(count.number()))
@@ -55,27 +54,22 @@ fn digits_field<const N: usize>(
     text_field(out, name, digits.as_str())
 }
 
-pub(crate) fn currency_field(
-    out: &mut Writer,
-    name: &str,
-    currency: Currency,
-) -> Result<(), AllocError>
+/// Writes a member that is a currency, ISO 4217's number. It fails only where memory runs out.
+pub fn currency_field(out: &mut Writer, name: &str, currency: Currency) -> Result<(), AllocError>
     ensures { OnOk result (Adds out.old out.new (key_token name.now ∷ string_token currency.0 ∷ [])) }
 {
     digits_field(out, name, currency.0)
 }
 
-pub(crate) fn prefix_field(
-    out: &mut Writer,
-    name: &str,
-    prefix: PanPrefix,
-) -> Result<(), AllocError>
+/// Writes a member that is a prefix of card numbers. It fails only where memory runs out.
+pub fn prefix_field(out: &mut Writer, name: &str, prefix: PanPrefix) -> Result<(), AllocError>
     ensures { OnOk result (Adds out.old out.new (key_token name.now ∷ string_token prefix.0 ∷ [])) }
 {
     digits_field(out, name, prefix.0)
 }
 
-pub(crate) fn processing_field(
+/// Writes a member that is a processing code. It fails only where memory runs out.
+pub fn processing_field(
     out: &mut Writer,
     name: &str,
     processing: Processing,
@@ -85,31 +79,36 @@ pub(crate) fn processing_field(
     digits_field(out, name, processing.0)
 }
 
-pub(crate) fn stan_field(out: &mut Writer, name: &str, stan: Stan) -> Result<(), AllocError>
+/// Writes a member that is a trace number. It fails only where memory runs out.
+pub fn stan_field(out: &mut Writer, name: &str, stan: Stan) -> Result<(), AllocError>
     ensures { OnOk result (Adds out.old out.new (key_token name.now ∷ string_token stan.0 ∷ [])) }
 {
     digits_field(out, name, stan.0)
 }
 
-pub(crate) fn action_field(out: &mut Writer, name: &str, action: Action) -> Result<(), AllocError>
+/// Writes a member that is an action code. It fails only where memory runs out.
+pub fn action_field(out: &mut Writer, name: &str, action: Action) -> Result<(), AllocError>
     ensures { OnOk result (Adds out.old out.new (key_token name.now ∷ string_token (fixed_digits 3 action) ∷ [])) }
 {
     digits_field(out, name, action.digits())
 }
 
-pub(crate) fn expiry_field(out: &mut Writer, name: &str, expiry: Expiry) -> Result<(), AllocError>
+/// Writes a member that is a last month, YYMM. It fails only where memory runs out.
+pub fn expiry_field(out: &mut Writer, name: &str, expiry: Expiry) -> Result<(), AllocError>
     ensures { OnOk result (Adds out.old out.new (key_token name.now ∷ string_token expiry ∷ [])) }
 {
     text_field(out, name, expiry.as_str())
 }
 
-pub(crate) fn day_field(out: &mut Writer, name: &str, day: Day) -> Result<(), AllocError>
+/// Writes a member that is a day, YYMMDD. It fails only where memory runs out.
+pub fn day_field(out: &mut Writer, name: &str, day: Day) -> Result<(), AllocError>
     ensures { OnOk result (Adds out.old out.new (key_token name.now ∷ string_token day ∷ [])) }
 {
     text_field(out, name, day.as_str())
 }
 
-pub(crate) fn stamp_field(out: &mut Writer, name: &str, stamp: LocalStamp) -> Result<(), AllocError>
+/// Writes a member that is a local time, YYMMDDhhmmss. It fails only where memory runs out.
+pub fn stamp_field(out: &mut Writer, name: &str, stamp: LocalStamp) -> Result<(), AllocError>
     ensures { OnOk result (Adds out.old out.new (key_token name.now ∷ string_token stamp ∷ [])) }
 {
     text_field(out, name, stamp.as_str())
@@ -121,11 +120,8 @@ pub(crate) fn pan_field(out: &mut Writer, name: &str, pan: Pan) -> Result<(), Al
     text_field(out, name, pan.as_str())
 }
 
-pub(crate) fn acquirer_field(
-    out: &mut Writer,
-    name: &str,
-    acquirer: Acquirer,
-) -> Result<(), AllocError>
+/// Writes a member that is an acquirer. It fails only where memory runs out.
+pub fn acquirer_field(out: &mut Writer, name: &str, acquirer: Acquirer) -> Result<(), AllocError>
     ensures { OnOk result (Adds out.old out.new (key_token name.now ∷ string_token acquirer.0 ∷ [])) }
 {
     text_field(out, name, acquirer.as_str())
@@ -161,7 +157,8 @@ fn approval_field(out: &mut Writer, name: &str, code: Approval) -> Result<(), Al
     bytes_field(out, name, code.0.as_slice())
 }
 
-pub(crate) fn optional_approval_field(
+/// Writes a member that is an approval code, or null. It fails only where memory runs out.
+pub fn optional_approval_field(
     out: &mut Writer,
     name: &str,
     code: Option<Approval>,
@@ -174,11 +171,8 @@ pub(crate) fn optional_approval_field(
     }
 }
 
-pub(crate) fn identity_field(
-    out: &mut Writer,
-    name: &str,
-    identity: Identity,
-) -> Result<(), AllocError>
+/// Writes a member that is an identity: acquirer, time and trace number. It fails only where memory runs out.
+pub fn identity_field(out: &mut Writer, name: &str, identity: Identity) -> Result<(), AllocError>
     ensures { OnOk result (Adds out.old out.new (key_token name.now ∷ tokens_of (identity_data identity))) }
 {
     key(out, name)?;
@@ -190,7 +184,8 @@ pub(crate) fn identity_field(
     Ok(())
 }
 
-pub(crate) fn optional_identity_field(
+/// Writes a member that is an identity, or null. It fails only where memory runs out.
+pub fn optional_identity_field(
     out: &mut Writer,
     name: &str,
     identity: Option<Identity>,
@@ -203,11 +198,8 @@ pub(crate) fn optional_identity_field(
     }
 }
 
-pub(crate) fn status_field(
-    out: &mut Writer,
-    name: &str,
-    status: CardStatus,
-) -> Result<(), AllocError>
+/// Writes a member that is the status of a card. It fails only where memory runs out.
+pub fn status_field(out: &mut Writer, name: &str, status: CardStatus) -> Result<(), AllocError>
     ensures { OnOk result (Adds out.old out.new (key_token name.now ∷ string_token (status_word status) ∷ [])) }
 {
     let word = match status {
@@ -219,7 +211,8 @@ pub(crate) fn status_field(
     text_field(out, name, word)
 }
 
-pub(crate) fn mode_field(out: &mut Writer, name: &str, mode: BudgetMode) -> Result<(), AllocError>
+/// Writes a member that is the mode of a budget. It fails only where memory runs out.
+pub fn mode_field(out: &mut Writer, name: &str, mode: BudgetMode) -> Result<(), AllocError>
     ensures { OnOk result (Adds out.old out.new (key_token name.now ∷ string_token (mode_word mode) ∷ [])) }
 {
     let word = match mode {
@@ -229,7 +222,8 @@ pub(crate) fn mode_field(out: &mut Writer, name: &str, mode: BudgetMode) -> Resu
     text_field(out, name, word)
 }
 
-pub(crate) fn kind_field(out: &mut Writer, name: &str, kind: OriginalKind) -> Result<(), AllocError>
+/// Writes a member that is a kind of original. It fails only where memory runs out.
+pub fn kind_field(out: &mut Writer, name: &str, kind: OriginalKind) -> Result<(), AllocError>
     ensures { OnOk result (Adds out.old out.new (key_token name.now ∷ string_token (kind_word kind) ∷ [])) }
 {
     let word = match kind {
@@ -239,7 +233,8 @@ pub(crate) fn kind_field(out: &mut Writer, name: &str, kind: OriginalKind) -> Re
     text_field(out, name, word)
 }
 
-pub(crate) fn paid_field(out: &mut Writer, name: &str, paid: Paid) -> Result<(), AllocError>
+/// Writes a member that is what paid. It fails only where memory runs out.
+pub fn paid_field(out: &mut Writer, name: &str, paid: Paid) -> Result<(), AllocError>
     ensures { OnOk result (Adds out.old out.new (key_token name.now ∷ string_token (paid_word paid) ∷ [])) }
 {
     let word = match paid {

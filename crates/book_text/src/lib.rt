@@ -11,7 +11,16 @@ mod tokens;
 mod writing;
 
 pub use digest::digest_of_book;
+pub use field_writers::{
+    acquirer_field, action_field, amount_field, balance_field, count_field, currency_field,
+    day_field, expiry_field, identity_field, kind_field, mode_field, optional_approval_field,
+    optional_identity_field, paid_field, prefix_field, processing_field, stamp_field, stan_field,
+    status_field,
+};
 pub use listed_row::ListedRow;
 pub use parts::{emptied, last_piece, list_behind, piece_between, rows_piece, skipped_if};
-pub use tokens::begin_object;
+pub use tokens::{
+    begin_array, begin_object, end_array, end_object, key, null, null_field, number_field,
+    text_field,
+};
 pub use writing::{open_list, write_book};

@@ -14,51 +14,59 @@ pub fn begin_object(out: &mut Writer) -> Result<(), AllocError>
     out.begin_object()
 }
 
-pub(crate) fn end_object(out: &mut Writer) -> Result<(), AllocError>
+/// Writes the closing brace of an object. It fails only where memory runs out.
+pub fn end_object(out: &mut Writer) -> Result<(), AllocError>
     ensures { OnOk result (Adds out.old out.new (end_object ∷ [])) }
 {
     out.end_object()
 }
 
-pub(crate) fn begin_array(out: &mut Writer) -> Result<(), AllocError>
+/// Writes the opening bracket of an array. It fails only where memory runs out.
+pub fn begin_array(out: &mut Writer) -> Result<(), AllocError>
     ensures { OnOk result (Adds out.old out.new (begin_array ∷ [])) }
 {
     out.begin_array()
 }
 
-pub(crate) fn end_array(out: &mut Writer) -> Result<(), AllocError>
+/// Writes the closing bracket of an array. It fails only where memory runs out.
+pub fn end_array(out: &mut Writer) -> Result<(), AllocError>
     ensures { OnOk result (Adds out.old out.new (end_array ∷ [])) }
 {
     out.end_array()
 }
 
-pub(crate) fn key(out: &mut Writer, name: &str) -> Result<(), AllocError>
+/// Writes the name of a member. It fails only where memory runs out.
+pub fn key(out: &mut Writer, name: &str) -> Result<(), AllocError>
     ensures { OnOk result (Adds out.old out.new (key_token name.now ∷ [])) }
 {
     out.key(name)
 }
 
-pub(crate) fn null(out: &mut Writer) -> Result<(), AllocError>
+/// Writes null. It fails only where memory runs out.
+pub fn null(out: &mut Writer) -> Result<(), AllocError>
     ensures { OnOk result (Adds out.old out.new (null_token ∷ [])) }
 {
     out.null()
 }
 
-pub(crate) fn null_field(out: &mut Writer, name: &str) -> Result<(), AllocError>
+/// Writes a member that is null. It fails only where memory runs out.
+pub fn null_field(out: &mut Writer, name: &str) -> Result<(), AllocError>
     ensures { OnOk result (Adds out.old out.new (key_token name.now ∷ null_token ∷ [])) }
 {
     out.key(name)?;
     out.null()
 }
 
-pub(crate) fn number_field(out: &mut Writer, name: &str, number: u64) -> Result<(), AllocError>
+/// Writes a member that is a number. It fails only where memory runs out.
+pub fn number_field(out: &mut Writer, name: &str, number: u64) -> Result<(), AllocError>
     ensures { OnOk result (Adds out.old out.new (key_token name.now ∷ number_token (decimal number) ∷ [])) }
 {
     out.key(name)?;
     out.u64(number)
 }
 
-pub(crate) fn text_field(out: &mut Writer, name: &str, text: &str) -> Result<(), AllocError>
+/// Writes a member that is a text. It fails only where memory runs out.
+pub fn text_field(out: &mut Writer, name: &str, text: &str) -> Result<(), AllocError>
     ensures { OnOk result (Adds out.old out.new (key_token name.now ∷ string_token text.now ∷ [])) }
 {
     out.key(name)?;

@@ -1,2 +1,3 @@
 pub mod Masked
+pub mod Shown
 pub mod Opening

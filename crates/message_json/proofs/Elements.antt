@@ -18,7 +18,7 @@ use Rattle.serde_json.proofs.Texts.{print-outline}
 use Rattle.book_laws.specs.Text.{Adds, members, numeral, tokens_of}
 use Rattle.message_json.specs.Lines.{Member, all_tokens, element_tokens, elements_tokens, member_tokens}
 use Rattle.message_json.specs.Values.{value_of}
-use Rattle.message_json.specs.declared.card_numbers.CardNumbers.{CardNumbers}
+use Rattle.iso_shown.specs.declared.card_numbers.CardNumbers.{CardNumbers}
 
 -- the number of an amount's digits
 pub amount_again : (minor amount : ℕ) → minor ≡ amount → minor < 10 ^ 12 → Some (numeral minor) ≡ Some (numeral (number_of (fixed_digits 12 amount)))

@@ -22,7 +22,7 @@ use Rattle.serde_json.specs.Data.{Data, object, string}
 use Rattle.serde_json.specs.Written.{compact_text}
 use Rattle.book_laws.specs.Text.{members, numeral, tokens_of}
 use Rattle.message_json.specs.Values.{value_of}
-use Rattle.message_json.specs.declared.card_numbers.CardNumbers.{CardNumbers}
+use Rattle.iso_shown.specs.declared.card_numbers.CardNumbers.{CardNumbers}
 use Rattle.message_json.specs.declared.place.Place.{Place}
 
 -- a member of an object

@@ -1,30 +1,16 @@
 -- What JSON says of an element. Amounts are numbers, in minor units; all else is text.
-use Rattle.std.specs.Prelude.{◌≡◌, ℕ, Bool, ◌&&◌, nat_le, if◌then◌else◌, List, length, take, Option, option_map}
-use Rattle.iso8583.specs.Class.{is_digits}
+use Rattle.std.specs.Prelude.{◌≡◌, ℕ, List, take, Option, option_map}
 use Rattle.iso8583.specs.Number.{fixed_digits, number_of}
 use Rattle.iso_laws.specs.Elements.{original_text}
 use Rattle.iso_laws.specs.declared.element.Element.{Element}
 use Rattle.iso_laws.specs.declared.element.Element.TheVariants as element
 use Rattle.iso_shown.specs.Masked.{masked}
+use Rattle.iso_shown.specs.Shown.{shown_account, shown_card}
+use Rattle.iso_shown.specs.declared.card_numbers.CardNumbers.{CardNumbers}
 use Rattle.serde_json.specs.Data.{Data, string}
 use Rattle.book_laws.specs.Text.{numeral}
-use Rattle.message_json.specs.declared.card_numbers.CardNumbers.{CardNumbers}
-use Rattle.message_json.specs.declared.card_numbers.CardNumbers.TheVariants.{Masked, Full}
 use Rattle.message_json.specs.declared.element_value.ElementValue.{ElementValue}
 use Rattle.message_json.specs.declared.element_value.ElementValue.TheVariants as value
-
--- a card number, masked unless it is asked for in full
-abbrev pub shown_card : CardNumbers → List ℕ → List ℕ
-shown_card Masked digits = masked digits
-shown_card Full digits = digits
-
--- a text of as many digits as a card number has
-abbrev pub is_like_card : List ℕ → Bool
-is_like_card text = nat_le 12 (length text) && (nat_le (length text) 19 && is_digits text)
-
--- the name of an account, which may be a card number
-abbrev pub shown_account : CardNumbers → List ℕ → List ℕ
-shown_account cards name = if is_like_card name then shown_card cards name else name
 
 -- The value of an element by its text: of an amount its number; of element 30 the first of its two amounts; of others the text, with card
 -- numbers masked unless they are asked for in full.

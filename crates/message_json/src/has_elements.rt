@@ -1,9 +1,9 @@
 ghost use Rattle.iso_laws.specs.Spelling.{Texts};
 ghost use Rattle.message_json.specs.Values.{IsValueOf};
 
-use crate::card_numbers::CardNumbers;
 use crate::element_value::ElementValue;
 use iso_laws::Element;
+use iso_shown::CardNumbers;
 
 /// What has elements: a message or a reply.
 pub(crate) trait HasElements {

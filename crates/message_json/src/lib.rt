@@ -1,7 +1,6 @@
 //! Messages and replies as lines of JSON: objects of their elements, by the names that `make` takes.
 #![tactic(auto)]
 
-mod card_numbers;
 mod element_value;
 mod has_elements;
 mod lines;
@@ -12,7 +11,6 @@ mod reply_values;
 mod transaction_values;
 mod writing;
 
-pub use card_numbers::CardNumbers;
 pub use lines::{frame_line, reply_line};
 pub use members::{put_frame, put_reply};
 pub use place::Place;

@@ -2,10 +2,11 @@ ghost use Rattle.std.specs.Prelude.{◌≡◌, ◌++◌, [], IfOk, codes};
 ghost use Rattle.json.specs.Print.{print};
 ghost use Rattle.message_json.specs.Lines.{frame_line, reply_line};
 
-use crate::card_numbers::CardNumbers;
 use crate::members::{put_frame, put_reply};
 use crate::place::Place;
-use crate::writing::{begin, end, put_place};
+use crate::writing::put_place;
+use book_text::{begin_object, end_object};
+use iso_shown::CardNumbers;
 use issuer_rows::{Frame, ReplyBody};
 use json::Writer;
 use std::alloc::{AllocError, Global};
@@ -31,10 +32,10 @@ pub fn frame_line(
     ensures { IfOk result (λ line. line.items ≡ frame_line place cards frame.now) }
 {
     let mut out = Writer::new(Vec::new(alloc));
-    begin(&mut out)?;
+    begin_object(&mut out)?;
     put_place(&mut out, place)?;
     put_frame(&mut out, alloc, cards, frame)?;
-    end(&mut out)?;
+    end_object(&mut out)?;
     ended(out)
 }
 
@@ -49,9 +50,9 @@ pub fn reply_line(
     ensures { IfOk result (λ line. line.items ≡ reply_line place cards reply.now) }
 {
     let mut out = Writer::new(Vec::new(alloc));
-    begin(&mut out)?;
+    begin_object(&mut out)?;
     put_place(&mut out, place)?;
     put_reply(&mut out, alloc, cards, reply)?;
-    end(&mut out)?;
+    end_object(&mut out)?;
     ended(out)
 }

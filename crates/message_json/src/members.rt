@@ -4,10 +4,11 @@ ghost use Rattle.std.specs.Prelude.{OnOk};
 ghost use Rattle.book_laws.specs.Text.{Adds};
 ghost use Rattle.message_json.specs.Lines.{all_tokens, answer_members, frame_members, message_members, reply_members};
 
-use crate::card_numbers::CardNumbers;
 use crate::message_values::type_of_message;
 use crate::reply_values::type_of_reply;
-use crate::writing::{put_elements, put_fault, text_member};
+use crate::writing::{put_elements, put_fault};
+use book_text::text_field;
+use iso_shown::CardNumbers;
 use iso8583::{Message, Reply};
 use issuer_rows::{Frame, ReplyBody};
 use json::Writer;
@@ -22,7 +23,7 @@ fn put_message(
 ) -> Result<(), AllocError>
     ensures { OnOk result (Adds out.old out.new (all_tokens (message_members cards message.now))) }
 {
-    text_member(out, "type", type_of_message(message))?;
+    text_field(out, "type", type_of_message(message))?;
     put_elements(out, alloc, cards, message)
 }
 
@@ -50,7 +51,7 @@ fn put_answer(
 ) -> Result<(), AllocError>
     ensures { OnOk result (Adds out.old out.new (all_tokens (answer_members cards reply.now))) }
 {
-    text_member(out, "type", type_of_reply(reply))?;
+    text_field(out, "type", type_of_reply(reply))?;
     put_elements(out, alloc, cards, reply)?;
     Ok(())
 }

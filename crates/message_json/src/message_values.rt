@@ -9,11 +9,11 @@ ghost use Rattle.iso_laws.specs.Types.{mti_text};
 ghost use Rattle.iso_laws.specs.declared.element.Element.TheVariants as element;
 ghost use Rattle.message_json.specs.Values.{IsValueOf, value_data};
 
-use crate::card_numbers::CardNumbers;
 use crate::element_value::ElementValue;
 use crate::has_elements::HasElements;
 use crate::transaction_values::{account_value, value_in_transaction};
 use iso_laws::Element;
+use iso_shown::CardNumbers;
 use iso8583::{Advice, Message, Request, Reversal, ReversalScope};
 
 // The value of an element of a request.

@@ -7,11 +7,11 @@ ghost use Rattle.iso_laws.specs.Types.{mti_text};
 ghost use Rattle.iso_laws.specs.declared.element.Element.TheVariants as element;
 ghost use Rattle.message_json.specs.Values.{IsValueOf, value_data};
 
-use crate::card_numbers::CardNumbers;
 use crate::element_value::ElementValue;
 use crate::has_elements::HasElements;
 use crate::transaction_values::{account_value, alphanumeric_text, value_in_transaction};
 use iso_laws::Element;
+use iso_shown::CardNumbers;
 use iso8583::{Answer, Reply, Verdict};
 
 // The value of element 38.

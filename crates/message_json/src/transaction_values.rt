@@ -6,11 +6,12 @@ ghost use Rattle.iso_laws.specs.Messages.{account_text};
 ghost use Rattle.iso_laws.specs.Transactions.{transaction_texts};
 ghost use Rattle.iso_laws.specs.declared.element.Element.TheVariants as element;
 ghost use Rattle.serde_json.specs.Data.{string};
-ghost use Rattle.message_json.specs.Values.{IsValueOf, shown_account, shown_card, value_data};
+ghost use Rattle.iso_shown.specs.Shown.{shown_account, shown_card};
+ghost use Rattle.message_json.specs.Values.{IsValueOf, value_data};
 
-use crate::card_numbers::CardNumbers;
 use crate::element_value::ElementValue;
 use iso_laws::Element;
+use iso_shown::CardNumbers;
 use iso8583::{AccountId, Alphanumeric, Pan, Printable, Retrieval, Transaction};
 
 // Bytes of ASCII as text.

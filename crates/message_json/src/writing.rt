@@ -5,52 +5,22 @@ ghost use Rattle.iso_laws.specs.Elements.{original_text, original_type};
 ghost use Rattle.iso_laws.specs.Spelling.{fields};
 ghost use Rattle.iso_shown.specs.Masked.{masked};
 ghost use Rattle.issuer_rows.specs.FrameFault.{fault_body};
-ghost use Rattle.json.specs.Token.{begin_object, end_object, key as key_token, string as string_token, number as number_token};
+ghost use Rattle.json.specs.Token.{string as string_token};
 ghost use Rattle.book_laws.specs.Text.{Adds, tokens_of};
 ghost use Rattle.message_json.specs.Lines.{all_tokens, block_members, element_tokens, elements_tokens, fault_element, fault_members, place_members};
 ghost use Rattle.message_json.specs.Values.{value_data};
 
-use crate::card_numbers::CardNumbers;
 use crate::element_value::ElementValue;
 use crate::has_elements::HasElements;
 use crate::place::Place;
+use book_text::{number_field, text_field};
 use iso_laws::Element;
-use iso_shown::MaskedPan;
+use iso_shown::{CardNumbers, MaskedPan};
 use iso8583::{Digits, OriginalKind, OriginalRef, Pan};
 use issuer_rows::FrameFault;
 use json::Writer;
 use message_words::{elements, name_of};
 use std::alloc::{AllocError, Global};
-
-/// Writes the opening brace of an object.
-pub(crate) fn begin(out: &mut Writer) -> Result<(), AllocError>
-    ensures { OnOk result (Adds out.old out.new (begin_object ∷ [])) }
-{
-    out.begin_object()
-}
-
-/// Writes the closing brace of an object.
-pub(crate) fn end(out: &mut Writer) -> Result<(), AllocError>
-    ensures { OnOk result (Adds out.old out.new (end_object ∷ [])) }
-{
-    out.end_object()
-}
-
-/// Writes a member that is a text.
-pub(crate) fn text_member(out: &mut Writer, name: &str, text: &str) -> Result<(), AllocError>
-    ensures { OnOk result (Adds out.old out.new (key_token name.now ∷ string_token text.now ∷ [])) }
-{
-    out.key(name)?;
-    out.string(text)
-}
-
-// Writes a member that is a number.
-fn number_member(out: &mut Writer, name: &str, number: u64) -> Result<(), AllocError>
-    ensures { OnOk result (Adds out.old out.new (key_token name.now ∷ number_token (decimal number) ∷ [])) }
-{
-    out.key(name)?;
-    out.u64(number)
-}
 
 // Writes a card number, masked.
 fn put_masked(out: &mut Writer, alloc: Global, pan: Pan) -> Result<(), AllocError>
@@ -144,7 +114,7 @@ fn put_fault_element(out: &mut Writer, element: u8) -> Result<(), AllocError>
     if element == 0 {
         return Ok(());
     }
-    number_member(out, "element", u64::from(element))
+    number_field(out, "element", u64::from(element))
 }
 
 // How a fault is answered.
@@ -167,7 +137,7 @@ pub(crate) fn put_fault(
     ensures { OnOk result (Adds out.old out.new (all_tokens (fault_members fault.now))) }
 {
     let text = fault_text(alloc, fault)?;
-    text_member(out, "fault", text.as_str())?;
+    text_field(out, "fault", text.as_str())?;
     put_fault_element(out, fault.fault().element())
 }
 
@@ -176,7 +146,7 @@ fn put_block(out: &mut Writer, block: Option<usize>) -> Result<(), AllocError>
     ensures { OnOk result (Adds out.old out.new (all_tokens (block_members block))) }
 {
     match block {
-        Some(block) => number_member(out, "block", block as u64),
+        Some(block) => number_field(out, "block", block as u64),
         None => Ok(()),
     }
 }
@@ -186,5 +156,5 @@ pub(crate) fn put_place(out: &mut Writer, place: Place) -> Result<(), AllocError
     ensures { OnOk result (Adds out.old out.new (all_tokens (place_members place))) }
 {
     put_block(out, place.block)?;
-    number_member(out, "index", place.index as u64)
+    number_field(out, "index", place.index as u64)
 }

@@ -1,7 +1,6 @@
 -- Rows, messages and replies in words. Card numbers are masked, also where an account is named by one; amounts are in minor units, and
 -- times, days and months are as the book has them: YYMMDDhhmmss, YYMMDD and YYMM.
-use Rattle.std.specs.Prelude.{ℕ, Bool, ◌&&◌, nat_le, if◌then◌else◌, List, [], ◌++◌, length, Option, Some, None, codes, decimal}
-use Rattle.iso8583.specs.Class.{is_digits}
+use Rattle.std.specs.Prelude.{ℕ, if◌then◌else◌, List, [], ◌++◌, Option, Some, None, codes, decimal}
 use Rattle.iso8583.specs.Number.{fixed_digits}
 use Rattle.iso8583.specs.declared.account_id.AccountId.{AccountId}
 use Rattle.iso8583.specs.declared.advice.Advice.{Advice}
@@ -22,6 +21,8 @@ use Rattle.iso8583.specs.declared.transaction.Transaction.{Transaction}
 use Rattle.iso8583.specs.declared.verdict.Verdict.{Verdict}
 use Rattle.iso8583.specs.declared.verdict.Verdict.TheVariants as verdict
 use Rattle.iso_shown.specs.Masked.{masked}
+use Rattle.iso_shown.specs.Shown.{shown_account}
+use Rattle.iso_shown.specs.declared.card_numbers.CardNumbers.TheVariants.{Masked}
 use Rattle.issuer_rows.specs.CardAccounts.{AccountsOfCard}
 use Rattle.issuer_rows.specs.FrameFault.{fault_body}
 use Rattle.issuer_rows.specs.Kept.{KeptOriginal, kind_of_outcome}
@@ -51,13 +52,9 @@ use Rattle.issuer_rows.specs.declared.velocity_row.VelocityRow.{VelocityRow}
 
 -- ---- names
 
--- a text of as many digits as a card number has
-abbrev pub is_like_card : List ℕ → Bool
-is_like_card text = nat_le 12 (length text) && (nat_le (length text) 19 && is_digits text)
-
 -- an account, masked where it is named as a card may be
 abbrev pub account_words : AccountId → List ℕ
-account_words id = if is_like_card id.0 then masked id.0 else id.0
+account_words id = shown_account Masked id.0
 
 -- acquirer, trace number, time
 abbrev pub identity_words : Identity → List ℕ

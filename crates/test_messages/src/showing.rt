@@ -2,7 +2,7 @@
 
 use app_show::{SHOW_JSON_HELP, ShowAsked, answer_show, show_asked};
 use file_devices::MemoryFiles;
-use message_json::CardNumbers;
+use iso_shown::CardNumbers;
 use std::alloc::Global;
 use std::process::Abort;
 
