@@ -1,6 +1,6 @@
 //! The command over files in memory: its statuses, and what stands on standard error.
 
-use app_why::{WhyAsked, answer_why, why_asked};
+use app_why::{Form, WhyAsked, answer_why, why_asked};
 use file_devices::MemoryFiles;
 use std::alloc::Global;
 use std::process::Abort;
@@ -27,6 +27,16 @@ const LISTS: &[(&str, &str)] = &[
     ("switch why book day --card 4111110000000005", REQUEST),
     ("switch why book day --trace 000002", ""),
     ("switch why book day --card 000001", ""),
+    (
+        "switch why book day --trace 000001 --json",
+        r#"{"index":0,"type":"1100","pan":"411111******0005","processing":"000000","amount":100,"transmission":"0110120000","trace":"000001","local-time":"260110120000","function":"100","acquirer":"123456","terminal":"TERM0001","currency":"978"}
+"#,
+    ),
+    (
+        "switch why book batch 0 --full-pan --json",
+        r#"{"index":0,"message":{"fault":"F01000"},"rule":"NoMessage","reason":"the body is no message","read":[],"wrote":[],"reply":{"fault":"F01000"}}
+"#,
+    ),
 ];
 
 // Commands: the names of their files and the place, the status, what stands on standard output, and on standard error.
@@ -78,7 +88,7 @@ fn said<R: Threads>(rt: &R, alloc: Global, asked: &WhyAsked<'_>) -> Option<(u8, 
 #[test]
 fn answers_the_commands(rt: HostRuntime) {
     for (book, batch, index, status, out, err) in COMMANDS {
-        let asked = WhyAsked::Message(book, batch, *index);
+        let asked = WhyAsked::Message(book, batch, *index, Form::Lines);
         let said = said(&rt, rt.alloc(), &asked).expect(&rt, "room");
         assert!(rt; said.0 == *status, "{book} {batch} {index}");
         assert!(rt;
@@ -108,6 +118,11 @@ fn lists_what_is_sought(rt: HostRuntime) {
         assert!(rt; said.0 == 0 && said.2.is_empty(), "{line}");
         assert!(rt; said.1.as_slice() == out.as_bytes(), "{line}");
     }
-    let said = said_of(&rt, rt.alloc(), "switch why book day --amount 5");
-    assert!(rt; said.expect(&rt, "words of `why`").0 == 2);
+    for line in [
+        "switch why book day --amount 5",
+        "switch why book day 0 --full-pan",
+    ] {
+        let said = said_of(&rt, rt.alloc(), line);
+        assert!(rt; said.expect(&rt, "words of `why`").0 == 2, "{line}");
+    }
 }

@@ -1,6 +1,8 @@
 //! The lines of a message: every kind of row, absent ones, and masked numbers.
 
 use crate::rules::explanation;
+use iso_shown::CardNumbers;
+use reason_json::why_line;
 use reason_text::lines_of;
 use std::alloc::Global;
 use std::process::Abort;
@@ -65,6 +67,28 @@ reply    F08000
 ",
 ];
 
+// Some of them as JSON: the place, which card numbers are asked for, and the line.
+const JSON: &[(usize, CardNumbers, &str)] = &[
+    (
+        0,
+        CardNumbers::Masked,
+        r#"{"index":0,"message":{"type":"1100","pan":"411111******0005","processing":"000000","amount":6000,"transmission":"0110120000","trace":"000001","local-time":"260110120000","function":"100","acquirer":"123456","terminal":"TERM0001","currency":"978"},"rule":"AccountPays","reason":"the account pays","read":[{"row":"original","acquirer":"123456","stamp":"260110120000","trace":"000001","absent":true},{"row":"card","account":"MAIN","approvals":12,"day_amount":20000,"day_count":3,"expiry":"2812","pan":"411111******0005","second":"SAVE","status":"active"},{"row":"account","available":10000,"currency":"978","id":"MAIN"},{"row":"day","pan":"411111******0005","day":"260110","absent":true},{"row":"budget","cap":400,"left":3000,"mode":"direct","prefix":"411111"}],"wrote":[{"row":"original","account":"MAIN","acquirer":"123456","action":"000","amount":6000,"approval":"000013","kind":"request","paid":"account","pan":"411111******0005","processing":"000000","reversed":null,"stamp":"260110120000","stay":6000,"trace":"000001"},{"row":"card","account":"MAIN","approvals":13,"day_amount":20000,"day_count":3,"expiry":"2812","pan":"411111******0005","second":"SAVE","status":"active"},{"row":"day","count":1,"day":"260110","pan":"411111******0005","sum":6000},{"row":"account","available":4000,"currency":"978","id":"MAIN"}],"reply":{"type":"1110","pan":"411111******0005","processing":"000000","amount":6000,"transmission":"0110120000","trace":"000001","local-time":"260110120000","acquirer":"123456","approval":"000013","action":"000","terminal":"TERM0001","currency":"978"}}
+"#,
+    ),
+    (
+        4,
+        CardNumbers::Full,
+        r#"{"index":4,"message":{"type":"1420","pan":"4111110000000013","processing":"000000","amount":7,"transmission":"0110120000","trace":"000004","local-time":"260110120000","function":"400","acquirer":"123456","terminal":"TERM0001","currency":"978","original":"112000000926011012000006123456"},"rule":"NoOriginal","reason":"nothing stands at the identity of the original","read":[{"row":"original","acquirer":"123456","stamp":"260110120000","trace":"000009","absent":true}],"wrote":[{"row":"original","acquirer":"123456","kind":"advice","pan":"4111110000000013","reversal":{"acquirer":"123456","stamp":"260110120000","trace":"000004"},"stamp":"260110120000","trace":"000009"}],"reply":{"type":"1430","pan":"4111110000000013","processing":"000000","amount":7,"transmission":"0110120000","trace":"000004","local-time":"260110120000","acquirer":"123456","action":"914","terminal":"TERM0001","currency":"978"}}
+"#,
+    ),
+    (
+        5,
+        CardNumbers::Masked,
+        r#"{"index":5,"message":{"fault":"F08000"},"rule":"NoMessage","reason":"the body is no message","read":[],"wrote":[],"reply":{"fault":"F08000"}}
+"#,
+    ),
+];
+
 // Whether these are the lines of the body at this place.
 fn are_lines(alloc: Global, index: usize, lines: &str) -> bool {
     let Some(explanation) = explanation(alloc, BATCH, index) else {
@@ -80,5 +104,23 @@ fn are_lines(alloc: Global, index: usize, lines: &str) -> bool {
 fn shows_the_lines(rt: HostRuntime) {
     for (index, lines) in LINES.iter().enumerate() {
         assert!(rt; are_lines(rt.alloc(), index, lines), "{lines}");
+    }
+}
+
+// Whether this is the line of JSON of the body at this place.
+fn is_json(alloc: Global, index: usize, cards: CardNumbers, line: &str) -> bool {
+    let Some(explanation) = explanation(alloc, BATCH, index) else {
+        return false;
+    };
+    match why_line(alloc, cards, index, &explanation) {
+        Ok(text) => text.as_slice() == line.as_bytes(),
+        Err(_) => false,
+    }
+}
+
+#[test]
+fn shows_json(rt: HostRuntime) {
+    for (index, cards, line) in JSON {
+        assert!(rt; is_json(rt.alloc(), *index, *cards, line), "{line}");
     }
 }
