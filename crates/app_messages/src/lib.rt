@@ -7,7 +7,6 @@ mod make_asking;
 mod make_words;
 mod making;
 mod telling;
-mod unpack_fault;
 mod unpacking;
 
 pub use asking::{UnpackAsked, unpack_asked};
@@ -15,5 +14,4 @@ pub use help::{MAKE_HELP, UNPACK_HELP};
 pub use make_asking::{MakeAsked, make_asked};
 pub use making::answer_make;
 pub use telling::answer_unpack;
-pub use unpack_fault::UnpackFault;
 pub use unpacking::unpack;

@@ -5,6 +5,7 @@ ghost use Rattle.app_messages.specs.Unpacked.{IsSaid};
 use crate::asking::UnpackAsked;
 use crate::help::{UNPACK_HELP, UNPACK_USAGE};
 use crate::unpacking::unpack;
+use app_reasons::{FileKind, tell_of_file};
 use file_devices::Files;
 use std::alloc::Global;
 use std::io;
@@ -26,7 +27,7 @@ pub fn answer_unpack<F: Files, O: Write, E: Write>(
         UnpackAsked::Batch(batch) => match unpack(alloc, files, batch) {
             Ok(text) => put(out, &text),
             Err(fault) => {
-                let _ = write!(err, "{fault}\n");
+                tell_of_file(alloc, files, batch, FileKind::Batch, &fault, err);
                 return 1;
             }
         },

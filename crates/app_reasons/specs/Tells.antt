@@ -124,6 +124,18 @@ abbrev pub TellsOfFile : Holding → BatchFault → FileKind → List ℕ → Re
 TellsOfFile holds fault kind name reason =
     (bytes : List ℕ) → holds name bytes → (found : BatchFault) × Says kind bytes found reason × (number_of_fault found ≡ number_of_fault fault)
 
+-- why a file is not read as one of this kind: the host says it, or it is its first fault
+abbrev pub TellsOfOne : Holding → FileKind → JobFault → List ℕ → Reason → Type 0
+TellsOfOne holds kind job.Unreadable name reason = TellsUnread holds name reason
+TellsOfOne holds kind (job.Batch fault) name reason = TellsOfFile holds fault kind name reason
+TellsOfOne holds kind fault name reason = ⊥
+
+-- why a book is not read: the host says it, or it is its first fault
+abbrev pub TellsOfOneBook : Holding → JobFault → List ℕ → Reason → Type 0
+TellsOfOneBook holds job.Unreadable name reason = TellsUnread holds name reason
+TellsOfOneBook holds (job.Book fault) name reason = TellsOfBook holds fault name reason
+TellsOfOneBook holds fault name reason = ⊥
+
 -- the first body of a batch that is no message is told
 abbrev pub TellsUnreadable : Holding → List ℕ → Reason → Type 0
 TellsUnreadable holds name reason = (bytes : List ℕ) → holds name bytes → SaysUnread bytes reason

@@ -41,8 +41,8 @@ pub fn words_of<F: Files>(
     }
 }
 
-// The same in one line.
-fn line_of(alloc: Global, told: &Told<'_>) -> Option<Vec<u8>>
+/// The same in one line.
+pub(crate) fn line_of(alloc: Global, told: &Told<'_>) -> Option<Vec<u8>>
     ensures { IfSome result (λ line. line.items ≡ told_line told.now.name.now told.now.reason) }
 {
     let text = told.to_string(alloc).ok()?;

@@ -9,6 +9,7 @@ mod file_kind;
 mod file_reasons;
 mod head_words;
 mod line_reason;
+mod one_file;
 mod one_line;
 mod reason;
 mod told;
@@ -20,6 +21,9 @@ pub use explaining::{told_of, words_of};
 pub use file_kind::FileKind;
 pub use head_words::HeadWords;
 pub use line_reason::{LineReason, reason_of_line};
+pub use one_file::{
+    tell_of_any_file, tell_of_book_or_batch, tell_of_file, words_of_book, words_of_file,
+};
 pub use reason::Reason;
 pub use told::Told;
 pub use unread_words::UnreadWords;

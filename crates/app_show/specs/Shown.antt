@@ -7,36 +7,33 @@ use Rattle.file_batch_laws.specs.Frames.{GivesBatch, IsBatchOf}
 use Rattle.file_batch_laws.specs.Reading.{replies_magic}
 use Rattle.file_batch_laws.specs.Replies.{GivesReplyFile, IsReplyFileOf}
 use Rattle.file_batch_laws.specs.declared.batch_fault.BatchFault.{BatchFault}
-use Rattle.file_batch_laws.specs.declared.batch_fault.BatchFault.TheVariants as batch
 use Rattle.file_blocks.specs.BlockFiles.{GivesBlockFile, GivesBlockReplyFile}
 use Rattle.file_devices.specs.Failing.{Failing}
 use Rattle.file_devices.specs.Holding.{Holding, IsThere}
-use Rattle.file_devices.specs.declared.read_fault.ReadFault.{ReadFault}
-use Rattle.file_devices.specs.declared.read_fault.ReadFault.TheVariants as read
 use Rattle.issuer_rows.specs.declared.frame.Frame.{Frame}
 use Rattle.issuer_rows.specs.declared.reply_body.ReplyBody.{ReplyBody}
 use Rattle.iso_shown.specs.declared.card_numbers.CardNumbers.{CardNumbers}
+use Rattle.app_jobs.specs.declared.job_fault.JobFault.{JobFault}
+use Rattle.app_jobs.specs.declared.job_fault.JobFault.TheVariants as fault
 use Rattle.app_show.specs.Lines.{block_lines, frame_lines, reply_block_lines, reply_lines}
 use Rattle.app_show.specs.declared.asking.ShowAsked.{ShowAsked}
 use Rattle.app_show.specs.declared.asking.ShowAsked.TheVariants as asked
-use Rattle.app_show.specs.declared.show_fault.ShowFault.{ShowFault}
-use Rattle.app_show.specs.declared.show_fault.ShowFault.TheVariants as fault
-use Rattle.app_show.specs.declared.shown_kind.ShownKind.{ShownKind}
-use Rattle.app_show.specs.declared.shown_kind.ShownKind.TheVariants.{Batch, Replies, Blocks, BlockReplies}
+use Rattle.app_reasons.specs.declared.file_kind.FileKind.{FileKind}
+use Rattle.app_reasons.specs.declared.file_kind.FileKind.TheVariants.{Batch, Replies, Blocks, BlockReplies}
 
 -- what begins with these letters; what begins with no letters of another file is taken for a batch
-abbrev pub kind_named : List ℕ → ShownKind
+abbrev pub kind_named : List ℕ → FileKind
 kind_named letters =
     if bytes_eq letters replies_magic then Replies
     else (if bytes_eq letters blocks_magic then Blocks
     else (if bytes_eq letters block_replies_magic then BlockReplies else Batch))
 
 -- what a file holds, by its first four bytes
-abbrev pub kind_of : List ℕ → ShownKind
+abbrev pub kind_of : List ℕ → FileKind
 kind_of bytes = kind_named (take 4 bytes)
 
 -- the bytes are a file of this kind, and these are its lines
-abbrev pub AreLinesAs : CardNumbers → ShownKind → List ℕ → List ℕ → Type 0
+abbrev pub AreLinesAs : CardNumbers → FileKind → List ℕ → List ℕ → Type 0
 AreLinesAs cards Batch bytes text = (frames : List Frame) × IsBatchOf bytes frames × (text ≡ frame_lines cards None 0 frames)
 AreLinesAs cards Replies bytes text = (replies : List ReplyBody) × IsReplyFileOf bytes replies × (text ≡ reply_lines cards None 0 replies)
 AreLinesAs cards Blocks bytes text = (blocks : List (List Frame)) × IsBlockFileOf bytes blocks × (text ≡ block_lines cards 0 blocks)
@@ -44,7 +41,7 @@ AreLinesAs cards BlockReplies bytes text =
     (blocks : List (List ReplyBody)) × IsBlockReplyFileOf bytes blocks × (text ≡ reply_block_lines cards 0 blocks)
 
 -- reading the bytes as a file of this kind stops with this fault, the first of them
-abbrev pub FailsAs : ShownKind → List ℕ → BatchFault → Type 0
+abbrev pub FailsAs : FileKind → List ℕ → BatchFault → Type 0
 FailsAs Batch bytes e = GivesBatch (Err e) bytes
 FailsAs Replies bytes e = GivesReplyFile bytes (Err e)
 FailsAs Blocks bytes e = GivesBlockFile bytes (Err e)
@@ -55,21 +52,12 @@ pub record IsShown (known : Type 0) (holds : Holding) (cards : CardNumbers) (nam
   pub there : known → IsThere holds name
   pub lines : (bytes : List ℕ) → holds name bytes → AreLinesAs cards (kind_of bytes) bytes text
 
--- a file that isn't read is unreadable, or memory ran out
-abbrev pub fault_of_read : ReadFault → ShowFault
-fault_of_read read.Unreadable = fault.Unreadable
-fault_of_read read.OutOfMemory = fault.OutOfMemory
-
--- out of memory is no fault of the file
-abbrev pub fault_of_batch : BatchFault → ShowFault
-fault_of_batch batch.OutOfMemory = fault.OutOfMemory
-fault_of_batch e = fault.Batch e
-
 -- Why the file of this name is not shown: its first fault, as what it is; a call on it failed; or memory ran out.
-abbrev pub IsShowFault : Holding → Failing → List ℕ → ShowFault → Type 0
+abbrev pub IsShowFault : Holding → Failing → List ℕ → JobFault → Type 0
 IsShowFault holds failing name (fault.Batch e) = (bytes : List ℕ) → holds name bytes → FailsAs (kind_of bytes) bytes e
 IsShowFault holds failing name fault.Unreadable = (bytes : List ℕ) → holds name bytes → failing.reading name
 IsShowFault holds failing name fault.OutOfMemory = ⊤
+IsShowFault holds failing name e = ⊥
 
 -- What is asked for is said, behind what was said before: of a file its lines.
 abbrev pub IsSaid : Type 0 → Holding → ShowAsked → Option (List ℕ) → Option (List ℕ) → Type 0

@@ -5,13 +5,9 @@ mod asking;
 mod help;
 mod listing;
 mod reading;
-mod show_fault;
-mod shown_kind;
 mod telling;
 
 pub use asking::{ShowAsked, show_asked};
 pub use help::SHOW_JSON_HELP;
 pub use reading::show_json;
-pub use show_fault::ShowFault;
-pub use shown_kind::ShownKind;
 pub use telling::answer_show;

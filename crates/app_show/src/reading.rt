@@ -1,11 +1,11 @@
 ghost use Rattle.std.specs.Prelude.{◌≡◌, IfOk, IfErr, take};
 ghost use Rattle.std.specs.Str.{bytes_eq};
 ghost use Rattle.app_show.specs.Shown.{AreLinesAs, FailsAs, IsShowFault, IsShown, kind_of, kind_named};
-ghost use Rattle.app_show.specs.declared.shown_kind.ShownKind.TheVariants.{Batch, Replies, Blocks, BlockReplies};
+ghost use Rattle.app_reasons.specs.declared.file_kind.FileKind.TheVariants.{Batch, Replies, Blocks, BlockReplies};
 
 use crate::listing::{lines_of_blocks, lines_of_frames, lines_of_replies, lines_of_reply_blocks};
-use crate::show_fault::ShowFault;
-use crate::shown_kind::ShownKind;
+use app_jobs::JobFault;
+use app_reasons::FileKind;
 use file_batch::{read_batch, read_replies};
 use file_batch_laws::BatchFault;
 use file_blocks::{read_block_replies, read_blocks};
@@ -20,13 +20,17 @@ pub fn show_json<F: Files>(
     files: &F,
     cards: CardNumbers,
     name: &str,
-) -> Result<Vec<u8>, ShowFault>
+) -> Result<Vec<u8>, JobFault>
     ensures lines { IfOk result (λ text. IsShown (F.is_known files.now) (F.holds files.now) cards name.now text.items) }
     ensures fault { IfErr result (IsShowFault (F.holds files.now) (F.failing files.now) name.now) }
 {
     let bytes = read_file(alloc, files, name)?;
     let kind = kind_of(&bytes);
-    Ok(lines_as(alloc, cards, kind, &bytes)?)
+    match lines_as(alloc, cards, kind, &bytes) {
+        Ok(text) => Ok(text),
+        Err(BatchFault::OutOfMemory) => Err(JobFault::OutOfMemory),
+        Err(fault) => Err(JobFault::Batch(fault)),
+    }
 }
 
 // Whether the text is this one.
@@ -45,22 +49,22 @@ fn letters_of(bytes: &[u8]) -> &[u8]
 }
 
 // What begins with these letters.
-fn kind_named(letters: &[u8]) -> ShownKind
+fn kind_named(letters: &[u8]) -> FileKind
     ensures { result ≡ kind_named letters.now }
 {
     if is_same(letters, b"I83R") {
-        ShownKind::Replies
+        FileKind::Replies
     } else if is_same(letters, b"I83M") {
-        ShownKind::Blocks
+        FileKind::Blocks
     } else if is_same(letters, b"I83T") {
-        ShownKind::BlockReplies
+        FileKind::BlockReplies
     } else {
-        ShownKind::Batch
+        FileKind::Batch
     }
 }
 
 // What the bytes are read as.
-fn kind_of(bytes: &[u8]) -> ShownKind
+fn kind_of(bytes: &[u8]) -> FileKind
     ensures { result ≡ kind_of bytes.now }
 {
     kind_named(letters_of(bytes))
@@ -70,17 +74,17 @@ fn kind_of(bytes: &[u8]) -> ShownKind
 fn lines_as(
     alloc: Global,
     cards: CardNumbers,
-    kind: ShownKind,
+    kind: FileKind,
     bytes: &[u8],
 ) -> Result<Vec<u8>, BatchFault>
     ensures lines { IfOk result (λ text. AreLinesAs cards kind bytes.now text.items) }
     ensures fault { IfErr result (FailsAs kind bytes.now) }
 {
     match kind {
-        ShownKind::Batch => batch_lines(alloc, cards, bytes),
-        ShownKind::Replies => replies_lines(alloc, cards, bytes),
-        ShownKind::Blocks => blocks_lines(alloc, cards, bytes),
-        ShownKind::BlockReplies => block_replies_lines(alloc, cards, bytes),
+        FileKind::Batch => batch_lines(alloc, cards, bytes),
+        FileKind::Replies => replies_lines(alloc, cards, bytes),
+        FileKind::Blocks => blocks_lines(alloc, cards, bytes),
+        FileKind::BlockReplies => block_replies_lines(alloc, cards, bytes),
     }
 }
 

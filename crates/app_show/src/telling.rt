@@ -5,6 +5,7 @@ ghost use Rattle.app_show.specs.Shown.{IsSaid};
 use crate::asking::ShowAsked;
 use crate::help::{SHOW_JSON_HELP, USAGE};
 use crate::reading::show_json;
+use app_reasons::tell_of_any_file;
 use file_devices::Files;
 use std::alloc::Global;
 use std::io;
@@ -26,7 +27,7 @@ pub fn answer_show<F: Files, O: Write, E: Write>(
         ShowAsked::File(name, cards) => match show_json(alloc, files, *cards, name) {
             Ok(text) => put(out, &text),
             Err(fault) => {
-                let _ = write!(err, "{fault}\n");
+                tell_of_any_file(alloc, files, name, &fault, err);
                 return 1;
             }
         },

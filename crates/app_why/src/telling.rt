@@ -12,6 +12,7 @@ use crate::listing::lines_of_sought;
 use crate::sought::Sought;
 use crate::why_fault::WhyFault;
 use app_jobs::{JobFault, open_batch};
+use app_reasons::{FileKind, tell_of_book_or_batch, tell_of_file};
 use file_devices::Files;
 use issuer_reasons::Explanation;
 use reason_json::why_line;
@@ -39,7 +40,7 @@ pub fn answer_why<R: Threads, F: Files, O: Write, E: Write>(
             match text_of_files(rt, alloc, files, book, batch, *index, *form) {
                 Ok(text) => put(out, &text),
                 Err(fault) => {
-                    tell(err, &fault, batch);
+                    tell(alloc, files, book, batch, &fault, err);
                     return fault.status();
                 }
             }
@@ -48,7 +49,7 @@ pub fn answer_why<R: Threads, F: Files, O: Write, E: Write>(
             match lines_of_batch(alloc, files, batch, sought, *form) {
                 Ok(text) => put(out, &text),
                 Err(fault) => {
-                    tell(err, &WhyFault::Job(fault), batch);
+                    tell_of_file(alloc, files, batch, FileKind::Batch, &fault, err);
                     return 1;
                 }
             }
@@ -132,10 +133,22 @@ fn put<W: Write>(writer: &mut W, text: &[u8]) -> io::Result<()>
     writer.write_all(text)
 }
 
-// Says the fault, and behind one of the place how many messages the batch has.
-fn tell<W: Write>(err: &mut W, fault: &WhyFault, batch: &str) {
-    let _ = write!(err, "{fault}\n");
-    if let WhyFault::Index(count) = fault {
-        let _ = write!(err, "{batch}: it has {count} messages, numbered from 0\n");
+// Tells the fault, and behind it what is known of the file, or how many messages the batch has.
+fn tell<F: Files, E: Write>(
+    alloc: Global,
+    files: &F,
+    book: &str,
+    batch: &str,
+    fault: &WhyFault,
+    err: &mut E,
+) {
+    match fault {
+        WhyFault::Job(fault) => tell_of_book_or_batch(alloc, files, book, batch, fault, err),
+        WhyFault::Index(count) => {
+            let _ = write!(
+                err,
+                "{fault}\n{batch}: it has {count} messages, numbered from 0\n"
+            );
+        }
     }
 }
