@@ -1,0 +1,5 @@
+pub mod Alike
+pub mod Joined
+pub mod Late
+pub mod Sound
+pub mod Splitting

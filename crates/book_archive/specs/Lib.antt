@@ -1,0 +1,3 @@
+pub mod Archive
+pub mod Deciding
+pub mod Joining
