@@ -116,7 +116,7 @@ answers_alike date rows frames needs =
 -- ---- messages of the date and later
 
 -- the key is of a day before the date
-abbrev is_past_key : List ℕ → RowKey → Bool
+abbrev pub is_past_key : List ℕ → RowKey → Bool
 is_past_key date (RowKey.Velocity pan day) = is_before date day
 is_past_key date (RowKey.Original identity) = is_before date (day_of identity.stamp)
 is_past_key date (RowKey.Card pan) = false
@@ -141,7 +141,7 @@ not_past date (RowKey.Original identity) (RowVal.Budget row) h = refl
 not_past date (RowKey.Original identity) (RowVal.Ahead mark) h = refl
 not_past date (RowKey.Original identity) (RowVal.Account row) h = refl
 
-not_past_at : (date : List ℕ) (rows : Rows) (k : RowKey) → is_past_key date k ≡ false → is_past_at date rows k ≡ false
+pub not_past_at : (date : List ℕ) (rows : Rows) (k : RowKey) → is_past_key date k ≡ false → is_past_at date rows k ≡ false
 not_past_at date rows k h = each (map.get rows k)
   where
     each : (o : Option RowVal) → has (is_past date k) o ≡ false

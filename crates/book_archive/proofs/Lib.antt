@@ -1,4 +1,5 @@
 pub mod Alike
+pub mod Days
 pub mod Joined
 pub mod Late
 pub mod Sound

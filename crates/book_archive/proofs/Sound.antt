@@ -26,7 +26,7 @@ use Rattle.book_archive.proofs.Splitting.{Row, is_new, is_old, get_retained, get
 
 -- ---- rows that are left of a book
 
-entries_retained : (rows : Rows) (test : RowKey → Bool) → map.entries (map.retain_keys rows test) ≡ where_key key_cmp test (map.entries rows)
+pub entries_retained : (rows : Rows) (test : RowKey → Bool) → map.entries (map.retain_keys rows test) ≡ where_key key_cmp test (map.entries rows)
 entries_retained rows test =
     same_entries key_cmp key_cmp_total key_cmp_antisymmetric (map.entries (map.retain_keys rows test)) (where_key key_cmp test (map.entries rows)) (map.entries_sorted (map.retain_keys rows test))
     (is_sorted-where_key key_cmp test (map.entries rows) (map.entries_sorted rows))
@@ -53,7 +53,7 @@ all_retained keys test other rows implies h =
     ap (list_all other) (entries_retained rows keys)
     ∙ all_left (λ e. keys e.0) test other (λ e. map.get rows e.0 ≡ Some e.1) (map.entries rows) implies (listed_found rows) h
 
-sum_left : (f : Row → ℕ) (left : Row → Bool) (es : List Row) → sum_by f (filter left es) ≤ sum_by f es
+pub sum_left : (f : Row → ℕ) (left : Row → Bool) (es : List Row) → sum_by f (filter left es) ≤ sum_by f es
 sum_left f left [] = omega arith
 sum_left f left (e ∷ es) =
     let rest = sum_left f left es in

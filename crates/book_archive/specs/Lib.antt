@@ -1,3 +1,4 @@
 pub mod Archive
+pub mod Days
 pub mod Deciding
 pub mod Joining

@@ -4,6 +4,7 @@ ghost use Rattle.iso8583.specs.declared.request.Request.{Request};
 ghost use Rattle.iso8583.specs.declared.reversal.Reversal.{Reversal};
 ghost use Rattle.issuer_rows.specs.Fold.{Rows};
 ghost use Rattle.issuer_rows.specs.declared.frame.Frame.{Frame};
+ghost use Rattle.book_archive.specs.Days.{KeepsDaysCovered, KeepsLimits};
 ghost use Rattle.book_archive.specs.Deciding.{AnswersAlike, ArchivesAnyTime, LaterNeedsNoPast, LateAdviceIsNew, LateRequestIsNew, LateReversalIsLost};
 ghost use Rattle.book_archive.specs.Joining.{IsPartedBy, LeavesBothSound};
 
@@ -40,4 +41,11 @@ pub fn a_late_message_finds_no_original()
     ensures reversal { (date : List ℕ) (rows : Rows) (v : Reversal) → LateReversalIsLost date rows v }
     ensures request { (date : List ℕ) (rows : Rows) (r : Request) → LateRequestIsNew date rows r }
     ensures advice { (date : List ℕ) (rows : Rows) (a : Advice) → LateAdviceIsNew date rows a }
+{}
+
+/// On the new book, too, each day has the approvals and the money of all of its requests that can still be reversed, and no day is over its
+/// card's limits, where that was so of the book.
+pub fn days_stay_in_order()
+    ensures covered { (date : List ℕ) (rows : Rows) → KeepsDaysCovered date rows }
+    ensures limits { (date : List ℕ) (rows : Rows) → KeepsLimits date rows }
 {}
