@@ -1,6 +1,7 @@
 //! `switch`: decides card messages for an issuer.
 #![tactic(auto)]
 
+use app_archive::{ArchiveAsked, answer_archive, archive_asked};
 use app_commands::{Fault, Printer, act, print_fault};
 use app_messages::{MakeAsked, UnpackAsked, answer_make, answer_unpack, make_asked, unpack_asked};
 use app_report::{ReportAsked, answer_report, report_asked};
@@ -47,6 +48,8 @@ fn main(rt: HostRuntime) -> ExitCode {
         audit_log_words(&rt, rt, &files, progress, asked, &mut out, &mut err)
     } else if let Some(asked) = report_asked(&words) {
         report_words(rt, &mut files, &asked)
+    } else if let Some(asked) = archive_asked(&words) {
+        archive_words(&rt, rt, &mut files, &asked)
     } else if let Some(asked) = make_asked(&words) {
         make_words(rt, &asked)
     } else if let Some(asked) = unpack_asked(&words) {
@@ -147,6 +150,23 @@ fn audit_log_words<R: Threads, F: Files, O: Write, E: Write>(
 // Does what is asked of how a day went.
 fn report_words<F: Files>(host: HostRuntime, files: &mut F, asked: &ReportAsked<'_>) -> u8 {
     answer_report(
+        host.alloc(),
+        files,
+        asked,
+        &mut host.stdout(),
+        &mut host.stderr(),
+    )
+}
+
+// Does what is asked of a book that is archived.
+fn archive_words<R: Threads + Wait + Sync, F: Files>(
+    rt: &R,
+    host: HostRuntime,
+    files: &mut F,
+    asked: &ArchiveAsked<'_>,
+) -> u8 {
+    answer_archive(
+        rt,
         host.alloc(),
         files,
         asked,

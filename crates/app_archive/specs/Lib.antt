@@ -1,0 +1,3 @@
+pub mod ArchiveAsked
+pub mod Archived
+pub mod Faults

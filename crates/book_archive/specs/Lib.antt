@@ -1,0 +1,4 @@
+pub mod Archive
+pub mod Days
+pub mod Deciding
+pub mod Joining
