@@ -1,0 +1,3 @@
+pub mod Turns
+pub mod Histories
+pub mod Kept
