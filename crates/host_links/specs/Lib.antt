@@ -1,3 +1,4 @@
 pub mod Turns
 pub mod Histories
+pub mod Turning
 pub mod Kept

@@ -46,3 +46,8 @@ messages_of turns = flat_map (λ turn. turn.messages) turns
 -- the entries of all turns: each turn with a body is one
 abbrev pub entries_of : List LinkTurn → List (List (List ℕ))
 entries_of turns = flat_map (λ turn. entry_of turn.bodies) turns
+
+-- the messages at hand behind a turn of these bodies: those that were decided last, where there is a body
+abbrev pub messages_at : List (List ℕ) → List Frame → List Frame
+messages_at [] frames = []
+messages_at (body ∷ bodies) frames = frames

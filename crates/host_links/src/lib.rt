@@ -1,10 +1,13 @@
 //! A live host that several links share: each link is served by a thread of its own, and takes its turns at the host one after another.
 #![tactic(auto)]
 
+mod buffers;
 mod history;
 mod link_turn;
 mod naming;
+mod turning;
 
+pub use buffers::LinkBuffers;
 pub use history::{Came, Front, History, Opened};
 pub use link_turn::LinkTurn;
-pub use naming::Naming;
+pub use naming::{Before, Naming};
