@@ -31,8 +31,8 @@ module _ {G : Type 0} (is_known : G → Type 0) (synced unsynced : G → List �
 
   -- All turns are whole frames of their links. The log, where it is named how it was, has their entries; until a fault the book is the one
   -- after their messages.
-  pub record IsKept (opening : Rows) (before : Tally) (first : Option (LogWriter G)) (host : Host G) (fault : Option HostFault) (counts : List ℕ) (turns : List LinkTurn) : Type 0 where
+  pub record IsKept (opening : Rows) (before : Tally) (first : Option (LogWriter G)) (host : Host G) (fault : Option HostFault) (numbers : List ℕ) (turns : List LinkTurn) : Type 0 where
     pub are : AllByRecursion IsTurnOfLink turns
     pub log : IfSome first (λ old. LogStands fault old host.log turns)
     pub after : fault ≡ None → IsAfter opening before host turns
-    pub counts : AreCounts counts turns
+    pub counts : AreCounts numbers turns

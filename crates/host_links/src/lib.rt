@@ -3,11 +3,15 @@
 
 mod buffers;
 mod history;
+mod laws;
 mod link_turn;
 mod naming;
+mod shared_host;
 mod turning;
 
 pub use buffers::LinkBuffers;
 pub use history::{Came, Front, History, Opened};
+pub use laws::{turns_go_on, turns_of_others_change_nothing};
 pub use link_turn::LinkTurn;
 pub use naming::{Before, Naming};
+pub use shared_host::SharedHost;
