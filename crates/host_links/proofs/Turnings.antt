@@ -15,13 +15,18 @@ use Rattle.link_frames.specs.Incoming.{Incoming, bodies_of, requests_behind, ans
 use Rattle.link_frames.specs.declared.network_request.NetworkRequest.{NetworkRequest}
 use Rattle.link_frames.proofs.InOrder.{in_order}
 use Rattle.host_serving.specs.Entering.{Grows, Enters, book_of}
+use Rattle.host_serving.specs.Serving.{LogAfter}
 use Rattle.host_serving.specs.Tally.{counted}
 use Rattle.host_serving.specs.Turn.{HasTaken, IsTurn, entry_of}
 use Rattle.host_serving.specs.declared.host.Host.{Host}
 use Rattle.host_serving.specs.declared.tally.Tally.{Tally}
 use Rattle.host_serving.specs.declared.turn.Turn.{Turn}
 use Rattle.host_serving.proofs.Takes.{as_many}
-use Rattle.host_links.specs.Turning.{Turns}
+use Rattle.host_serving.specs.declared.host_fault.HostFault.{HostFault}
+use Rattle.host_serving.specs.declared.host_fault.HostFault.TheVariants.{Link, Log, OutOfMemory}
+use Rattle.link_frames.specs.declared.link_fault.LinkFault.{LinkFault}
+use Rattle.log_file.specs.declared.log_writer.LogWriter.{LogWriter}
+use Rattle.host_links.specs.Turning.{Turns, of_all}
 use Rattle.host_links.specs.Turns.{messages_at}
 
 -- a message has no fault
@@ -100,3 +105,12 @@ module _ {G : Type 0} (is_known : G → Type 0) (synced unsynced : G → List �
   turned bytes had has puts turn came again old new link h same known none e bodies requests frames =
       let own : HasTaken bytes [] turn = subst (λ (t : Turn). HasTaken bytes [] t) (sym same) h in
       turned_as bytes had has puts turn again old new link own known none (e own.incoming own.taken) bodies requests frames
+
+  -- a fault, as one of all links
+  pub stops_all : (fault : HostFault) (old new : LogWriter G) (more : List (List (List ℕ))) → LogAfter is_known synced unsynced fault old new more → LogAfter is_known synced unsynced (of_all fault) old new more
+  stops_all (Link fault) old new more after = link_after fault old new more after
+    where
+      link_after : (fault : LinkFault) (old new : LogWriter G) (more : List (List (List ℕ))) → LogAfter is_known synced unsynced (Link fault) old new more → Grows is_known synced unsynced old new more
+      link_after fault old new more after = after
+  stops_all (Log fault) old new more after = after
+  stops_all OutOfMemory old new more after = after

@@ -2,3 +2,5 @@ pub mod Turns
 pub mod Histories
 pub mod Turning
 pub mod Kept
+pub mod Lines
+pub mod Fresh

@@ -7,8 +7,15 @@ use Rattle.host_serving.specs.Tally.{counted}
 use Rattle.host_serving.specs.Turn.{entry_of}
 use Rattle.host_serving.specs.declared.host.Host.{Host}
 use Rattle.host_serving.specs.declared.host_fault.HostFault.{HostFault}
+use Rattle.host_serving.specs.declared.host_fault.HostFault.TheVariants.{Link, Log, OutOfMemory}
 use Rattle.host_links.specs.Turns.{IsTurnOfLink, answer_to_turn}
 use Rattle.host_links.specs.declared.link_turn.LinkTurn.{LinkTurn}
+
+-- a fault in a turn is one of the log or of memory: answers that can't be kept are want of memory, too
+abbrev pub of_all : HostFault → HostFault
+of_all (Link fault) = OutOfMemory
+of_all (Log fault) = Log fault
+of_all OutOfMemory = OutOfMemory
 
 module _ {G : Type 0} (is_known : G → Type 0) (synced unsynced : G → List ℕ) where
   -- The turn is whole frames; its entry stands in the log, synced; the book is the one after its messages; and these are the answers to it.

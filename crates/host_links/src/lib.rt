@@ -4,14 +4,18 @@
 mod buffers;
 mod history;
 mod laws;
+mod line;
 mod link_turn;
 mod naming;
+mod serving;
 mod shared_host;
 mod turning;
 
 pub use buffers::LinkBuffers;
 pub use history::{Came, Front, History, Opened};
 pub use laws::{turns_go_on, turns_of_others_change_nothing};
+pub use line::Line;
 pub use link_turn::LinkTurn;
 pub use naming::{Before, Naming};
+pub use serving::serve_line;
 pub use shared_host::SharedHost;

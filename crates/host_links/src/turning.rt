@@ -2,7 +2,7 @@
 
 ghost use Rattle.std.specs.Prelude.{◌≡◌, [], IfErr, OnOk};
 ghost use Rattle.host_serving.specs.Turn.{HasTaken};
-ghost use Rattle.host_links.specs.Turning.{Turns, StopsTurning};
+ghost use Rattle.host_links.specs.Turning.{Turns, StopsTurning, of_all as of_all_faults};
 ghost use Rattle.host_links.specs.Turns.{messages_at};
 
 use crate::buffers::LinkBuffers;
@@ -23,6 +23,16 @@ pub(crate) fn messages_behind<'a, G: GrowingFile + Drop>(host: &'a Host<G>, bodi
         return &[];
     }
     host.decider().frames()
+}
+
+// What a fault in a turn means for all links: answers that can't be kept are want of memory, too.
+fn of_all(fault: HostFault) -> HostFault
+    ensures { result ≡ of_all_faults fault }
+{
+    match fault {
+        HostFault::Link(_) | HostFault::OutOfMemory => HostFault::OutOfMemory,
+        HostFault::Log(fault) => HostFault::Log(fault),
+    }
 }
 
 /// Serves what came in a turn of this link, and keeps the answers to it. After a fault, which is of the log or of memory, the host is of no
@@ -47,8 +57,12 @@ pub(crate) fn turn_at<G: GrowingFile + Drop, F: Decide, N: Watch>(
     let mut replies = mem::replace(&mut buffers.replies, Vec::new(alloc));
     replies.clear();
     let mut sink = IntoWrite::new(replies);
-    let again = host.enter(alloc, turn, &mut buffers.writer, &mut sink, decision, watch)?;
-    buffers.turn = again;
-    buffers.replies = sink.into_writer();
-    Ok(())
+    match host.enter(alloc, turn, &mut buffers.writer, &mut sink, decision, watch) {
+        Ok(again) => {
+            buffers.turn = again;
+            buffers.replies = sink.into_writer();
+            Ok(())
+        }
+        Err(fault) => Err(of_all(fault)),
+    }
 }
