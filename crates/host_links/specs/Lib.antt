@@ -4,3 +4,4 @@ pub mod Turning
 pub mod Kept
 pub mod Lines
 pub mod Fresh
+pub mod Seats
