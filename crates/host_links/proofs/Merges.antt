@@ -203,10 +203,10 @@ pub kept_none : {G : Type 0} (is_known : G → Type 0) (synced unsynced : G → 
     → IsKept is_known synced unsynced opening before first host None numbers turns
 kept_none {G = G} is_known synced unsynced opening before first host numbers links turns none book tally log zeros =
     subst (λ (x : List LinkTurn). IsKept is_known synced unsynced opening before first host None numbers x) (sym none) (
-      record {
-        are = tt;
-        log = subst (λ (x : Option (LogWriter G)). IfSome x (λ old. LogStands is_known synced unsynced None old host.log [])) (sym log) (grows_none is_known synced unsynced host.log);
-        after = λ _. record { book = book; tally = tally };
-        counts = λ link count is. none_counted links link count (subst (λ (x : List ℕ). slice_get x link ≡ Some count) zeros is);
-      }
+    record {
+      are = tt;
+      log = subst (λ (x : Option (LogWriter G)). IfSome x (λ old. LogStands is_known synced unsynced None old host.log [])) (sym log) (grows_none is_known synced unsynced host.log);
+      after = λ _. record { book = book; tally = tally };
+      counts = λ link count is. none_counted links link count (subst (λ (x : List ℕ). slice_get x link ≡ Some count) zeros is);
+    }
     )

@@ -69,7 +69,7 @@ module _ {G : Type 0} (is_known : G → Type 0) (synced unsynced : G → List �
       → Enters is_known synced unsynced h.incoming old new puts had has → again.bodies ≡ turn.bodies → again.requests.items ≡ turn.requests.items
       → (turn.bodies ≢ [] → AreFramesOf turn.bodies new.decider.frames.items)
       → Turns is_known synced unsynced old new
-        (record { link = link; bytes = bytes; bodies = again.bodies; requests = again.requests.items; messages = messages_at again.bodies new.decider.frames.items }) has
+      (record { link = link; bytes = bytes; bodies = again.bodies; requests = again.requests.items; messages = messages_at again.bodies new.decider.frames.items }) has
   turned_as bytes had has puts turn again old new link h known none e bodies requests frames =
       let are : again.bodies ≡ bodies_of h.incoming = bodies ∙ h.taken.bodies in
       let ask : again.requests.items ≡ requests_behind 0 h.incoming = requests ∙ h.taken.requests in
@@ -101,7 +101,7 @@ module _ {G : Type 0} (is_known : G → Type 0) (synced unsynced : G → List �
       → ((incoming : List Incoming) → IsTurn incoming turn → Enters is_known synced unsynced incoming old new puts had has) → again.bodies ≡ turn.bodies
       → again.requests.items ≡ turn.requests.items → (turn.bodies ≢ [] → AreFramesOf turn.bodies new.decider.frames.items)
       → Turns is_known synced unsynced old new
-        (record { link = link; bytes = bytes; bodies = again.bodies; requests = again.requests.items; messages = messages_at again.bodies new.decider.frames.items }) has
+      (record { link = link; bytes = bytes; bodies = again.bodies; requests = again.requests.items; messages = messages_at again.bodies new.decider.frames.items }) has
   turned bytes had has puts turn came again old new link h same known none e bodies requests frames =
       let own : HasTaken bytes [] turn = subst (λ (t : Turn). HasTaken bytes [] t) (sym same) h in
       turned_as bytes had has puts turn again old new link own known none (e own.incoming own.taken) bodies requests frames

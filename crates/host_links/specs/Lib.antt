@@ -5,3 +5,4 @@ pub mod Kept
 pub mod Lines
 pub mod Fresh
 pub mod Seats
+pub mod Merged

@@ -18,7 +18,7 @@ pub use history::{Came, Front, History, Opened};
 pub use laws::{turns_go_on, turns_of_others_change_nothing};
 pub use line::Line;
 pub use link_turn::LinkTurn;
-pub use links::serve_seats;
+pub use links::{serve_links, serve_seats};
 pub use naming::{Before, Naming};
 pub use seat::Seat;
 pub use serving::serve_line;

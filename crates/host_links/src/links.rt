@@ -1,7 +1,8 @@
 //! Links that share a host, each served by a thread of its own.
 
-ghost use Rattle.std.specs.Prelude.{ℕ, ◌<◌, All, length, slice_index_or};
+ghost use Rattle.std.specs.Prelude.{ℕ, ◌<◌, All, IfOk, length, slice_index_or};
 ghost use Rattle.host_links.specs.Fresh.{IsFresh};
+ghost use Rattle.host_links.specs.Merged.{LinkMerged};
 ghost use Rattle.host_links.specs.Seats.{SeatServed};
 
 use crate::history::History;
@@ -10,7 +11,7 @@ use crate::seat::Seat;
 use crate::serving::serve_line;
 use crate::shared_host::SharedHost;
 use file_devices::{Sink, Source};
-use host_serving::{MaxBatch, Watch};
+use host_serving::{HostFault, MaxBatch, Watch};
 use issuer_view::Decide;
 use log_devices::GrowingFile;
 use std::alloc::Global;
@@ -95,4 +96,38 @@ pub fn serve_seats<
             ensures { SeatServed I.is_known I.remaining O.is_known O.written link J.opening seat.entry.now seat.exit.now }
         { serve_seat(rt, alloc, shared, history, link, seat, decision, most) },
     );
+}
+
+/// Serves links at a host that they share, as `serve_seats` does, and gives the host back behind all their turns. Its history has the turns of
+/// all links in one order, which is that of the log; each link's part of it is what came on that link, and what it was given are the answers
+/// to that part, each on the book after all turns before it.
+pub fn serve_links<
+    R: Threads + Wait + Sync,
+    G: GrowingFile + Drop + Send,
+    N: Watch + Drop + Send,
+    J: Before<G> + Send + Sync,
+    I: Source + Send,
+    O: Sink + Send,
+    F: Decide + Sync,
+>(
+    rt: &R,
+    alloc: Global,
+    shared: SharedHost<G, N, J>,
+    history: &History<J>,
+    seats: &mut [Seat<I, O, J>],
+    decision: &F,
+    most: MaxBatch,
+) -> Result<SharedHost<G, N, J>, HostFault>
+    requires { All (λ seat. IsFresh seat.line) seats.old }
+    ensures { IfOk result (λ behind. (link : ℕ) (other : _) → link < length seats.old
+        → LinkMerged I.is_known I.remaining O.is_known O.written link J.opening behind.front (slice_index_or seats.old link other) (slice_index_or seats.new link other)) }
+{
+    let shared = Mutex::new(shared);
+    serve_seats(rt, alloc, &shared, history, seats, decision, most);
+    let behind = shared.into_inner();
+    if behind.has_all(seats) {
+        Ok(behind)
+    } else {
+        Err(HostFault::OutOfMemory)
+    }
 }

@@ -18,7 +18,12 @@ impl<I: Drop, O: Drop, J: Naming> Seat<I, O, J> {
     ghost use Rattle.host_links.specs.Fresh.{IsFresh};
 
     /// A link that is read from this source and answered on this sink. Nothing has come yet. Memory can run out.
-    pub fn new(alloc: Global, source: I, sink: O, front: &Front<J>) -> Result<Seat<I, O, J>, AllocError>
+    pub fn new(
+        alloc: Global,
+        source: I,
+        sink: O,
+        front: &Front<J>,
+    ) -> Result<Seat<I, O, J>, AllocError>
         requires { front.now ≡ [] }
         ensures source { IfOk result (λ seat. seat.source ≡ source) }
         ensures sink { IfOk result (λ seat. seat.sink ≡ sink) }

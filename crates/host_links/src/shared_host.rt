@@ -3,6 +3,7 @@ ghost use Rattle.host_links.specs.Kept.{IsKept};
 use crate::buffers::LinkBuffers;
 use crate::history::{Came, Front, History};
 use crate::naming::Before;
+use crate::seat::Seat;
 use crate::turning::{messages_behind, turn_at};
 use host_serving::{Host, HostFault, Watch};
 use issuer_view::Decide;
@@ -28,7 +29,8 @@ pub struct SharedHost<G: GrowingFile + Drop, N: Watch + Drop, J: Before<G>> {
 }
 
 impl<G: GrowingFile + Drop, N: Watch + Drop, J: Before<G>> SharedHost<G, N, J> {
-    ghost use Rattle.std.specs.Prelude.{◌≡◌, ◌+◌, ◌<◌, ◌++◌, ◌^◌, [], length, IfOk, IsTrue, OnErr, OnOk, Some, slice_get};
+    ghost use Rattle.std.specs.Prelude.{◌≡◌, ◌+◌, ◌<◌, ◌++◌, ◌^◌, [], length, IfOk, IsTrue, OnErr, OnOk, Some, slice_get, slice_index_or, ℕ};
+    ghost use Rattle.host_links.specs.Merged.{HasAllTurns};
     ghost use mathlib.Core.List.{IsPrefix};
     ghost use Rattle.host_serving.specs.Entering.{book_of};
     ghost use Rattle.host_serving.specs.Turn.{HasTaken};
@@ -67,6 +69,33 @@ impl<G: GrowingFile + Drop, N: Watch + Drop, J: Before<G>> SharedHost<G, N, J> {
             Some(had) if *had == count && self.front.len() < MOST_TURNS => me.begins(&self.front),
             _ => false,
         }
+    }
+
+    // Whether each of these links has seen all its own turns.
+    pub(crate) fn has_all<I, O>(&self, seats: &[Seat<I, O, J>]) -> bool
+        ensures { IsTrue result → (link : ℕ) (other : _) → link < length seats.now
+            → HasAllTurns link self.now.front self.now.counts.items (slice_index_or seats.now link other).line }
+    {
+        for link in 0..seats.len() {
+            let line = &seats[link].line;
+            if !self.is_met(link, &line.front, line.count) {
+                return false;
+            }
+        }
+        true
+    }
+
+    /// The host behind all turns, whoever is told of its entries, and the fault with which it stopped, if it did.
+    pub fn into_parts(self) -> (Host<G>, N, Option<HostFault>)
+        ensures { ∥ IsKept G.is_known G.synced G.unsynced J.opening J.tally J.log result.0 result.2 self.counts.items self.front ∥₁ }
+    {
+        let SharedHost {
+            host,
+            watch,
+            fault,
+            ..
+        } = self;
+        (host, watch, fault)
     }
 
     /// Serves what came in a turn of this link, and keeps the answers to it in its buffers, to be written once the host is another's: its

@@ -16,7 +16,10 @@ use std::alloc::Global;
 use std::mem;
 
 /// The messages of the turn that was served last, whose bodies these are.
-pub(crate) fn messages_behind<'a, G: GrowingFile + Drop>(host: &'a Host<G>, bodies: &Bodies) -> &'a [Frame]
+pub(crate) fn messages_behind<'a, G: GrowingFile + Drop>(
+    host: &'a Host<G>,
+    bodies: &Bodies,
+) -> &'a [Frame]
     ensures { result.now ≡ messages_at bodies.now host.now.decider.frames.items }
 {
     if bodies.is_empty() {
@@ -48,8 +51,13 @@ pub(crate) fn turn_at<G: GrowingFile + Drop, F: Decide, N: Watch>(
 ) -> Result<(), HostFault>
     requires came { HasTaken bytes.now [] buffers.old.turn }
     ensures turned { OnOk result (Turns G.is_known G.synced G.unsynced host.old host.new
-        (record { link = link; bytes = bytes.now; bodies = buffers.new.turn.bodies; requests = buffers.new.turn.requests.items;
-        messages = messages_at buffers.new.turn.bodies host.new.decider.frames.items })
+        (record {
+          link = link;
+          bytes = bytes.now;
+          bodies = buffers.new.turn.bodies;
+          requests = buffers.new.turn.requests.items;
+          messages = messages_at buffers.new.turn.bodies host.new.decider.frames.items;
+        })
         buffers.new.replies.items) }
     ensures stopped { IfErr result (λ e. StopsTurning G.is_known G.synced G.unsynced e host.old host.new) }
 {

@@ -41,8 +41,13 @@ invariant_of-self-2 g c =
     let file = g.G.GrowingFile in
     let own = c.args.self.now in
     let at = c.turn_at-turned.new in
-    let turn : LinkTurn = record { link = c.args.link; bytes = c.args.bytes.now; bodies = at.buffers.turn.bodies; requests = at.buffers.turn.requests.items;
-        messages = messages_at at.buffers.turn.bodies at.host.decider.frames.items } in
+    let turn : LinkTurn = record {
+      link = c.args.link;
+      bytes = c.args.bytes.now;
+      bodies = at.buffers.turn.bodies;
+      requests = at.buffers.turn.requests.items;
+      messages = messages_at at.buffers.turn.bodies at.host.decider.frames.items;
+    } in
     let last : c.add.new.self ≡ own.front ++ turn ∷ [] = rw (c.deref.ensures.value, c.messages_behind.ensures, c.again-front.ensures) at c.if-not-add.ensures in
     let has = c.if-not-is_met.ensures.count refl in
     record {
@@ -60,8 +65,13 @@ returns-clause-came g c =
     let file = g.G.GrowingFile in
     let own = c.args.self.now in
     let at = c.turn_at-turned.new in
-    let turn : LinkTurn = record { link = c.args.link; bytes = c.args.bytes.now; bodies = at.buffers.turn.bodies; requests = at.buffers.turn.requests.items;
-        messages = messages_at at.buffers.turn.bodies at.host.decider.frames.items } in
+    let turn : LinkTurn = record {
+      link = c.args.link;
+      bytes = c.args.bytes.now;
+      bodies = at.buffers.turn.bodies;
+      requests = at.buffers.turn.requests.items;
+      messages = messages_at at.buffers.turn.bodies at.host.decider.frames.items;
+    } in
     let last : c.add.new.self ≡ own.front ++ turn ∷ [] = rw (c.deref.ensures.value, c.messages_behind.ensures, c.again-front.ensures) at c.if-not-add.ensures in
     let has = c.if-not-is_met.ensures.count refl in
     let all : turns_of c.args.link own.front ≡ c.args.count = sym (∥∥₁_elim own.kept (ℕ_set _ _) (λ kept. kept.counts c.args.link c.args.count has)) in
@@ -72,8 +82,13 @@ returns-clause-given g c =
     let file = g.G.GrowingFile in
     let own = c.args.self.now in
     let at = c.turn_at-turned.new in
-    let turn : LinkTurn = record { link = c.args.link; bytes = c.args.bytes.now; bodies = at.buffers.turn.bodies; requests = at.buffers.turn.requests.items;
-        messages = messages_at at.buffers.turn.bodies at.host.decider.frames.items } in
+    let turn : LinkTurn = record {
+      link = c.args.link;
+      bytes = c.args.bytes.now;
+      bodies = at.buffers.turn.bodies;
+      requests = at.buffers.turn.requests.items;
+      messages = messages_at at.buffers.turn.bodies at.host.decider.frames.items;
+    } in
     let last : c.add.new.self ≡ own.front ++ turn ∷ [] = rw (c.deref.ensures.value, c.messages_behind.ensures, c.again-front.ensures) at c.if-not-add.ensures in
     let has = c.if-not-is_met.ensures.count refl in
     let all : turns_of c.args.link own.front ≡ c.args.count = sym (∥∥₁_elim own.kept (ℕ_set _ _) (λ kept. kept.counts c.args.link c.args.count has)) in
@@ -87,8 +102,13 @@ returns-clause-count g c =
     let file = g.G.GrowingFile in
     let own = c.args.self.now in
     let at = c.turn_at-turned.new in
-    let turn : LinkTurn = record { link = c.args.link; bytes = c.args.bytes.now; bodies = at.buffers.turn.bodies; requests = at.buffers.turn.requests.items;
-        messages = messages_at at.buffers.turn.bodies at.host.decider.frames.items } in
+    let turn : LinkTurn = record {
+      link = c.args.link;
+      bytes = c.args.bytes.now;
+      bodies = at.buffers.turn.bodies;
+      requests = at.buffers.turn.requests.items;
+      messages = messages_at at.buffers.turn.bodies at.host.decider.frames.items;
+    } in
     let last : c.add.new.self ≡ own.front ++ turn ∷ [] = rw (c.deref.ensures.value, c.messages_behind.ensures, c.again-front.ensures) at c.if-not-add.ensures in
     let has = c.if-not-is_met.ensures.count refl in
     let all : turns_of c.args.link own.front ≡ c.args.count = sym (∥∥₁_elim own.kept (ℕ_set _ _) (λ kept. kept.counts c.args.link c.args.count has)) in
