@@ -84,7 +84,7 @@ all_answered (Link link.OutOfMemory) had has text is = whole had has text is
 all_answered (Log fault) had has text is = is
 all_answered OutOfMemory had has text is = is
 
-tallies_more : (tally : Tally) (some more : List Frame) → counted tally (some ++ more) ≡ counted (counted tally some) more
+pub tallies_more : (tally : Tally) (some more : List Frame) → counted tally (some ++ more) ≡ counted (counted tally some) more
 tallies_more tally [] more = refl
 tallies_more tally (x ∷ some) more = tallies_more (counted_one tally x) some more
 

@@ -79,7 +79,7 @@ module _ {N : Type 0} (most : ℕ) (hears : N → Tally → List Frame → N →
       λ digest had has. subst (λ (entries : Entries). IsCutOff is_known synced unsynced digest entries back.0 new.file) (append_assoc had some more) (back.1 digest (had ++ some) (front digest had has)),
     )
 
-    log_more : (fault : HostFault) (old mid new : LogWriter G) (some more : Entries) → Grows is_known synced unsynced old mid some → LogAfter is_known synced unsynced fault mid new more
+    pub log_more : (fault : HostFault) (old mid new : LogWriter G) (some more : Entries) → Grows is_known synced unsynced old mid some → LogAfter is_known synced unsynced fault mid new more
         → LogAfter is_known synced unsynced fault old new (some ++ more)
     log_more (Link f) old mid new some more front back = grows_more is_known synced unsynced old mid new some more front back
     log_more (Log NoLog) old mid new some more front back = grows_more is_known synced unsynced old mid new some more front back

@@ -20,6 +20,8 @@ pub use decider::Decider;
 pub use host::Host;
 pub use host_fault::HostFault;
 pub use max_batch::MaxBatch;
+pub use taking::take_turn;
 pub use tally::Tally;
+pub use turn::Turn;
 pub use unwatched::Unwatched;
 pub use watch::Watch;

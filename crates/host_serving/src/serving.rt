@@ -38,7 +38,8 @@ impl Link {
 }
 
 impl<G: GrowingFile + Drop> Host<G> {
-    ghost use Rattle.std.specs.Prelude.{◌≡◌, ◌≢◌, ◌⊎◌, ◌≤◌, ℕ, [], List, length, true, false, Ok, Err, OnOk, IfErr};
+    ghost use Rattle.std.specs.Prelude.{◌≡◌, ◌≢◌, ◌⊎◌, ◌≤◌, ℕ, [], List, length, true, false, Ok, Err, OnOk, IfOk, IfErr};
+    ghost use Rattle.file_batch_laws.specs.Frames.{AreFramesOf};
     ghost use Rattle.link_frames.specs.Incoming.{Incoming};
     ghost use Rattle.link_frames.specs.LinkFault.{Reads, Writes};
     ghost use Rattle.link_frames.specs.Reader.{ahead};
@@ -63,6 +64,7 @@ impl<G: GrowingFile + Drop> Host<G> {
             → IfErr result (λ e. StopsEntering G.is_known G.synced G.unsynced e incoming
             self.now self.now (W.is_known sink.old) (W.written sink.old) (W.written sink.new)) }
         ensures kinds { result ≢ Err (HostFault.Link LinkFault.Unreadable) }
+        ensures kept { IfOk result (λ again. (again.bodies ≡ turn.bodies) × (again.requests.items ≡ turn.requests.items)) }
         ensures log { IfErr result (λ e. LogAfter G.is_known G.synced G.unsynced e self.now.log self.now.log []) }
     {
         writer.write(&[], &turn.requests, sink)?;
@@ -88,6 +90,8 @@ impl<G: GrowingFile + Drop> Host<G> {
             → IfErr result (λ e. StopsEntering G.is_known G.synced G.unsynced e incoming
             self.old self.new (W.is_known sink.old) (W.written sink.old) (W.written sink.new)) }
         ensures kinds { result ≢ Err (HostFault.Link LinkFault.Unreadable) }
+        ensures kept { IfOk result (λ again. (again.bodies ≡ turn.bodies) × (again.requests.items ≡ turn.requests.items)) }
+        ensures frames { OnOk result (AreFramesOf turn.bodies self.new.decider.frames.items) }
         ensures told { (most : ℕ) → length turn.bodies ≤ most → OnOk result (Watched (Grows G.is_known G.synced G.unsynced self.old.log self.new.log)
             most N.hears watch.old self.old.decider.tally watch.new self.new.decider.tally) }
         ensures told_before { (most : ℕ) → length turn.bodies ≤ most → IfErr result (λ e. WatchedSoFar (LogAfter G.is_known G.synced G.unsynced e self.old.log self.new.log)
@@ -104,9 +108,10 @@ impl<G: GrowingFile + Drop> Host<G> {
         Ok(turn)
     }
 
-    // Serves what came in a turn: its bodies become an entry, which is decided and answered; where no body came, there is no entry. The
-    // turn is given back, for its memory.
-    fn enter<W: Sink, F: Decide, N: Watch>(
+    /// Serves what came in one turn of a link: its bodies become an entry of the log, which is decided, synced and answered, as
+    /// `serve_link` does it; where no body came, there is no entry. The turn is given back, for its memory. Several links can have their
+    /// turns at one host, one after another.
+    pub fn enter<W: Sink, F: Decide, N: Watch>(
         &mut self,
         alloc: Global,
         turn: Turn,
@@ -122,6 +127,10 @@ impl<G: GrowingFile + Drop> Host<G> {
             → IfErr result (λ e. StopsEntering G.is_known G.synced G.unsynced e incoming
             self.old self.new (W.is_known sink.old) (W.written sink.old) (W.written sink.new)) }
         ensures kinds { result ≢ Err (HostFault.Link LinkFault.Unreadable) }
+        // The turn is given back.
+        ensures kept { IfOk result (λ again. (again.bodies ≡ turn.bodies) × (again.requests.items ≡ turn.requests.items)) }
+        // The messages at hand are those of its bodies.
+        ensures frames { turn.bodies ≢ [] → OnOk result (AreFramesOf turn.bodies self.new.decider.frames.items) }
         ensures told { (most : ℕ) → length turn.bodies ≤ most → OnOk result (Watched (Grows G.is_known G.synced G.unsynced self.old.log self.new.log)
             most N.hears watch.old self.old.decider.tally watch.new self.new.decider.tally) }
         ensures told_before { (most : ℕ) → length turn.bodies ≤ most → IfErr result (λ e. WatchedSoFar (LogAfter G.is_known G.synced G.unsynced e self.old.log self.new.log)

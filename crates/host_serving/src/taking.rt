@@ -7,7 +7,7 @@ use link_frames::{Front, front_of};
 use std::alloc::AllocError;
 
 /// Takes what came in so many frames, in place of what came before. Memory can run out.
-pub(crate) fn take_turn(turn: &mut Turn, frames: &[u8], count: u32) -> Result<(), AllocError>
+pub fn take_turn(turn: &mut Turn, frames: &[u8], count: u32) -> Result<(), AllocError>
     requires few { count ≤ 65536 }
     requires frames { AreSoMany count frames.now }
     ensures taken { OnOk result (HasTaken frames.now [] turn.new) }

@@ -6,9 +6,11 @@ use std::alloc::{AllocError, Global};
 
 /// What came on a link in one turn: bodies, which are decided, and network management requests, which the link answers itself.
 #[derive(Drop)]
-pub(crate) struct Turn {
-    pub(crate) bodies: Bodies,
-    pub(crate) requests: Vec<NetworkRequest>,
+pub struct Turn {
+    /// The bodies, in order.
+    pub bodies: Bodies,
+    /// The requests, in order, each with how many bodies came between it and the one before it.
+    pub requests: Vec<NetworkRequest>,
     // How many bodies came behind the last request.
     between: u32,
 }
@@ -20,7 +22,7 @@ impl Turn {
     ghost use Rattle.host_serving.specs.Turn.{IsTurn};
 
     /// Nothing came.
-    pub(crate) fn new(alloc: Global) -> Turn
+    pub fn new(alloc: Global) -> Turn
         ensures { IsTurn [] result }
     {
         Turn {

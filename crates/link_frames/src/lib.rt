@@ -17,3 +17,4 @@ pub use link_fault::LinkFault;
 pub use network_request::NetworkRequest;
 pub use reader::LinkReader;
 pub use replies::ReplyWriter;
+pub use writing::put_all;

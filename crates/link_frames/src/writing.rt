@@ -6,7 +6,7 @@ use crate::link_fault::LinkFault;
 use file_devices::Sink;
 
 /// Writes all of the bytes. After a fault a beginning of them was written; it is `Unwritable`, exactly where a call of the sink failed.
-pub(crate) fn put_all<W: Sink>(sink: &mut W, bytes: &[u8]) -> Result<(), LinkFault>
+pub fn put_all<W: Sink>(sink: &mut W, bytes: &[u8]) -> Result<(), LinkFault>
     ensures device { Writes W.is_known W.has_failed W.may_fail sink.old sink.new result }
     ensures ok { OnOk result (W.is_known sink.old → W.written sink.new ≡ W.written sink.old ++ bytes.now) }
     ensures err { OnErr result (W.is_known sink.old → AppendsPart (W.written sink.old) (W.written sink.new) bytes.now) }

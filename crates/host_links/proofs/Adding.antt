@@ -1,0 +1,50 @@
+-- The exchange that adds a turn keeps the rule.
+use Rattle.std.proofs.Common.{◌≡◌, ℕ, ◌+◌, ◌<◌, ◌==◌, Bool, true, false, List, [], ◌∷◌, ◌++◌, length, refl, ap, sym, subst, arith, inl, length-append, None}
+use Rattle.std.proofs.lemmas.List.{append-nil}
+use Rattle.std.proofs.lemmas.Bool.Decides.{nat_tests}
+use mathlib.Core.List.{IsPrefix}
+use prog.Atomic.{either}
+use Rattle.logbook.specs.Pages.{Cell, cell, keeps, no_nib, step, Moves, Goes}
+use Rattle.host_links.specs.declared.link_turn.LinkTurn.{LinkTurn}
+use Rattle.host_links.specs.Histories.{IsCounted, Adds}
+use Rattle.host_links.proofs.Fronts.{prefix_whole}
+
+abbrev pub shown : List LinkTurn → List LinkTurn
+shown log = []
+
+abbrev pub moved : List LinkTurn → List LinkTurn → ℕ → Type 0
+moved xs ys n = Unit {0}
+
+pub adds_goes : (log v : List LinkTurn) (e : LinkTurn) (old : ℕ) → length v ≡ old → IsPrefix v log
+    → (b : Bool) → (length log == old) ≡ b
+    → Goes IsCounted shown moved 0 (v, (no_nib, None)) (λ n. either (n == old) (old + 1) n) (Adds (step 0 old (old + 1) e) (v, (no_nib, None))) ((length log, true) ∷ (0, true) ∷ []) log
+adds_goes log v e old len pre true is =
+    let here : length log ≡ old = grind (arith, nat_tests) in
+    let same : v ≡ log = prefix_whole v log pre (omega arith) in
+    let n : either (length log == old) (old + 1) (length log) ≡ length (log ++ e ∷ []) = rw is (omega (arith, length-append log (e ∷ []))) in (
+      keeps,
+      e ∷ [],
+      None,
+      tt,
+      ap (λ (k : ℕ). (k, true) ∷ (0, true) ∷ []) n,
+      inl (refl, refl),
+      rw is (ap (λ w. w ++ e ∷ []) (sym same)),
+    )
+adds_goes log v e old len pre false is =
+    let all : log ++ [] ≡ log = append-nil log in
+    let n : either (length log == old) (old + 1) (length log) ≡ length (log ++ []) = rw is (ap length (sym all)) in (
+      keeps,
+      [],
+      None,
+      tt,
+      ap (λ (k : ℕ). (k, true) ∷ (0, true) ∷ []) n,
+      inl (refl, refl),
+      rw is (ap length all),
+    )
+
+-- whatever the history is, the exchange adds the turn to all that was seen, or finds that the history is longer
+pub adds_moves : (v : List LinkTurn) (e : LinkTurn) (old : ℕ) → length v ≡ old
+    → Moves IsCounted shown moved 0 (v, (no_nib, None)) (λ n. either (n == old) (old + 1) n) (Adds (step 0 old (old + 1) e) (v, (no_nib, None)))
+adds_moves v e old len cs log kept pre away =
+    let P : List Cell → Type 0 = λ c. (0 < length c) × ((cell c 0).1 ≡ true) × Goes IsCounted shown moved 0 (v, (no_nib, None)) (λ n. either (n == old) (old + 1) n) (Adds (step 0 old (old + 1) e) (v, (no_nib, None))) c log in
+    subst P (sym kept) (omega arith, refl, adds_goes log v e old len pre (length log == old) refl)

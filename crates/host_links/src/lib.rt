@@ -1,0 +1,25 @@
+//! A live host that several links share: each link is served by a thread of its own, and takes its turns at the host one after another.
+#![tactic(auto)]
+
+mod buffers;
+mod history;
+mod laws;
+mod line;
+mod link_turn;
+mod links;
+mod naming;
+mod seat;
+mod serving;
+mod shared_host;
+mod turning;
+
+pub use buffers::LinkBuffers;
+pub use history::{Came, Front, History, Opened};
+pub use laws::{turns_go_on, turns_of_others_change_nothing};
+pub use line::Line;
+pub use link_turn::LinkTurn;
+pub use links::{serve_links, serve_seats};
+pub use naming::{Before, Naming};
+pub use seat::Seat;
+pub use serving::serve_line;
+pub use shared_host::SharedHost;
