@@ -14,6 +14,7 @@ const AFTER_HELP: &str = "Commands with help of their own, as `switch serve --he
   report     Says how a day went: totals of a batch and its replies, as lines or as a page
   make       Prints the body of a message as a line that `pack` reads, from its elements by name
   unpack     Prints the bodies of a batch as the text that `pack` reads
+  archive    Takes the originals and days before a date out of a book
   show --json  Prints an object of JSON for each message or reply
 
 `switch help formats`, `rules`, `faults` (of a body that is no message) and `example` tell more.

@@ -20,12 +20,13 @@ names_more word =
 abbrev pub has_value : List ℕ → Bool
 has_value word = chooses_engine word || names_more word
 
--- of so many names behind this command it writes the file of the one at this place: the last of `pack`; REPLIES and NEWBOOK
+-- of so many names behind this command it writes the file of the one at this place: the last of `pack`; REPLIES and NEWBOOK; NEWBOOK and OLD
 abbrev pub writes : List ℕ → ℕ → ℕ → Bool
 writes command count place =
     (bytes_eq command (codes "pack") && nat_eq (place + 1) count)
     || (nat_le 2 place
-    && (bytes_eq command (codes "serial") || bytes_eq command (codes "run") || bytes_eq command (codes "blocks") || bytes_eq command (codes "replay")))
+    && (bytes_eq command (codes "serial") || bytes_eq command (codes "run") || bytes_eq command (codes "blocks") || bytes_eq command (codes "replay")
+    || bytes_eq command (codes "archive")))
 
 -- how many names are among the words behind a command; the first word is an option's value, where that is said
 unfoldable pub names : Bool → List (List ℕ) → ℕ

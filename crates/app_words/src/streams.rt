@@ -131,7 +131,8 @@ impl Named<'_> {
             && (self.command == "serial"
                 || self.command == "run"
                 || self.command == "blocks"
-                || self.command == "replay")
+                || self.command == "replay"
+                || self.command == "archive")
     }
 
     // Adds the words behind the command, before which so many of its names stand.

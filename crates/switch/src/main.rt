@@ -49,7 +49,7 @@ fn main(rt: HostRuntime) -> ExitCode {
     } else if let Some(asked) = report_asked(&words) {
         report_words(rt, &mut files, &asked)
     } else if let Some(asked) = archive_asked(&words) {
-        archive_words(&rt, rt, &mut files, &asked)
+        archive_words(&rt, rt, &mut files, &asked, names_standard_output(&words))
     } else if let Some(asked) = make_asked(&words) {
         make_words(rt, &asked)
     } else if let Some(asked) = unpack_asked(&words) {
@@ -158,21 +158,19 @@ fn report_words<F: Files>(host: HostRuntime, files: &mut F, asked: &ReportAsked<
     )
 }
 
-// Does what is asked of a book that is archived.
+// Does what is asked of a book that is archived. What is said doesn't stand between the bytes of a file.
 fn archive_words<R: Threads + Wait + Sync, F: Files>(
     rt: &R,
     host: HostRuntime,
     files: &mut F,
     asked: &ArchiveAsked<'_>,
+    is_streamed: bool,
 ) -> u8 {
-    answer_archive(
-        rt,
-        host.alloc(),
-        files,
-        asked,
-        &mut host.stdout(),
-        &mut host.stderr(),
-    )
+    let (alloc, mut err) = (host.alloc(), host.stderr());
+    if is_streamed {
+        return answer_archive(rt, alloc, files, asked, &mut host.stderr(), &mut err);
+    }
+    answer_archive(rt, alloc, files, asked, &mut host.stdout(), &mut err)
 }
 
 // Does what is asked of a message from words.
