@@ -6,6 +6,7 @@ mod progress_file;
 mod progress_files;
 mod progress_log;
 mod progress_logs;
+mod reading;
 
 pub use progress::Progress;
 pub use progress_file::ProgressFile;

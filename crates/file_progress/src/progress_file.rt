@@ -1,11 +1,12 @@
-use crate::progress::{Progress, tell_between};
+use crate::progress::Progress;
+use crate::reading::Reading;
 use file_devices::{Broken, Source};
 
 /// A file that tells how far it is read.
 #[derive(Drop)]
 pub struct ProgressFile<S, P> {
     source: S,
-    progress: Option<P>,
+    reading: Reading<P>,
     // How many bytes were read. It stays at 2^64 - 1 once it is there.
     read: u64,
 }
@@ -19,7 +20,7 @@ impl<S: Source, P: Progress> ProgressFile<S, P> {
     {
         ProgressFile {
             source,
-            progress,
+            reading: Reading::new(progress),
             read: 0,
         }
     }
@@ -37,9 +38,8 @@ impl<S: Source, P: Progress> Source for ProgressFile<S, P> {
     fn take(&mut self, buffer: &mut [u8]) -> Result<usize, Broken> {
         let taken = self.source.take(buffer);
         if let Ok(count) = taken {
-            let before = self.read;
-            self.read = before.saturating_add(count as u64);
-            tell_between(&self.progress, before, self.read);
+            self.read = self.read.saturating_add(count as u64);
+            self.reading.has_read(self.read);
         }
         taken
     }

@@ -1,4 +1,5 @@
-use crate::progress::{Progress, tell_between};
+use crate::progress::Progress;
+use crate::reading::Reading;
 use file_devices::Broken;
 use log_locked::LockedLog;
 
@@ -6,7 +7,7 @@ use log_locked::LockedLog;
 #[derive(Drop)]
 pub struct ProgressLog<L, P> {
     log: L,
-    progress: Option<P>,
+    reading: Reading<P>,
 }
 
 impl<L: LockedLog, P: Progress> ProgressLog<L, P> {
@@ -16,7 +17,10 @@ impl<L: LockedLog, P: Progress> ProgressLog<L, P> {
     pub fn new(log: L, progress: Option<P>) -> ProgressLog<L, P>
         ensures log { result.log ≡ log }
     {
-        ProgressLog { log, progress }
+        ProgressLog {
+            log,
+            reading: Reading::new(progress),
+        }
     }
 }
 
@@ -30,7 +34,7 @@ impl<L: LockedLog, P: Progress> LockedLog for ProgressLog<L, P> {
     fn read_at(&self, at: u64, buffer: &mut [u8]) -> Result<usize, Broken> {
         let read = self.log.read_at(at, buffer);
         if let Ok(count) = read {
-            tell_between(&self.progress, at, at + count as u64);
+            self.reading.has_read(at.saturating_add(count as u64));
         }
         read
     }

@@ -16,10 +16,11 @@ use log_commands::{
 };
 use log_locked::HostLockedLogs;
 use std::alloc::{AllocError, Global};
-use std::io::{ErrorKind, Write};
+use std::io::{ErrorKind, IsTerminal, Write};
 use std::process::ExitCode;
 use std::sync::Wait;
 use std::thread::Threads;
+use std::time::Clock;
 use std::{env, io};
 
 fn main(rt: HostRuntime) -> ExitCode {
@@ -212,25 +213,39 @@ fn usage<E: Write>(text: &[u8], err: &mut Printer<E>) -> u8 {
     2
 }
 
-// Where a person sees how far files are read.
+// Where a person sees how far files are read: what is opened where that was asked for, and a line a second.
 #[derive(Clone, Copy)]
-struct OnStandardError(HostRuntime);
+struct OnStandardError {
+    rt: HostRuntime,
+    is_asked: bool,
+}
 
 impl Progress for OnStandardError {
     fn is_opened(&self, name: &str) {
-        let _ = write!(self.0.stderr(), "reading {name}\n");
+        if self.is_asked {
+            let _ = write!(self.rt.stderr(), "reading {name}\n");
+        }
     }
 
-    fn has_read(&self, mebibytes: u64) {
-        let _ = write!(self.0.stderr(), "read {mebibytes} MiB\n");
+    fn second(&self) -> u64 {
+        match self.rt.monotonic() {
+            Ok(since) => since.as_secs(),
+            Err(_) => 0,
+        }
+    }
+
+    fn has_read(&self, bytes: u64, seconds: u64) {
+        let mebibytes = bytes / 1_048_576;
+        let _ = write!(self.rt.stderr(), "read {mebibytes} MiB in {seconds} s\n");
     }
 }
 
 // The words that the program was started with, with streams by their names, and where it is told how far files are read.
 fn asked_words(rt: &HostRuntime) -> Result<(Vec<String>, Option<OnStandardError>), Fault> {
     let mut words = arguments_of(rt)?;
-    let progress = if take_progress(&mut words) {
-        Some(OnStandardError(*rt))
+    let is_asked = take_progress(&mut words);
+    let progress = if is_asked || rt.stderr().is_terminal() {
+        Some(OnStandardError { rt: *rt, is_asked })
     } else {
         None
     };
