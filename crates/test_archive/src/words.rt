@@ -1,20 +1,34 @@
 //! What words ask for.
 
-use app_archive::{ARCHIVE_HELP, ArchiveAsked, answer_archive, archive_asked};
+use app_archive::{ARCHIVE_HELP, answer_archive, archive_asked};
 use file_devices::MemoryFiles;
 use std::alloc::Global;
 use std::process::Abort;
+use std::sync::Wait;
+use std::thread::Threads;
 
-// Words behind the program's name, and what they ask for: `b` a book, `h` help, `w` nothing, `-` another command.
-const ASKED: &[(&[&str], char)] = &[
-    (&["archive", "book", "260310", "new", "old"], 'b'),
-    (&["archive", "book", "2026-03-10", "new", "old"], 'w'),
-    (&["archive", "book", "261310", "new", "old"], 'w'),
-    (&["archive", "book", "260310", "new"], 'w'),
-    (&["archive", "--help"], 'h'),
-    (&["archive", "-h"], 'h'),
-    (&["archive"], 'w'),
-    (&["report", "book", "260310", "new", "old"], '-'),
+const USAGE: &str =
+    "usage: switch archive <BOOK> <DATE> <NEWBOOK> <OLD>, DATE as YYMMDD; `switch archive --help` says more\n";
+
+// Words behind the program's name, where no file is there: the status, what stands on standard output, and on standard error.
+const SAID: &[(&[&str], u8, &str, &str)] = &[
+    (
+        &["archive", "book", "260310", "new", "old"],
+        1,
+        "",
+        "file 1\n",
+    ),
+    (
+        &["archive", "book", "2026-03-10", "new", "old"],
+        2,
+        "",
+        USAGE,
+    ),
+    (&["archive", "book", "261310", "new", "old"], 2, "", USAGE),
+    (&["archive", "book", "260310", "new"], 2, "", USAGE),
+    (&["archive", "--help"], 0, ARCHIVE_HELP, ""),
+    (&["archive", "-h"], 0, ARCHIVE_HELP, ""),
+    (&["archive"], 2, "", USAGE),
 ];
 
 fn words_of(alloc: Global, words: &[&str]) -> Option<Vec<String>> {
@@ -26,46 +40,30 @@ fn words_of(alloc: Global, words: &[&str]) -> Option<Vec<String>> {
     Some(all)
 }
 
-fn kind_of(asked: Option<ArchiveAsked<'_>>) -> char {
-    match &asked {
-        Some(ArchiveAsked::Book(_, _)) => 'b',
-        Some(ArchiveAsked::Help) => 'h',
-        Some(ArchiveAsked::Wrong) => 'w',
-        None => '-',
+// What words come to that ask for `archive`: the status, and what was said.
+fn said_of<R: Threads + Wait + Sync>(
+    rt: &R,
+    alloc: Global,
+    words: &[&str],
+) -> Option<(u8, Vec<u8>, Vec<u8>)> {
+    let all = words_of(alloc, words)?;
+    let mut files = MemoryFiles::new(alloc);
+    let (mut out, mut err) = (Vec::new(alloc), Vec::new(alloc));
+    if let Some(asked) = archive_asked(&all) {
+        let status = answer_archive(rt, alloc, &mut files, &asked, &mut out, &mut err);
+        return Some((status, out, err));
     }
+    None
 }
 
 #[test]
-fn reads_words(rt: HostRuntime) {
-    for (words, kind) in ASKED {
-        let all = words_of(rt.alloc(), words).expect(&rt, "room");
-        assert!(rt; kind_of(archive_asked(&all)) == *kind, "{kind}");
+fn answers_words(rt: HostRuntime) {
+    for (words, status, out, err) in SAID {
+        let said = said_of(&rt, rt.alloc(), words).expect(&rt, "words of `archive`");
+        assert!(rt; said.0 == *status, "{status} {out} {err}");
+        assert!(rt; said.1.as_slice() == out.as_bytes(), "{status} {out} {err}");
+        assert!(rt; said.2.as_slice() == err.as_bytes(), "{status} {out} {err}");
     }
-}
-
-#[test]
-fn prints_help_and_usage(rt: HostRuntime) {
-    let mut files = MemoryFiles::new(rt.alloc());
-    let (mut out, mut err) = (Vec::new(rt.alloc()), Vec::new(rt.alloc()));
-    let help = answer_archive(
-        &rt,
-        rt.alloc(),
-        &mut files,
-        &ArchiveAsked::Help,
-        &mut out,
-        &mut err,
-    );
-    assert!(rt; help == 0 && err.is_empty());
-    assert!(rt; out.as_slice() == ARCHIVE_HELP.as_bytes());
-    out.clear();
-    let wrong = answer_archive(
-        &rt,
-        rt.alloc(),
-        &mut files,
-        &ArchiveAsked::Wrong,
-        &mut out,
-        &mut err,
-    );
-    assert!(rt; wrong == 2 && out.is_empty());
-    assert!(rt; err.starts_with(b"usage: switch archive <BOOK> <DATE> <NEWBOOK> <OLD>"));
+    let other = ["report", "book", "260310", "new", "old"];
+    assert!(rt; said_of(&rt, rt.alloc(), &other).is_none());
 }
