@@ -39,7 +39,8 @@ const LISTS: &[(&str, &str)] = &[
     ),
 ];
 
-// Commands: the names of their files and the place, the status, what stands on standard output, and on standard error.
+// Commands: the names of their files and the place, the status, what stands on standard output, and how
+// standard error begins: with the fault, and behind it the file of which a reason is told.
 const COMMANDS: &[(&str, &str, usize, u8, &str, &str)] = &[
     (
         "book",
@@ -57,10 +58,10 @@ const COMMANDS: &[(&str, &str, usize, u8, &str, &str)] = &[
         "",
         "index 1\nbatch: it has 1 messages, numbered from 0\n",
     ),
-    ("none", "batch", 0, 1, "", "file 1\n"),
-    ("book", "none", 0, 1, "", "file 1\n"),
-    ("batch", "batch", 0, 1, "", "book 1\n"),
-    ("book", "book", 0, 1, "", "batch 1\n"),
+    ("none", "batch", 0, 1, "", "file 1\nnone: "),
+    ("book", "none", 0, 1, "", "file 1\nnone: "),
+    ("batch", "batch", 0, 1, "", "book 1\nbatch: "),
+    ("book", "book", 0, 1, "", "batch 1\nbook: "),
 ];
 
 fn bytes_of(alloc: Global, bytes: &[u8]) -> Option<Vec<u8>> {
@@ -96,9 +97,10 @@ fn answers_the_commands(rt: HostRuntime) {
             "{book} {batch} {index}"
         );
         assert!(rt;
-            said.2.as_slice() == err.as_bytes(),
+            said.2.as_slice().starts_with(err.as_bytes()),
             "{book} {batch} {index}"
         );
+        assert!(rt; *status != 0 || said.2.is_empty(), "{book} {batch} {index}");
     }
 }
 
