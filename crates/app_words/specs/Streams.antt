@@ -1,5 +1,5 @@
 -- What `-` is in place of a file's name on the command line: standard input where the file is read, standard output where it is written.
-use Rattle.std.specs.Prelude.{ℕ, ◌+◌, Bool, false, ◌&&◌, ◌||◌, nat_eq, nat_le, if◌then◌else◌, List, [], ◌∷◌, codes, take}
+use Rattle.std.specs.Prelude.{ℕ, ◌+◌, ◌%◌, Bool, false, ◌&&◌, ◌||◌, nat_eq, nat_le, if◌then◌else◌, List, [], ◌∷◌, codes, take}
 use Rattle.std.specs.Str.{bytes_eq}
 
 -- an option, as `--workers`
@@ -20,13 +20,16 @@ names_more word =
 abbrev pub has_value : List ℕ → Bool
 has_value word = chooses_engine word || names_more word
 
--- of so many names behind this command it writes the file of the one at this place: the last of `pack`; REPLIES and NEWBOOK; NEWBOOK and OLD
+-- of so many names behind this command it writes the file of the one at this place: the last of `pack`; REPLIES and NEWBOOK; NEWBOOK and
+-- OLD; of `join`, too, which has FOLDER alone before them; and of `serve` each second one, as the OUT of a link
 abbrev pub writes : List ℕ → ℕ → ℕ → Bool
 writes command count place =
-    (bytes_eq command (codes "pack") && nat_eq (place + 1) count)
-    || (nat_le 2 place
+    if bytes_eq command (codes "pack") then nat_eq (place + 1) count
+    else (if bytes_eq command (codes "join") then nat_le 1 place
+    else (if bytes_eq command (codes "serve") then nat_eq (place % 2) 1
+    else (nat_le 2 place
     && (bytes_eq command (codes "serial") || bytes_eq command (codes "run") || bytes_eq command (codes "blocks") || bytes_eq command (codes "replay")
-    || bytes_eq command (codes "archive")))
+    || bytes_eq command (codes "archive")))))
 
 -- how many names are among the words behind a command; the first word is an option's value, where that is said
 unfoldable pub names : Bool → List (List ℕ) → ℕ

@@ -127,6 +127,12 @@ impl Named<'_> {
         if self.command == "pack" {
             return place + 1 == self.count;
         }
+        if self.command == "join" {
+            return place >= 1;
+        }
+        if self.command == "serve" {
+            return place % 2 == 1;
+        }
         place >= 2
             && (self.command == "serial"
                 || self.command == "run"
