@@ -1,4 +1,4 @@
-ghost use Rattle.std.specs.Prelude.{◌≡◌, ◌≤◌, ℕ, List, IfOk, IsOk, OnOk, string_bytes};
+ghost use Rattle.std.specs.Prelude.{◌≡◌, ℕ, List, IfOk, OnOk, string_bytes};
 ghost use Rattle.std.specs.Io.KnownBytes.{Appends};
 ghost use Rattle.app_archive.specs.Archived.{IsAnswered, IsWritten, count_line};
 ghost use Rattle.file_devices.specs.Holding.{IsAsItWas};
@@ -7,6 +7,7 @@ use crate::archive_count::ArchiveCount;
 use crate::archiving::archive_files;
 use crate::asking::ArchiveAsked;
 use crate::help::{ARCHIVE_HELP, USAGE};
+use app_words::{put, status_of};
 use file_devices::Files;
 use std::alloc::{AllocError, Global};
 use std::io;
@@ -62,23 +63,4 @@ fn line_of(alloc: Global, count: &ArchiveCount) -> Result<String, AllocError>
     let (archived, kept) = (count.archived, count.kept);
     let line = format!(in alloc; "archived {archived}, kept {kept}\n")?;
     Ok(line)
-}
-
-// 0, or 1 where it wasn't all written.
-fn status_of<E: Write>(said: io::Result<()>, err: &mut E) -> u8
-    ensures bound { result ≤ 1 }
-    ensures done { result ≡ 0 → IsOk said }
-{
-    if said.is_ok() {
-        return 0;
-    }
-    let _ = err.write_all(b"output 1\n");
-    1
-}
-
-// Writes all of the text.
-fn put<W: Write>(writer: &mut W, text: &[u8]) -> io::Result<()>
-    ensures { OnOk result (Appends (W.contents writer.old) (W.contents writer.new) text.now) }
-{
-    writer.write_all(text)
 }

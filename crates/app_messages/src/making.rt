@@ -6,7 +6,7 @@ ghost use Rattle.app_messages.specs.Made.{IsMadeSaid};
 use crate::help::{MAKE_HELP, MAKE_USAGE};
 use crate::make_asking::MakeAsked;
 use crate::make_words::MakeWords;
-use crate::telling::{put, status_of};
+use app_words::{put, status_of};
 use file_bodies::line_of_body;
 use message_words::{MakeFault, body_of_words};
 use std::alloc::Global;

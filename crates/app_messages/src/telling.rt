@@ -1,14 +1,13 @@
-ghost use Rattle.std.specs.Prelude.{◌≡◌, ◌≤◌, IsOk, OnOk};
-ghost use Rattle.std.specs.Io.KnownBytes.{Appends};
+ghost use Rattle.std.specs.Prelude.{◌≡◌, ◌≤◌};
 ghost use Rattle.app_messages.specs.Unpacked.{IsSaid};
 
 use crate::asking::UnpackAsked;
 use crate::help::{UNPACK_HELP, UNPACK_USAGE};
 use crate::unpacking::unpack;
 use app_reasons::{FileKind, tell_of_file};
+use app_words::{put, status_of};
 use file_devices::Files;
 use std::alloc::Global;
-use std::io;
 use std::io::Write;
 
 /// Does what is asked of `unpack` over these files, which are read alone, and returns the exit status: 0 done, 1 fault, 2 words that are
@@ -38,23 +37,4 @@ pub fn answer_unpack<F: Files, O: Write, E: Write>(
         }
     };
     status_of(said, err)
-}
-
-/// 0, or 1 where it wasn't all written.
-pub(crate) fn status_of<E: Write>(said: io::Result<()>, err: &mut E) -> u8
-    ensures bound { result ≤ 1 }
-    ensures done { result ≡ 0 → IsOk said }
-{
-    if said.is_ok() {
-        return 0;
-    }
-    let _ = err.write_all(b"output 1\n");
-    1
-}
-
-/// Writes all of the text.
-pub(crate) fn put<W: Write>(writer: &mut W, text: &[u8]) -> io::Result<()>
-    ensures { OnOk result (Appends (W.contents writer.old) (W.contents writer.new) text.now) }
-{
-    writer.write_all(text)
 }

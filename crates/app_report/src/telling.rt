@@ -1,4 +1,4 @@
-ghost use Rattle.std.specs.Prelude.{◌≡◌, ◌≢◌, ◌≤◌, ℕ, List, IfOk, IfErr, IsOk, OnOk, OnErr};
+ghost use Rattle.std.specs.Prelude.{◌≡◌, ◌≢◌, ◌≤◌, ℕ, List, IfOk, IfErr, IsOk, OnErr};
 ghost use Rattle.std.specs.Io.KnownBytes.{Appends};
 ghost use Rattle.day_totals.specs.declared.day_totals.DayTotals.{DayTotals};
 ghost use Rattle.day_text.specs.Lines.{lines_of};
@@ -12,11 +12,11 @@ use crate::asking::ReportAsked;
 use crate::help::{REPORT_HELP, USAGE};
 use crate::paging::put_page;
 use crate::report_fault::ReportFault;
+use app_words::{put, status_of};
 use day_page::page_of;
 use day_text::lines_of;
 use file_devices::Files;
 use std::alloc::Global;
-use std::io;
 use std::io::Write;
 
 /// Does what is asked of `report` over these files, and returns the exit status: 0 done, 1 fault, 2 words that are no command, or a page
@@ -76,18 +76,6 @@ fn say<O: Write, E: Write>(
     }
 }
 
-// 0, or 1 where it wasn't all written.
-fn status_of<E: Write>(said: io::Result<()>, err: &mut E) -> u8
-    ensures bound { result ≤ 1 }
-    ensures done { result ≡ 0 → IsOk said }
-{
-    if said.is_ok() {
-        return 0;
-    }
-    let _ = err.write_all(b"output 1\n");
-    1
-}
-
 // What is said of the day of these files.
 fn lines_of_files<F: Files>(
     alloc: Global,
@@ -122,13 +110,6 @@ fn page_of_files<F: Files>(
     let html = page_of(alloc, &totals)?;
     put_page(alloc, files, page, &html)?;
     Ok(lines)
-}
-
-// Writes all of the text.
-fn put<W: Write>(writer: &mut W, text: &[u8]) -> io::Result<()>
-    ensures { OnOk result (Appends (W.contents writer.old) (W.contents writer.new) text.now) }
-{
-    writer.write_all(text)
 }
 
 // Says the fault, and behind one of the number of replies which file has so many.

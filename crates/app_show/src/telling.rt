@@ -1,14 +1,13 @@
-ghost use Rattle.std.specs.Prelude.{◌≡◌, ◌≤◌, IsOk, OnOk};
-ghost use Rattle.std.specs.Io.KnownBytes.{Appends};
+ghost use Rattle.std.specs.Prelude.{◌≡◌, ◌≤◌};
 ghost use Rattle.app_show.specs.Shown.{IsSaid};
 
 use crate::asking::ShowAsked;
 use crate::help::{SHOW_JSON_HELP, USAGE};
 use crate::reading::show_json;
 use app_reasons::tell_of_any_file;
+use app_words::{put, status_of};
 use file_devices::Files;
 use std::alloc::Global;
-use std::io;
 use std::io::Write;
 
 /// Does what is asked of `show` for JSON over these files, which are read alone, and returns the exit status: 0 done, 1 fault, 2 words that are
@@ -38,23 +37,4 @@ pub fn answer_show<F: Files, O: Write, E: Write>(
         }
     };
     status_of(said, err)
-}
-
-// 0, or 1 where it wasn't all written.
-fn status_of<E: Write>(said: io::Result<()>, err: &mut E) -> u8
-    ensures bound { result ≤ 1 }
-    ensures done { result ≡ 0 → IsOk said }
-{
-    if said.is_ok() {
-        return 0;
-    }
-    let _ = err.write_all(b"output 1\n");
-    1
-}
-
-// Writes all of the text.
-fn put<W: Write>(writer: &mut W, text: &[u8]) -> io::Result<()>
-    ensures { OnOk result (Appends (W.contents writer.old) (W.contents writer.new) text.now) }
-{
-    writer.write_all(text)
 }

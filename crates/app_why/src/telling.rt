@@ -1,5 +1,4 @@
-ghost use Rattle.std.specs.Prelude.{◌≡◌, ◌≤◌, IfOk, IfErr, IsOk, OnOk};
-ghost use Rattle.std.specs.Io.KnownBytes.{Appends};
+ghost use Rattle.std.specs.Prelude.{◌≡◌, ◌≤◌, IfOk, IfErr};
 ghost use Rattle.issuer_reasons.specs.declared.explanation.Explanation.{Explanation};
 ghost use Rattle.app_jobs.specs.Faults.{IsBatchFault};
 ghost use Rattle.app_why.specs.Why.{AreLines, explanation_text, IsSaid, IsWhy, IsWhyFault};
@@ -13,12 +12,12 @@ use crate::sought::Sought;
 use crate::why_fault::WhyFault;
 use app_jobs::{JobFault, open_batch};
 use app_reasons::{FileKind, tell_of_book_or_batch, tell_of_file};
+use app_words::{put, status_of};
 use file_devices::Files;
 use issuer_reasons::Explanation;
 use reason_json::why_line;
 use reason_text::lines_of;
 use std::alloc::{AllocError, Global};
-use std::io;
 use std::io::Write;
 use std::thread::Threads;
 
@@ -61,18 +60,6 @@ pub fn answer_why<R: Threads, F: Files, O: Write, E: Write>(
         }
     };
     status_of(said, err)
-}
-
-// 0, or 1 where it wasn't all written.
-fn status_of<E: Write>(said: io::Result<()>, err: &mut E) -> u8
-    ensures bound { result ≤ 1 }
-    ensures done { result ≡ 0 → IsOk said }
-{
-    if said.is_ok() {
-        return 0;
-    }
-    let _ = err.write_all(b"output 1\n");
-    1
 }
 
 // An explanation in this form.
@@ -124,13 +111,6 @@ fn lines_of_batch<F: Files>(
         Ok(text) => Ok(text),
         Err(AllocError) => Err(JobFault::OutOfMemory),
     }
-}
-
-// Writes all of the text.
-fn put<W: Write>(writer: &mut W, text: &[u8]) -> io::Result<()>
-    ensures { OnOk result (Appends (W.contents writer.old) (W.contents writer.new) text.now) }
-{
-    writer.write_all(text)
 }
 
 // Tells the fault, and behind it what is known of the file, or how many messages the batch has.

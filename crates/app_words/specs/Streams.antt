@@ -1,5 +1,5 @@
 -- What `-` is in place of a file's name on the command line: standard input where the file is read, standard output where it is written.
-use Rattle.std.specs.Prelude.{ℕ, ◌+◌, ◌%◌, Bool, false, ◌&&◌, ◌||◌, nat_eq, nat_le, if◌then◌else◌, List, [], ◌∷◌, codes, take}
+use Rattle.std.specs.Prelude.{ℕ, ◌+◌, ◌%◌, Bool, false, ◌&&◌, ◌||◌, not, nat_eq, nat_le, if◌then◌else◌, List, [], ◌∷◌, codes, take}
 use Rattle.std.specs.Str.{bytes_eq}
 
 -- an option, as `--workers`
@@ -37,23 +37,36 @@ names is_value [] = 0
 names is_value (word ∷ words) =
     if is_value then names false words else (if is_option word then names (has_value word) words else 1 + names false words)
 
+-- the name of standard output, or of standard input
+abbrev pub stream : Bool → List ℕ
+stream is_written = if is_written then codes "/dev/stdout" else codes "/dev/stdin"
+
 -- the name at this place: `-` is a stream of the process
 abbrev pub named : List ℕ → ℕ → ℕ → List ℕ → List ℕ
-named command count place word =
-    if bytes_eq word (codes "-") then (if writes command count place then codes "/dev/stdout" else codes "/dev/stdin") else word
+named command count place word = if bytes_eq word (codes "-") then stream (writes command count place) else word
 
--- the words behind a command, with streams by their names; so many names are behind the command, so many of them before these words
-unfoldable pub streamed : List ℕ → ℕ → ℕ → Bool → List (List ℕ) → List (List ℕ)
-streamed command count place is_value [] = []
-streamed command count place is_value (word ∷ words) =
-    if is_value then word ∷ streamed command count place false words
-    else (if is_option word then word ∷ streamed command count place (has_value word) words
-    else named command count place word ∷ streamed command count (place + 1) false words)
+-- an option whose value is a file's name
+abbrev pub names_file : List ℕ → Bool
+names_file option = bytes_eq option (codes "--journal") || bytes_eq option (codes "--html")
+
+-- the value of an option: for `-` a stream, where it names a file, which `audit` reads and others write
+abbrev pub valued : List ℕ → List ℕ → List ℕ → List ℕ
+valued command option word =
+    if bytes_eq word (codes "-") && names_file option then stream (not (bytes_eq command (codes "audit"))) else word
+
+-- The words behind a command, with streams by their names; so many names are behind the command, so many of them before these words. The
+-- word directly before them is this one, where it is an option.
+unfoldable pub streamed : List ℕ → ℕ → ℕ → List ℕ → List (List ℕ) → List (List ℕ)
+streamed command count place option [] = []
+streamed command count place option (word ∷ words) =
+    if has_value option then valued command option word ∷ streamed command count place [] words
+    else (if is_option word then word ∷ streamed command count place word words
+    else named command count place word ∷ streamed command count (place + 1) [] words)
 
 -- the same of a command and the words behind it
 unfoldable pub streamed_command : List (List ℕ) → List (List ℕ)
 streamed_command [] = []
-streamed_command (command ∷ words) = command ∷ streamed command (names false words) 0 false words
+streamed_command (command ∷ words) = command ∷ streamed command (names false words) 0 [] words
 
 -- the same of all words, of which the first is the program's name
 unfoldable pub with_streams : List (List ℕ) → List (List ℕ)

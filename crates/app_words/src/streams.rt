@@ -1,5 +1,5 @@
 ghost use Rattle.std.specs.Prelude.{◌≡◌, ◌≢◌, ◌+◌, ◌^◌, ◌<◌, ◌++◌, ◌≤◌, ◌∷◌, ℕ, [], Some, IfOk, IsTrue, OnOk, codes, length, map, slice_get, string_bytes};
-ghost use Rattle.app_words.specs.Streams.{chooses_engine, has_value, is_option, names, names_more, named, streamed, streamed_command, with_streams, writes};
+ghost use Rattle.app_words.specs.Streams.{chooses_engine, has_value, is_option, names, names_file, names_more, named, stream, streamed, streamed_command, valued, with_streams, writes};
 
 use crate::words::place_of;
 use std::alloc::{AllocError, Global};
@@ -36,7 +36,7 @@ fn add_behind_program(
                 count: count_names(false, rest),
             };
             add(alloc, command.command, to)?;
-            command.add_streamed(alloc, 0, false, rest, to)
+            command.add_streamed(alloc, 0, "", rest, to)
         }
     }
 }
@@ -141,32 +141,32 @@ impl Named<'_> {
                 || self.command == "archive")
     }
 
-    // Adds the words behind the command, before which so many of its names stand.
+    // Adds the words behind the command, before which so many of its names stand, and directly before them this option.
     fn add_streamed(
         &self,
         alloc: Global,
         place: usize,
-        is_value: bool,
+        option: &str,
         words: &[String],
         to: &mut Vec<String>,
     ) -> Result<(), AllocError>
         requires room { place + length words.now < 2 ^ 64 }
         ensures { OnOk result (map string_bytes to.new.items
-            ≡ map string_bytes to.old.items ++ streamed self.now.command.now self.now.count place is_value (map string_bytes words.now)) }
+            ≡ map string_bytes to.old.items ++ streamed self.now.command.now self.now.count place option.now (map string_bytes words.now)) }
     {
         match words.split_first() {
             None => Ok(()),
             Some((word, rest)) => {
                 let word = word.as_str();
-                if is_value {
-                    add(alloc, word, to)?;
-                    self.add_streamed(alloc, place, false, rest, to)
+                if has_value(option) {
+                    add(alloc, self.value(option, word), to)?;
+                    self.add_streamed(alloc, place, "", rest, to)
                 } else if is_option(word) {
                     add(alloc, word, to)?;
-                    self.add_streamed(alloc, place, has_value(word), rest, to)
+                    self.add_streamed(alloc, place, word, rest, to)
                 } else {
                     add(alloc, self.name(place, word), to)?;
-                    self.add_streamed(alloc, place + 1, false, rest, to)
+                    self.add_streamed(alloc, place + 1, "", rest, to)
                 }
             }
         }
@@ -177,12 +177,35 @@ impl Named<'_> {
         requires room { place + 1 < 2 ^ 64 }
         ensures { result.now ≡ named self.now.command.now self.now.count place word.now }
     {
-        if word != "-" {
-            word
-        } else if self.writes(place) {
-            "/dev/stdout"
+        if word == "-" {
+            stream(self.writes(place))
         } else {
-            "/dev/stdin"
+            word
         }
     }
+
+    // The value of this option: for a file's name that is `-` that of a stream.
+    fn value<'a>(&self, option: &str, word: &'a str) -> &'a str
+        ensures { result.now ≡ valued self.now.command.now option.now word.now }
+    {
+        if word == "-" && names_file(option) {
+            stream(self.command != "audit")
+        } else {
+            word
+        }
+    }
+}
+
+// Whether the value of this option is a file's name.
+fn names_file(option: &str) -> bool
+    ensures { result ≡ names_file option.now }
+{
+    option == "--journal" || option == "--html"
+}
+
+// The name of standard output, or of standard input.
+fn stream(is_written: bool) -> &'static str
+    ensures { result.now ≡ stream is_written }
+{
+    if is_written { "/dev/stdout" } else { "/dev/stdin" }
 }
