@@ -1,11 +1,13 @@
 -- Values and members of elements.
-use Rattle.std.proofs.Common.{◌≡◌, ℕ, ◌<◌, ◌^◌, List, [], ◌∷◌, ◌++◌, Option, Some, None, refl, sym, ap, ◌∙◌, append_assoc, take, subst}
+use Rattle.std.proofs.Common.{◌≡◌, ℕ, ◌<◌, ◌^◌, List, [], ◌∷◌, ◌++◌, Option, Some, None, refl, sym, ap, ◌∙◌, append_assoc, take, drop, length, subst, arith}
 use Rattle.std.specs.Prelude.{option_map, Result, IfOk, codes}
 use Rattle.std.specs.Global.{Vec}
-use Rattle.std.proofs.lemmas.List.{take_at}
+use Rattle.std.proofs.lemmas.List.{take_at, length-append}
 use Rattle.iso8583.specs.Number.{number_of, fixed_digits}
 use Rattle.iso8583.proofs.NumberLaws.{length-fixed_digits, number_of-fixed_digits}
-use Rattle.iso_laws.specs.Elements.{twelve_zeros}
+use Rattle.iso8583.specs.declared.original_ref.OriginalRef.{OriginalRef}
+use Rattle.iso_laws.specs.Elements.{original_text, original_type, twelve_zeros}
+use Rattle.iso_laws.proofs.Originals.{cut-acquirer, length-original_type}
 use Rattle.iso_laws.specs.Spelling.{Field, Texts, fields_among, with_field}
 use Rattle.iso_laws.specs.declared.element.Element.{Element}
 use Rattle.json.specs.Print.{print}
@@ -17,7 +19,7 @@ use Rattle.serde_json.specs.Written.{compact_text, members_outline}
 use Rattle.serde_json.proofs.Texts.{print-outline}
 use Rattle.book_laws.specs.Text.{Adds, members, numeral, tokens_of}
 use Rattle.message_json.specs.Lines.{Member, all_tokens, element_tokens, elements_tokens, member_tokens}
-use Rattle.message_json.specs.Values.{value_of}
+use Rattle.message_json.specs.Values.{value_of, without_length}
 use Rattle.iso_shown.specs.declared.card_numbers.CardNumbers.{CardNumbers}
 
 -- the number of an amount's digits
@@ -80,3 +82,20 @@ line_of {before = before} {after = after} r ps ms adds none h =
     let are : after.tokens ≡ tokens_of (object (members (ps ++ ms))) =
     adds.written ∙ ap (λ (ts : List Token). ts ++ whole) none ∙ object_tokens ps ms in
     subst (λ (text : List ℕ). IfOk r (λ line. line.items ≡ text ++ codes "\n")) (ap print are ∙ print-outline (object (members (ps ++ ms)))) h
+
+-- ---- element 56
+
+-- the text of what a reversal takes back, without the fourth of its five pieces
+pub written_original : (a b c d e : List ℕ) → length a ≡ 4 → length b ≡ 6 → length c ≡ 12 → length d ≡ 2 → without_length (a ++ b ++ c ++ d ++ e) ≡ a ++ b ++ c ++ e
+written_original a b c d e la lb lc ld =
+    let grouped : (((a ++ b) ++ c) ++ d) ++ e ≡ ((a ++ b) ++ c) ++ (d ++ e) = simp append_assoc in
+    let front : take 22 ((((a ++ b) ++ c) ++ d) ++ e) ≡ (a ++ b) ++ c =
+        ap (take 22) grouped ∙ take_at ((a ++ b) ++ c) (d ++ e) 22 (omega (arith, length-append a b, length-append (a ++ b) c)) in
+    ap (λ (l : List ℕ). l ++ drop 24 ((((a ++ b) ++ c) ++ d) ++ e)) front ∙ ap (λ (l : List ℕ). ((a ++ b) ++ c) ++ l) (cut-acquirer a b c d e la lb lc ld)
+
+pub original_written : (o : OriginalRef) → length o.identity.stan.0 ≡ 6 → length o.identity.stamp ≡ 12
+    → without_length (original_text o) ≡ original_type o.kind o.repeat ++ (o.identity.stan.0 ++ (o.identity.stamp ++ o.identity.acquirer.0))
+unfolding original_text
+original_written o stan stamp =
+    written_original (original_type o.kind o.repeat) o.identity.stan.0 o.identity.stamp (fixed_digits 2 (length o.identity.acquirer.0)) o.identity.acquirer.0
+    (length-original_type o.kind o.repeat) stan stamp (length-fixed_digits 2 (length o.identity.acquirer.0)) ∙ simp append_assoc

@@ -8,7 +8,7 @@ ghost use Rattle.issuer_rows.specs.FrameFault.{fault_body};
 ghost use Rattle.json.specs.Token.{string as string_token};
 ghost use Rattle.book_laws.specs.Text.{Adds, tokens_of};
 ghost use Rattle.message_json.specs.Lines.{all_tokens, block_members, element_tokens, elements_tokens, fault_element, fault_members, place_members};
-ghost use Rattle.message_json.specs.Values.{value_data};
+ghost use Rattle.message_json.specs.Values.{value_data, without_length};
 
 use crate::element_value::ElementValue;
 use crate::has_elements::HasElements;
@@ -44,19 +44,16 @@ fn type_of_original(kind: OriginalKind, repeat: bool) -> &'static str
 }
 
 // Writes what a reversal takes back.
-#[tactic(auto, unfolding(iso_laws::specs::Elements::original_text))]
 fn put_original(out: &mut Writer, alloc: Global, original: &OriginalRef) -> Result<(), AllocError>
-    ensures { OnOk result (Adds out.old out.new (string_token (original_text original.now) ∷ [])) }
+    ensures { OnOk result (Adds out.old out.new (string_token (without_length (original_text original.now)) ∷ [])) }
 {
     let kind = type_of_original(original.kind, original.repeat);
     let (stan, stamp) = (
-        original.identity.stan.as_str(),
+        original.identity.stan.0.as_str(),
         original.identity.stamp.as_str(),
     );
     let acquirer = original.identity.acquirer.as_str();
-    let size = Digits::<2>::of_number(acquirer.len() as u64);
-    let size = size.as_str();
-    let text = format!(in alloc; "{kind}{stan}{stamp}{size}{acquirer}")?;
+    let text = format!(in alloc; "{kind}{stan}{stamp}{acquirer}")?;
     out.string(text.as_str())
 }
 

@@ -16,7 +16,7 @@ const LINES: &str =
     r#"{"index":0,"type":"1100","pan":"411111******0005","processing":"000000","amount":600,"transmission":"1128120000","trace":"000001","local-time":"261128120000","function":"100","acquirer":"400001","terminal":"TERM0001","currency":"978"}
 {"index":1,"fault":"F01000"}
 {"index":2,"type":"1121","pan":"411111******0005","processing":"000000","amount":600,"transmission":"1128120000","trace":"000001","local-time":"261128120000","function":"100","acquirer":"400001","reference":"REF 00000001","action":"900","terminal":"A\"\\B/ 01","currency":"978","account":"411111******0005"}
-{"index":3,"type":"1421","pan":"411111******0005","processing":"000000","amount":200,"transmission":"1128120000","trace":"000002","local-time":"261128120000","function":"401","original-amount":600,"acquirer":"400001","terminal":"TERM0001","currency":"978","original":"110000000126112812000006400001"}
+{"index":3,"type":"1421","pan":"411111******0005","processing":"000000","amount":200,"transmission":"1128120000","trace":"000002","local-time":"261128120000","function":"401","original-amount":600,"acquirer":"400001","terminal":"TERM0001","currency":"978","original":"1100000001261128120000400001"}
 "#;
 
 // Replies: to a request that is approved, and to a body whose element 49 is missing.
