@@ -6,6 +6,10 @@ mod answers;
 #[cfg(test)]
 mod audits;
 #[cfg(test)]
+mod bad_batches;
+#[cfg(test)]
+mod bad_books;
+#[cfg(test)]
 mod batches;
 #[cfg(test)]
 mod blocks;
