@@ -2,28 +2,34 @@
 use Rattle.std.specs.Prelude.{◌≡◌, ℕ, zero, suc, ◌==◌, Bool, true, false, ◌&&◌, ◌||◌, not, List, [], ◌∷◌, ◌++◌, Option, Some, None, length, map, zip}
 use Rattle.std.specs.FinMap as map
 use Rattle.std.specs.List.{list_any}
-use Rattle.iso8583.specs.declared.message.Message.{Message}
-use Rattle.issuer_rows.specs.Facts.{identity_of, is_same_currency}
+use Rattle.issuer_rows.specs.Facts.{is_same_currency}
 use Rattle.issuer_rows.specs.Fold.{Rows, replies_to, rows_after}
 use Rattle.issuer_rows.specs.RowKey.{key_eq}
-use Rattle.issuer_rows.specs.Typed.{account_in}
+use Rattle.issuer_rows.specs.Typed.{account_in, card_in, original_in}
 use Rattle.issuer_rows.specs.declared.account_row.AccountRow.{AccountRow}
 use Rattle.issuer_rows.specs.declared.frame.Frame.{Frame}
 use Rattle.issuer_rows.specs.declared.reply_body.ReplyBody.{ReplyBody}
 use Rattle.issuer_rows.specs.declared.row_key.RowKey.{RowKey}
-use Rattle.issuer_laws.specs.Parts.{may_need, payer_at, Parted, of_part}
+use Rattle.issuer_rows.specs.declared.row_val.RowVal.{RowVal}
+use Rattle.issuer_laws.specs.Parts.{account_keys, may_need, paying_keys, Parted, of_part}
 use Rattle.engine_parts.specs.Decided.{list_at}
 use Rattle.engine_parts.specs.TwoBooks.{joined_all}
 
 -- ---- the book of a part
 
--- The account that paid for what the book keeps under the identity of a request or an advice. The message doesn't look at it, but no sound
--- book has what is kept without it.
-abbrev pub lent_keys : Rows → Frame → List RowKey
-lent_keys rows (Frame.Good (Message.Request r)) = payer_at rows (identity_of r.transaction)
-lent_keys rows (Frame.Good (Message.Advice a)) = payer_at rows (identity_of a.transaction)
-lent_keys rows (Frame.Good (Message.Reversal v)) = []
-lent_keys rows (Frame.Bad fault) = []
+-- The accounts without which a row isn't sound: a card's, and the one that paid for an original.
+abbrev pub accounts_of : Option RowVal → List RowKey
+accounts_of row = account_keys (card_in row) ++ paying_keys (original_in row)
+
+-- those of the rows under these keys
+abbrev pub lent_keys : Rows → List RowKey → List RowKey
+lent_keys rows [] = []
+lent_keys rows (k ∷ ks) = accounts_of (map.get rows k) ++ lent_keys rows ks
+
+-- The rows for a message: those that it may need, and the accounts that are lent to it. It doesn't look at these, but no sound book has
+-- the others without them.
+abbrev pub keys_for : Rows → Frame → List RowKey
+keys_for rows frame = may_need rows frame ++ lent_keys rows (may_need rows frame)
 
 -- the key is one of these
 abbrev pub is_among : RowKey → List RowKey → Bool
@@ -33,13 +39,13 @@ is_among k keys = list_any (key_eq k) keys
 abbrev pub may_need_one : Rows → List Frame → RowKey → Bool
 may_need_one rows frames k = list_any (λ frame. is_among k (may_need rows frame)) frames
 
--- or its account is lent to one of them
-abbrev pub may_find_one : Rows → List Frame → RowKey → Bool
-may_find_one rows frames k = list_any (λ frame. is_among k (may_need rows frame ++ lent_keys rows frame)) frames
+-- the row is for one of them
+abbrev pub is_for_one : Rows → List Frame → RowKey → Bool
+is_for_one rows frames k = list_any (λ frame. is_among k (keys_for rows frame)) frames
 
--- the rows of the book that these messages may need, and the accounts that are lent to them
+-- the rows of the book for these messages
 abbrev pub rows_for : Rows → List Frame → Rows
-rows_for rows frames = map.retain_keys rows (may_find_one rows frames)
+rows_for rows frames = map.retain_keys rows (is_for_one rows frames)
 
 -- the book of a part: the rows for its messages
 abbrev pub part_rows : Rows → Parted → ℕ → Rows

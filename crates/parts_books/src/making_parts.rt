@@ -1,13 +1,16 @@
-ghost use Rattle.std.specs.Prelude.{◌≡◌, ◌++◌, [], length, zip, IfOk, OnOk};
+ghost use Rattle.std.specs.Prelude.{◌≡◌, length, zip, IfOk, OnOk, cond};
+ghost use Rattle.std.specs.FinMap as map;
 ghost use Rattle.issuer_laws.specs.Parts.{of_part};
-ghost use Rattle.parts_books.specs.PartBooks.{each_part, part_rows, rows_for};
+ghost use Rattle.issuer_rows.specs.Book.{IsWithin};
+ghost use Rattle.issuer_rows.specs.declared.row_key.RowKey.{RowKey as Key};
+ghost use Rattle.parts_books.specs.PartBooks.{each_part, is_among, part_rows, rows_for};
 
-use crate::keys::push_found;
+use crate::keys::put_keys_for;
 use issuer_rows::{Book, Frame, RowKey};
 use std::alloc::{AllocError, Global};
 
-/// The books of so many parts: each has the rows that its messages may need, and the accounts that paid for what is kept under their
-/// identities. The message at each place is of the part at its place. It fails only where memory runs out.
+/// The books of so many parts: each has the rows that its messages may need, and the accounts of these. The message at each place is of the part at its place. It fails only where memory runs out.
+#[tactic(auto, using(crate::proofs::Going::each_last))]
 pub fn part_books(
     alloc: Global,
     book: &Book,
@@ -66,15 +69,17 @@ fn book_for(alloc: Global, book: &Book, frames: &[Frame]) -> Result<Book, AllocE
     let mut own = Book::new(alloc);
     let mut keys = Vec::new(alloc);
     for frame in frames {
-        keys.clear();
-        push_found(&mut keys, book, frame)?;
+        put_keys_for(&mut keys, book, frame)?;
         put_rows(book, &keys, &mut own)?;
     }
     Ok(own)
 }
 
 // Puts the rows of the book under these keys into another.
-fn put_rows(book: &Book, keys: &[RowKey], other: &mut Book) -> Result<(), AllocError> {
+fn put_rows(book: &Book, keys: &[RowKey], other: &mut Book) -> Result<(), AllocError>
+    requires within { IsWithin other.old book.now }
+    ensures { OnOk result ((q : Key) → map.get other.new q ≡ cond (is_among q keys.now) (map.get book.now q) (map.get other.old q)) }
+{
     for key in keys {
         if let Some(val) = book.row(key) {
             other.put_copy(key, val)?;
