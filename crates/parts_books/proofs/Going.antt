@@ -1,5 +1,5 @@
 -- Books into which rows go, one thing after another.
-use Rattle.std.proofs.Common.{◌≡◌, ℕ, zero, suc, ◌+◌, ◌<◌, ◌≤◌, Bool, true, false, ◌&&◌, ◌||◌, not, cond, List, [], ◌∷◌, ◌++◌, take, drop, get_or, length, add-one, arith, Option, Some, None, IsPermutation, refl, sym, ap, ◌∙◌}
+use Rattle.std.proofs.Common.{◌≡◌, ℕ, zero, suc, ◌+◌, ◌<◌, ◌≤◌, Bool, true, false, ◌&&◌, ◌||◌, not, cond, List, [], ◌∷◌, ◌++◌, take, drop, get_or, length, add-one, append-nil, append_assoc, arith, Option, Some, None, IsPermutation, refl, sym, ap, ◌∙◌}
 use Rattle.std.proofs.Math.Seq.{take-suc}
 use Rattle.std.proofs.lemmas.List.Sorted.{list_any-IsPermutation}
 use Rattle.std.specs.FinMap as map
@@ -17,7 +17,7 @@ use Rattle.issuer_laws.specs.Rules.{has}
 use Rattle.book_archive.proofs.Splitting.{any_at, get_retained, none_within, put_seen}
 use Rattle.engine_parts.proofs.JoinLaws.{get_joined}
 use Rattle.engine_parts.specs.TwoBooks.{first_of, joined}
-use Rattle.parts_books.specs.PartBooks.{each_from, is_among, is_as_in_rest, is_of_account, is_for_one, keys_for, may_need_one, own_rows, rest_rows, rows_for}
+use Rattle.parts_books.specs.PartBooks.{accounts_of, each_from, has_account_at, is_among, is_as_in_rest, is_for, is_for_one, is_of_account, lent_keys, may_need_one, own_rows, rest_rows, rows_for}
 
 abbrev pub Row : Type 0
 Row = RowKey × RowVal
@@ -61,33 +61,74 @@ or_false : (b : Bool) → (b || false) ≡ b
 or_false true = refl
 or_false false = refl
 
--- one more key
-among_last : (q : RowKey) (ks : List RowKey) (k : RowKey) → is_among q (ks ++ k ∷ []) ≡ (is_among q ks || key_eq q k)
-among_last q [] k = or_false (key_eq q k)
-among_last q (x ∷ ks) k = ap (λ (b : Bool). key_eq q x || b) (among_last q ks k) ∙ or_assoc (key_eq q x) (is_among q ks) (key_eq q k)
+module _ {A : Type 0} where
+  any_last : (t : A → Bool) (xs : List A) (x : A) → list_any t (xs ++ x ∷ []) ≡ (list_any t xs || t x)
+  any_last t [] x = or_false (t x)
+  any_last t (y ∷ xs) x = ap (λ (b : Bool). t y || b) (any_last t xs x) ∙ or_assoc (t y) (list_any t xs) (t x)
 
-among_next : (q : RowKey) (ks : List RowKey) (i : ℕ) (k : RowKey) → i < length ks → get_or ks i k ≡ k → is_among q (take (i + 1) ks) ≡ (is_among q (take i ks) || key_eq q k)
-among_next q ks i k within at =
-    ap (λ (n : ℕ). is_among q (take n ks)) (add-one i) ∙ ap (is_among q) (take-suc ks i k within ∙ ap (λ (x : RowKey). take i ks ++ x ∷ []) at) ∙ among_last q (take i ks) k
+  any_next : (t : A → Bool) (xs : List A) (i : ℕ) (x : A) → i < length xs → get_or xs i x ≡ x → list_any t (take (i + 1) xs) ≡ (list_any t (take i xs) || t x)
+  any_next t xs i x within at =
+      ap (λ (n : ℕ). list_any t (take n xs)) (add-one i) ∙ ap (list_any t) (take-suc xs i x within ∙ ap (λ (y : A). take i xs ++ y ∷ []) at) ∙ any_last t (take i xs) x
 
-both : (a b : Bool) (brought before between after : Option RowVal) → between ≡ cond a brought before → after ≡ cond b brought between → after ≡ cond (a || b) brought before
+pub both : (a b : Bool) (brought before between after : Option RowVal) → between ≡ cond a brought before → after ≡ cond b brought between → after ≡ cond (a || b) brought before
 both true true brought before between after one two = two
 both true false brought before between after one two = two ∙ one
 both false true brought before between after one two = two
 both false false brought before between after one two = two ∙ one
 
--- what the rows under one more key leave
-pub goes_again : (ks : List RowKey) (i : ℕ) (k : RowKey) (brings : RowKey → Option RowVal) (before between after : Rows) → i < length ks → get_or ks i k ≡ k
-    → HasGone (λ q. is_among q (take i ks)) brings before between → HasGone (λ q. key_eq q k) brings between after → HasGone (λ q. is_among q (take (i + 1) ks)) brings before after
-goes_again ks i k brings before between after within at one two q =
-    both (is_among q (take i ks)) (key_eq q k) (brings q) (map.get before q) (map.get between q) (map.get after q) (one q) (two q)
-    ∙ ap (λ (b : Bool). cond b (brings q) (map.get before q)) (sym (among_next q ks i k within at))
+spread : (a b c : Bool) → ((a && b) || (a && c)) ≡ (a && (b || c))
+spread true b c = refl
+spread false b c = refl
+
+-- what the rows under one more key leave, of those that pass a test
+pub goes_again : (test : RowKey → Bool) (ks : List RowKey) (i : ℕ) (k : RowKey) (brings : RowKey → Option RowVal) (before between after : Rows) → i < length ks → get_or ks i k ≡ k
+    → HasGone (λ q. test q && is_among q (take i ks)) brings before between → HasGone (λ q. test q && key_eq q k) brings between after
+    → HasGone (λ q. test q && is_among q (take (i + 1) ks)) brings before after
+goes_again test ks i k brings before between after within at one two q =
+    both (test q && is_among q (take i ks)) (test q && key_eq q k) (brings q) (map.get before q) (map.get between q) (map.get after q) (one q) (two q)
+    ∙ ap (λ (b : Bool). cond b (brings q) (map.get before q)) (spread (test q) (is_among q (take i ks)) (key_eq q k) ∙ ap (λ (b : Bool). test q && b) (sym (any_next (key_eq q) ks i k within at)))
+
+-- ---- lent accounts
+
+lent_last : (rows : Rows) (ks : List RowKey) (k : RowKey) → lent_keys rows (ks ++ k ∷ []) ≡ lent_keys rows ks ++ accounts_of (map.get rows k)
+lent_last rows [] k = append-nil (accounts_of (map.get rows k))
+lent_last rows (x ∷ ks) k =
+    ap (λ (more : List RowKey). accounts_of (map.get rows x) ++ more) (lent_last rows ks k) ∙ sym (append_assoc (accounts_of (map.get rows x)) (lent_keys rows ks) (accounts_of (map.get rows k)))
+
+-- those of the row under one more key
+pub lent_next : (rows : Rows) (ks : List RowKey) (i : ℕ) (k : RowKey) → i < length ks → get_or ks i k ≡ k → lent_keys rows (take (i + 1) ks) ≡ lent_keys rows (take i ks) ++ accounts_of (map.get rows k)
+lent_next rows ks i k within at =
+    ap (λ (n : ℕ). lent_keys rows (take n ks)) (add-one i) ∙ ap (lent_keys rows) (take-suc ks i k within ∙ ap (λ (x : RowKey). take i ks ++ x ∷ []) at) ∙ lent_last rows (take i ks) k
+
+-- ---- a test beside a key
+
+and_false : (b : Bool) → false ≡ (b && false)
+and_false true = refl
+and_false false = refl
+
+passes_here : (test : RowKey → Bool) (k q : RowKey) → test k ≡ true → key_eq q k ≡ (test q && key_eq q k)
+passes_here test k q own =
+    elim (key_eq q k) as (λ t. key_eq q k ≡ t → t ≡ (test q && t)) [
+      | true ↦ λ same. sym (ap (λ (b : Bool). b && true) (ap test ((key_eq_decides q k).0 same) ∙ own))
+      | false ↦ λ _. and_false (test q)
+    ] refl
+
+fails_here : (test : RowKey → Bool) (k q : RowKey) → test k ≡ false → false ≡ (test q && key_eq q k)
+fails_here test k q out =
+    elim (key_eq q k) as (λ t. key_eq q k ≡ t → false ≡ (test q && t)) [
+      | true ↦ λ same. sym (ap (λ (b : Bool). b && true) (ap test ((key_eq_decides q k).0 same) ∙ out))
+      | false ↦ λ _. and_false (test q)
+    ] refl
+
+-- where the key passes the test, what its row does
+pub passing : (test : RowKey → Bool) (k : RowKey) (brings : RowKey → Option RowVal) (before after : Rows) → test k ≡ true → HasGone (λ q. key_eq q k) brings before after → HasGone (λ q. test q && key_eq q k) brings before after
+passing test k brings before after own gone q = gone q ∙ ap (λ (b : Bool). cond b (brings q) (map.get before q)) (passes_here test k q own)
+
+-- where it doesn't, nothing
+pub failing : (test : RowKey → Bool) (k : RowKey) (brings : RowKey → Option RowVal) (rows : Rows) → test k ≡ false → HasGone (λ q. test q && key_eq q k) brings rows rows
+failing test k brings rows out q = ap (λ (b : Bool). cond b (brings q) (map.get rows q)) (fails_here test k q out)
 
 -- ---- the book of a part
-
--- the row is for the message
-abbrev pub is_for : Rows → RowKey → Frame → Bool
-is_for rows q frame = is_among q (keys_for rows frame)
 
 pub part_begins : (rows : Rows) (frames : List Frame) → IsGoing (is_for rows) frames (map.get rows) map.empty (rows_for rows frames)
 part_begins rows frames q =
@@ -128,46 +169,9 @@ rest_begins rows frames q =
     ∙ turned (is_of_account q) (may_need_one rows frames q) (map.get rows q)
     ∙ sym (get_retained rows (λ k. is_of_account k || not (may_need_one rows frames k)) q)
 
-get-removed : (rows : Rows) (k q : RowKey) → map.get (map.remove rows k) q ≡ cond (key_eq q k) None (map.get rows q)
+-- one row is taken
+pub get-removed : (rows : Rows) (k q : RowKey) → map.get (map.remove rows k) q ≡ cond (key_eq q k) None (map.get rows q)
 get-removed rows k q = map.get-remove key_cmp_total rows k q ∙ ap (λ (b : Bool). cond b None (map.get rows q)) (same_test q k)
-
--- what the rows under one more key leave, where accounts stay
-pub takes_again : (ks : List RowKey) (i : ℕ) (k : RowKey) (before between after : Rows) → i < length ks → get_or ks i k ≡ k
-    → HasGone (λ q. not (is_of_account q) && is_among q (take i ks)) (λ q. None) before between → HasGone (λ q. not (is_of_account q) && key_eq q k) (λ q. None) between after
-    → HasGone (λ q. not (is_of_account q) && is_among q (take (i + 1) ks)) (λ q. None) before after
-takes_again ks i k before between after within at one two q =
-    both (not (is_of_account q) && is_among q (take i ks)) (not (is_of_account q) && key_eq q k) None (map.get before q) (map.get between q) (map.get after q) (one q) (two q)
-    ∙ ap (λ (b : Bool). cond b None (map.get before q)) (spread (not (is_of_account q)) (is_among q (take i ks)) (key_eq q k) ∙ ap (λ (b : Bool). not (is_of_account q) && b) (sym (among_next q ks i k within at)))
-  where
-    spread : (a b c : Bool) → ((a && b) || (a && c)) ≡ (a && (b || c))
-    spread true b c = refl
-    spread false b c = refl
-
--- one row is taken, unless it is an account
-pub taken_one : (rows : Rows) (k q : RowKey) → is_of_account k ≡ false → map.get (map.remove rows k) q ≡ cond (not (is_of_account q) && key_eq q k) None (map.get rows q)
-taken_one rows k q other =
-    get-removed rows k q ∙ ap (λ (b : Bool). cond b None (map.get rows q))
-    (elim (key_eq q k) as (λ t. key_eq q k ≡ t → t ≡ (not (is_of_account q) && t)) [
-      | true ↦ λ same. sym (ap (λ (b : Bool). not b && true) (ap is_of_account ((key_eq_decides q k).0 same) ∙ other))
-      | false ↦ λ _. none (not (is_of_account q))
-    ] refl)
-  where
-    none : (b : Bool) → false ≡ (b && false)
-    none true = refl
-    none false = refl
-
--- an account stays
-pub account_stays : (rows : Rows) (k q : RowKey) → is_of_account k ≡ true → map.get rows q ≡ cond (not (is_of_account q) && key_eq q k) None (map.get rows q)
-account_stays rows k q account =
-    ap (λ (b : Bool). cond b None (map.get rows q))
-    (elim (key_eq q k) as (λ t. key_eq q k ≡ t → false ≡ (not (is_of_account q) && t)) [
-      | true ↦ λ same. sym (ap (λ (b : Bool). not b && true) (ap is_of_account ((key_eq_decides q k).0 same) ∙ account))
-      | false ↦ λ _. none (not (is_of_account q))
-    ] refl)
-  where
-    none : (b : Bool) → false ≡ (b && false)
-    none true = refl
-    none false = refl
 
 -- ---- the whole book
 

@@ -1,3 +1,5 @@
 pub mod Going
 pub mod Listed
 pub mod Places
+pub mod SoundParts
+pub mod Whole

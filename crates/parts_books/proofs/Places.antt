@@ -1,5 +1,5 @@
 -- Where the rows of a book are.
-use Rattle.std.proofs.Common.{◌≡◌, ◌≢◌, ℕ, Bool, true, false, ◌||◌, not, List, [], ◌∷◌, ◌++◌, Option, Some, None, ◌⊎◌, inl, inr, refl, sym, ap, ◌∙◌, subst}
+use Rattle.std.proofs.Common.{◌≡◌, ◌≢◌, ℕ, Bool, true, false, ◌&&◌, ◌||◌, not, List, [], ◌∷◌, ◌++◌, Option, Some, None, ◌⊎◌, inl, inr, refl, sym, ap, ◌∙◌, subst}
 use Rattle.std.proofs.lemmas.Bool.{false≢true}
 use Rattle.std.specs.FinMap as map
 use Rattle.iso8583.specs.declared.account_id.AccountId.{AccountId}
@@ -15,8 +15,8 @@ use Rattle.issuer_rows.specs.declared.payment.Payment.{Payment}
 use Rattle.issuer_rows.specs.declared.row_key.RowKey.{RowKey}
 use Rattle.issuer_rows.specs.declared.row_val.RowVal.{RowVal}
 use Rattle.issuer_laws.specs.Parts.{IsIn, second_key, account_keys, payer_keys, payment_keys, paying_keys, may_need, Parted, bodies, of_part, IsOfPart, AreApart, HasPart}
-use Rattle.parts_books.proofs.Listed.{among_in, in_among, in_front, in_back, in_either, any_of_part, of_part_any, any_of_bodies, of_bodies_any, within_retained, left_passes, passes_left, same_or_gone}
-use Rattle.parts_books.specs.PartBooks.{accounts_of, lent_keys, keys_for, is_among, is_for_one, may_need_one, is_of_account, part_rows, rest_rows}
+use Rattle.parts_books.proofs.Listed.{among_in, in_among, in_either, any_of_part, of_part_any, any_of_bodies, of_bodies_any, within_retained, left_passes, passes_left, same_or_gone}
+use Rattle.parts_books.specs.PartBooks.{accounts_of, lent_keys, has_account_at, is_among, is_for, is_for_one, may_need_one, is_of_account, part_rows, rest_rows}
 use Rattle.parts_books.specs.Together.{IsOfAccount, HaveTheRows}
 
 -- ---- lent rows are accounts
@@ -57,19 +57,36 @@ lent_account rows (n ∷ needs) k h =
 
 -- ---- the book of a part
 
+or_first : (a b : Bool) → a ≡ true → (a || b) ≡ true
+or_first true b h = refl
+or_first false b h = absurd (false≢true h)
+
+either : (a b : Bool) → (a || b) ≡ true → (a ≡ true) ⊎ (b ≡ true)
+either true b h = inl refl
+either false b h = inr h
+
+both : (a b : Bool) → (a && b) ≡ true → (a ≡ true) × (b ≡ true)
+both true b h = (refl, h)
+both false b h = absurd (false≢true h)
+
+-- an account that stands in the book
+abbrev pub IsAccountThere : Rows → RowKey → Type 0
+IsAccountThere rows k = IsOfAccount k × (has_account_at rows k ≡ true)
+
 -- a row of the part's book is one that the part may need, or an account
-pub of_part_or_account : (rows : Rows) (ms : Parted) (p : ℕ) (k : RowKey) → is_for_one rows (of_part p ms) k ≡ true → IsOfPart rows ms p k ⊎ IsOfAccount k
+pub of_part_or_account : (rows : Rows) (ms : Parted) (p : ℕ) (k : RowKey) → is_for_one rows (of_part p ms) k ≡ true → IsOfPart rows ms p k ⊎ IsAccountThere rows k
 of_part_or_account rows ms p k h =
-    let one = of_part_any (λ frame. is_among k (keys_for rows frame)) p ms h in
-    elim (in_either k (may_need rows one.0.1) (lent_keys rows (may_need rows one.0.1)) (in_among k (keys_for rows one.0.1) one.3)) [
-      | inl needed ↦ inl (one.0, one.1, one.2, needed)
-      | inr lent ↦ inr (lent_account rows (may_need rows one.0.1) k lent)
+    let one = of_part_any (is_for rows k) p ms h in
+    let needs = may_need rows one.0.1 in
+    elim (either (is_among k needs) (has_account_at rows k && is_among k (lent_keys rows needs)) one.3) [
+      | inl needed ↦ inl (one.0, one.1, one.2, in_among k needs needed)
+      | inr lent ↦ let two = both (has_account_at rows k) (is_among k (lent_keys rows needs)) lent in inr (lent_account rows needs k (in_among k (lent_keys rows needs) two.1), two.0)
     ]
 
 pub needed_is_there : (rows : Rows) (ms : Parted) (p : ℕ) (k : RowKey) → IsOfPart rows ms p k → is_for_one rows (of_part p ms) k ≡ true
 needed_is_there rows ms p k own =
-    any_of_part (λ frame. is_among k (keys_for rows frame)) p ms own.0 own.1 own.2
-    (among_in k (keys_for rows own.0.1) (in_front k (may_need rows own.0.1) (lent_keys rows (may_need rows own.0.1)) own.3))
+    any_of_part (is_for rows k) p ms own.0 own.1 own.2
+    (or_first (is_among k (may_need rows own.0.1)) (has_account_at rows k && is_among k (lent_keys rows (may_need rows own.0.1))) (among_in k (may_need rows own.0.1) own.3))
 
 -- it is a book of the part
 pub has_part : (rows : Rows) (ms : Parted) (p : ℕ) → HasPart rows ms p (part_rows rows ms p)
@@ -133,15 +150,15 @@ have_the_rows rows ms = record {
   of_rest = within_retained rows (is_left rows (bodies ms));
   two_parts = λ apart p q k other in_p in_q.
       elim (of_part_or_account rows ms p k (left_passes rows (is_for_one rows (of_part p ms)) k in_p)) [
-        | inr account ↦ account
+        | inr account ↦ account.0
         | inl of_p ↦ elim (of_part_or_account rows ms q k (left_passes rows (is_for_one rows (of_part q ms)) k in_q)) [
-          | inr account ↦ account
+          | inr account ↦ account.0
           | inl of_q ↦ absurd (apart p q k other of_p of_q)
         ]
       ];
   part_and_rest = λ p k in_p in_rest.
       elim (of_part_or_account rows ms p k (left_passes rows (is_for_one rows (of_part p ms)) k in_p)) [
-        | inr account ↦ account
+        | inr account ↦ account.0
         | inl of_p ↦ needed_in_rest rows ms p k of_p in_rest
       ];
 }

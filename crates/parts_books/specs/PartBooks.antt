@@ -1,5 +1,5 @@
 -- Which rows the books of parts have, and how books and replies of parts are put together.
-use Rattle.std.specs.Prelude.{◌≡◌, ℕ, zero, suc, ◌==◌, Bool, true, false, ◌&&◌, ◌||◌, not, List, [], ◌∷◌, ◌++◌, Option, Some, None, length, map, zip}
+use Rattle.std.specs.Prelude.{◌≡◌, ℕ, zero, suc, ◌==◌, Bool, true, false, ◌&&◌, ◌||◌, not, List, [], ◌∷◌, ◌++◌, Option, Some, None, is_some, length, map, zip}
 use Rattle.std.specs.FinMap as map
 use Rattle.std.specs.List.{list_any}
 use Rattle.issuer_rows.specs.Facts.{is_same_currency}
@@ -26,22 +26,22 @@ abbrev pub lent_keys : Rows → List RowKey → List RowKey
 lent_keys rows [] = []
 lent_keys rows (k ∷ ks) = accounts_of (map.get rows k) ++ lent_keys rows ks
 
--- The rows for a message: those that it may need, and the accounts that are lent to it. It doesn't look at these, but no sound book has
--- the others without them.
-abbrev pub keys_for : Rows → Frame → List RowKey
-keys_for rows frame = may_need rows frame ++ lent_keys rows (may_need rows frame)
-
 -- the key is one of these
 abbrev pub is_among : RowKey → List RowKey → Bool
 is_among k keys = list_any (key_eq k) keys
 
--- a message of these may need the row
-abbrev pub may_need_one : Rows → List Frame → RowKey → Bool
-may_need_one rows frames k = list_any (λ frame. is_among k (may_need rows frame)) frames
+-- an account stands there
+abbrev pub has_account_at : Rows → RowKey → Bool
+has_account_at rows k = is_some (account_in (map.get rows k))
 
--- the row is for one of them
+-- The row is for a message: one that it may need, or an account that is lent to it. It doesn't look at such an account, but no sound book
+-- has the other rows without it.
+abbrev pub is_for : Rows → RowKey → Frame → Bool
+is_for rows k frame = is_among k (may_need rows frame) || (has_account_at rows k && is_among k (lent_keys rows (may_need rows frame)))
+
+-- it is for one of these
 abbrev pub is_for_one : Rows → List Frame → RowKey → Bool
-is_for_one rows frames k = list_any (λ frame. is_among k (keys_for rows frame)) frames
+is_for_one rows frames k = list_any (is_for rows k) frames
 
 -- the rows of the book for these messages
 abbrev pub rows_for : Rows → List Frame → Rows
@@ -52,6 +52,10 @@ abbrev pub part_rows : Rows → Parted → ℕ → Rows
 part_rows rows ms p = rows_for rows (of_part p ms)
 
 -- ---- the rest
+
+-- a message of these may need the row
+abbrev pub may_need_one : Rows → List Frame → RowKey → Bool
+may_need_one rows frames k = list_any (λ frame. is_among k (may_need rows frame)) frames
 
 -- the row is an account
 abbrev pub is_of_account : RowKey → Bool

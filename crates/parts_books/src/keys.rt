@@ -1,33 +1,46 @@
-ghost use Rattle.std.specs.Prelude.{◌≡◌, ◌++◌, Some, OnOk};
+ghost use Rattle.std.specs.Prelude.{◌≡◌, ◌++◌, Some, IfOk, OnOk};
 ghost use Rattle.std.specs.FinMap as map;
 ghost use Rattle.issuer_laws.specs.Parts.{account_keys, accounts_at, budget_at, funds_at, may_need, may_need_first, payer_at, paying_keys};
 ghost use Rattle.issuer_rows.specs.declared.original_row.OriginalRow.{OriginalRow};
-ghost use Rattle.parts_books.specs.PartBooks.{accounts_of, keys_for, lent_keys};
+ghost use Rattle.parts_books.specs.PartBooks.{accounts_of, lent_keys};
 
 use iso8583::{Identity, Message, Pan, Reversal, Transaction};
 use issuer_rows::{Book, CardRow, Frame, Kept, Payer, RowKey, RowVal};
-use std::alloc::AllocError;
+use std::alloc::{AllocError, Global};
 
-/// Writes the keys of the rows for a message over others: of those that it may need, and of their accounts.
-pub(crate) fn put_keys_for(
-    keys: &mut Vec<RowKey>,
+// How many rows a message may need at most: a request's day, original, card, two accounts and budget; or a reversal's, with what paid.
+const MOST_NEEDED: usize = 6;
+
+/// The keys of the rows that a message may need. It fails only where memory runs out.
+pub(crate) fn needed_keys(
+    alloc: Global,
     book: &Book,
     frame: &Frame,
-) -> Result<(), AllocError>
-    ensures { OnOk result (keys.new.items ≡ keys_for book.now frame.now) }
+) -> Result<Vec<RowKey>, AllocError>
+    ensures { IfOk result (λ keys. keys.items ≡ may_need book.now frame.now) }
 {
-    keys.clear();
-    push_needed(keys, book, frame)?;
-    push_lent(keys, book)?;
-    Ok(())
+    let mut keys = Vec::with_capacity(alloc, MOST_NEEDED)?;
+    push_needed(&mut keys, book, frame)?;
+    Ok(keys)
 }
 
-/// Appends the keys of the rows that a message may need.
-pub(crate) fn push_needed(
-    keys: &mut Vec<RowKey>,
+/// The keys of the accounts of the rows under these. It fails only where memory runs out.
+pub(crate) fn lent_keys(
+    alloc: Global,
     book: &Book,
-    frame: &Frame,
-) -> Result<(), AllocError>
+    keys: &[RowKey],
+) -> Result<Vec<RowKey>, AllocError>
+    ensures { IfOk result (λ lent. lent.items ≡ lent_keys book.now keys.now) }
+{
+    let mut lent = Vec::new(alloc);
+    for key in keys {
+        push_accounts_of(&mut lent, book, key)?;
+    }
+    Ok(lent)
+}
+
+// Appends the keys of the rows that a message may need.
+fn push_needed(keys: &mut Vec<RowKey>, book: &Book, frame: &Frame) -> Result<(), AllocError>
     ensures { OnOk result (keys.new.items ≡ keys.old.items ++ may_need book.now frame.now) }
 {
     match frame {
@@ -41,17 +54,6 @@ pub(crate) fn push_needed(
         Frame::Good(Message::Reversal(reversal)) => push_reversal(keys, book, reversal),
         Frame::Bad(_) => Ok(()),
     }
-}
-
-// Appends the keys of the accounts of the rows under these.
-fn push_lent(keys: &mut Vec<RowKey>, book: &Book) -> Result<(), AllocError>
-    ensures { OnOk result (keys.new.items ≡ keys.old.items ++ lent_keys book.now keys.old.items) }
-{
-    for index in 0..keys.len() {
-        let key = keys[index];
-        push_accounts_of(keys, book, &key)?;
-    }
-    Ok(())
 }
 
 // Appends the keys of the accounts of the row under this one, if there is such a row.

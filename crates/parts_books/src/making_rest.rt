@@ -3,7 +3,7 @@ ghost use Rattle.std.specs.FinMap as map;
 ghost use Rattle.issuer_rows.specs.declared.row_key.RowKey.{RowKey as Key};
 ghost use Rattle.parts_books.specs.PartBooks.{is_among, is_of_account, rest_rows};
 
-use crate::keys::push_needed;
+use crate::keys::needed_keys;
 use issuer_rows::{Book, Frame, RowKey};
 use std::alloc::{AllocError, Global};
 
@@ -12,10 +12,8 @@ pub fn rest_book(alloc: Global, book: &Book, frames: &[Frame]) -> Result<Book, A
     ensures { IfOk result (λ rest. rest ≡ rest_rows book.now frames.now) }
 {
     let mut rest = book.copy()?;
-    let mut keys = Vec::new(alloc);
     for frame in frames {
-        keys.clear();
-        push_needed(&mut keys, book, frame)?;
+        let keys = needed_keys(alloc, book, frame)?;
         take_rows(&keys, &mut rest);
     }
     Ok(rest)

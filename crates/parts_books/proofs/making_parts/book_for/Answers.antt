@@ -1,13 +1,12 @@
-use Rattle.std.proofs.Common.{◌≡◌, ◌+◌, List, ◌∷◌, drop, sym, ap, ◌∙◌, subst, cond}
+use Rattle.std.proofs.Common.{◌+◌, List, drop, sym, subst}
 use Rattle.std.specs.FinMap as map
 use Rattle.book_archive.proofs.Splitting.{nothing_within, within_on}
 use Rattle.issuer_fold.proofs.FoldLaws.{left_in_turn}
 use Rattle.issuer_rows.specs.Book.{IsWithin}
 use Rattle.issuer_rows.specs.Fold.{Rows}
 use Rattle.issuer_rows.specs.declared.frame.Frame.{Frame}
-use Rattle.issuer_rows.specs.declared.row_key.RowKey.{RowKey}
-use Rattle.parts_books.specs.PartBooks.{is_among, keys_for, rows_for}
-use Rattle.parts_books.proofs.Going.{IsGoing, HasGone, all_gone, goes_on, is_for, none_left, part_begins}
+use Rattle.parts_books.specs.PartBooks.{is_for, rows_for}
+use Rattle.parts_books.proofs.Going.{IsGoing, all_gone, goes_on, none_left, part_begins}
 use Rattle.parts_books.proofs.making_parts.book_for.Goals as goal
 
 pub loop-frame-init : goal.loop-frame-init
@@ -22,15 +21,11 @@ loop-frame-preserved c =
     let frames = c.args.frames.now in
     let i = c.loop-frame.frame-index in
     let frame = c.frame-item.result in
-    let found = keys_for book frame in
     let left = left_in_turn frames i frame c.loop-frame-test.true c.frame-item.is in
-    let keys : c.deref.result.now ≡ found = c.deref.ensures.value ∙ c.in_ok-put_keys_for.ensures in
-    let put : HasGone (λ q. is_among q found) (map.get book) c.loop-frame.own c.put_rows.new.other
-    = λ q. c.in_ok-put_rows.ensures q ∙ ap (λ (ks : List RowKey). cond (is_among q ks) (map.get book q) (map.get c.loop-frame.own q)) keys in
     record {
-      left = goes_on (is_for book) frame (drop (i + 1) frames) (map.get book) c.loop-frame.own c.put_rows.new.other (rows_for book frames)
-          (subst (λ (fs : List Frame). IsGoing (is_for book) fs (map.get book) c.loop-frame.own (rows_for book frames)) left c.loop-frame.invariant.left) put;
-      within = within_on (λ q. is_among q found) book c.loop-frame.own c.put_rows.new.other c.loop-frame.invariant.within put;
+      left = goes_on (is_for book) frame (drop (i + 1) frames) (map.get book) c.loop-frame.own c.put_for.new.other (rows_for book frames)
+          (subst (λ (fs : List Frame). IsGoing (is_for book) fs (map.get book) c.loop-frame.own (rows_for book frames)) left c.loop-frame.invariant.left) c.in_ok-put_for.ensures;
+      within = within_on (λ q. is_for book q frame) book c.loop-frame.own c.put_for.new.other c.loop-frame.invariant.within c.in_ok-put_for.ensures;
     }
 
 pub returns : goal.returns

@@ -1,8 +1,8 @@
 use Rattle.std.proofs.Common.{drop}
 use Rattle.std.specs.FinMap as map
 use Rattle.issuer_rows.specs.Book.{IsWithin}
-use Rattle.parts_books.proofs.Going.{IsGoing, is_for}
-use Rattle.parts_books.specs.PartBooks.{rows_for}
+use Rattle.parts_books.proofs.Going.{IsGoing}
+use Rattle.parts_books.specs.PartBooks.{is_for, rows_for}
 use Rattle.parts_books.proofs.making_parts.book_for.Given as goal
 
 -- the rows for the messages from this one on are to be put

@@ -1,4 +1,4 @@
-use Rattle.std.proofs.Common.{cond, refl, sym, ap, ◌∙◌}
+use Rattle.std.proofs.Common.{true, cond, refl, sym, ap, ◌∙◌}
 use Rattle.std.specs.FinMap as map
 use Rattle.book_archive.proofs.Splitting.{within_on}
 use Rattle.issuer_rows.specs.Fold.{Rows}
@@ -23,6 +23,6 @@ loop-key-preserved c =
     ]
     in
     record {
-      put = goes_again keys i key (map.get book) c.args.other.now between after c.loop-key-test.true (sym c.key-item.is) c.loop-key.invariant.put one;
+      put = goes_again (λ q. true) keys i key (map.get book) c.args.other.now between after c.loop-key-test.true (sym c.key-item.is) c.loop-key.invariant.put one;
       within = within_on (λ q. key_eq q key) book between after c.loop-key.invariant.within one;
     }

@@ -1,4 +1,4 @@
-use Rattle.std.proofs.Common.{◌≡◌, ◌+◌, ◌++◌, not, List, None, drop, sym, ap, ◌∙◌, subst, ◌&&◌, cond}
+use Rattle.std.proofs.Common.{◌≡◌, ◌+◌, not, List, None, drop, sym, ap, ◌∙◌, subst, ◌&&◌, cond}
 use Rattle.std.specs.FinMap as map
 use Rattle.issuer_fold.proofs.FoldLaws.{left_in_turn}
 use Rattle.issuer_laws.specs.Parts.{may_need}
@@ -20,7 +20,7 @@ loop-frame-preserved c =
     let i = c.loop-frame.frame-index in
     let frame = c.frame-item.result in
     let left = left_in_turn frames i frame c.loop-frame-test.true c.frame-item.is in
-    let keys : c.deref.result.now ≡ may_need book frame = c.deref.ensures.value ∙ c.in_ok-push_needed.ensures ∙ ap (λ (ks : List RowKey). ks ++ may_need book frame) c.clear.ensures.items in
+    let keys : c.deref.result.now ≡ may_need book frame = c.deref.ensures.value ∙ c.in_ok-keys.ensures in
     goes_on (is_taken book) frame (drop (i + 1) frames) (λ q. None) c.loop-frame.rest c.take_rows.new.rest (rest_rows book frames)
     (subst (λ (fs : List Frame). IsGoing (is_taken book) fs (λ q. None) c.loop-frame.rest (rest_rows book frames)) left c.loop-frame.invariant)
     (λ q. c.take_rows.ensures q ∙ ap (λ (ks : List RowKey). cond (not (is_of_account q) && is_among q ks) None (map.get c.loop-frame.rest q)) keys)

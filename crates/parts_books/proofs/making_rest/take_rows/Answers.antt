@@ -3,7 +3,7 @@ use Rattle.std.specs.FinMap as map
 use Rattle.issuer_rows.specs.Fold.{Rows}
 use Rattle.issuer_rows.specs.RowKey.{key_eq}
 use Rattle.parts_books.specs.PartBooks.{is_of_account}
-use Rattle.parts_books.proofs.Going.{HasGone, account_stays, taken_one, takes_again}
+use Rattle.parts_books.proofs.Going.{HasGone, failing, get-removed, goes_again, passing}
 use Rattle.parts_books.proofs.making_rest.take_rows.Goals.{then-not-is_of_account, else-not-is_of_account}
 use Rattle.parts_books.proofs.making_rest.take_rows.Goals as goal
 
@@ -16,8 +16,8 @@ loop-key-preserved c =
     let after = c.if-not-is_of_account.rest in
     let one : HasGone (λ q. not (is_of_account q) && key_eq q key) (λ q. None) between after =
     elim c.if-not-is_of_account.branch [
-      | then-not-is_of_account w ↦ λ q. ap (λ (rows : Rows). map.get rows q) (w.rest-is ∙ w.remove.ensures.after) ∙ taken_one between key q (sym w.if-not-is_of_account.ensures)
-      | else-not-is_of_account w ↦ λ q. ap (λ (rows : Rows). map.get rows q) w.rest-is ∙ account_stays between key q (sym w.if-not-is_of_account.ensures)
+      | then-not-is_of_account w ↦ λ q. ap (λ (rows : Rows). map.get rows q) (w.rest-is ∙ w.remove.ensures.after) ∙ passing (λ k. not (is_of_account k)) key (λ k. None) between (map.remove between key) (ap not (sym w.if-not-is_of_account.ensures)) (get-removed between key) q
+      | else-not-is_of_account w ↦ λ q. ap (λ (rows : Rows). map.get rows q) w.rest-is ∙ failing (λ k. not (is_of_account k)) key (λ k. None) between (ap not (sym w.if-not-is_of_account.ensures)) q
     ]
     in
-    takes_again keys i key c.args.rest.now between after c.loop-key-test.true (sym c.key-item.is) c.loop-key.invariant one
+    goes_again (λ q. not (is_of_account q)) keys i key (λ q. None) c.args.rest.now between after c.loop-key-test.true (sym c.key-item.is) c.loop-key.invariant one
