@@ -1,3 +1,4 @@
+pub mod Arrival
 pub mod Going
 pub mod Listed
 pub mod Places
