@@ -16,6 +16,11 @@ list_there [] p v at = absurd (none-some v at)
 list_there (x ∷ vecs) zero v at = ap (λ (list : Vec ReplyBody Global). list.items) (same_Some x v at)
 list_there (x ∷ vecs) (suc p) v at = list_there vecs p v at
 
+pub unread : {A : Type 0} (xs : List A) (n : ℕ) → n < length xs → drop n xs ≡ [] → ⊥
+unread [] n h none = absurd (omega (arith, h))
+unread (x ∷ xs) zero h none = absurd (cc)
+unread (x ∷ xs) (suc n) h none = unread xs n (omega (arith, h)) none
+
 pub no_list : {A : Type 0} (lists : List (List A)) (p : ℕ) → length lists ≤ p → list_at lists p ≡ []
 no_list [] p h = refl
 no_list (x ∷ lists) zero h = absurd (omega (arith, h))

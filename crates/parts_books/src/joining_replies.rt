@@ -22,7 +22,7 @@ pub fn join_replies(
         let Some(reply) = take_next(replies, &mut next, *part as usize) else {
             return Ok(None);
         };
-        ordered.push(reply)?;
+        ordered.push(*reply)?;
     }
     if !are_read(replies, &next) {
         return Ok(None);
@@ -31,10 +31,14 @@ pub fn join_replies(
 }
 
 // The next reply of a part, if it has one that wasn't read.
-fn take_next(replies: &[Vec<ReplyBody>], next: &mut Vec<usize>, part: usize) -> Option<ReplyBody>
+fn take_next<'a>(
+    replies: &'a [Vec<ReplyBody>],
+    next: &mut Vec<usize>,
+    part: usize,
+) -> Option<&'a ReplyBody>
     requires { length next.old.items ≡ length replies.now }
     ensures within { IfSome result (λ reply. part < length next.old.items) }
-    ensures next { IfSome result (λ reply. slice_get (list_at (map (λ list. list.items) replies.now) part) (slice_index next.old.items part) ≡ Some reply) }
+    ensures next { IfSome result (λ reply. slice_get (list_at (map (λ list. list.items) replies.now) part) (slice_index next.old.items part) ≡ Some reply.now) }
     ensures behind { IfSome result (λ reply. next.new.items ≡ slice_set next.old.items part (slice_index next.old.items part + 1)) }
     ensures none { result ≡ None → drop (slice_index next.old.items part) (list_at (map (λ list. list.items) replies.now) part) ≡ [] }
 {
@@ -42,7 +46,7 @@ fn take_next(replies: &[Vec<ReplyBody>], next: &mut Vec<usize>, part: usize) -> 
     let place = next[part];
     let reply = list.get(place)?;
     next[part] = place + 1;
-    Some(*reply)
+    Some(reply)
 }
 
 // Whether all replies are read.
