@@ -1,5 +1,5 @@
 -- Replies of parts that are read in turn, in the order of arrival.
-use Rattle.std.proofs.Common.{◌≡◌, ◌≢◌, Vec, Global, ℕ, zero, suc, ◌+◌, ◌<◌, ◌≤◌, ◌==◌, true, false, if◌then◌else◌, List, [], ◌∷◌, ◌++◌, length, take, drop, map, zip, replicate, Option, Some, None, slice_get, slice_index, slice_index_or, refl, sym, ap, ◌∙◌, subst, arith, add-one, append_assoc, append-nil, get_or-set_other, get_or-set_same, length-set}
+use Rattle.std.proofs.Common.{◌≡◌, ◌≢◌, Vec, Global, ℕ, zero, suc, ◌+◌, ◌<◌, ◌≤◌, ◌==◌, true, false, if◌then◌else◌, List, [], ◌∷◌, ◌++◌, length, take, drop, map, zip, Some, slice_get, slice_index, refl, sym, ap, ◌∙◌, subst, arith, add-one, append_assoc, append-nil, get_or-set_other, get_or-set_same, length-set}
 use Rattle.std.proofs.Math.ListN.{set}
 use Rattle.std.proofs.lemmas.Bool.Decides.{nat_tests}
 use Rattle.std.proofs.lemmas.Option.{none-some, same_Some}

@@ -11,13 +11,12 @@ use Rattle.issuer_rows.specs.RowKey.{key_cmp, key_eq}
 use Rattle.issuer_rows.specs.declared.frame.Frame.{Frame}
 use Rattle.issuer_rows.specs.declared.row_key.RowKey.{RowKey}
 use Rattle.issuer_rows.specs.declared.row_val.RowVal.{RowVal}
-use Rattle.issuer_laws.proofs.Keys.{get-put, get-other}
 use Rattle.issuer_laws.specs.Parts.{may_need}
 use Rattle.issuer_laws.specs.Rules.{has}
 use Rattle.book_archive.proofs.Splitting.{any_at, get_retained, none_within, put_seen}
 use Rattle.engine_parts.proofs.JoinLaws.{get_joined}
 use Rattle.engine_parts.specs.TwoBooks.{first_of, joined}
-use Rattle.parts_books.specs.PartBooks.{accounts_of, each_from, has_account_at, is_among, is_as_in_rest, is_for, is_for_one, is_of_account, lent_keys, may_need_one, own_rows, rest_rows, rows_for}
+use Rattle.parts_books.specs.PartBooks.{accounts_of, each_from, is_among, is_as_in_rest, is_for, is_for_one, is_of_account, lent_keys, may_need_one, own_rows, rest_rows, rows_for}
 
 abbrev pub Row : Type 0
 Row = RowKey × RowVal

@@ -1,20 +1,20 @@
 -- The parts' books and the rest are sound where the book is.
-use Rattle.std.proofs.Common.{◌≡◌, ℕ, Bool, true, false, ◌&&◌, ◌||◌, not, cond, List, [], ◌∷◌, ◌++◌, Option, Some, None, is_some, ◌⊎◌, inl, inr, refl, sym, ap, ◌∙◌, subst}
+use Rattle.std.proofs.Common.{◌≡◌, Bool, true, false, ◌&&◌, ◌||◌, not, List, [], ◌∷◌, Option, Some, None, is_some, inl, inr, refl, sym, ap, ◌∙◌, subst}
 use Rattle.std.proofs.lemmas.Bool.{false≢true}
 use Rattle.std.specs.Cmp.Derive.{both_true}
 use Rattle.std.specs.FinMap as map
-use Rattle.std.specs.List.{list_all, list_any}
+use Rattle.std.specs.List.{list_any}
 use Rattle.iso8583.specs.declared.account_id.AccountId.{AccountId}
 use Rattle.issuer_rows.specs.CardAccounts.{AccountsOfCard, is_same_account}
 use Rattle.issuer_rows.specs.Fold.{Rows}
 use Rattle.issuer_rows.specs.Kept.{payment_of_outcome}
-use Rattle.issuer_rows.specs.Typed.{account_in, card_in, original_in}
+use Rattle.issuer_rows.specs.Typed.{account_in}
 use Rattle.issuer_rows.specs.declared.frame.Frame.{Frame}
 use Rattle.issuer_rows.specs.declared.payer.Payer.{Payer}
 use Rattle.issuer_rows.specs.declared.payment.Payment.{Payment}
 use Rattle.issuer_rows.specs.declared.row_key.RowKey.{RowKey}
 use Rattle.issuer_rows.specs.declared.row_val.RowVal.{RowVal}
-use Rattle.issuer_laws.specs.Parts.{IsIn, second_key, account_keys, payer_keys, payment_keys, paying_keys, may_need, Parted, bodies, of_part}
+use Rattle.issuer_laws.specs.Parts.{IsIn, second_key, payer_keys, payment_keys, may_need, Parted, bodies, of_part}
 use Rattle.book_archive.proofs.Sound.{KeepsAllAccounts, accounts_stay, all_retained, in_range, paying_stays, right_numbers}
 use Rattle.book_laws.specs.CheckBook.{has_account, has_payer, is_backed, has_paying_account, has_second, are_accounts, has_accounts, IsSound}
 use Rattle.parts_books.proofs.Listed.{among_in, in_among, in_front, in_back, passes_left}

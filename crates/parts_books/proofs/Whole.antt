@@ -1,5 +1,5 @@
 -- Parts that are decided alone, put together: the whole batch.
-use Rattle.std.proofs.Common.{◌≡◌, ◌≢◌, ℕ, zero, suc, ◌+◌, ◌<◌, ◌≤◌, ◌==◌, Bool, true, false, ◌&&◌, not, cond, if◌then◌else◌, List, [], ◌∷◌, ◌++◌, length, map, zip, Option, Some, None, is_some, ◌⊎◌, inl, inr, refl, sym, ap, ◌∙◌, subst, arith}
+use Rattle.std.proofs.Common.{◌≡◌, ◌≢◌, ℕ, zero, suc, ◌+◌, ◌<◌, ◌≤◌, ◌==◌, Bool, true, false, ◌&&◌, not, cond, if◌then◌else◌, List, [], ◌∷◌, ◌++◌, length, map, Option, Some, None, is_some, ◌⊎◌, inl, inr, refl, sym, ap, ◌∙◌, subst, arith}
 use Rattle.std.proofs.lemmas.Bool.{false≢true}
 use Rattle.std.proofs.lemmas.Bool.Decides.{nat_tests}
 use Rattle.std.proofs.lemmas.List.{length-map}
@@ -13,7 +13,6 @@ use Rattle.issuer_rows.specs.Plan.{Writes}
 use Rattle.issuer_rows.specs.Typed.{account_in, card_in, original_in}
 use Rattle.issuer_rows.specs.declared.account_row.AccountRow.{AccountRow}
 use Rattle.issuer_rows.specs.declared.frame.Frame.{Frame}
-use Rattle.issuer_rows.specs.declared.reply_body.ReplyBody.{ReplyBody}
 use Rattle.issuer_rows.specs.declared.row_key.RowKey.{RowKey}
 use Rattle.issuer_rows.specs.declared.row_val.RowVal.{RowVal}
 use Rattle.iso8583.specs.declared.identity.Identity.{Identity}
@@ -28,9 +27,9 @@ use Rattle.engine_parts.proofs.JoinLaws.{get_joined}
 use Rattle.engine_parts.proofs.PartLaws.{of_or_not, others_stay}
 use Rattle.engine_parts.specs.Decided.{list_at}
 use Rattle.engine_parts.specs.TwoBooks.{first_of, joined, joined_all}
-use Rattle.parts_books.proofs.Listed.{in_front, in_back, in_either, left_passes, passes_left, same_or_gone}
-use Rattle.parts_books.proofs.Places.{account_is_left, has_part, is_left, left_in_rest, needed_in_rest, of_part_or_account}
-use Rattle.parts_books.specs.PartBooks.{each_from, each_part, has_account_at, is_as_in_rest, is_for_one, is_same_account_row, joined_books, own_rows, part_replies, part_rows, part_rows_after, rest_rows}
+use Rattle.parts_books.proofs.Listed.{in_front, in_back, in_either, passes_left, same_or_gone}
+use Rattle.parts_books.proofs.Places.{account_is_left, has_part, is_left, left_in_rest, of_part_or_account}
+use Rattle.parts_books.specs.PartBooks.{each_from, each_part, is_as_in_rest, is_for_one, is_same_account_row, joined_books, own_rows, part_replies, part_rows, part_rows_after, rest_rows}
 use Rattle.parts_books.specs.Together.{MakeTheWhole}
 
 -- ---- a part's book asks for no more than the book
@@ -307,6 +306,7 @@ own_replies rows ms count apart below p =
   where
     from_zero : (p : ℕ) → 0 + p ≡ p
     from_zero p = omega arith
+
     below_or_not : (p n : ℕ) → (p < n) ⊎ (n ≤ p)
     below_or_not zero zero = inr (omega arith)
     below_or_not zero (suc n) = inl (omega arith)

@@ -76,12 +76,7 @@ fn book_for(alloc: Global, book: &Book, frames: &[Frame]) -> Result<Book, AllocE
 }
 
 // Puts the rows of the book for a message into another.
-fn put_for(
-    alloc: Global,
-    book: &Book,
-    frame: &Frame,
-    other: &mut Book,
-) -> Result<(), AllocError>
+fn put_for(alloc: Global, book: &Book, frame: &Frame, other: &mut Book) -> Result<(), AllocError>
     requires within { IsWithin other.old book.now }
     ensures { OnOk result ((q : Key) → map.get other.new q ≡ cond (is_for book.now q frame.now) (map.get book.now q) (map.get other.old q)) }
 {

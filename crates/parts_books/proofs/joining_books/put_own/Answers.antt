@@ -1,10 +1,9 @@
-use Rattle.std.proofs.Common.{◌≡◌, List, ◌∷◌, Some, sym, ap, ◌∙◌, subst}
+use Rattle.std.proofs.Common.{◌≡◌, List, ◌∷◌, Some, sym, subst}
 use Rattle.std.proofs.ByRecursion.{all_shuffled}
 use Rattle.std.specs.FinMap as map
 use Rattle.std.specs.List.{AllByRecursion}
 use Rattle.book_archive.proofs.Splitting.{listed_found}
 use Rattle.engine_parts.specs.TwoBooks.{joined}
-use Rattle.issuer_rows.specs.Fold.{Rows}
 use Rattle.parts_books.specs.PartBooks.{own_rows}
 use Rattle.parts_books.proofs.Going.{Row, IsGoing, all_gone, goes_on, is_own, own_begins}
 use Rattle.parts_books.proofs.joining_books.put_own.Goals as goal

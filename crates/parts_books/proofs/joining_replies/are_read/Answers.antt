@@ -1,4 +1,4 @@
-use Rattle.std.proofs.Common.{◌≡◌, ◌<◌, length, Some, drop, slice_index, sym, ap, ◌∙◌, arith, rules, List}
+use Rattle.std.proofs.Common.{◌≡◌, length, Some, drop, slice_index, sym, ap, ◌∙◌, arith, rules, List}
 use Rattle.std.proofs.lemmas.Option.{slice_get-get_or}
 use Rattle.issuer_rows.specs.declared.reply_body.ReplyBody.{ReplyBody}
 use Rattle.parts_books.proofs.Arrival.{list_there, unread}

@@ -1,4 +1,4 @@
-use Rattle.std.proofs.Common.{◌++◌, List, take, sym, ap, ◌∙◌}
+use Rattle.std.proofs.Common.{◌++◌, List, sym, ap, ◌∙◌}
 use Rattle.std.specs.FinMap as map
 use Rattle.issuer_rows.specs.declared.row_key.RowKey.{RowKey}
 use Rattle.parts_books.proofs.Going.{lent_next}
