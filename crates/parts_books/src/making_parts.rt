@@ -11,7 +11,8 @@ use crate::keys::{lent_keys, needed_keys};
 use issuer_rows::{Book, Frame, RowKey, RowVal};
 use std::alloc::{AllocError, Global};
 
-/// The books of so many parts: each has the rows that its messages may need, and the accounts of these. The message at each place is of the part at its place. It fails only where memory runs out.
+/// The books of so many parts: each has the rows that its messages may need, and the accounts of these. The message at each place is of the
+/// part at its place. It fails only where memory runs out.
 #[tactic(auto, using(crate::proofs::Going::each_last))]
 pub fn part_books(
     alloc: Global,
