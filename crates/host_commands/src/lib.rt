@@ -2,10 +2,13 @@
 #![tactic(auto)]
 
 mod ahead;
+mod asked_links;
 mod asking;
+mod choices;
 mod help;
 mod link_names;
 mod links_teller;
+mod links_words;
 mod logs;
 mod pipes;
 mod serve_fault;
@@ -14,10 +17,13 @@ mod serving_links;
 mod settings;
 mod settings_words;
 
+pub use asked_links::AskedLinks;
 pub use asking::{HostAsked, host_asked};
 pub use help::SERVE_HELP;
+pub use choices::Choices;
 pub use link_names::LinkNames;
 pub use links_teller::LinksTeller;
+pub use links_words::links_asked;
 pub use logs::{HostLogs, Logs};
 pub use pipes::{PipeSink, PipeSource};
 pub use serve_fault::ServeFault;

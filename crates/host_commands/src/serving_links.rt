@@ -1,5 +1,8 @@
 //! Several links at one live host.
 
+ghost use Rattle.std.specs.Prelude.{◌≡◌, ℕ, List, All, IfOk, IsFalse, None};
+ghost use Rattle.host_commands.specs.Together.{AreAnswered, OpensOn};
+
 use crate::link_names::LinkNames;
 use crate::links_teller::LinksTeller;
 use crate::logs::Logs;
@@ -41,6 +44,9 @@ pub fn serve_links<
 ) -> u8
 where
     L::Log: Send,
+    // With status 0 no link had a fault, and all that came on each was served and answered.
+    ensures served { (text bytes : List ℕ) → F.holds files.now book.now text → L.holds logs.now log.now bytes → result ≡ 0
+        → AreAnswered I.is_known I.remaining O.is_known O.written text bytes seats.old seats.new × All (λ seat. seat.fault ≡ None) seats.new }
 {
     let mut teller = Teller::new(alloc, err, settings.stats);
     let opened = match open_on(rt, alloc, files, logs, book, log) {
@@ -64,7 +70,10 @@ where
         behind.watch.link_stopped(0, &HostFault::OutOfMemory);
         return 1;
     }
-    u8::from(behind.fault.is_some() || has_fault(seats))
+    if behind.fault.is_some() || has_fault(seats) {
+        return 1;
+    }
+    0
 }
 
 // Opens the host on these files.
@@ -75,17 +84,20 @@ fn open_on<R: Threads, F: Files, L: Logs>(
     logs: &L,
     book: &str,
     log: &str,
-) -> Result<Opened<L::Log>, ServeFault> {
+) -> Result<Opened<L::Log>, ServeFault>
+    ensures { (text bytes : List ℕ) → F.holds files.now book.now text → L.holds logs.now log.now bytes
+        → IfOk result (λ opened. OpensOn L.Log.is_known L.Log.synced L.Log.unsynced text bytes opened.host) }
+{
     let file = logs.open(log)?;
     Ok(open_host(rt, alloc, files, book, file, &Shipped)?)
 }
 
 // Whether a link stopped with a fault.
-fn has_fault<I: Drop, O: Drop>(seats: &[Seat<I, O>]) -> bool {
-    for seat in seats {
-        if seat.fault().is_some() {
-            return true;
-        }
+fn has_fault<I: Drop, O: Drop>(seats: &[Seat<I, O>]) -> bool
+    ensures { IsFalse result → All (λ seat. seat.fault ≡ None) seats.now }
+{
+    match seats.split_first() {
+        None => false,
+        Some((seat, rest)) => seat.fault().is_some() || has_fault(rest),
     }
-    false
 }
