@@ -1,3 +1,5 @@
 pub mod Answering
 pub mod SameLink
 pub mod SettingWords
+pub mod LinkWords
+pub mod Together

@@ -1,3 +1,5 @@
 pub mod HostAsked
 pub mod Settings
+pub mod Links
 pub mod Served
+pub mod Together

@@ -1,18 +1,32 @@
-//! What the program does for `switch serve`: a live host over standard input and output.
+//! What the program does for `switch serve`: a live host over standard input and output, or over named pipes.
 #![tactic(auto)]
 
 mod ahead;
+mod asked_links;
 mod asking;
+mod choices;
 mod help;
+mod link_names;
+mod links_teller;
+mod links_words;
 mod logs;
+mod pipes;
 mod serve_fault;
 mod serving;
+mod serving_links;
 mod settings;
 mod settings_words;
 
+pub use asked_links::AskedLinks;
 pub use asking::{HostAsked, host_asked};
 pub use help::SERVE_HELP;
+pub use choices::Choices;
+pub use link_names::LinkNames;
+pub use links_teller::LinksTeller;
+pub use links_words::links_asked;
 pub use logs::{HostLogs, Logs};
+pub use pipes::{PipeSink, PipeSource};
 pub use serve_fault::ServeFault;
 pub use serving::serve;
+pub use serving_links::serve_links;
 pub use settings::Settings;

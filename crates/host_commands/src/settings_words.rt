@@ -11,7 +11,7 @@ use host_serving::MaxBatch;
 use host_telling::StatsInterval;
 
 // How many frames a word says.
-fn max_batch_in(word: &str) -> Option<MaxBatch>
+pub(crate) fn max_batch_in(word: &str) -> Option<MaxBatch>
     ensures { SomeIff result (IsNumberTo 65536 word.now) (number_of word.now) }
 {
     match word.parse::<u32>() {
@@ -21,7 +21,7 @@ fn max_batch_in(word: &str) -> Option<MaxBatch>
 }
 
 // How many bodies a word says.
-fn stats_in(word: &str) -> Option<StatsInterval>
+pub(crate) fn stats_in(word: &str) -> Option<StatsInterval>
     ensures { SomeIff result (IsNumberTo (2 ^ 64 - 1) word.now) (number_of word.now) }
 {
     match word.parse::<u64>() {

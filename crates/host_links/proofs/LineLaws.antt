@@ -1,5 +1,5 @@
 -- One link's turns, one after another.
-use Rattle.std.proofs.Common.{◌≡◌, ◌∙◌, ℕ, List, [], ◌∷◌, ◌++◌, ap, refl, sym, subst, append_assoc}
+use Rattle.std.proofs.Common.{◌≡◌, ◌∙◌, ℕ, List, [], ◌∷◌, ◌++◌, ap, refl, sym, subst, append_assoc, Result, Ok, Err, OnErr}
 use Rattle.std.proofs.lemmas.List.{append-nil}
 use Rattle.issuer_rows.specs.Fold.{Rows}
 use Rattle.link_frames.specs.Replies.{AppendsPart}
@@ -71,4 +71,43 @@ pub ended : (link : ℕ) (opening : Rows) (before after : List LinkTurn) (reads 
 ended link opening before after reads reads' bytes left puts had mid has r s same text end = record {
   came = λ known. s.came known ∙ ap (λ (x : List ℕ). came_on link before ++ x) (end (r known)) ∙ ap (λ (x : List LinkTurn). came_on link x ++ []) (sym same);
   given = λ known. text ∙ s.given known ∙ ap (λ (x : List LinkTurn). had ++ given_to link opening x) (sym same);
+}
+
+-- nothing was served
+pub none_stopped : (link : ℕ) (opening : Rows) (turns : List LinkTurn) (reads : Type 0) (bytes : List ℕ) (puts : Type 0) (had has : List ℕ) → turns ≡ [] → (puts → has ≡ had)
+    → LinkStopped link opening turns reads bytes puts had has
+none_stopped link opening turns reads bytes puts had has none same = record {
+  left = bytes;
+  came = λ _. sym (ap (λ (x : List LinkTurn). came_on link x ++ bytes) none);
+  given = λ known. ([], [], same known ∙ sym (append-nil had), ap (given_to link opening) none);
+}
+
+-- the same link, where it was opened before
+pub opened_stopped : (link : ℕ) (opening : Rows) (turns : List LinkTurn) (reads reads' : Type 0) (bytes bytes' : List ℕ) (puts puts' : Type 0) (had had' has : List ℕ) → (reads → reads') → (reads → bytes' ≡ bytes)
+    → (puts → puts') → (puts → had' ≡ had) → LinkStopped link opening turns reads' bytes' puts' had' has → LinkStopped link opening turns reads bytes puts had has
+opened_stopped link opening turns reads reads' bytes bytes' puts puts' had had' has r read p put s = record {
+  left = s.left;
+  came = λ known. sym (read known) ∙ s.came (r known);
+  given = λ known. subst (λ (x : List ℕ). AppendsPart x has (given_to link opening turns)) (put known) (s.given (p known));
+}
+
+-- what follows holds of a fault, too
+pub on_err : {X E P Q : Type 0} (result : Result X E) → (P → Q) → OnErr result P → OnErr result Q
+on_err (Ok x) f p = tt
+on_err (Err e) f p = f p
+
+-- closing the sink leaves what was written
+pub closed_served : (link : ℕ) (opening : Rows) (turns : List LinkTurn) (reads : Type 0) (bytes left : List ℕ) (puts : Type 0) (had mid has : List ℕ) → (puts → has ≡ mid)
+    → LinkServed link opening turns reads bytes left puts had mid → LinkServed link opening turns reads bytes left puts had has
+closed_served link opening turns reads bytes left puts had mid has same s = record {
+  came = s.came;
+  given = λ known. same known ∙ s.given known;
+}
+
+pub closed_stopped : (link : ℕ) (opening : Rows) (turns : List LinkTurn) (reads : Type 0) (bytes : List ℕ) (puts : Type 0) (had mid has : List ℕ) → (puts → has ≡ mid)
+    → LinkStopped link opening turns reads bytes puts had mid → LinkStopped link opening turns reads bytes puts had has
+closed_stopped link opening turns reads bytes puts had mid has same s = record {
+  left = s.left;
+  came = s.came;
+  given = λ known. subst (λ (x : List ℕ). AppendsPart had x (given_to link opening turns)) (sym (same known)) (s.given known);
 }

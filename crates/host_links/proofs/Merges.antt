@@ -20,7 +20,7 @@ use Rattle.host_serving.specs.declared.tally.Tally.{Tally}
 use Rattle.host_serving.proofs.Takes.{each_more}
 use Rattle.host_serving.proofs.Servings.{grows_none, grows_more, tallies_more}
 use Rattle.host_serving.proofs.Watches.{log_more}
-use Rattle.host_links.specs.Kept.{AreCounts, IsAfter, IsKept, LogStands}
+use Rattle.host_links.specs.Kept.{AreCounts, IsAfter, IsBehind, IsKept, LogStands}
 use Rattle.host_links.specs.Turning.{Turns, StopsTurning}
 use Rattle.host_links.specs.Turns.{IsTurnOfLink, turns_of, came_on, given_to, answer_to_turn, messages_of, entries_of}
 use Rattle.host_links.specs.declared.link_turn.LinkTurn.{LinkTurn}
@@ -210,3 +210,24 @@ kept_none {G = G} is_known synced unsynced opening before first host numbers lin
       counts = λ link count is. none_counted links link count (subst (λ (x : List ℕ). slice_get x link ≡ Some count) zeros is);
     }
     )
+
+-- the same, by the host before the first turn
+pub kept_behind : {G : Type 0} (is_known : G → Type 0) (synced unsynced : G → List ℕ) (opening : Rows) (before : Tally) (first : Option (LogWriter G)) (old new : Host G) (fault : Option HostFault)
+    (numbers : List ℕ) (turns : List LinkTurn) → book_of old ≡ opening → old.decider.tally ≡ before → first ≡ Some old.log
+    → IsKept is_known synced unsynced opening before first new fault numbers turns → IsBehind is_known synced unsynced old new fault turns
+kept_behind {G = G} is_known synced unsynced opening before first old new fault numbers turns book tally log kept = record {
+  are = kept.are;
+  log = subst (λ (x : Option (LogWriter G)). IfSome x (λ had. LogStands is_known synced unsynced fault had new.log turns)) log kept.log;
+  after = λ none. record {
+    book = (kept.after none).book ∙ ap (λ (rows : Rows). rows_after rows (messages_of turns)) (sym book);
+    tally = (kept.after none).tally ∙ ap (λ (tally : Tally). counted tally (messages_of turns)) (sym tally);
+  };
+}
+
+-- no link was served for want of memory
+pub none_behind : {G : Type 0} (is_known : G → Type 0) (synced unsynced : G → List ℕ) (host : Host G) → IsBehind is_known synced unsynced host host (Some OutOfMemory) []
+none_behind is_known synced unsynced host = record {
+  are = tt;
+  log = ([], grows_none is_known synced unsynced host.log);
+  after = λ none. absurd cc;
+}

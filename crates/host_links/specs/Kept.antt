@@ -36,3 +36,9 @@ module _ {G : Type 0} (is_known : G → Type 0) (synced unsynced : G → List �
     pub log : IfSome first (λ old. LogStands fault old host.log turns)
     pub after : fault ≡ None → IsAfter opening before host turns
     pub counts : AreCounts numbers turns
+
+  -- the same, by the host before the first turn
+  pub record IsBehind (old new : Host G) (fault : Option HostFault) (turns : List LinkTurn) : Type 0 where
+    pub are : AllByRecursion IsTurnOfLink turns
+    pub log : LogStands fault old.log new.log turns
+    pub after : fault ≡ None → IsAfter (book_of old) old.decider.tally new turns

@@ -129,6 +129,14 @@ pub struct Front<J: Naming> {
     of: PhantomData<J>,
 }
 
+/// The same beginning, where it isn't said of which history.
+#[derive(Drop)]
+pub struct Trace {
+    turns: u64,
+    seen: Seen<LinkTurn, u64, Counted>,
+    pub ghost len: { turns ≡ length seen.log },
+}
+
 impl<J: Naming> Model for Front<J> {
     ghost use Rattle.std.specs.Prelude.{◌≡◌, List, length};
     ghost use Rattle.host_links.specs.declared.link_turn.LinkTurn.{LinkTurn};
@@ -146,6 +154,29 @@ impl<J: Naming> Front<J> {
         ensures { result ≡ length self.now }
     {
         self.turns
+    }
+
+    /// What it is, whichever history it is of.
+    pub fn trace(&self) -> Trace
+        ensures seen { result.seen.log ≡ self.now }
+        ensures book { result.seen.book ≡ J.book }
+    {
+        Trace {
+            turns: self.turns,
+            seen: self.seen.again(),
+        }
+    }
+
+    /// The front that this trace is of.
+    pub fn of(trace: &Trace) -> Front<J>
+        requires { trace.now.seen.book ≡ J.book }
+        ensures { result ≡ trace.now.seen.log }
+    {
+        Front {
+            turns: trace.turns,
+            seen: trace.seen.again(),
+            of: PhantomData,
+        }
     }
 
     /// A copy.

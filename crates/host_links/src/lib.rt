@@ -1,7 +1,9 @@
 //! A live host that several links share: each link is served by a thread of its own, and takes its turns at the host one after another.
 #![tactic(auto)]
 
+mod behind;
 mod buffers;
+mod ends;
 mod history;
 mod laws;
 mod line;
@@ -12,14 +14,18 @@ mod seat;
 mod serving;
 mod shared_host;
 mod turning;
+mod watch_links;
 
+pub use behind::Behind;
 pub use buffers::LinkBuffers;
-pub use history::{Came, Front, History, Opened};
+pub use ends::{LinkSink, LinkSource};
+pub use history::{Came, Front, History, Opened, Trace};
 pub use laws::{turns_go_on, turns_of_others_change_nothing};
 pub use line::Line;
 pub use link_turn::LinkTurn;
-pub use links::{serve_links, serve_seats};
+pub use links::serve_links;
 pub use naming::{Before, Naming};
-pub use seat::Seat;
+pub use seat::{Seat, SeenTurns};
 pub use serving::serve_line;
 pub use shared_host::SharedHost;
+pub use watch_links::WatchLinks;

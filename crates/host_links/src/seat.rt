@@ -1,41 +1,38 @@
-use crate::history::Front;
-use crate::line::Line;
-use crate::naming::Naming;
+use crate::history::Trace;
 use host_serving::HostFault;
-use std::alloc::{AllocError, Global};
 
 /// One of several links, and what serving it came to.
 #[derive(Drop)]
-pub struct Seat<I, O, J: Naming> {
+pub struct Seat<I, O> {
     pub(crate) source: I,
     pub(crate) sink: O,
-    pub(crate) line: Line<J>,
     pub(crate) fault: Option<HostFault>,
+    // Its own turns, once it was served.
+    pub(crate) seen: Option<SeenTurns>,
 }
 
-impl<I: Drop, O: Drop, J: Naming> Seat<I, O, J> {
-    ghost use Rattle.std.specs.Prelude.{◌≡◌, IfOk, []};
-    ghost use Rattle.host_links.specs.Fresh.{IsFresh};
+/// What a link has seen of the history, and how many turns of that are its own.
+#[derive(Drop)]
+pub struct SeenTurns {
+    pub(crate) trace: Trace,
+    pub(crate) count: u64,
+}
 
-    /// A link that is read from this source and answered on this sink. Nothing has come yet. Memory can run out.
-    pub fn new(
-        alloc: Global,
-        source: I,
-        sink: O,
-        front: &Front<J>,
-    ) -> Result<Seat<I, O, J>, AllocError>
-        requires { front.now ≡ [] }
-        ensures source { IfOk result (λ seat. seat.source ≡ source) }
-        ensures sink { IfOk result (λ seat. seat.sink ≡ sink) }
-        ensures fresh { IfOk result (λ seat. IsFresh seat.line) }
+impl<I: Drop, O: Drop> Seat<I, O> {
+    ghost use Rattle.std.specs.Prelude.{◌≡◌, None};
+
+    /// A link that is read from this source and answered on this sink. Nothing has come yet.
+    pub fn new(source: I, sink: O) -> Seat<I, O>
+        ensures source { result.source ≡ source }
+        ensures sink { result.sink ≡ sink }
+        ensures fault { result.fault ≡ None }
     {
-        let line = Line::new(alloc, front)?;
-        Ok(Seat {
+        Seat {
             source,
             sink,
-            line,
             fault: None,
-        })
+            seen: None,
+        }
     }
 
     /// The fault with which serving it stopped, if it did.
@@ -43,5 +40,12 @@ impl<I: Drop, O: Drop, J: Naming> Seat<I, O, J> {
         ensures { result ≡ self.now.fault }
     {
         self.fault
+    }
+
+    /// What it is answered on.
+    pub fn sink(&self) -> &O
+        ensures { result.now ≡ self.now.sink }
+    {
+        &self.sink
     }
 }

@@ -13,7 +13,8 @@ use crate::line::Line;
 use crate::naming::Before;
 use crate::shared_host::SharedHost;
 use file_devices::{Sink, Source};
-use host_serving::{HostFault, MaxBatch, Watch, take_turn};
+use crate::watch_links::WatchLinks;
+use host_serving::{HostFault, MaxBatch, take_turn};
 use issuer_view::Decide;
 use link_frames::put_all;
 use log_devices::GrowingFile;
@@ -21,7 +22,7 @@ use std::alloc::Global;
 use std::sync::{Mutex, Wait};
 
 // Waits for the host, and has what came served.
-fn serve_locked<R: Wait, G: GrowingFile + Drop, N: Watch + Drop, J: Before<G>, F: Decide>(
+fn serve_locked<R: Wait, G: GrowingFile + Drop, N: WatchLinks + Drop, J: Before<G>, F: Decide>(
     rt: &R,
     alloc: Global,
     shared: &Mutex<SharedHost<G, N, J>>,
@@ -62,7 +63,7 @@ fn serve_locked<R: Wait, G: GrowingFile + Drop, N: Watch + Drop, J: Before<G>, F
 fn serve_next<
     R: Wait,
     G: GrowingFile + Drop,
-    N: Watch + Drop,
+    N: WatchLinks + Drop,
     J: Before<G>,
     I: Source,
     O: Sink,
@@ -108,7 +109,7 @@ fn serve_next<
 pub fn serve_line<
     R: Wait,
     G: GrowingFile + Drop,
-    N: Watch + Drop,
+    N: WatchLinks + Drop,
     J: Before<G>,
     I: Source,
     O: Sink,
@@ -126,6 +127,7 @@ pub fn serve_line<
     most: MaxBatch,
 ) -> Result<(), HostFault>
     requires fresh { IsFresh line.old }
+    ensures sink { O.is_known sink.old → O.is_known sink.new }
     // The line has seen all turns of its link, and counted them.
     ensures count { turns_of link line.new.front ≡ line.new.count }
     // Where no fault is met, all that came on the link was served and answered.

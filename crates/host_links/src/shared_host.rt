@@ -3,12 +3,13 @@ ghost use Rattle.host_links.specs.Kept.{IsKept};
 use crate::buffers::LinkBuffers;
 use crate::history::{Came, Front, History};
 use crate::naming::Before;
-use crate::seat::Seat;
+use crate::seat::{Seat, SeenTurns};
 use crate::turning::{messages_behind, turn_at};
-use host_serving::{Host, HostFault, Watch};
+use crate::watch_links::WatchLinks;
+use host_serving::{Host, HostFault};
 use issuer_view::Decide;
 use log_devices::GrowingFile;
-use std::alloc::{AllocError, Global};
+use std::alloc::Global;
 use std::marker::PhantomData;
 
 // As many turns fit into a history. No disk can hold so many entries.
@@ -16,7 +17,7 @@ const MOST_TURNS: u64 = 1 << 61;
 
 /// A host that several links share, and whoever is told of its entries. Each link takes its turns at it, one after another.
 #[derive(Drop)]
-pub struct SharedHost<G: GrowingFile + Drop, N: Watch + Drop, J: Before<G>> {
+pub struct SharedHost<G: GrowingFile + Drop, N: WatchLinks + Drop, J: Before<G>> {
     host: Host<G>,
     watch: N,
     front: Front<J>,
@@ -24,39 +25,38 @@ pub struct SharedHost<G: GrowingFile + Drop, N: Watch + Drop, J: Before<G>> {
     counts: Vec<u64>,
     // The fault after which no link is served.
     fault: Option<HostFault>,
+    // Whether it was told.
+    is_told: bool,
     of: PhantomData<J>,
     ghost kept: { ∥ IsKept G.is_known G.synced G.unsynced J.opening J.tally J.log host fault counts.items front ∥₁ },
 }
 
-impl<G: GrowingFile + Drop, N: Watch + Drop, J: Before<G>> SharedHost<G, N, J> {
-    ghost use Rattle.std.specs.Prelude.{◌≡◌, ◌+◌, ◌<◌, ◌++◌, ◌^◌, [], length, IfOk, IsTrue, OnErr, OnOk, Some, slice_get, slice_index_or, ℕ};
-    ghost use Rattle.host_links.specs.Merged.{HasAllTurns};
+impl<G: GrowingFile + Drop, N: WatchLinks + Drop, J: Before<G>> SharedHost<G, N, J> {
+    ghost use Rattle.std.specs.Prelude.{◌≡◌, ◌+◌, ◌<◌, ◌++◌, ◌^◌, [], length, replicate, IfOk, IsTrue, OnErr, OnOk, Some, slice_get, slice_index_or, ℕ};
+    ghost use Rattle.host_links.specs.Merged.{HasAllTurns, HasSeenAll, IsOfBook};
     ghost use mathlib.Core.List.{IsPrefix};
     ghost use Rattle.host_serving.specs.Entering.{book_of};
     ghost use Rattle.host_serving.specs.Turn.{HasTaken};
     ghost use Rattle.host_links.specs.Turns.{came_on, given_to, turns_of};
 
-    /// A host at which none of so many links had a turn yet. Memory can run out.
-    pub fn new(
-        alloc: Global,
-        host: Host<G>,
-        watch: N,
-        front: Front<J>,
-        links: usize,
-    ) -> Result<SharedHost<G, N, J>, AllocError>
+    /// A host at which no link had a turn yet. There are as many links as counts.
+    pub fn new(host: Host<G>, watch: N, front: Front<J>, counts: Vec<u64>) -> SharedHost<G, N, J>
         requires none { front ≡ [] }
         requires book { book_of host ≡ J.opening }
         requires tally { host.decider.tally ≡ J.tally }
         requires log { J.log ≡ Some host.log }
+        requires counts { counts.items ≡ replicate (length counts.items) 0 }
+        ensures front { result.front ≡ [] }
     {
-        Ok(SharedHost {
+        SharedHost {
             host,
             watch,
             front,
-            counts: vec![in alloc; 0; links]?,
+            counts,
             fault: None,
+            is_told: false,
             of: PhantomData,
-        })
+        }
     }
 
     // Whether this front begins the history and has all turns of the link, which are so many; and whether there is room for one more.
@@ -71,15 +71,25 @@ impl<G: GrowingFile + Drop, N: Watch + Drop, J: Before<G>> SharedHost<G, N, J> {
         }
     }
 
+    // Whether a link that has seen these turns has seen all its own.
+    fn has_all_of(&self, link: usize, seen: &SeenTurns) -> bool
+        requires { seen.now.trace.seen.book ≡ J.book }
+        ensures { IsTrue result → HasAllTurns link self.now.front self.now.counts.items seen.now }
+    {
+        let front = Front::of(&seen.trace);
+        self.is_met(link, &front, seen.count)
+    }
+
     // Whether each of these links has seen all its own turns.
-    pub(crate) fn has_all<I, O>(&self, seats: &[Seat<I, O, J>]) -> bool
+    pub(crate) fn has_all<I, O>(&self, seats: &[Seat<I, O>]) -> bool
+        requires { (link : ℕ) (other : _) → link < length seats.now → IsOfBook J.book (slice_index_or seats.now link other) }
         ensures { IsTrue result → (link : ℕ) (other : _) → link < length seats.now
-            → HasAllTurns link self.now.front self.now.counts.items (slice_index_or seats.now link other).line }
+            → HasSeenAll link self.now.front self.now.counts.items (slice_index_or seats.now link other) }
     {
         for link in 0..seats.len() {
-            let line = &seats[link].line;
-            if !self.is_met(link, &line.front, line.count) {
-                return false;
+            match &seats[link].seen {
+                Some(seen) if self.has_all_of(link, seen) => {}
+                _ => return false,
             }
         }
         true
@@ -96,6 +106,19 @@ impl<G: GrowingFile + Drop, N: Watch + Drop, J: Before<G>> SharedHost<G, N, J> {
             ..
         } = self;
         (host, watch, fault)
+    }
+
+    /// Tells that a link stopped with a fault: with its own, or with that of the log or of memory, which is told once.
+    pub(crate) fn tell_stopped(&mut self, link: usize, fault: &HostFault) {
+        match fault {
+            HostFault::Link(_) => self.watch.link_stopped(link, fault),
+            HostFault::Log(_) | HostFault::OutOfMemory => {
+                if !self.is_told {
+                    self.is_told = true;
+                    self.watch.link_stopped(link, fault);
+                }
+            }
+        }
     }
 
     /// Serves what came in a turn of this link, and keeps the answers to it in its buffers, to be written once the host is another's: its

@@ -10,7 +10,11 @@ use app_why::{answer_why, why_asked};
 use app_words::{names_standard_output, take_progress, topic_asked, with_streams};
 use file_devices::{Files, FromRead, HostFiles, IntoWrite};
 use file_progress::{Progress, ProgressFiles, ProgressLogs};
-use host_commands::{HostAsked, HostLogs, SERVE_HELP, host_asked, serve};
+use host_commands::{
+    AskedLinks, HostAsked, HostLogs, PipeSink, PipeSource, SERVE_HELP, host_asked, links_asked, serve,
+    serve_links,
+};
+use host_links::Seat;
 use log_commands::{
     AUDIT_LOG_HELP, LogAsked, REPLAY_HELP, audit_log, audit_log_asked, replay, replay_asked,
 };
@@ -42,7 +46,7 @@ fn main(rt: HostRuntime) -> ExitCode {
     let status = if let Some(topic) = topic_asked(&words) {
         help(topic.text(), &mut out)
     } else if let Some(asked) = host_asked(&words) {
-        serve_words(&rt, rt, &files, &asked, &mut out, &mut err)
+        serve_words(&rt, rt, &files, &words, &asked, &mut out, &mut err)
     } else if let Some(asked) = replay_asked(&words) {
         replay_words(&rt, rt, &mut files, progress, asked, &mut out, &mut err)
     } else if let Some(asked) = audit_log_asked(&words) {
@@ -72,6 +76,7 @@ fn serve_words<R: Threads + Wait + Copy + Sync, F: Files, O: Write, E: Write>(
     rt: &R,
     host: HostRuntime,
     files: &F,
+    words: &[String],
     asked: &HostAsked<'_>,
     out: &mut Printer<O>,
     err: &mut Printer<E>,
@@ -90,11 +95,62 @@ fn serve_words<R: Threads + Wait + Copy + Sync, F: Files, O: Write, E: Write>(
             host.stderr(),
         ),
         HostAsked::Help => help(SERVE_HELP, out),
-        HostAsked::Wrong => usage(
-            b"usage: switch serve <BOOK> <LOG> [--max-batch <M>] [--stats <N>]; `switch serve --help` says more",
+        HostAsked::Wrong => links_words(rt, host, files, words, err),
+    }
+}
+
+// Does what is asked of a live host over links by the names of their pipes.
+fn links_words<R: Threads + Wait + Copy + Sync, F: Files, E: Write>(
+    rt: &R,
+    host: HostRuntime,
+    files: &F,
+    words: &[String],
+    err: &mut Printer<E>,
+) -> u8 {
+    match links_asked(host.alloc(), words) {
+        Ok(Some(asked)) => match serve_pipes(rt, host, files, &asked) {
+            Ok(status) => status,
+            Err(_) => out_of_memory(err),
+        },
+        Ok(None) => usage(
+            b"usage: switch serve <BOOK> <LOG> [--link <IN> <OUT>].. [--max-batch <M>] [--stats <N>]; `switch serve --help` says more",
             err,
         ),
+        Err(_) => out_of_memory(err),
     }
+}
+
+// Serves links over pipes of the host.
+fn serve_pipes<R: Threads + Wait + Copy + Sync, F: Files>(
+    rt: &R,
+    host: HostRuntime,
+    files: &F,
+    asked: &AskedLinks<'_>,
+) -> Result<u8, AllocError> {
+    let mut seats = Vec::new(host.alloc());
+    for link in &asked.links {
+        let source = PipeSource::new(host, link.input);
+        let sink = PipeSink::new(host, link.output);
+        seats.push(Seat::new(source, sink))?;
+    }
+    Ok(serve_links(
+        rt,
+        host.alloc(),
+        files,
+        &HostLogs::new(host),
+        asked.book,
+        asked.log,
+        asked.settings,
+        &asked.links,
+        &mut seats,
+        host.stderr(),
+    ))
+}
+
+// Says that memory ran out.
+fn out_of_memory<E: Write>(err: &mut Printer<E>) -> u8 {
+    print_fault(&Fault::OutOfMemory, err);
+    Fault::OutOfMemory.status()
 }
 
 // Does what is asked of a log that is decided again.

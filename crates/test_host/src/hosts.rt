@@ -18,11 +18,12 @@ use test_links::{
     open, serve_link,
 };
 
-// Logs that all have these bytes.
+// Logs that all have these bytes, in files that answer so many calls.
 #[derive(Drop)]
-struct CopiedLogs {
-    alloc: Global,
-    bytes: Vec<u8>,
+pub(crate) struct CopiedLogs {
+    pub(crate) alloc: Global,
+    pub(crate) bytes: Vec<u8>,
+    pub(crate) answers: u64,
 }
 
 impl Logs for CopiedLogs {
@@ -32,7 +33,7 @@ impl Logs for CopiedLogs {
 
     fn open(&self, _name: &str) -> Result<MemoryLog, OpenFault> {
         match copy_of(self.alloc, &self.bytes) {
-            Some(bytes) => Ok(MemoryLog::new(bytes, 4096, 1000)),
+            Some(bytes) => Ok(MemoryLog::new(bytes, 4096, self.answers)),
             None => Err(OpenFault::OutOfMemory),
         }
     }
@@ -144,7 +145,11 @@ pub(crate) fn served<R: Threads + Wait + Copy + Sync, S: Source + Send>(
     source: &mut S,
 ) -> Option<(u8, Vec<u8>, Vec<u8>)> {
     let files = files(alloc, book)?;
-    let logs = CopiedLogs { alloc, bytes: log };
+    let logs = CopiedLogs {
+        alloc,
+        bytes: log,
+        answers: 1000,
+    };
     let mut sink = FailingSink::new(alloc, 4096, 1000);
     let mut said = Vec::new(alloc);
     let status = serve(
@@ -216,7 +221,7 @@ fn a_link_is_served_over_files(rt: HostRuntime) -> Result<(), Fail> {
 }
 
 // The words of this line.
-fn words_of(alloc: Global, line: &str) -> Option<Vec<String>> {
+pub(crate) fn words_of(alloc: Global, line: &str) -> Option<Vec<String>> {
     let mut words = Vec::new(alloc);
     for word in line.split(' ') {
         words.push(String::from_str(alloc, word).ok()?).ok()?;

@@ -11,3 +11,5 @@ mod links;
 mod network;
 #[cfg(test)]
 mod serving;
+#[cfg(test)]
+mod several;
