@@ -207,5 +207,9 @@ fn names_file(option: &str) -> bool
 fn stream(is_written: bool) -> &'static str
     ensures { result.now ≡ stream is_written }
 {
-    if is_written { "/dev/stdout" } else { "/dev/stdin" }
+    if is_written {
+        "/dev/stdout"
+    } else {
+        "/dev/stdin"
+    }
 }

@@ -90,7 +90,7 @@ pub written_original : (a b c d e : List ℕ) → length a ≡ 4 → length b �
 written_original a b c d e la lb lc ld =
     let grouped : (((a ++ b) ++ c) ++ d) ++ e ≡ ((a ++ b) ++ c) ++ (d ++ e) = simp append_assoc in
     let front : take 22 ((((a ++ b) ++ c) ++ d) ++ e) ≡ (a ++ b) ++ c =
-        ap (take 22) grouped ∙ take_at ((a ++ b) ++ c) (d ++ e) 22 (omega (arith, length-append a b, length-append (a ++ b) c)) in
+    ap (take 22) grouped ∙ take_at ((a ++ b) ++ c) (d ++ e) 22 (omega (arith, length-append a b, length-append (a ++ b) c)) in
     ap (λ (l : List ℕ). l ++ drop 24 ((((a ++ b) ++ c) ++ d) ++ e)) front ∙ ap (λ (l : List ℕ). ((a ++ b) ++ c) ++ l) (cut-acquirer a b c d e la lb lc ld)
 
 pub original_written : (o : OriginalRef) → length o.identity.stan.0 ≡ 6 → length o.identity.stamp ≡ 12
