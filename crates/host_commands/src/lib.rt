@@ -19,8 +19,8 @@ mod settings_words;
 
 pub use asked_links::AskedLinks;
 pub use asking::{HostAsked, host_asked};
-pub use help::SERVE_HELP;
 pub use choices::Choices;
+pub use help::SERVE_HELP;
 pub use link_names::LinkNames;
 pub use links_teller::LinksTeller;
 pub use links_words::links_asked;

@@ -5,9 +5,9 @@ ghost use Rattle.app_words.specs.Words.{IsCommand};
 ghost use Rattle.host_commands.specs.Links.{AddsLink, AskLinks, Heard, NoneAsks, SayMore, heard, is_named, names_of};
 ghost use Rattle.host_commands.specs.Settings.{IsNumberTo, number_of};
 
+use crate::asked_links::AskedLinks;
 use crate::choices::Choices;
 use crate::link_names::LinkNames;
-use crate::asked_links::AskedLinks;
 use crate::settings::Settings;
 use crate::settings_words::{max_batch_in, stats_in};
 use app_words::is_command;

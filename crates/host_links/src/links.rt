@@ -261,9 +261,7 @@ fn serve_named<
 {
     let (history, none) = opened.named::<J>();
     let shared = SharedHost::new(host, watch, none.again(), counts);
-    let (behind, has_all) = serve_shared(
-        rt, alloc, shared, &history, &none, seats, decision, most,
-    );
+    let (behind, has_all) = serve_shared(rt, alloc, shared, &history, &none, seats, decision, most);
     let (host, watch, fault) = behind.into_parts();
     Behind {
         host,

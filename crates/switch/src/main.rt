@@ -11,8 +11,8 @@ use app_words::{names_standard_output, take_progress, topic_asked, with_streams}
 use file_devices::{Files, FromRead, HostFiles, IntoWrite};
 use file_progress::{Progress, ProgressFiles, ProgressLogs};
 use host_commands::{
-    AskedLinks, HostAsked, HostLogs, PipeSink, PipeSource, SERVE_HELP, host_asked, links_asked, serve,
-    serve_links,
+    AskedLinks, HostAsked, HostLogs, PipeSink, PipeSource, SERVE_HELP, host_asked, links_asked,
+    serve, serve_links,
 };
 use host_links::Seat;
 use log_commands::{

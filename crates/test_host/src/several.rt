@@ -1,5 +1,6 @@
 //! Several links at one host, over devices in memory. What each gets doesn't depend on the order of their turns, or is told by the log.
 
+use crate::hosts::{CopiedLogs, words_of};
 use file_devices::{FailingSink, FailingSource};
 use host_commands::{LinkNames, Settings, links_asked, serve_links};
 use host_links::{Behind, Seat, serve_links as serve_at};
@@ -15,11 +16,9 @@ use std::test::Fail;
 use std::thread::Threads;
 use test_fixtures::{first_book_with, has_row};
 use test_links::{
-    ECHO, ECHO_REPLY, FIRST, FIRST_REPLY, LINK, REPEAT, REPLIES, SECOND, SECOND_REPLY, copy_of, files,
-    open, serve_link,
+    ECHO, ECHO_REPLY, FIRST, FIRST_REPLY, LINK, REPEAT, REPLIES, SECOND, SECOND_REPLY, copy_of,
+    files, open, serve_link,
 };
-
-use crate::hosts::{CopiedLogs, words_of};
 
 // A link of these bytes, whose sink answers so many calls.
 fn seat<'a>(alloc: Global, bytes: &'a [u8], answers: u64) -> Seat<FailingSource<'a>, FailingSink> {
@@ -47,15 +46,7 @@ fn served<R: Threads + Wait + Sync>(
 ) -> Option<Behind<MemoryLog, Unwatched>> {
     let opened = open(rt, alloc, book, Vec::new(alloc)).ok()?;
     let most = MaxBatch::whole_entry();
-    Some(serve_at(
-        rt,
-        alloc,
-        opened.host,
-        Unwatched,
-        seats,
-        &Shipped,
-        most,
-    ))
+    Some(serve_at(rt, alloc, opened.host, Unwatched, seats, &Shipped, most))
 }
 
 #[test]
@@ -111,7 +102,13 @@ fn a_fault_of_one_link_ends_that_link_alone(rt: HostRuntime) -> Result<(), Fail>
     ]?;
     let behind = served(&rt, rt.alloc(), &book, &mut seats).expect(&rt, "a host");
     assert!(rt; behind.has_all && behind.fault.is_none());
-    assert!(rt; came_to(&seats[0], FIRST_REPLY, Some(HostFault::Link(LinkFault::Ended))));
+    assert!(rt;
+        came_to(
+            &seats[0],
+            FIRST_REPLY,
+            Some(HostFault::Link(LinkFault::Ended))
+        )
+    );
     assert!(rt; came_to(&seats[1], ECHO_REPLY, None));
     assert!(rt; came_to(&seats[2], b"", Some(HostFault::Link(LinkFault::Unwritable))));
     assert!(rt; has_row(behind.host.decider().book(), "account A 9900 978"));
@@ -165,7 +162,7 @@ fn a_fault_of_a_link_is_told_with_its_name(rt: HostRuntime) -> Result<(), Fail> 
     Ok(())
 }
 
-// Its header is written and synced by two calls.
+// As it is begun it is cut, synced, written and synced again: four calls.
 #[test]
 fn a_fault_of_the_log_ends_all_links_and_is_told_once(rt: HostRuntime) -> Result<(), Fail> {
     let book = first_book_with(rt.alloc(), &[])?;
@@ -173,7 +170,7 @@ fn a_fault_of_the_log_ends_all_links_and_is_told_once(rt: HostRuntime) -> Result
         seat(rt.alloc(), FIRST, 1000),
         seat(rt.alloc(), SECOND, 1000),
     ]?;
-    let (status, said) = said(&rt, rt.alloc(), &book, 2, &mut seats).expect(&rt, "files");
+    let (status, said) = said(&rt, rt.alloc(), &book, 4, &mut seats).expect(&rt, "files");
     assert!(rt; status == 1 && said.as_slice() == b"log 6\n".as_slice());
     let fault = Some(HostFault::Log(LogFault::Failed));
     assert!(rt; came_to(&seats[0], b"", fault) && came_to(&seats[1], b"", fault));
@@ -203,7 +200,11 @@ fn asks_for(alloc: Global, line: &str, count: usize, most: u32, last: (&str, &st
                 && asked.log == "l"
                 && asked.settings.max_batch.count() == most
                 && asked.links.len() == count
-                && asked.links.last() == Some(&LinkNames { input: last.0, output: last.1 })
+                && asked.links.last()
+                    == Some(&LinkNames {
+                        input: last.0,
+                        output: last.1,
+                    })
         }
         _ => false,
     }

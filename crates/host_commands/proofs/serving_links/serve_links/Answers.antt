@@ -6,7 +6,7 @@ pub returns : goal.returns
 returns g c = record {
   served = λ text bytes held logged zero. (
     answered_together _ _ _ _ _ _ _ text bytes c.in-Ok.opened.host c.serve_links-behind.result c.args.seats.now c.serve_links-behind.new.seats (c.in-Ok.ensures text bytes held logged)
-    c.serve_links-behind.ensures (search rules),
+        c.serve_links-behind.ensures (search rules),
     c.if-has_fault.ensures refl,
   );
 }
