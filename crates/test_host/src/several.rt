@@ -162,7 +162,7 @@ fn a_fault_of_a_link_is_told_with_its_name(rt: HostRuntime) -> Result<(), Fail> 
     Ok(())
 }
 
-// Its header is written and synced by two calls.
+// As it is begun it is cut, synced, written and synced again: four calls.
 #[test]
 fn a_fault_of_the_log_ends_all_links_and_is_told_once(rt: HostRuntime) -> Result<(), Fail> {
     let book = first_book_with(rt.alloc(), &[])?;
@@ -170,7 +170,7 @@ fn a_fault_of_the_log_ends_all_links_and_is_told_once(rt: HostRuntime) -> Result
         seat(rt.alloc(), FIRST, 1000),
         seat(rt.alloc(), SECOND, 1000),
     ]?;
-    let (status, said) = said(&rt, rt.alloc(), &book, 2, &mut seats).expect(&rt, "files");
+    let (status, said) = said(&rt, rt.alloc(), &book, 4, &mut seats).expect(&rt, "files");
     assert!(rt; status == 1 && said.as_slice() == b"log 6\n".as_slice());
     let fault = Some(HostFault::Log(LogFault::Failed));
     assert!(rt; came_to(&seats[0], b"", fault) && came_to(&seats[1], b"", fault));
