@@ -1,0 +1,2 @@
+pub mod PartBooks
+pub mod Together

@@ -1,0 +1,53 @@
+ghost use Rattle.std.specs.Prelude.{◌≡◌, OnOk, IfOk, Some};
+ghost use Rattle.std.specs.FinMap as map;
+ghost use Rattle.engine_parts.specs.TwoBooks.{joined};
+ghost use Rattle.parts_books.specs.PartBooks.{is_as_in_rest, joined_books, own_rows};
+
+use issuer_rows::{Book, RowKey, RowVal};
+use std::alloc::AllocError;
+
+/// The rest of a book, and over it the rows of the parts' books behind them: all but accounts that stand there as in the rest, since
+/// another part may have changed such an account. It fails only where memory runs out.
+pub fn join_books(rest: &Book, books: &[Book]) -> Result<Book, AllocError>
+    ensures { IfOk result (λ whole. whole ≡ joined_books rest.now books.now) }
+{
+    let mut whole = rest.copy()?;
+    for book in books {
+        put_own(rest, book, &mut whole)?;
+    }
+    Ok(whole)
+}
+
+// Writes the rows of a part's book over those of the whole one, but for accounts that stand there as in the rest.
+fn put_own(rest: &Book, book: &Book, whole: &mut Book) -> Result<(), AllocError>
+    ensures { OnOk result (whole.new ≡ joined whole.old (own_rows rest.now book.now)) }
+{
+    for (key, val) in book.rows() {
+        if !is_as_in_rest(rest, key, val) {
+            put_row(book, key, val, whole)?;
+        }
+    }
+    Ok(())
+}
+
+// Whether the row is an account that stands so in the rest.
+fn is_as_in_rest(rest: &Book, key: &RowKey, val: &RowVal) -> bool {
+    match (rest.row(key), val) {
+        (Some(RowVal::Account(theirs)), RowVal::Account(mine)) => theirs == mine,
+        _ => false,
+    }
+}
+
+// Puts a row of the book into another. Each is of its key's kind, so that none is looked up.
+fn put_row(book: &Book, key: &RowKey, val: &RowVal, other: &mut Book) -> Result<(), AllocError>
+    requires { map.get book.now key.now ≡ Some val.now }
+    ensures { OnOk result (other.new ≡ map.insert other.old key.now val.now) }
+{
+    if val.suits(key) {
+        return other.put_copy(key, val);
+    }
+    match book.row(key) {
+        Some(row) => other.put_copy(key, row),
+        None => unreachable!(),
+    }
+}
