@@ -1,7 +1,7 @@
 use Rattle.std.proofs.Common.{◌≡◌, ◌<◌, ◌*◌, ℕ, List, ◌++◌, All, length, sym, subst, ap, ◌∙◌, arith, rules}
 use Rattle.std.proofs.lemmas.List.{length-append}
 use Rattle.std.specs.List.{flat_map}
-use Rattle.parts_files.specs.Texts.{digests_text, listed_text}
+use Rattle.parts_files.specs.Texts.{digests_text}
 use Rattle.parts_files.proofs.Fronts.{long, same_front}
 use Rattle.parts_files.proofs.listed.read_listed.Goals as goal
 

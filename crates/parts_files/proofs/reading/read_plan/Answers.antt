@@ -1,6 +1,5 @@
-use Rattle.std.proofs.Common.{◌≡◌, ℕ, List, ◌++◌, length, sym, subst, ap, ◌∙◌, arith, rules}
-use Rattle.byteorder.specs.Endian.{big_bytes}
-use Rattle.parts_files.specs.Texts.{AreListed, listed_text}
+use Rattle.std.proofs.Common.{◌++◌, length, sym, ◌∙◌, arith}
+use Rattle.parts_files.specs.Texts.{listed_text}
 use Rattle.parts_files.proofs.Fronts.{behind_letters, behind_number, numbered, same_front}
 use Rattle.parts_files.proofs.reading.read_plan.Goals as goal
 
