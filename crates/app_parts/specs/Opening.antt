@@ -40,9 +40,9 @@ IsPartFileFault holds failing name number _ = ⊥
 
 -- Why it isn't opened where it is to have this digest: so, or another digest, which is told by this fault.
 abbrev pub IsPlannedFileFault : Holding → Failing → List ℕ → List ℕ → ℕ → PartFault → PartsFault → Type 0
-IsPlannedFileFault holds failing name digest number other fault =
-    IsPartFileFault holds failing name number fault
-    ⊎ ((fault ≡ fault.Part number other) × ((bytes : List ℕ) → holds name bytes → sha256 bytes ≢ digest))
+IsPlannedFileFault holds failing name digest number other told =
+    IsPartFileFault holds failing name number told
+    ⊎ ((told ≡ fault.Part number other) × ((bytes : List ℕ) → holds name bytes → sha256 bytes ≢ digest))
 
 -- why these bytes don't say that the part is decided so
 abbrev pub IsDecidedFault : ℕ → List ℕ → List ℕ → List ℕ → List ℕ → PartsFault → Type 0

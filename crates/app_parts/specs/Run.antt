@@ -33,7 +33,7 @@ pub record IsOneRun (p : Parting) (replies : List ReplyBody) (book : Rows) : Typ
   pub book_is : book ≡ rows_after p.rows p.frames
 
 -- where the files hold such a run of at most 64 parts, and `join` puts it together
-abbrev pub JoinsOneRun : Holding → Holding → Names → Parting → Type 0
-JoinsOneRun old new names p =
-    (known : Type 0) → HoldsRun old names.folder 64 p → (joined : IsJoined known old new names)
+abbrev pub JoinsOneRun : Type 0 → Holding → Holding → Names → Parting → Type 0
+JoinsOneRun known old new names p =
+    HoldsRun old names.folder 64 p → (joined : IsJoined known old new names)
     → IsOneRun p joined.replies (joined_books joined.rest (map (λ answer. answer.rows) joined.answers))
