@@ -48,7 +48,7 @@ all_left left test other P (e ∷ es) implies there h =
     both true b h = (refl, h)
     both false b h = absurd (false≢true h)
 
-all_retained : (keys : RowKey → Bool) (test other : Row → Bool) (rows : Rows) → ((e : Row) → map.get rows e.0 ≡ Some e.1 → keys e.0 ≡ true → test e ≡ true → other e ≡ true) → list_all test (map.entries rows) ≡ true → list_all other (map.entries (map.retain_keys rows keys)) ≡ true
+pub all_retained : (keys : RowKey → Bool) (test other : Row → Bool) (rows : Rows) → ((e : Row) → map.get rows e.0 ≡ Some e.1 → keys e.0 ≡ true → test e ≡ true → other e ≡ true) → list_all test (map.entries rows) ≡ true → list_all other (map.entries (map.retain_keys rows keys)) ≡ true
 all_retained keys test other rows implies h =
     ap (list_all other) (entries_retained rows keys)
     ∙ all_left (λ e. keys e.0) test other (λ e. map.get rows e.0 ≡ Some e.1) (map.entries rows) implies (listed_found rows) h
@@ -90,19 +90,19 @@ prefix_backed rows keys prefix =
     omega (arith, one, less, rest)
 
 -- numbers and backings of what is left
-in_range : (rows : Rows) (keys : RowKey → Bool) → IsSound rows → ((id : AccountId) → backing_of_account (map.retain_keys rows keys) id ≤ 10 ^ 15) × ((prefix : PanPrefix) → backing_of_prefix (map.retain_keys rows keys) prefix ≤ 10 ^ 15)
+pub in_range : (rows : Rows) (keys : RowKey → Bool) → IsSound rows → ((id : AccountId) → backing_of_account (map.retain_keys rows keys) id ≤ 10 ^ 15) × ((prefix : PanPrefix) → backing_of_prefix (map.retain_keys rows keys) prefix ≤ 10 ^ 15)
 in_range rows keys h = (
   λ id. let less = account_backed rows keys id in let most = h.backings.0 id in omega (arith, less, most),
   λ prefix. let less = prefix_backed rows keys prefix in let most = h.backings.1 prefix in omega (arith, less, most),
 )
 
-right_numbers : (rows : Rows) (keys : RowKey → Bool) → IsSound rows → are_numbers_right (map.retain_keys rows keys) ≡ true
+pub right_numbers : (rows : Rows) (keys : RowKey → Bool) → IsSound rows → are_numbers_right (map.retain_keys rows keys) ≡ true
 right_numbers rows keys h = all_retained keys (λ row. has_right_number row.0) (λ row. has_right_number row.0) rows (λ e found left right. right) h.numbers
 
 -- ---- the new book
 
 -- no account goes
-abbrev KeepsAllAccounts : Rows → Rows → Type 0
+abbrev pub KeepsAllAccounts : Rows → Rows → Type 0
 KeepsAllAccounts rows after = (id : AccountId) → has_account rows id ≡ true → has_account after id ≡ true
 
 payer_stays : (rows after : Rows) → KeepsAllAccounts rows after → (p : Payer) → has_payer rows p ≡ true → has_payer after p ≡ true
@@ -113,7 +113,7 @@ backed_stays : (rows after : Rows) → KeepsAllAccounts rows after → (p : Opti
 backed_stays rows after keeps None h = refl
 backed_stays rows after keeps (Some payment) h = payer_stays rows after keeps payment.payer h
 
-paying_stays : (rows after : Rows) → KeepsAllAccounts rows after → (v : RowVal) → has_paying_account rows v ≡ true → has_paying_account after v ≡ true
+pub paying_stays : (rows after : Rows) → KeepsAllAccounts rows after → (v : RowVal) → has_paying_account rows v ≡ true → has_paying_account after v ≡ true
 paying_stays rows after keeps (RowVal.Card row) h = refl
 paying_stays rows after keeps (RowVal.Velocity row) h = refl
 paying_stays rows after keeps (RowVal.Budget row) h = refl
@@ -130,7 +130,7 @@ second_stays rows after keeps first None h = refl
 second_stays rows after keeps first (Some second) h =
     let two = both (has_account rows second) _ h in both_true (keeps second two.0) two.1
 
-accounts_stay : (rows after : Rows) → KeepsAllAccounts rows after → (v : RowVal) → has_accounts rows v ≡ true → has_accounts after v ≡ true
+pub accounts_stay : (rows after : Rows) → KeepsAllAccounts rows after → (v : RowVal) → has_accounts rows v ≡ true → has_accounts after v ≡ true
 accounts_stay rows after keeps (RowVal.Card row) h =
     let two = both (has_account rows row.accounts.first) _ h in both_true (keeps row.accounts.first two.0) (second_stays rows after keeps row.accounts.first row.accounts.second two.1)
 accounts_stay rows after keeps (RowVal.Velocity row) h = refl

@@ -98,7 +98,7 @@ any_at_found test rows q (e ∷ es) there h =
     apart true b h = h
     apart false b h = h
 
-any_at : (test : Row → Bool) (rows : Rows) (q : RowKey) → list_any (λ e. test e && key_eq q e.0) (map.entries rows) ≡ has (λ v. test (q, v)) (map.get rows q)
+pub any_at : (test : Row → Bool) (rows : Rows) (q : RowKey) → list_any (λ e. test e && key_eq q e.0) (map.entries rows) ≡ has (λ v. test (q, v)) (map.get rows q)
 any_at test rows q =
     both_ways _ _
     (any_at_found test rows q (map.entries rows) (listed_found rows))

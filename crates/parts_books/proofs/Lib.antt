@@ -1,0 +1,6 @@
+pub mod Arrival
+pub mod Going
+pub mod Listed
+pub mod Places
+pub mod SoundParts
+pub mod Whole

@@ -1,51 +1,61 @@
 -- Which rows the books of parts have, and how books and replies of parts are put together.
-use Rattle.std.specs.Prelude.{◌≡◌, ℕ, zero, suc, ◌==◌, Bool, true, false, ◌&&◌, ◌||◌, not, List, [], ◌∷◌, ◌++◌, Option, Some, None, length, map, zip}
+use Rattle.std.specs.Prelude.{◌≡◌, ℕ, zero, suc, ◌==◌, Bool, true, false, ◌&&◌, ◌||◌, not, List, [], ◌∷◌, ◌++◌, Option, Some, is_some, length, map, zip}
 use Rattle.std.specs.FinMap as map
 use Rattle.std.specs.List.{list_any}
-use Rattle.iso8583.specs.declared.message.Message.{Message}
-use Rattle.issuer_rows.specs.Facts.{identity_of, is_same_currency}
+use Rattle.issuer_rows.specs.Facts.{is_same_currency}
 use Rattle.issuer_rows.specs.Fold.{Rows, replies_to, rows_after}
 use Rattle.issuer_rows.specs.RowKey.{key_eq}
-use Rattle.issuer_rows.specs.Typed.{account_in}
+use Rattle.issuer_rows.specs.Typed.{account_in, card_in, original_in}
 use Rattle.issuer_rows.specs.declared.account_row.AccountRow.{AccountRow}
 use Rattle.issuer_rows.specs.declared.frame.Frame.{Frame}
 use Rattle.issuer_rows.specs.declared.reply_body.ReplyBody.{ReplyBody}
 use Rattle.issuer_rows.specs.declared.row_key.RowKey.{RowKey}
-use Rattle.issuer_laws.specs.Parts.{may_need, payer_at, Parted, of_part}
+use Rattle.issuer_rows.specs.declared.row_val.RowVal.{RowVal}
+use Rattle.issuer_laws.specs.Parts.{account_keys, may_need, paying_keys, Parted, of_part}
 use Rattle.engine_parts.specs.Decided.{list_at}
 use Rattle.engine_parts.specs.TwoBooks.{joined_all}
 
 -- ---- the book of a part
 
--- The account that paid for what the book keeps under the identity of a request or an advice. The message doesn't look at it, but no sound
--- book has what is kept without it.
-abbrev pub lent_keys : Rows → Frame → List RowKey
-lent_keys rows (Frame.Good (Message.Request r)) = payer_at rows (identity_of r.transaction)
-lent_keys rows (Frame.Good (Message.Advice a)) = payer_at rows (identity_of a.transaction)
-lent_keys rows (Frame.Good (Message.Reversal v)) = []
-lent_keys rows (Frame.Bad fault) = []
+-- The accounts without which a row isn't sound: a card's, and the one that paid for an original.
+abbrev pub accounts_of : Option RowVal → List RowKey
+accounts_of row = account_keys (card_in row) ++ paying_keys (original_in row)
+
+-- those of the rows under these keys
+abbrev pub lent_keys : Rows → List RowKey → List RowKey
+lent_keys rows [] = []
+lent_keys rows (k ∷ ks) = accounts_of (map.get rows k) ++ lent_keys rows ks
 
 -- the key is one of these
 abbrev pub is_among : RowKey → List RowKey → Bool
 is_among k keys = list_any (key_eq k) keys
 
--- a message of these may need the row
-abbrev pub may_need_one : Rows → List Frame → RowKey → Bool
-may_need_one rows frames k = list_any (λ frame. is_among k (may_need rows frame)) frames
+-- an account stands there
+abbrev pub has_account_at : Rows → RowKey → Bool
+has_account_at rows k = is_some (account_in (map.get rows k))
 
--- or its account is lent to one of them
-abbrev pub may_find_one : Rows → List Frame → RowKey → Bool
-may_find_one rows frames k = list_any (λ frame. is_among k (may_need rows frame ++ lent_keys rows frame)) frames
+-- The row is for a message: one that it may need, or an account that is lent to it. It doesn't look at such an account, but no sound book
+-- has the other rows without it.
+abbrev pub is_for : Rows → RowKey → Frame → Bool
+is_for rows k frame = is_among k (may_need rows frame) || (has_account_at rows k && is_among k (lent_keys rows (may_need rows frame)))
 
--- the rows of the book that these messages may need, and the accounts that are lent to them
+-- it is for one of these
+abbrev pub is_for_one : Rows → List Frame → RowKey → Bool
+is_for_one rows frames k = list_any (is_for rows k) frames
+
+-- the rows of the book for these messages
 abbrev pub rows_for : Rows → List Frame → Rows
-rows_for rows frames = map.retain_keys rows (may_find_one rows frames)
+rows_for rows frames = map.retain_keys rows (is_for_one rows frames)
 
 -- the book of a part: the rows for its messages
 abbrev pub part_rows : Rows → Parted → ℕ → Rows
 part_rows rows ms p = rows_for rows (of_part p ms)
 
 -- ---- the rest
+
+-- a message of these may need the row
+abbrev pub may_need_one : Rows → List Frame → RowKey → Bool
+may_need_one rows frames k = list_any (λ frame. is_among k (may_need rows frame)) frames
 
 -- the row is an account
 abbrev pub is_of_account : RowKey → Bool

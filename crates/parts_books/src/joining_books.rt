@@ -1,7 +1,10 @@
-ghost use Rattle.std.specs.Prelude.{◌≡◌, OnOk, IfOk, Some};
+ghost use Rattle.std.specs.Prelude.{◌≡◌, ◌&&◌, not, cond, OnOk, IfOk, Some};
 ghost use Rattle.std.specs.FinMap as map;
 ghost use Rattle.engine_parts.specs.TwoBooks.{joined};
-ghost use Rattle.parts_books.specs.PartBooks.{is_as_in_rest, joined_books, own_rows};
+ghost use Rattle.issuer_rows.specs.RowKey.{key_eq};
+ghost use Rattle.issuer_rows.specs.Typed.{account_in};
+ghost use Rattle.issuer_rows.specs.declared.row_key.RowKey.{RowKey as Key};
+ghost use Rattle.parts_books.specs.PartBooks.{is_as_in_rest, is_same_account_row, joined_books, own_rows};
 
 use issuer_rows::{Book, RowKey, RowVal};
 use std::alloc::AllocError;
@@ -23,15 +26,33 @@ fn put_own(rest: &Book, book: &Book, whole: &mut Book) -> Result<(), AllocError>
     ensures { OnOk result (whole.new ≡ joined whole.old (own_rows rest.now book.now)) }
 {
     for (key, val) in book.rows() {
-        if !is_as_in_rest(rest, key, val) {
-            put_row(book, key, val, whole)?;
-        }
+        put_own_row(rest, book, key, val, whole)?;
     }
     Ok(())
 }
 
+// Writes a row of a part's book, unless it is an account that stands so in the rest.
+fn put_own_row(
+    rest: &Book,
+    book: &Book,
+    key: &RowKey,
+    val: &RowVal,
+    whole: &mut Book,
+) -> Result<(), AllocError>
+    requires { map.get book.now key.now ≡ Some val.now }
+    ensures { OnOk result ((q : Key) → map.get whole.new q ≡ cond (not (is_as_in_rest rest.now book.now key.now) && key_eq q key.now) (map.get book.now q) (map.get whole.old q)) }
+{
+    if stands_so(rest, key, val) {
+        return Ok(());
+    }
+    put_row(book, key, val, whole)?;
+    Ok(())
+}
+
 // Whether the row is an account that stands so in the rest.
-fn is_as_in_rest(rest: &Book, key: &RowKey, val: &RowVal) -> bool {
+fn stands_so(rest: &Book, key: &RowKey, val: &RowVal) -> bool
+    ensures { result ≡ is_same_account_row (account_in (map.get rest.now key.now)) (account_in (Some val.now)) }
+{
     match (rest.row(key), val) {
         (Some(RowVal::Account(theirs)), RowVal::Account(mine)) => theirs == mine,
         _ => false,

@@ -1,30 +1,46 @@
-ghost use Rattle.std.specs.Prelude.{◌≡◌, ◌++◌, OnOk};
-ghost use Rattle.issuer_laws.specs.Parts.{accounts_at, budget_at, funds_at, may_need, may_need_first, payer_at};
-ghost use Rattle.parts_books.specs.PartBooks.{lent_keys};
+ghost use Rattle.std.specs.Prelude.{◌≡◌, ◌++◌, Some, IfOk, OnOk};
+ghost use Rattle.std.specs.FinMap as map;
+ghost use Rattle.issuer_laws.specs.Parts.{account_keys, accounts_at, budget_at, funds_at, may_need, may_need_first, payer_at, paying_keys};
+ghost use Rattle.issuer_rows.specs.declared.original_row.OriginalRow.{OriginalRow};
+ghost use Rattle.parts_books.specs.PartBooks.{accounts_of, lent_keys};
 
 use iso8583::{Identity, Message, Pan, Reversal, Transaction};
-use issuer_rows::{Book, Frame, Payer, RowKey, RowVal};
-use std::alloc::AllocError;
+use issuer_rows::{Book, CardRow, Frame, Kept, Payer, RowKey, RowVal};
+use std::alloc::{AllocError, Global};
 
-/// Appends the keys of the rows for a message: of those that it may need, and of the account that is lent to it.
-pub(crate) fn push_found(
-    keys: &mut Vec<RowKey>,
+// How many rows a message may need at most: a request's day, original, card, two accounts and budget; or a reversal's, with what paid.
+const MOST_NEEDED: usize = 6;
+
+/// The keys of the rows that a message may need. It fails only where memory runs out.
+pub(crate) fn needed_keys(
+    alloc: Global,
     book: &Book,
     frame: &Frame,
-) -> Result<(), AllocError>
-    ensures { OnOk result (keys.new.items ≡ keys.old.items ++ (may_need book.now frame.now ++ lent_keys book.now frame.now)) }
+) -> Result<Vec<RowKey>, AllocError>
+    ensures { IfOk result (λ keys. keys.items ≡ may_need book.now frame.now) }
 {
-    push_needed(keys, book, frame)?;
-    push_lent(keys, book, frame)?;
-    Ok(())
+    let mut keys = Vec::with_capacity(alloc, MOST_NEEDED)?;
+    push_needed(&mut keys, book, frame)?;
+    Ok(keys)
 }
 
-/// Appends the keys of the rows that a message may need.
-pub(crate) fn push_needed(
-    keys: &mut Vec<RowKey>,
+/// The keys of the accounts of the rows under these. It fails only where memory runs out.
+pub(crate) fn lent_keys(
+    alloc: Global,
     book: &Book,
-    frame: &Frame,
-) -> Result<(), AllocError>
+    keys: &[RowKey],
+) -> Result<Vec<RowKey>, AllocError>
+    ensures { IfOk result (λ lent. lent.items ≡ lent_keys book.now keys.now) }
+{
+    let mut lent = Vec::new(alloc);
+    for key in keys {
+        push_accounts_of(&mut lent, book, key)?;
+    }
+    Ok(lent)
+}
+
+// Appends the keys of the rows that a message may need.
+fn push_needed(keys: &mut Vec<RowKey>, book: &Book, frame: &Frame) -> Result<(), AllocError>
     ensures { OnOk result (keys.new.items ≡ keys.old.items ++ may_need book.now frame.now) }
 {
     match frame {
@@ -40,20 +56,14 @@ pub(crate) fn push_needed(
     }
 }
 
-// Appends the key of the account that paid for what is kept under the identity of a request or an advice, if one did.
-fn push_lent(keys: &mut Vec<RowKey>, book: &Book, frame: &Frame) -> Result<(), AllocError>
-    ensures { OnOk result (keys.new.items ≡ keys.old.items ++ lent_keys book.now frame.now) }
+// Appends the keys of the accounts of the row under this one, if there is such a row.
+fn push_accounts_of(keys: &mut Vec<RowKey>, book: &Book, key: &RowKey) -> Result<(), AllocError>
+    ensures { OnOk result (keys.new.items ≡ keys.old.items ++ accounts_of (map.get book.now key.now)) }
 {
-    match frame {
-        Frame::Good(Message::Request(request)) => {
-            let identity = request.transaction.identity();
-            push_payer(keys, book, &identity)
-        }
-        Frame::Good(Message::Advice(advice)) => {
-            let identity = advice.transaction.identity();
-            push_payer(keys, book, &identity)
-        }
-        Frame::Good(Message::Reversal(_)) | Frame::Bad(_) => Ok(()),
+    match book.row(key) {
+        Some(RowVal::Card(card)) => push_card(keys, card),
+        Some(RowVal::Kept(kept)) => push_paying(keys, kept),
+        _ => Ok(()),
     }
 }
 
@@ -88,9 +98,16 @@ fn push_reversal(keys: &mut Vec<RowKey>, book: &Book, reversal: &Reversal) -> Re
 fn push_payer(keys: &mut Vec<RowKey>, book: &Book, identity: &Identity) -> Result<(), AllocError>
     ensures { OnOk result (keys.new.items ≡ keys.old.items ++ payer_at book.now identity.now) }
 {
-    let Some(RowVal::Kept(kept)) = book.row(&RowKey::Original(*identity)) else {
-        return Ok(());
-    };
+    match book.row(&RowKey::Original(*identity)) {
+        Some(RowVal::Kept(kept)) => push_paying(keys, kept),
+        _ => Ok(()),
+    }
+}
+
+// Appends the key of the account that paid for an original, if one did.
+fn push_paying(keys: &mut Vec<RowKey>, kept: &Kept) -> Result<(), AllocError>
+    ensures { OnOk result (keys.new.items ≡ keys.old.items ++ paying_keys (Some (OriginalRow.Kept kept.now))) }
+{
     let Some(payment) = kept.outcome().payment() else {
         return Ok(());
     };
@@ -112,13 +129,20 @@ fn push_funds(keys: &mut Vec<RowKey>, book: &Book, pan: &Pan) -> Result<(), Allo
     Ok(())
 }
 
-// Appends the keys of a card's accounts, if there is such a card.
+// Appends the keys of the accounts of the card of this number, if there is one.
 fn push_accounts(keys: &mut Vec<RowKey>, book: &Book, pan: &Pan) -> Result<(), AllocError>
     ensures { OnOk result (keys.new.items ≡ keys.old.items ++ accounts_at book.now pan.now) }
 {
-    let Some(RowVal::Card(card)) = book.row(&RowKey::Card(*pan)) else {
-        return Ok(());
-    };
+    match book.row(&RowKey::Card(*pan)) {
+        Some(RowVal::Card(card)) => push_card(keys, card),
+        _ => Ok(()),
+    }
+}
+
+// Appends the keys of a card's accounts.
+fn push_card(keys: &mut Vec<RowKey>, card: &CardRow) -> Result<(), AllocError>
+    ensures { OnOk result (keys.new.items ≡ keys.old.items ++ account_keys (Some card.now)) }
+{
     keys.push(RowKey::Account(card.accounts.first()))?;
     if let Some(second) = card.accounts.second() {
         keys.push(RowKey::Account(second))?;

@@ -1,13 +1,18 @@
-ghost use Rattle.std.specs.Prelude.{◌≡◌, ◌++◌, [], length, zip, IfOk, OnOk};
+ghost use Rattle.std.specs.Prelude.{◌≡◌, ◌&&◌, length, zip, IfOk, OnOk, Some, is_some, cond};
+ghost use Rattle.std.specs.FinMap as map;
 ghost use Rattle.issuer_laws.specs.Parts.{of_part};
-ghost use Rattle.parts_books.specs.PartBooks.{each_part, part_rows, rows_for};
+ghost use Rattle.issuer_rows.specs.Book.{IsWithin};
+ghost use Rattle.issuer_rows.specs.RowKey.{key_eq};
+ghost use Rattle.issuer_rows.specs.Typed.{account_in};
+ghost use Rattle.issuer_rows.specs.declared.row_key.RowKey.{RowKey as Key};
+ghost use Rattle.parts_books.specs.PartBooks.{each_part, has_account_at, is_among, is_for, part_rows, rows_for};
 
-use crate::keys::push_found;
-use issuer_rows::{Book, Frame, RowKey};
+use crate::keys::{lent_keys, needed_keys};
+use issuer_rows::{Book, Frame, RowKey, RowVal};
 use std::alloc::{AllocError, Global};
 
-/// The books of so many parts: each has the rows that its messages may need, and the accounts that paid for what is kept under their
-/// identities. The message at each place is of the part at its place. It fails only where memory runs out.
+/// The books of so many parts: each has the rows that its messages may need, and the accounts of these. The message at each place is of the part at its place. It fails only where memory runs out.
+#[tactic(auto, using(crate::proofs::Going::each_last))]
 pub fn part_books(
     alloc: Global,
     book: &Book,
@@ -64,21 +69,64 @@ fn book_for(alloc: Global, book: &Book, frames: &[Frame]) -> Result<Book, AllocE
     ensures { IfOk result (λ own. own ≡ rows_for book.now frames.now) }
 {
     let mut own = Book::new(alloc);
-    let mut keys = Vec::new(alloc);
     for frame in frames {
-        keys.clear();
-        push_found(&mut keys, book, frame)?;
-        put_rows(book, &keys, &mut own)?;
+        put_for(alloc, book, frame, &mut own)?;
     }
     Ok(own)
 }
 
+// Puts the rows of the book for a message into another.
+fn put_for(alloc: Global, book: &Book, frame: &Frame, other: &mut Book) -> Result<(), AllocError>
+    requires within { IsWithin other.old book.now }
+    ensures { OnOk result ((q : Key) → map.get other.new q ≡ cond (is_for book.now q frame.now) (map.get book.now q) (map.get other.old q)) }
+{
+    let keys = needed_keys(alloc, book, frame)?;
+    put_rows(book, &keys, other)?;
+    let lent = lent_keys(alloc, book, &keys)?;
+    put_accounts(book, &lent, other)?;
+    Ok(())
+}
+
 // Puts the rows of the book under these keys into another.
-fn put_rows(book: &Book, keys: &[RowKey], other: &mut Book) -> Result<(), AllocError> {
+fn put_rows(book: &Book, keys: &[RowKey], other: &mut Book) -> Result<(), AllocError>
+    requires within { IsWithin other.old book.now }
+    ensures { OnOk result ((q : Key) → map.get other.new q ≡ cond (is_among q keys.now) (map.get book.now q) (map.get other.old q)) }
+{
     for key in keys {
         if let Some(val) = book.row(key) {
             other.put_copy(key, val)?;
         }
     }
     Ok(())
+}
+
+// Puts the accounts of the book under these keys into another.
+fn put_accounts(book: &Book, keys: &[RowKey], other: &mut Book) -> Result<(), AllocError>
+    ensures { OnOk result ((q : Key) → map.get other.new q ≡ cond (has_account_at book.now q && is_among q keys.now) (map.get book.now q) (map.get other.old q)) }
+{
+    for key in keys {
+        put_account(book, key, other)?;
+    }
+    Ok(())
+}
+
+// Puts the account of the book under this key into another, if one stands there.
+fn put_account(book: &Book, key: &RowKey, other: &mut Book) -> Result<(), AllocError>
+    ensures { OnOk result ((q : Key) → map.get other.new q ≡ cond (has_account_at book.now q && key_eq q key.now) (map.get book.now q) (map.get other.old q)) }
+{
+    let Some(val) = book.row(key) else {
+        return Ok(());
+    };
+    if !is_account(val) {
+        return Ok(());
+    }
+    other.put_copy(key, val)?;
+    Ok(())
+}
+
+// Whether the row is an account's.
+fn is_account(val: &RowVal) -> bool
+    ensures { result ≡ is_some (account_in (Some val.now)) }
+{
+    matches!(val, RowVal::Account(_))
 }

@@ -1,0 +1,10 @@
+use Rattle.std.proofs.Common.{◌≡◌, ◌&&◌, cond, take}
+use Rattle.std.specs.FinMap as map
+use Rattle.issuer_rows.specs.declared.row_key.RowKey.{RowKey}
+use Rattle.parts_books.specs.PartBooks.{has_account_at, is_among}
+use Rattle.parts_books.proofs.making_parts.put_accounts.Given as goal
+
+-- the accounts under the keys before this one are there
+abbrev pub invariant-loop-key : goal.invariant-loop-key
+invariant-loop-key l =
+    (q : RowKey) → map.get l.other q ≡ cond (has_account_at l.book q && is_among q (take l.key-index l.keys)) (map.get l.book q) (map.get l.fn.other q)
