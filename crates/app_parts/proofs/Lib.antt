@@ -1,1 +1,3 @@
 pub mod PutTexts
+pub mod NamesApart
+pub mod OwnBodies

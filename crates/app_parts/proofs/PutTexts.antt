@@ -1,5 +1,5 @@
 -- Texts that are put into their files.
-use Rattle.std.proofs.Common.{◌≡◌, ◌≢◌, ◌⊎◌, inl, inr, ℕ, suc, arith, ◌+◌, ◌<◌, ◌≤◌, List, [], ◌∷◌, ◌++◌, length, get_or, take, map, string_bytes, refl, sym, ap, subst, ◌∙◌}
+use Rattle.std.proofs.Common.{◌≡◌, ◌≢◌, ◌⊎◌, inl, inr, ℕ, zero, suc, arith, ◌+◌, ◌<◌, ◌≤◌, List, [], ◌∷◌, ◌++◌, length, get_or, take, map, string_bytes, refl, sym, ap, subst, ◌∙◌}
 use Rattle.std.proofs.lemmas.List.{take_more, take_all}
 use Rattle.std.proofs.lemmas.Slice.Zip.{all_zipped_more}
 use Rattle.std.specs.List.{AllByRecursion, AllZip}
@@ -33,7 +33,7 @@ written_all is_known written known texts i all le = subst (λ (some : List Named
 -- what is such of one of the texts
 pub one_of : (is_such : List ℕ → Type 0) (texts : List NamedText) (i : ℕ) (text : NamedText) → i < length texts → text ≡ get_or texts i text → is_such (string_bytes text.name) → HasOne is_such (texts_of texts)
 one_of is_such [] i text lt is such = absurd (omega (arith, lt))
-one_of is_such (first ∷ texts) 0 text lt is such = inl (subst (λ (t : NamedText). is_such (string_bytes t.name)) is such)
+one_of is_such (first ∷ texts) zero text lt is such = inl (subst (λ (t : NamedText). is_such (string_bytes t.name)) is such)
 one_of is_such (first ∷ texts) (suc i) text lt is such = inr (one_of is_such texts i text (omega (arith, lt)) is such)
 
 none_named : {O : Type 0} (is_known : O → Type 0) (written : O → List ℕ) (known : Type 0) (name : List ℕ) (texts : List NamedText) (all : List (Written O))

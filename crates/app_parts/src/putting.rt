@@ -54,7 +54,7 @@ fn write_texts<F: Files>(
     ensures written { IfOk result (λ all. AreWritten F.Output.is_known F.Output.written (F.is_known files.now) texts.now all.items) }
     ensures fault { IfErr result (IsPutFault (F.failing files.now) (texts_of texts.now)) }
 {
-    let mut all = Vec::with_capacity(alloc, texts.len())?;
+    let mut all = Vec::new(alloc);
     for text in texts {
         let one = write_one(alloc, files, text)?;
         all.push(one)?;
