@@ -15,6 +15,9 @@ const AFTER_HELP: &str = "Commands with help of their own, as `switch serve --he
   make       Prints the body of a message as a line that `pack` reads, from its elements by name
   unpack     Prints the bodies of a batch as the text that `pack` reads
   archive    Takes the originals and days before a date out of a book
+  part       Puts a batch in parts that share no row, to be decided anywhere
+  decide     Decides one part of such a batch
+  join       Puts the parts of a batch together
   show --json  Prints an object of JSON for each message or reply
 
 `switch help formats`, `rules`, `faults` (of a body that is no message) and `example` tell more.

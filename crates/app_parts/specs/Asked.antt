@@ -1,5 +1,5 @@
 -- What words ask of `part`, `decide` and `join`.
-use Rattle.std.specs.Prelude.{◌≡◌, ◌≤◌, ◌<◌, ◌^◌, ⊤, ℕ, List, Some, codes, length, slice_get}
+use Rattle.std.specs.Prelude.{◌≡◌, ◌≤◌, ◌<◌, ◌^◌, ◌⊎◌, ⊤, ℕ, List, Some, codes, length, slice_get}
 use Rattle.std.specs.Str.Parse.{IsNumeral, digits_value, without_leading_plus}
 use Rattle.app_words.specs.Words.{AsksHelp, IsCommand}
 use Rattle.app_parts.specs.declared.asking.PartsAsked.{PartsAsked}
@@ -23,15 +23,15 @@ SaysNumber words place number = (word : List ℕ) × (slice_get words place ≡ 
 
 -- `part` has four words behind it, of which the third is a number from 1 to 64
 abbrev pub AsksPart : List (List ℕ) → Type 0
-AsksPart words = IsCommand (codes "part") words × (length words ≡ 6) × (most : ℕ) × SaysNumber words 4 most × IsMost most
+AsksPart words = (length words ≡ 6) × (most : ℕ) × SaysNumber words 4 most × IsMost most
 
 -- `decide` has two, of which the second is a number
 abbrev pub AsksDecide : List (List ℕ) → Type 0
-AsksDecide words = IsCommand (codes "decide") words × (length words ≡ 4) × (part : ℕ) × SaysNumber words 3 part
+AsksDecide words = (length words ≡ 4) × (part : ℕ) × SaysNumber words 3 part
 
 -- `join` has three
 abbrev pub AsksJoin : List (List ℕ) → Type 0
-AsksJoin words = IsCommand (codes "join") words × (length words ≡ 5)
+AsksJoin words = length words ≡ 5
 
 -- What words ask: to put a batch in parts, to decide one, or to put them together; one word behind the command may ask what it takes; other
 -- words are wrong.
@@ -45,7 +45,10 @@ IsAskedBy words (Join names) =
     IsCommand (codes "join") words × (length words ≡ 5) × (slice_get words 2 ≡ Some names.folder.now) × (slice_get words 3 ≡ Some names.replies.now)
     × (slice_get words 4 ≡ Some names.new_book.now)
 IsAskedBy words (Help text) = AsksHelp words
-IsAskedBy words (Wrong usage) = (¬ AsksHelp words) × (¬ AsksPart words) × (¬ AsksDecide words) × (¬ AsksJoin words)
+IsAskedBy words (Wrong usage) =
+    (¬ AsksHelp words)
+    × ((IsCommand (codes "part") words × (¬ AsksPart words))
+    ⊎ ((IsCommand (codes "decide") words × (¬ AsksDecide words)) ⊎ (IsCommand (codes "join") words × (¬ AsksJoin words))))
 
 -- it can be done: a batch is put in so many parts as there can be
 abbrev pub IsAskable : PartsAsked → Type 0

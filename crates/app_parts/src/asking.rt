@@ -42,7 +42,9 @@ pub fn parts_asked(words: &[String]) -> Option<PartsAsked<'_>>
 
 // What is asked by words of which the second is `part`.
 fn part_asked(words: &[String]) -> PartsAsked<'_>
-    ensures { IsAskedBy (map string_bytes words.now) result }
+    requires { IsCommand (codes "part") (map string_bytes words.now) }
+    ensures asked { IsAskedBy (map string_bytes words.now) result }
+    ensures askable { IsAskable result }
 {
     if asks_help(words) {
         return PartsAsked::Help(PART_HELP);
@@ -63,7 +65,9 @@ fn part_asked(words: &[String]) -> PartsAsked<'_>
 
 // What is asked by words of which the second is `decide`.
 fn decide_asked(words: &[String]) -> PartsAsked<'_>
-    ensures { IsAskedBy (map string_bytes words.now) result }
+    requires { IsCommand (codes "decide") (map string_bytes words.now) }
+    ensures asked { IsAskedBy (map string_bytes words.now) result }
+    ensures askable { IsAskable result }
 {
     if asks_help(words) {
         return PartsAsked::Help(DECIDE_HELP);
@@ -79,7 +83,9 @@ fn decide_asked(words: &[String]) -> PartsAsked<'_>
 
 // What is asked by words of which the second is `join`.
 fn join_asked(words: &[String]) -> PartsAsked<'_>
-    ensures { IsAskedBy (map string_bytes words.now) result }
+    requires { IsCommand (codes "join") (map string_bytes words.now) }
+    ensures asked { IsAskedBy (map string_bytes words.now) result }
+    ensures askable { IsAskable result }
 {
     if asks_help(words) {
         return PartsAsked::Help(JOIN_HELP);
