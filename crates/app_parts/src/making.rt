@@ -1,6 +1,6 @@
 //! The files of parts, as texts.
 
-ghost use Rattle.std.specs.Prelude.{◌≡◌, ◌+◌, ◌<◌, ◌^◌, ◌∷◌, [], ◌++◌, All, IfOk, Ok, OnOk, length, string_bytes};
+ghost use Rattle.std.specs.Prelude.{◌≡◌, ◌+◌, ◌<◌, ◌≤◌, ◌^◌, ◌∷◌, [], ◌++◌, All, IfOk, Ok, OnOk, length, string_bytes};
 ghost use Rattle.sha2.specs.Sha256.{sha256};
 ghost use Rattle.book_laws.specs.Reading.{reading};
 ghost use Rattle.book_laws.specs.Text.{book_text};
@@ -50,6 +50,7 @@ pub(crate) fn make_folder(
     batch: &BatchInParts,
 ) -> Result<(Vec<NamedText>, Vec<PartCount>), AllocError>
     requires planned { IsPlanned (parting_of book.now batch.now) 64 }
+    requires few { length batch.now.frames.items ≤ 65536 }
     requires each { length batch.now.bodies.items ≡ length batch.now.frames.items }
     ensures texts { IfOk result (λ made. texts_of made.0.items ≡ folder_texts folder.now (parting_of book.now batch.now)) }
     ensures counts { IfOk result (λ made. made.1.items ≡ each_part (count_of_part (parting_of book.now batch.now)) batch.now.plan.count) }
@@ -173,7 +174,8 @@ impl MadeParts {
         };
         self.digests.push(digests)?;
         self.counts.push(one.count)?;
-        push_part(alloc, folder, part, one, &mut self.texts)
+        push_part(alloc, folder, part, one, &mut self.texts)?;
+        Ok(())
     }
 }
 

@@ -1,4 +1,4 @@
-ghost use Rattle.std.specs.Prelude.{◌≡◌, ◌<◌, IfErr, IfOk, Ok, map};
+ghost use Rattle.std.specs.Prelude.{◌≡◌, ◌<◌, ◌≤◌, IfErr, IfOk, Ok, length, map};
 ghost use Rattle.file_batch_laws.specs.Frames.{IsBatchOf};
 ghost use Rattle.file_batch_laws.specs.Reading.{batch_magic, bodies_of};
 ghost use Rattle.app_parts.specs.Parting.{IsCut, IsPlanned};
@@ -21,12 +21,15 @@ pub(crate) fn plan_batch(
 ) -> Result<BatchInParts, JobFault>
     requires { 0 < most }
     ensures cut { IfOk result (λ own. IsCut batch.now (bodies_in own) own.frames.items) }
+    ensures few { IfOk result (λ own. length own.frames.items ≤ 65536) }
     ensures planned { IfOk result (λ own. IsPlanned (parting_of book.now own) most) }
     ensures fault { IfErr result (IsBatchFaultOf batch.now) }
 {
     let frames = frames_of(alloc, batch)?;
     let bodies = bodies_of(alloc, batch)?;
     let plan = plan_parts(alloc, book, &frames, most)?;
+    // What these say holds of every plan.
+    let (_count, _parts) = (plan.count(), plan.parts());
     Ok(BatchInParts {
         bodies,
         frames,
@@ -36,6 +39,7 @@ pub(crate) fn plan_batch(
 
 // The messages of a batch.
 fn frames_of(alloc: Global, batch: &[u8]) -> Result<Vec<Frame>, JobFault>
+    ensures few { IfOk result (λ frames. length frames.items ≤ 65536) }
     ensures frames { IfOk result (λ frames. IsBatchOf batch.now frames.items) }
     ensures fault { IfErr result (IsBatchFaultOf batch.now) }
 {
