@@ -118,8 +118,10 @@ batch_not_behind folder p earlier part zero lt fits =
     ((λ e. batch_and_rest folder earlier (sym e)), ((λ e. batch_and_plan folder earlier (sym e)), tt))
 batch_not_behind folder p earlier part (suc count) lt fits = (
   (λ e. book_and_batch folder part earlier e),
-  ((λ e. batches_apart folder earlier part (omega (arith, lt, fits)) (omega (arith, fits)) (λ same. absurd (omega (arith, same, lt))) (sym e)),
-  batch_not_behind folder p earlier (suc part) count (omega (arith, lt)) (omega (arith, fits))),
+  (
+    (λ e. batches_apart folder earlier part (omega (arith, lt, fits)) (omega (arith, fits)) (λ same. absurd (omega (arith, same, lt))) (sym e)),
+    batch_not_behind folder p earlier (suc part) count (omega (arith, lt)) (omega (arith, fits)),
+  ),
 )
 
 from_distinct : (folder : List ℕ) (p : Parting) (part count : ℕ) → part + count < 2 ^ 63 → AreDistinct (from_part folder p part count)
@@ -148,8 +150,10 @@ all_of_folder folder p few = from_all folder p 0 p.count (omega (arith, few))
 
 pub decided_distinct : (folder : List ℕ) (part : ℕ) (plan replies new_book : List ℕ) → AreDistinct (made_texts folder part plan replies new_book)
 decided_distinct folder part plan replies new_book = (
-  ((λ e. files_apart folder part part (46 ∷ 114 ∷ 101 ∷ 112 ∷ 108 ∷ 105 ∷ 101 ∷ []) 115 (46 ∷ 110 ∷ 101 ∷ 119 ∷ 98 ∷ 111 ∷ 111 ∷ []) 107 (λ e. absurd (omega (arith, e))) (sym e)),
-  ((λ e. files_apart folder part part (46 ∷ 114 ∷ 101 ∷ 112 ∷ 108 ∷ 105 ∷ 101 ∷ []) 115 (46 ∷ 100 ∷ 101 ∷ 99 ∷ 105 ∷ 100 ∷ 101 ∷ []) 100 (λ e. absurd (omega (arith, e))) (sym e)), tt)),
+  (
+    (λ e. files_apart folder part part (46 ∷ 114 ∷ 101 ∷ 112 ∷ 108 ∷ 105 ∷ 101 ∷ []) 115 (46 ∷ 110 ∷ 101 ∷ 119 ∷ 98 ∷ 111 ∷ 111 ∷ []) 107 (λ e. absurd (omega (arith, e))) (sym e)),
+    ((λ e. files_apart folder part part (46 ∷ 114 ∷ 101 ∷ 112 ∷ 108 ∷ 105 ∷ 101 ∷ []) 115 (46 ∷ 100 ∷ 101 ∷ 99 ∷ 105 ∷ 100 ∷ 101 ∷ []) 100 (λ e. absurd (omega (arith, e))) (sym e)), tt),
+  ),
   (((λ e. files_apart folder part part (46 ∷ 110 ∷ 101 ∷ 119 ∷ 98 ∷ 111 ∷ 111 ∷ []) 107 (46 ∷ 100 ∷ 101 ∷ 99 ∷ 105 ∷ 100 ∷ 101 ∷ []) 100 (λ e. absurd (omega (arith, e))) (sym e)), tt), (tt, tt)),
 )
 

@@ -64,7 +64,14 @@ pub fn decide_part<R: Threads + Wait + Sync, F: Files>(
         PartFault::OtherBatch,
     )?;
     let decided = decide_bytes(rt, alloc, &book, &batch)?;
-    let texts = texts_of_decided(alloc, folder, part, &open.digest, decided.replies, decided.new_book)?;
+    let texts = texts_of_decided(
+        alloc,
+        folder,
+        part,
+        &open.digest,
+        decided.replies,
+        decided.new_book,
+    )?;
     put_texts(alloc, files, &texts)?;
     Ok(decided.count)
 }

@@ -8,11 +8,7 @@ use sha2::{Digest, Sha256};
 use std::alloc::Global;
 
 /// What the file of this name holds.
-pub(crate) fn read_text<F: Files>(
-    alloc: Global,
-    files: &F,
-    name: &str,
-) -> Result<Vec<u8>, JobFault>
+pub(crate) fn read_text<F: Files>(alloc: Global, files: &F, name: &str) -> Result<Vec<u8>, JobFault>
     ensures held { IfOk result (λ bytes. IsHeld (F.is_known files.now) (F.holds files.now) name.now bytes.items) }
     ensures fault { IfErr result (IsReadingFault (F.holds files.now) (F.failing files.now) name.now) }
 {

@@ -28,11 +28,7 @@ pub fn bodies_of_batch(alloc: Global, batch: &[u8]) -> Result<Vec<Vec<u8>>, Batc
 }
 
 // So many bodies, and the bytes behind them.
-fn cut_bodies(
-    alloc: Global,
-    count: u32,
-    bytes: &[u8],
-) -> Result<(Vec<Vec<u8>>, &[u8]), BatchFault>
+fn cut_bodies(alloc: Global, count: u32, bytes: &[u8]) -> Result<(Vec<Vec<u8>>, &[u8]), BatchFault>
     ensures bodies { IfOk result (λ parts. bodies_at count bytes.now ≡ Ok (map (λ body. body.items) parts.0.items, parts.1.now)) }
     ensures fault { IfErr result (λ fault. fault ≢ BatchFault.OutOfMemory → bodies_at count bytes.now ≡ Err fault) }
 {

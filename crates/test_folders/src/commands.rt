@@ -114,7 +114,14 @@ fn parts_are_one_run(rt: HostRuntime) {
     for line in TWO {
         assert!(rt; done(&rt, rt.alloc(), &mut files, line), "{line}");
     }
-    assert!(rt; done(&rt, rt.alloc(), &mut files, "switch join other joined2 new2"));
+    assert!(rt;
+        done(
+            &rt,
+            rt.alloc(),
+            &mut files,
+            "switch join other joined2 new2"
+        )
+    );
     assert!(rt; are_same(&files, "joined2", "replies"));
     assert!(rt; are_same(&files, "new2", "after"));
 }
@@ -128,7 +135,7 @@ fn one_part_is_the_batch(rt: HostRuntime) {
         &mut files,
         "switch part book batch 1 parts",
     )
-        .expect(&rt, "an answer");
+    .expect(&rt, "an answer");
     assert!(rt; status == 0 && err.is_empty());
     assert!(rt; out.as_slice() == b"part 0: 8 messages, 6 rows\n".as_slice());
     assert!(rt; are_same(&files, "parts/0.batch", "batch"));
@@ -168,7 +175,16 @@ fn refuses_changed_folders(rt: HostRuntime) {
             assert!(rt; done(&rt, rt.alloc(), &mut files, line), "{line}");
         }
         copied(rt.alloc(), &mut files, to, from).expect(&rt, "a file");
-        assert!(rt; is_refused(&rt, rt.alloc(), &mut files, "switch join parts joined new", said), "{to} {from}");
+        assert!(rt;
+            is_refused(
+                &rt,
+                rt.alloc(),
+                &mut files,
+                "switch join parts joined new",
+                said
+            ),
+            "{to} {from}"
+        );
     }
 }
 
@@ -178,20 +194,79 @@ fn refuses_changed_parts(rt: HostRuntime) {
         let mut files = files(rt.alloc()).expect(&rt, "room");
         assert!(rt; done(&rt, rt.alloc(), &mut files, THREE[0]));
         copied(rt.alloc(), &mut files, to, from).expect(&rt, "a file");
-        assert!(rt; is_refused(&rt, rt.alloc(), &mut files, "switch decide parts 1", said), "{to} {from}");
+        assert!(rt;
+            is_refused(&rt, rt.alloc(), &mut files, "switch decide parts 1", said),
+            "{to} {from}"
+        );
     }
 }
 
 #[test]
 fn refuses_what_is_missing(rt: HostRuntime) {
     let mut files = files(rt.alloc()).expect(&rt, "room");
-    assert!(rt; is_refused(&rt, rt.alloc(), &mut files, "switch part none batch 2 parts", "file 1\n"));
-    assert!(rt; is_refused(&rt, rt.alloc(), &mut files, "switch part batch batch 2 parts", "book 1\n"));
-    assert!(rt; is_refused(&rt, rt.alloc(), &mut files, "switch part book book 2 parts", "batch 1\n"));
-    assert!(rt; is_refused(&rt, rt.alloc(), &mut files, "switch decide parts 0", "file 1\n"));
-    assert!(rt; is_refused(&rt, rt.alloc(), &mut files, "switch join parts joined new", "file 1\n"));
+    assert!(rt;
+        is_refused(
+            &rt,
+            rt.alloc(),
+            &mut files,
+            "switch part none batch 2 parts",
+            "file 1\n"
+        )
+    );
+    assert!(rt;
+        is_refused(
+            &rt,
+            rt.alloc(),
+            &mut files,
+            "switch part batch batch 2 parts",
+            "book 1\n"
+        )
+    );
+    assert!(rt;
+        is_refused(
+            &rt,
+            rt.alloc(),
+            &mut files,
+            "switch part book book 2 parts",
+            "batch 1\n"
+        )
+    );
+    assert!(rt;
+        is_refused(
+            &rt,
+            rt.alloc(),
+            &mut files,
+            "switch decide parts 0",
+            "file 1\n"
+        )
+    );
+    assert!(rt;
+        is_refused(
+            &rt,
+            rt.alloc(),
+            &mut files,
+            "switch join parts joined new",
+            "file 1\n"
+        )
+    );
     assert!(rt; done(&rt, rt.alloc(), &mut files, THREE[0]));
-    assert!(rt; is_refused(&rt, rt.alloc(), &mut files, "switch decide parts 3", "plan 2\n"));
+    assert!(rt;
+        is_refused(
+            &rt,
+            rt.alloc(),
+            &mut files,
+            "switch decide parts 3",
+            "plan 2\n"
+        )
+    );
     assert!(rt; done(&rt, rt.alloc(), &mut files, THREE[2]));
-    assert!(rt; is_refused(&rt, rt.alloc(), &mut files, "switch join parts joined new", "part 1: 1\n"));
+    assert!(rt;
+        is_refused(
+            &rt,
+            rt.alloc(),
+            &mut files,
+            "switch join parts joined new",
+            "part 1: 1\n"
+        )
+    );
 }

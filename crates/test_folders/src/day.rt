@@ -48,7 +48,9 @@ fn request_of(alloc: Global, card: &str, amount: &str, trace: &str) -> Option<Ve
 
 fn batch(alloc: Global) -> Option<Vec<u8>> {
     let mut bytes = Vec::new(alloc);
-    bytes.extend_from_slice(b"I83B\x00\x01\x00\x00\x00\x08").ok()?;
+    bytes
+        .extend_from_slice(b"I83B\x00\x01\x00\x00\x00\x08")
+        .ok()?;
     for (card, amount, trace) in REQUESTS {
         let body = request_of(alloc, card, amount, trace)?;
         bytes.push(0).ok()?;

@@ -9,7 +9,9 @@ use std::thread::Threads;
 
 const PART: &str =
     "usage: switch part <BOOK> <BATCH> <N> <FOLDER>, N from 1 to 64; `switch part --help` says more\n";
+
 const DECIDE: &str = "usage: switch decide <FOLDER> <K>; `switch decide --help` says more\n";
+
 const JOIN: &str =
     "usage: switch join <FOLDER> <REPLIES> <NEWBOOK>; `switch join --help` says more\n";
 
@@ -19,13 +21,28 @@ const SAID: &[(&str, u8, &str, &str)] = &[
     ("switch part book batch 0 parts", 2, "", PART),
     ("switch part book batch 65 parts", 2, "", PART),
     ("switch part book batch parts", 2, "", PART),
-    ("switch part parts/plan batch 2 parts", 2, "", "BOOK and FOLDER/plan are one file\n"),
-    ("switch part book parts/1.batch 2 parts", 2, "", "BATCH and a part's batch are one file\n"),
+    (
+        "switch part parts/plan batch 2 parts",
+        2,
+        "",
+        "BOOK and FOLDER/plan are one file\n",
+    ),
+    (
+        "switch part book parts/1.batch 2 parts",
+        2,
+        "",
+        "BATCH and a part's batch are one file\n",
+    ),
     ("switch part --help", 0, PART_HELP, ""),
     ("switch decide parts one", 2, "", DECIDE),
     ("switch decide parts", 2, "", DECIDE),
     ("switch decide -h", 0, DECIDE_HELP, ""),
-    ("switch join parts same same", 2, "", "REPLIES and NEWBOOK are one file\n"),
+    (
+        "switch join parts same same",
+        2,
+        "",
+        "REPLIES and NEWBOOK are one file\n",
+    ),
     ("switch join parts replies", 2, "", JOIN),
     ("switch join --help", 0, JOIN_HELP, ""),
 ];

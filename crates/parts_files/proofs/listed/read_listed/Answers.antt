@@ -26,8 +26,15 @@ returns-clause-some c =
     let below : All (λ byte. byte < c.args.count) c.in_ok-digests.behind.now = search rules in (
       record {
         each = c.in_ok-digests.ensures.each;
-        all = omega (arith, ap length parts, ap length c.in_ok-digests.ensures.is, length-append (flat_map digests_text own) c.in_ok-digests.behind.now,
-            long own c.in_ok-digests.ensures.digest, c.in_ok-digests.ensures.each, c.if-bytes-count.false);
+        all = omega (
+          arith,
+          ap length parts,
+          ap length c.in_ok-digests.ensures.is,
+          length-append (flat_map digests_text own) c.in_ok-digests.behind.now,
+          long own c.in_ok-digests.ensures.digest,
+          c.in_ok-digests.ensures.each,
+          c.if-bytes-count.false,
+        );
         some = search rules;
         few = search rules;
         fit = search rules;
