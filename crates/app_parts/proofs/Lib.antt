@@ -1,0 +1,5 @@
+pub mod PutTexts
+pub mod NamesApart
+pub mod OwnBodies
+pub mod Parts
+pub mod OneRun
