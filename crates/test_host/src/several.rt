@@ -2,7 +2,7 @@
 
 use crate::hosts::{CopiedLogs, words_of};
 use file_devices::{FailingSink, FailingSource};
-use host_commands::{LinkNames, Settings, links_asked, serve_links};
+use host_commands::{AskedLinks, LinkNames, Settings, links_asked, serve_links};
 use host_links::{Behind, Seat, serve_links as serve_at};
 use host_serving::{HostFault, MaxBatch, Unwatched};
 use issuer_rows::Book;
@@ -189,35 +189,41 @@ fn links_that_are_answered_have_status_0(rt: HostRuntime) -> Result<(), Fail> {
     Ok(())
 }
 
-// What these words ask for: how many links, with how many frames in a turn; and the names of the last one.
-fn asks_for(alloc: Global, line: &str, count: usize, most: u32, last: (&str, &str)) -> bool {
+// Whether the last link has these names.
+fn ends_with(links: &[LinkNames<'_>], input: &str, output: &str) -> bool {
+    match links.last() {
+        Some(link) => link.input == input && link.output == output,
+        None => false,
+    }
+}
+
+// Whether these words ask for so many links, with so many frames in a turn; and the last one has these names.
+fn asks_for(alloc: Global, line: &str, count: usize, most: u32, input: &str, output: &str) -> bool {
     let Some(words) = words_of(alloc, line) else {
         return false;
     };
     match links_asked(alloc, &words) {
-        Ok(Some(asked)) => {
-            asked.book == "b"
-                && asked.log == "l"
-                && asked.settings.max_batch.count() == most
-                && asked.links.len() == count
-                && asked.links.last()
-                    == Some(&LinkNames {
-                        input: last.0,
-                        output: last.1,
-                    })
-        }
+        Ok(Some(asked)) => is_asked(&asked, count, most) && ends_with(&asked.links, input, output),
         _ => false,
     }
+}
+
+// Whether it is asked on these files for so many links, with so many frames in a turn.
+fn is_asked(asked: &AskedLinks<'_>, count: usize, most: u32) -> bool {
+    asked.book == "b"
+        && asked.log == "l"
+        && asked.settings.max_batch.count() == most
+        && asked.links.len() == count
 }
 
 #[test]
 fn words_ask_for_links(rt: HostRuntime) {
     let alloc = rt.alloc();
-    assert!(rt; asks_for(alloc, "switch serve b l --link i o", 1, 65_536, ("i", "o")));
+    assert!(rt; asks_for(alloc, "switch serve b l --link i o", 1, 65_536, "i", "o"));
     let two = "switch serve b l --link i o --max-batch 3 --link j p";
-    assert!(rt; asks_for(alloc, two, 2, 3, ("j", "p")));
+    assert!(rt; asks_for(alloc, two, 2, 3, "j", "p"));
     let all = "switch serve b l --stats 7 --link i o --link j p --max-batch 2";
-    assert!(rt; asks_for(alloc, all, 2, 2, ("j", "p")));
+    assert!(rt; asks_for(alloc, all, 2, 2, "j", "p"));
 }
 
 // Whether these words ask for no links.
