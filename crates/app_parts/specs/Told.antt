@@ -17,7 +17,7 @@ use Rattle.app_parts.specs.declared.parts_fault.PartsFault.{PartsFault}
 -- the line of a part: its number, its messages and its rows
 abbrev pub count_line : ℕ → PartCount → List ℕ
 count_line part count =
-    codes "part " ++ decimal part ++ codes ": " ++ decimal count.messages ++ codes " messages, " ++ decimal count.rows ++ codes " rows\n"
+    codes "part " ++ (decimal part ++ (codes ": " ++ (decimal count.messages ++ (codes " messages, " ++ (decimal count.rows ++ codes " rows\n")))))
 
 -- a line for each part, from this number on
 abbrev pub count_lines : ℕ → List PartCount → List ℕ
