@@ -80,8 +80,8 @@ fn answer_decide<R: Threads + Wait + Sync, F: Files, O: Write, E: Write>(
     out: &mut O,
     err: &mut E,
 ) -> u8
-    ensures answered { IsAnswered (F.is_known files.old) (F.holds files.old) (F.holds files.new) (F.failing files.old) (asked.Decide folder part) (O.contents out.old) (O.contents out.new) result }
-    ensures others { (name : List ℕ) → ¬ IsWritten (asked.Decide folder part) name → IsAsItWas (F.holds files.old) (F.holds files.new) name }
+    ensures answered { IsAnswered (F.is_known files.old) (F.holds files.old) (F.holds files.new) (F.failing files.old) (asked.Decide folder.entry part) (O.contents out.old) (O.contents out.new) result }
+    ensures others { (name : List ℕ) → ¬ IsWritten (asked.Decide folder.entry part) name → IsAsItWas (F.holds files.old) (F.holds files.new) name }
 {
     match decide_part(rt, alloc, files, folder, part) {
         Ok(count) => status_of(say(alloc, "decided", u64::from(count.bodies), out), err),
