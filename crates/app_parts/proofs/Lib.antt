@@ -2,4 +2,5 @@ pub mod PutTexts
 pub mod NamesApart
 pub mod OwnBodies
 pub mod Parts
+pub mod Answered
 pub mod OneRun
