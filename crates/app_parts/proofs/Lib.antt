@@ -3,4 +3,5 @@ pub mod NamesApart
 pub mod OwnBodies
 pub mod Parts
 pub mod Answered
+pub mod Joined
 pub mod OneRun
