@@ -70,12 +70,12 @@ same_answers known holds folder plan number (o ∷ ours) (t ∷ theirs) many are
 -- the plan that was opened is that of the folder
 pub one_plan : (known : Type 0) (holds : Holding) (folder : List ℕ) (opened : OpenPlan) (plan : Plan) → IsOpenPlan known holds folder opened → HasPlan holds folder plan
     → plan_of opened.plan ≡ plan
-one_plan known holds folder opened plan open has = same_plan (plan_of opened.plan) plan open.is_plan has.0 (open.plan_held.only (plan_text plan) has.1)
+one_plan known holds folder opened plan is_open has = same_plan (plan_of opened.plan) plan is_open.is_plan has.0 (is_open.plan_held.only (plan_text plan) has.1)
 
 -- and so is its digest
 pub one_digest : (known : Type 0) (holds : Holding) (folder : List ℕ) (opened : OpenPlan) (plan : Plan) → IsOpenPlan known holds folder opened → HasPlan holds folder plan
     → sha256 (plan_text plan) ≡ opened.digest
-one_digest known holds folder opened plan open has = ap sha256 (sym (open.plan_held.only (plan_text plan) has.1)) ∙ sym open.digest
+one_digest known holds folder opened plan is_open has = ap sha256 (sym (is_open.plan_held.only (plan_text plan) has.1)) ∙ sym is_open.digest
 
 -- ---- why parts aren't put together
 
@@ -100,38 +100,38 @@ no_plan known holds failing names _ h = absurd h
 -- the rest isn't opened
 pub no_rest : (known : Type 0) (holds : Holding) (failing : Failing) (names : Names) (opened : OpenPlan) (e : PartsFault) → IsOpenPlan known holds names.folder opened
     → IsRestFault holds failing names.folder opened.plan.rest e → IsJoiningFault known holds failing names e
-no_rest known holds failing names opened (fault.Job job) open h = inr (inl h)
-no_rest known holds failing names opened fault.OtherRest open h =
-    λ plan rest has held is. h rest held (is ∙ ap (λ (p : Plan). p.rest) (sym (one_plan known holds names.folder opened plan open has)))
-no_rest known holds failing names opened _ open h = absurd h
+no_rest known holds failing names opened (fault.Job job) is_open h = inr (inl h)
+no_rest known holds failing names opened fault.OtherRest is_open h =
+    λ plan rest has held is. h rest held (is ∙ ap (λ (p : Plan). p.rest) (sym (one_plan known holds names.folder opened plan is_open has)))
+no_rest known holds failing names opened _ is_open h = absurd h
 
 part_fault : (known : Type 0) (holds : Holding) (failing : Failing) (folder : List ℕ) (opened : OpenPlan) (number : ℕ) (e : PartFault) → IsOpenPlan known holds folder opened
     → IsPartFault holds failing folder opened.digest number e → IsAnsweringFault holds failing folder number e
-part_fault known holds failing folder opened number why.Unreadable open h = h
-part_fault known holds failing folder opened number why.OtherPlan open h =
+part_fault known holds failing folder opened number why.Unreadable is_open h = h
+part_fault known holds failing folder opened number why.OtherPlan is_open h =
     λ plan bytes behind has held is.
-    h bytes behind held (is ∙ ap (λ (digest : List ℕ). decided_head number digest ++ behind) (one_digest known holds folder opened plan open has))
-part_fault known holds failing folder opened number why.OtherFiles open h =
+    h bytes behind held (is ∙ ap (λ (digest : List ℕ). decided_head number digest ++ behind) (one_digest known holds folder opened plan is_open has))
+part_fault known holds failing folder opened number why.OtherFiles is_open h =
     λ plan bytes replies book has held of_replies of_book is.
     h bytes replies book held of_replies of_book
-    (is ∙ ap (λ (digest : List ℕ). decided_text number digest (sha256 replies) (sha256 book)) (one_digest known holds folder opened plan open has))
-part_fault known holds failing folder opened number _ open h = absurd h
+    (is ∙ ap (λ (digest : List ℕ). decided_text number digest (sha256 replies) (sha256 book)) (one_digest known holds folder opened plan is_open has))
+part_fault known holds failing folder opened number _ is_open h = absurd h
 
 -- a part has no answer
 pub no_answer : (known : Type 0) (holds : Holding) (failing : Failing) (names : Names) (opened : OpenPlan) (e : PartsFault) → IsOpenPlan known holds names.folder opened
     → IsNoAnswer holds failing names.folder opened.digest e → IsJoiningFault known holds failing names e
-no_answer known holds failing names opened (fault.Job job) open (inl h) = inl (no_memory holds failing _ job h)
-no_answer known holds failing names opened (fault.Job job) open (inr h) = inr (inr (inl h))
-no_answer known holds failing names opened (fault.Part number why) open h = part_fault known holds failing names.folder opened number why open h
-no_answer known holds failing names opened _ open h = absurd h
+no_answer known holds failing names opened (fault.Job job) is_open (inl h) = inl (no_memory holds failing _ job h)
+no_answer known holds failing names opened (fault.Job job) is_open (inr h) = inr (inr (inl h))
+no_answer known holds failing names opened (fault.Part number why) is_open h = part_fault known holds failing names.folder opened number why is_open h
+no_answer known holds failing names opened _ is_open h = absurd h
 
 none_in_order : (known : Type 0) (holds : Holding) (name : List ℕ) (opened : OpenPlan) (answers : List Answer) → IsOpenPlan known holds name opened
     → length answers ≡ length opened.plan.digests.items → AreAnswersFrom known holds name opened.digest 0 answers
     → ((all : List ReplyBody) → ¬ AreInArrivalOrder opened.plan.parts.items (map (λ answer. answer.replies) answers) all) → HasNoOrder holds name
-none_in_order known holds name opened answers open many are none = λ plan rest theirs folder replies order.
+none_in_order known holds name opened answers is_open many are none = λ plan rest theirs folder replies order.
     let has : HasPlan holds name plan = (folder.is_plan, folder.plan_held.there tt) in
-    let same = one_plan known holds name opened plan open has in
-    let digest = one_digest known holds name opened plan open has in
+    let same = one_plan known holds name opened plan is_open has in
+    let digest = one_digest known holds name opened plan is_open has in
     let count : length answers ≡ length theirs = many ∙ ap (λ (p : Plan). length p.digests) same ∙ sym folder.each in
     let lists = same_answers known holds name opened.digest 0 answers theirs count are
     (subst (λ (d : List ℕ). AreAnswersFrom (Unit {0}) holds name d 0 theirs) digest folder.are) in
@@ -148,11 +148,11 @@ AreOpened known holds folder opened own =
 pub no_order : (known : Type 0) (holds : Holding) (failing : Failing) (names : Names) (opened : OpenPlan) (own : Answers) (e : PartsFault)
     → IsOpenPlan known holds names.folder opened → AreOpened known holds names.folder opened own
     → IsNoOrder opened.plan.parts.items (map (λ list. list.items) own.replies.items) e → IsJoiningFault known holds failing names e
-no_order known holds failing names opened own (fault.Job job) open answers h = inl (no_memory holds failing _ job h)
-no_order known holds failing names opened own fault.Replies open answers h =
-    none_in_order known holds names.folder opened answers.0 open answers.1 answers.2.are
+no_order known holds failing names opened own (fault.Job job) is_open answers h = inl (no_memory holds failing _ job h)
+no_order known holds failing names opened own fault.Replies is_open answers h =
+    none_in_order known holds names.folder opened answers.0 is_open answers.1 answers.2.are
     (λ all order. h all (subst (λ (lists : List (List ReplyBody)). AreInArrivalOrder opened.plan.parts.items lists all) (sym answers.2.replies) order))
-no_order known holds failing names opened own _ open answers h = absurd h
+no_order known holds failing names opened own _ is_open answers h = absurd h
 
 all_joined : (names : Names) (replies : List ReplyBody) (rows : Rows) → AllByRecursion (λ text. IsOfJoined names text.name) (joined_texts names replies rows)
 all_joined names replies rows = (inl refl, (inr refl, tt))
@@ -178,7 +178,7 @@ pub joined : (known : Type 0) (old new : Holding) (names : Names) (opened : Open
     → AreInArrivalOrder opened.plan.parts.items (map (λ list. list.items) own.replies.items) replies → book ≡ joined_books rest own.books.items
     → AreReplyBodies replies → reading (book_text book) ≡ Ok book → (known → AreHeld new (joined_texts names replies book))
     → IsJoined known old new names
-joined known old new names opened rest own replies book open of_rest of_answers order is bodies back written =
+joined known old new names opened rest own replies book is_open of_rest of_answers order is bodies back written =
     let answers = of_answers.0 in
     let have = of_answers.2 in
     let whole : book ≡ joined_books rest (map (λ answer. answer.rows) answers) = is ∙ ap (joined_books rest) have.books in
@@ -187,14 +187,14 @@ joined known old new names opened rest own replies book open of_rest of_answers 
       rest = rest;
       answers = answers;
       folder = record {
-        is_plan = open.is_plan;
-        plan_held = open.plan_held;
+        is_plan = is_open.is_plan;
+        plan_held = is_open.plan_held;
         book = of_rest.book;
         rest_held = of_rest.rest_held;
         of_rest = of_rest.of_rest;
         opening = of_rest.opening;
         each = of_answers.1;
-        are = subst (λ (digest : List ℕ). AreAnswersFrom known old names.folder digest 0 answers) open.digest have.are;
+        are = subst (λ (digest : List ℕ). AreAnswersFrom known old names.folder digest 0 answers) is_open.digest have.are;
       };
       replies = replies;
       order = subst (λ (lists : List (List ReplyBody)). AreInArrivalOrder opened.plan.parts.items lists replies) have.replies order;
