@@ -1,4 +1,4 @@
-use Rattle.std.proofs.Common.{inr, refl, ap, subst, ◌∙◌}
+use Rattle.std.proofs.Common.{inr}
 use Rattle.std.proofs.lemmas.Result.{err_from_is_err_and}
 use Rattle.app_parts.specs.declared.part_file.PartFile.TheVariants.{Decided}
 use Rattle.app_parts.proofs.Answered.{answer_of, unopened, unread}

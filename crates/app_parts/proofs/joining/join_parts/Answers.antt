@@ -1,4 +1,4 @@
-use Rattle.std.proofs.Common.{◌≡◌, List, ap, arith, sym, ◌∙◌}
+use Rattle.std.proofs.Common.{arith}
 use Rattle.std.proofs.lemmas.Result.{err_from_is_err_and}
 use Rattle.app_parts.specs.Joining.{names_of}
 use Rattle.app_parts.specs.Texts.{texts_of}
@@ -26,8 +26,8 @@ pub returns-in_err-put_texts-clause-fault : goal.returns-in_err-put_texts-clause
 returns-in_err-put_texts-clause-fault g c =
     let p = err_from_is_err_and c.from_residual-in_err-put_texts.result c.from_residual-in_err-put_texts.ensures.1 in
     rw (p.1, p.2) (not_put (g.F.Files.is_known c.args.files.now) (g.F.Files.holds c.args.files.now) (g.F.Files.failing c.args.files.now) (names_of c.args.names.now)
-    c.deref-4.result.now c.in_ok-book.book (texts_of c.deref-5.result.now) c.in_err-put_texts.field-0.0
-    (ap texts_of c.deref-5.ensures.value ∙ c.in_ok-texts.ensures.texts) c.in_err-put_texts.ensures.fault)
+    c.deref-4.result.now c.in_ok-book.book (texts_of c.in_ok-texts.texts.items) c.in_err-put_texts.field-0.0
+    c.in_ok-texts.ensures.texts (rw c.deref-5.ensures.value at c.in_err-put_texts.ensures.fault))
 
 pub returns-clause-joined : goal.returns-clause-joined
 returns-clause-joined g c =
@@ -44,6 +44,6 @@ returns-clause-joined g c =
     (rw c.deref-3.ensures.value at c.in_ok-book.ensures)
     (rw c.deref-4.ensures.value at c.in_ok-texts.ensures.bodies)
     c.in_ok-texts.ensures.back
-    (both_written known new names c.in_ok-replies.replies.items c.in_ok-book.book (texts_of c.deref-5.result.now)
-    (ap texts_of c.deref-5.ensures.value ∙ (rw c.deref-4.ensures.value at c.in_ok-texts.ensures.texts))
-    c.in_ok-check_joined.ensures.apart c.in_ok-put_texts.ensures.held)
+    (both_written known new names c.in_ok-replies.replies.items c.in_ok-book.book (texts_of c.in_ok-texts.texts.items)
+    (rw c.deref-4.ensures.value at c.in_ok-texts.ensures.texts)
+    c.in_ok-check_joined.ensures.apart (rw c.deref-5.ensures.value at c.in_ok-put_texts.ensures.held))
