@@ -113,10 +113,10 @@ abbrev pub IsFaultOfPart : Holding → Failing → List ℕ → JobFault → Typ
 IsFaultOfPart holds failing folder job =
     (part : ℕ) × (IsReplyFileFault holds failing (part_name folder part Replies) job ⊎ IsBookFault holds failing (part_name folder part NewBook) job)
 
--- the answers don't have as many replies as the plan has messages, part by part
-abbrev pub HasNoOrder : Type 0 → Holding → List ℕ → Type 0
-HasNoOrder known holds folder =
-    (plan : Plan) (rest : Rows) (answers : List Answer) → IsFolder known holds folder plan rest answers
+-- the answers that the files hold don't have as many replies as the plan has messages, part by part
+abbrev pub HasNoOrder : Holding → List ℕ → Type 0
+HasNoOrder holds folder =
+    (plan : Plan) (rest : Rows) (answers : List Answer) → IsFolder (Unit {0}) holds folder plan rest answers
     → (replies : List ReplyBody) → ¬ AreInArrivalOrder plan.parts (map (λ answer. answer.replies) answers) replies
 
 -- it is one of the files that `join` writes
@@ -133,7 +133,7 @@ IsJoiningFault known holds failing names (fault.Job job) =
     ⊎ (IsFaultOfPart holds failing names.folder job ⊎ IsPutFaultOf failing (IsOfJoined names) job))
 IsJoiningFault known holds failing names fault.NoPlan = HasNoPlan holds names.folder
 IsJoiningFault known holds failing names fault.OtherRest = HasOtherRest holds names.folder
-IsJoiningFault known holds failing names fault.Replies = HasNoOrder known holds names.folder
+IsJoiningFault known holds failing names fault.Replies = HasNoOrder holds names.folder
 IsJoiningFault known holds failing names (fault.Part part why) = IsAnsweringFault holds failing names.folder part why
 IsJoiningFault known holds failing names _ = ⊥
 
