@@ -75,19 +75,18 @@ pub answer_of : (known : Type 0) (holds : Holding) (folder plan : List ℕ) (num
     → IsHeld known holds (part_name folder number Replies) replies → IsHeld known holds (part_name folder number NewBook) book
     → IsHeld known holds (part_name folder number Decided) decided → decided ≡ decided_text number plan (sha256 replies) (sha256 book)
     → IsReplyFileOf replies own.replies.items → IsAnswer (reading book) (Ok own.book) → IsPartAnswer known holds folder plan number own
-answer_of known holds folder plan number replies book decided own of_replies of_book of_decided is are opening =
-    (
-      record { replies_bytes = replies; replies = own.replies.items; book_bytes = book; rows = own.book },
-      record {
-        replies_held = of_replies;
-        are = are;
-        book_held = of_book;
-        opening = opening;
-        decided = subst (λ (bytes : List ℕ). IsHeld known holds (part_name folder number Decided) bytes) is of_decided;
-      },
-      refl,
-      refl,
-    )
+answer_of known holds folder plan number replies book decided own of_replies of_book of_decided is are opening = (
+  record { replies_bytes = replies; replies = own.replies.items; book_bytes = book; rows = own.book },
+  record {
+    replies_held = of_replies;
+    are = are;
+    book_held = of_book;
+    opening = opening;
+    decided = subst (λ (bytes : List ℕ). IsHeld known holds (part_name folder number Decided) bytes) is of_decided;
+  },
+  refl,
+  refl,
+)
 
 -- ---- the answers of the first parts
 
@@ -107,8 +106,7 @@ have_more known holds folder plan number own more one before is more_replies mor
     let answers = before.0 in
     let have = before.2 in
     let answer = is.0 in
-    let long = length-append answers (answer ∷ []) in
-    (
+    let long = length-append answers (answer ∷ []) in (
       answers ++ answer ∷ [],
       omega (arith, long, before.1),
       record {
