@@ -3,7 +3,7 @@ use Rattle.std.proofs.Common.{◌≡◌, ◌≢◌, ◌⊎◌, ◌≤◌, inl, i
 use Rattle.std.specs.List.{AllByRecursion}
 use Rattle.sha2.specs.Sha256.{sha256}
 use Rattle.book_laws.specs.Reading.{IsAnswer, reading}
-use Rattle.book_laws.specs.declared.text_fault.TextFault.{TextFault}
+use Rattle.book_laws.specs.declared.json_fault.JsonFault.{JsonFault}
 use Rattle.file_batch_laws.specs.Reading.{bodies_of, batch_magic}
 use Rattle.file_devices.specs.Failing.{Failing}
 use Rattle.file_devices.specs.Holding.{Holding}
@@ -42,7 +42,7 @@ unread_batch holds failing name job.OutOfMemory h = tt
 unread_batch holds failing name _ h = absurd h
 
 -- bytes that a file held are no book
-pub held_book : (known : Type 0) (holds : Holding) (failing : Failing) (name bytes : List ℕ) (why : TextFault) → IsHeld known holds name bytes → IsAnswer (reading bytes) (Err why)
+pub held_book : (known : Type 0) (holds : Holding) (failing : Failing) (name bytes : List ℕ) (why : JsonFault) → IsHeld known holds name bytes → IsAnswer (reading bytes) (Err why)
     → IsBookFault holds failing name (job.Book why)
 held_book known holds failing name bytes why held h = λ others is. subst (λ (b : List ℕ). IsAnswer (reading b) (Err why)) (held.only others is) h
 
@@ -95,7 +95,7 @@ module _ (known : Type 0) (holds : Holding) (failing : Failing) (folder : List �
       subst (λ (w : PartsFault). IsDecidingFault holds failing folder number w) (sym h.0)
       (λ plan has. subst (λ (p : Plan). length p.digests ≤ number) (the_plan opened is plan has) h.1)
 
-  some_digests : PartDigests → Option PartDigests → PartDigests
+  abbrev some_digests : PartDigests → Option PartDigests → PartDigests
   some_digests other (Some digests) = digests
   some_digests other None = other
 

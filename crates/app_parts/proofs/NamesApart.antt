@@ -1,8 +1,8 @@
 -- Names of a folder's files differ.
-use Rattle.std.proofs.Common.{◌≡◌, ◌≢◌, ◌⊎◌, inl, inr, ℕ, zero, suc, ◌+◌, ◌%◌, ◌/◌, ◌<◌, ◌≤◌, ◌^◌, List, [], ◌∷◌, ◌++◌, length, get_or, decimal, refl, sym, ap, subst, ◌∙◌, arith, append_assoc}
+use Rattle.std.proofs.Common.{◌≡◌, ◌≢◌, ◌⊎◌, inl, inr, ℕ, zero, suc, ◌+◌, ◌%◌, ◌/◌, ◌<◌, ◌≤◌, ◌^◌, List, [], ◌∷◌, ◌++◌, length, get_or, decimal, refl, reverse, sym, ap, subst, ◌∙◌, arith, append_assoc}
 use Rattle.std.proofs.lemmas.Fmt.{decimal_by_steps, decimal_injective}
 use Rattle.std.proofs.lemmas.List.{append_cancel_left, append_cancel_right, reverse-append}
-use Rattle.std.specs.List.{AllByRecursion, flat_map, reverse}
+use Rattle.std.specs.List.{AllByRecursion, flat_map}
 use Rattle.file_devices.specs.Failing.{Failing}
 use Rattle.app_jobs.specs.Faults.{MayNotBePut}
 use Rattle.app_jobs.specs.declared.job_fault.JobFault.{JobFault}
@@ -138,8 +138,8 @@ folder_distinct folder p few = from_distinct folder p 0 p.count (omega (arith, f
 from_all : (folder : List ℕ) (p : Parting) (part count : ℕ) → part + count < 2 ^ 32 → AllByRecursion (λ text. IsOfFolder folder text.name) (from_part folder p part count)
 from_all folder p part zero fits = (inr (inl refl), (inl refl, tt))
 from_all folder p part (suc count) fits = (
-  inr (inr (part, (omega (arith, fits), inl refl))),
-  (inr (inr (part, (omega (arith, fits), inr refl))), from_all folder p (suc part) count (omega (arith, fits))),
+  inr (inr (part, omega (arith, fits), inl refl)),
+  (inr (inr (part, omega (arith, fits), inr refl)), from_all folder p (suc part) count (omega (arith, fits))),
 )
 
 -- all are files of the folder
@@ -170,7 +170,7 @@ none_such is_such (text ∷ texts) other all not = ((λ e. not (subst is_such e 
 -- one of them is such, and of it something holds
 one_such : (is_such holds : List ℕ → Type 0) (texts : List Text) → AllByRecursion (λ text. is_such text.name) texts → HasOne holds texts → (name : List ℕ) × is_such name × holds name
 one_such is_such holds [] all has = absurd has
-one_such is_such holds (text ∷ texts) all (inl has) = (text.name, (all.0, has))
+one_such is_such holds (text ∷ texts) all (inl has) = (text.name, all.0, has)
 one_such is_such holds (text ∷ texts) all (inr has) = one_such is_such holds texts all.1 has
 
 -- why they aren't put into their files
