@@ -50,13 +50,13 @@ fn frames_of(alloc: Global, batch: &[u8]) -> Result<Vec<Frame>, JobFault>
     }
 }
 
-// Its bodies.
+// Its bodies. Of a batch whose messages were read it fails only where memory runs out.
 fn bodies_of(alloc: Global, batch: &[u8]) -> Result<Vec<Vec<u8>>, JobFault>
     ensures bodies { IfOk result (λ bodies. bodies_of batch_magic batch.now ≡ Ok (map (λ body. body.items) bodies.items)) }
     ensures fault { IfErr result (IsBatchFaultOf batch.now) }
 {
     match bodies_of_batch(alloc, batch) {
         Ok(bodies) => Ok(bodies),
-        Err(fault) => Err(JobFault::Batch(fault)),
+        Err(_) => Err(JobFault::OutOfMemory),
     }
 }
