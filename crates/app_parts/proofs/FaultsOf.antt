@@ -1,7 +1,6 @@
 -- Why a batch isn't put in parts and a part isn't decided, by why a step of these fails.
-use Rattle.std.proofs.Common.{◌≡◌, ◌≢◌, ◌⊎◌, ◌≤◌, inl, inr, ℕ, List, Err, Some, None, Option, length, slice_get, refl, sym, ap, subst, ◌∙◌}
+use Rattle.std.proofs.Common.{◌≡◌, ◌≤◌, inl, inr, ℕ, List, Err, Some, None, Option, length, slice_get, refl, sym, ap, subst, ◌∙◌}
 use Rattle.std.specs.List.{AllByRecursion}
-use Rattle.sha2.specs.Sha256.{sha256}
 use Rattle.book_laws.specs.Reading.{IsAnswer, reading}
 use Rattle.book_laws.specs.declared.json_fault.JsonFault.{JsonFault}
 use Rattle.file_batch_laws.specs.Reading.{bodies_of, batch_magic}
@@ -11,13 +10,13 @@ use Rattle.app_jobs.specs.Faults.{IsBatchFault, IsBookFault}
 use Rattle.app_jobs.specs.declared.job_fault.JobFault.{JobFault}
 use Rattle.app_jobs.specs.declared.job_fault.JobFault.TheVariants as job
 use Rattle.parts_files.proofs.Fronts.{same_plan}
-use Rattle.parts_files.specs.Texts.{IsPlan, Plan, plan_of, plan_text}
+use Rattle.parts_files.specs.Texts.{Plan, plan_of, plan_text}
 use Rattle.parts_files.specs.declared.part_digests.PartDigests.{PartDigests}
 use Rattle.app_parts.proofs.NamesApart.{all_of_decided, all_of_folder, put_fault}
 use Rattle.app_parts.specs.Apart.{IsOneFileFault}
 use Rattle.app_parts.specs.Deciding.{IsDecidedFaultOf, made_texts}
-use Rattle.app_parts.specs.Faults.{HasPlan, IsDecidingFault, IsOfOtherBatch, IsOfOtherBook, IsPartingFault, IsPutFaultOf}
-use Rattle.app_parts.specs.Names.{IsOfDecided, IsOfFolder, part_name, plan_name}
+use Rattle.app_parts.specs.Faults.{HasPlan, IsDecidingFault, IsOfOtherBatch, IsOfOtherBook, IsPartingFault}
+use Rattle.app_parts.specs.Names.{IsOfDecided, IsOfFolder, part_name}
 use Rattle.app_parts.specs.Opening.{IsOpenPlan, IsPlanFault, IsPlannedFileFault}
 use Rattle.app_parts.specs.Parting.{Names, Parting, folder_texts}
 use Rattle.app_parts.specs.Planning.{IsBatchFaultOf}

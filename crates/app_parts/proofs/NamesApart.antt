@@ -1,5 +1,5 @@
 -- Names of a folder's files differ.
-use Rattle.std.proofs.Common.{◌≡◌, ◌≢◌, ◌⊎◌, inl, inr, ℕ, zero, suc, ◌+◌, ◌%◌, ◌/◌, ◌<◌, ◌≤◌, ◌^◌, List, [], ◌∷◌, ◌++◌, length, get_or, decimal, refl, reverse, sym, ap, subst, ◌∙◌, arith, append_assoc}
+use Rattle.std.proofs.Common.{◌≡◌, ◌≢◌, inl, inr, ℕ, zero, suc, ◌+◌, ◌%◌, ◌<◌, ◌≤◌, ◌^◌, List, [], ◌∷◌, ◌++◌, get_or, decimal, refl, reverse, sym, ap, subst, ◌∙◌, arith, append_assoc}
 use Rattle.std.proofs.lemmas.Fmt.{decimal_by_steps, decimal_injective}
 use Rattle.std.proofs.lemmas.List.{append_cancel_left, append_cancel_right, reverse-append}
 use Rattle.std.specs.List.{AllByRecursion, flat_map}
@@ -13,7 +13,7 @@ use Rattle.app_parts.specs.Faults.{IsPutFaultOf}
 use Rattle.app_parts.specs.Names.{IsOfDecided, IsOfFolder, part_name, plan_name, rest_name}
 use Rattle.app_parts.specs.Parting.{Parting, folder_texts, part_texts, plan_of_parting, rest_of}
 use Rattle.app_parts.specs.Texts.{AreDistinct, HasOne, IsNoneOf, IsPutFault, Text}
-use Rattle.app_parts.specs.declared.part_file.PartFile.TheVariants.{Book, Batch, Replies, NewBook, Decided}
+use Rattle.app_parts.specs.declared.part_file.PartFile.TheVariants.{Book, Batch}
 use Rattle.parts_files.specs.Texts.{plan_text}
 
 -- ---- lists by their ends

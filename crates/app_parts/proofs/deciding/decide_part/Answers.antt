@@ -1,4 +1,4 @@
-use Rattle.std.proofs.Common.{◌≡◌, ℕ, List, ap, subst, ◌∙◌}
+use Rattle.std.proofs.Common.{ℕ, List, ap, subst, ◌∙◌}
 use Rattle.std.proofs.lemmas.Result.{err_from_is_err_and}
 use Rattle.app_parts.proofs.DoneParts.{part_decided}
 use Rattle.app_parts.proofs.FaultsOf.{batch_fault, book_fault, bytes_fault, decided_put_fault}

@@ -1,4 +1,4 @@
-use Rattle.std.proofs.Common.{◌≡◌, ℕ, List, inl, inr, ap, subst, ◌∙◌}
+use Rattle.std.proofs.Common.{ℕ, List, inl, inr, ap, subst, ◌∙◌}
 use Rattle.std.proofs.lemmas.Result.{err_from_is_err_and}
 use Rattle.app_parts.proofs.DoneParts.{as_many, not_of_folder, parted_folder, planned_more}
 use Rattle.app_parts.proofs.FaultsOf.{batch_is_outside, book_is_outside, held_batch, parted_put_fault, unread_batch}
