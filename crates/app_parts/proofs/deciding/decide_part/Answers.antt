@@ -1,4 +1,4 @@
-use Rattle.std.proofs.Common.{ℕ, List, ap, subst, ◌∙◌}
+use Rattle.std.proofs.Common.{ℕ, List, subst}
 use Rattle.std.proofs.lemmas.Result.{err_from_is_err_and}
 use Rattle.app_parts.proofs.DoneParts.{part_decided}
 use Rattle.app_parts.proofs.FaultsOf.{batch_fault, book_fault, bytes_fault, decided_put_fault}
@@ -33,7 +33,7 @@ returns-in_err-put_texts-clause-fault g c =
     let p = err_from_is_err_and c.from_residual-in_err-put_texts.result c.from_residual-in_err-put_texts.ensures.1 in
     rw (p.1, p.2) (decided_put_fault (g.F.Files.is_known c.args.files.now) (g.F.Files.holds c.args.files.now) (g.F.Files.failing c.args.files.now) c.args.folder.now c.args.part
     c.in_ok-open.open.digest c.in_ok-decided.decided.replies.items c.in_ok-decided.decided.new_book.items (texts_of c.deref-3.result.now) c.in_err-put_texts.field-0.0
-    (ap texts_of c.deref-3.ensures.value ∙ c.in_ok-texts.ensures) c.in_err-put_texts.ensures.fault)
+    (rw c.deref-3.ensures.value c.in_ok-texts.ensures) c.in_err-put_texts.ensures.fault)
 
 pub returns-clause-decided : goal.returns-clause-decided
 returns-clause-decided g c =
@@ -46,4 +46,4 @@ returns-clause-decided g c =
     part_decided (g.F.Files.is_known c.args.files.now) (g.F.Files.holds c.args.files.now) (g.F.Files.holds c.put_texts.new.files) c.args.folder.now c.args.part
     c.in_ok-open.open c.in_ok-digests.digests book c.in_ok-batch.batch.items replies new_book (texts_of c.deref-3.result.now)
     c.in_ok-open.ensures.plan c.in_ok-digests.ensures.ok c.in_ok-book.ensures.held c.in_ok-book.ensures.digest c.in_ok-batch.ensures.held c.in_ok-batch.ensures.digest
-    decided (ap texts_of c.deref-3.ensures.value ∙ c.in_ok-texts.ensures) c.in_ok-put_texts.ensures.held
+    decided (rw c.deref-3.ensures.value c.in_ok-texts.ensures) c.in_ok-put_texts.ensures.held

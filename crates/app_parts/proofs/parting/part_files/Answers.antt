@@ -1,4 +1,4 @@
-use Rattle.std.proofs.Common.{ℕ, List, inl, inr, ap, subst, ◌∙◌}
+use Rattle.std.proofs.Common.{ℕ, List, inl, inr, subst}
 use Rattle.std.proofs.lemmas.Result.{err_from_is_err_and}
 use Rattle.app_parts.proofs.DoneParts.{as_many, not_of_folder, parted_folder, planned_more}
 use Rattle.app_parts.proofs.FaultsOf.{batch_is_outside, book_is_outside, held_batch, parted_put_fault, unread_batch}
@@ -48,21 +48,21 @@ returns-in_err-put_texts-clause-fault g c =
     let parting = parting_of c.in_ok-book.book c.in_ok-planned.planned in
     rw (p.1, p.2) (parted_put_fault (g.F.Files.is_known c.args.files.now) (g.F.Files.holds c.args.files.now) (g.F.Files.failing c.args.files.now) (names_of c.args.names.now) parting
     (texts_of c.deref-2.result.now) c.in_err-put_texts.field-0.0 (planned_more parting c.args.most c.requires.few c.in_ok-planned.ensures.planned).few
-    (ap texts_of c.deref-2.ensures.value ∙ c.in_ok-texts.ensures.texts) c.in_err-put_texts.ensures.fault)
+    (rw c.deref-2.ensures.value c.in_ok-texts.ensures.texts) c.in_err-put_texts.ensures.fault)
 
 pub returns-in_err-put_texts-clause-others : goal.returns-in_err-put_texts-clause-others
 returns-in_err-put_texts-clause-others g c = λ other not.
     let parting = parting_of c.in_ok-book.book c.in_ok-planned.planned in
     c.in_err-put_texts.ensures.others other
     (not_of_folder c.args.names.now.folder.now parting other (texts_of c.deref-2.result.now) (planned_more parting c.args.most c.requires.few c.in_ok-planned.ensures.planned).few
-    (ap texts_of c.deref-2.ensures.value ∙ c.in_ok-texts.ensures.texts) not)
+    (rw c.deref-2.ensures.value c.in_ok-texts.ensures.texts) not)
 
 pub returns-clause-others : goal.returns-clause-others
 returns-clause-others g c = λ other not.
     let parting = parting_of c.in_ok-book.book c.in_ok-planned.planned in
     c.in_ok-put_texts.ensures.others other
     (not_of_folder c.args.names.now.folder.now parting other (texts_of c.deref-2.result.now) (planned_more parting c.args.most c.requires.few c.in_ok-planned.ensures.planned).few
-    (ap texts_of c.deref-2.ensures.value ∙ c.in_ok-texts.ensures.texts) not)
+    (rw c.deref-2.ensures.value c.in_ok-texts.ensures.texts) not)
 
 pub returns-clause-parted : goal.returns-clause-parted
 returns-clause-parted g c =
@@ -71,4 +71,4 @@ returns-clause-parted g c =
     (parting_of c.in_ok-book.book planned) c.in_ok-book.ensures.book.0 c.in_ok-batch.batch.items (texts_of c.deref-2.result.now) c.requires.few
     c.in_ok-book.ensures.book.1 c.in_ok-book.ensures.book.2 c.in_ok-batch.ensures.held
     (subst (λ (bytes : List ℕ). IsCut bytes (bodies_in planned) planned.frames.items) c.deref.ensures.value c.in_ok-planned.ensures.cut) c.in_ok-planned.ensures.planned
-    c.in_ok-texts.ensures.counts c.in_ok-texts.ensures.back (ap texts_of c.deref-2.ensures.value ∙ c.in_ok-texts.ensures.texts) c.in_ok-put_texts.ensures.held
+    c.in_ok-texts.ensures.counts c.in_ok-texts.ensures.back (rw c.deref-2.ensures.value c.in_ok-texts.ensures.texts) c.in_ok-put_texts.ensures.held
