@@ -4,6 +4,7 @@
 use app_archive::{ArchiveAsked, answer_archive, archive_asked};
 use app_commands::{Fault, Printer, act, print_fault};
 use app_messages::{MakeAsked, UnpackAsked, answer_make, answer_unpack, make_asked, unpack_asked};
+use app_parts::{PartsAsked, answer_parts, parts_asked};
 use app_report::{ReportAsked, answer_report, report_asked};
 use app_show::{ShowAsked, answer_show, show_asked};
 use app_why::{answer_why, why_asked};
@@ -55,6 +56,8 @@ fn main(rt: HostRuntime) -> ExitCode {
         report_words(rt, &mut files, &asked)
     } else if let Some(asked) = archive_asked(&words) {
         archive_words(&rt, rt, &mut files, &asked, names_standard_output(&words))
+    } else if let Some(asked) = parts_asked(&words) {
+        parts_words(&rt, rt, &mut files, &asked, names_standard_output(&words))
     } else if let Some(asked) = make_asked(&words) {
         make_words(rt, &asked)
     } else if let Some(asked) = unpack_asked(&words) {
@@ -228,6 +231,21 @@ fn archive_words<R: Threads + Wait + Sync, F: Files>(
         return answer_archive(rt, alloc, files, asked, &mut host.stderr(), &mut err);
     }
     answer_archive(rt, alloc, files, asked, &mut host.stdout(), &mut err)
+}
+
+// Does what is asked of a batch in parts. What is said doesn't stand between the bytes of a file.
+fn parts_words<R: Threads + Wait + Sync, F: Files>(
+    rt: &R,
+    host: HostRuntime,
+    files: &mut F,
+    asked: &PartsAsked<'_>,
+    is_streamed: bool,
+) -> u8 {
+    let (alloc, mut err) = (host.alloc(), host.stderr());
+    if is_streamed {
+        return answer_parts(rt, alloc, files, asked, &mut host.stderr(), &mut err);
+    }
+    answer_parts(rt, alloc, files, asked, &mut host.stdout(), &mut err)
 }
 
 // Does what is asked of a message from words.

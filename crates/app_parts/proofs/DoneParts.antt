@@ -1,0 +1,115 @@
+-- Parts that are decided or made, by the steps of these.
+use Rattle.std.proofs.Common.{◌≡◌, ◌≤◌, ℕ, suc, List, [], ◌∷◌, Vec, Global, Ok, Some, length, map, slice_get, refl, sym, ap, subst, ◌∙◌, arith}
+use Rattle.sha2.specs.Sha256.{sha256}
+use Rattle.book_laws.specs.Reading.{IsAnswer, reading}
+use Rattle.file_batch_laws.specs.Frames.{AreFramesOf}
+use Rattle.file_devices.specs.Holding.{Holding}
+use Rattle.issuer_rows.specs.declared.frame.Frame.{Frame}
+use Rattle.parts_books.specs.PartBooks.{each_part}
+use Rattle.parts_files.specs.Texts.{plan_of, plan_text}
+use Rattle.parts_files.specs.declared.part_digests.PartDigests.{PartDigests}
+use Rattle.app_parts.proofs.NamesApart.{all_of_decided, all_of_folder, decided_distinct, folder_distinct, none_such}
+use Rattle.app_parts.specs.Deciding.{IsDecidedText, made_texts}
+use Rattle.app_parts.specs.Joining.{IsPartDecided, decided_texts}
+use Rattle.app_parts.specs.Names.{IsOfDecided, IsOfFolder, part_name}
+use Rattle.app_parts.specs.Opening.{IsOpenPlan}
+use Rattle.app_parts.specs.Parting.{AreReadBack, IsCut, IsParted, IsPlanned, Names, Parting, count_of_part, folder_texts}
+use Rattle.app_parts.specs.Planning.{bodies_in}
+use Rattle.app_parts.specs.Texts.{AreDistinct, AreHeld, IsHeld, IsNoneOf, Text}
+use Rattle.app_parts.specs.declared.batch_in_parts.BatchInParts.{BatchInParts}
+use Rattle.app_parts.specs.declared.part_count.PartCount.{PartCount}
+use Rattle.app_parts.specs.declared.part_file.PartFile.TheVariants.{Book, Batch}
+use Rattle.app_parts.specs.declared.plan_opening.OpenPlan.{OpenPlan}
+
+-- ---- a part is decided
+
+-- what is written
+the_texts : (folder : List ℕ) (number : ℕ) (opened : OpenPlan) (book batch replies new_book : List ℕ) (d : IsDecidedText book batch replies new_book)
+    → opened.digest ≡ sha256 (plan_text (plan_of opened.plan))
+    → made_texts folder number opened.digest replies new_book ≡ decided_texts folder number (plan_of opened.plan) d.rows d.frames
+the_texts folder number opened book batch replies new_book d digest =
+    (λ i. made_texts folder number (digest i) (d.replies_are i) (d.book_is i))
+
+pub part_decided : (known : Type 0) (old new : Holding) (folder : List ℕ) (number : ℕ) (opened : OpenPlan) (digests : PartDigests) (book batch replies new_book : List ℕ) (texts : List Text)
+    → IsOpenPlan known old folder opened → slice_get opened.plan.digests.items number ≡ Some digests
+    → IsHeld known old (part_name folder number Book) book → sha256 book ≡ digests.book
+    → IsHeld known old (part_name folder number Batch) batch → sha256 batch ≡ digests.batch
+    → IsDecidedText book batch replies new_book → texts ≡ made_texts folder number opened.digest replies new_book
+    → (known → AreDistinct texts → AreHeld new texts) → IsPartDecided known old new folder number
+part_decided known old new folder number opened digests book batch replies new_book texts is found book_held of_book batch_held of_batch d are put =
+    record {
+      plan = plan_of opened.plan;
+      is_plan = is.is_plan;
+      plan_held = is.plan_held;
+      digests = digests;
+      planned = found;
+      book = book;
+      book_held = book_held;
+      of_book = of_book;
+      batch = batch;
+      batch_held = batch_held;
+      of_batch = of_batch;
+      rows = d.rows;
+      opening = d.opening;
+      frames = d.frames;
+      messages = d.messages;
+      back = d.back;
+      bodies = d.bodies;
+      written = λ is_known.
+          let distinct = subst AreDistinct (sym are) (decided_distinct folder number opened.digest replies new_book) in
+          subst (AreHeld new) (are ∙ the_texts folder number opened book batch replies new_book d is.digest) (put is_known distinct);
+    }
+
+-- a file that isn't of the part isn't written
+pub not_of_part : (folder : List ℕ) (number : ℕ) (plan replies new_book other : List ℕ) (texts : List Text) → texts ≡ made_texts folder number plan replies new_book
+    → ¬ IsOfDecided folder number other → IsNoneOf other texts
+not_of_part folder number plan replies new_book other texts are not =
+    subst (IsNoneOf other) (sym are) (none_such (IsOfDecided folder number) (made_texts folder number plan replies new_book) other (all_of_decided folder number plan replies new_book) not)
+
+-- ---- a batch is put in parts
+
+pub planned_more : (p : Parting) (most : ℕ) → most ≤ 64 → IsPlanned p most → IsPlanned p 64
+planned_more p most few planned = record { some = planned.some; few = omega (arith, planned.few, few); each = planned.each; below = planned.below; apart = planned.apart }
+
+frames_of_bodies : (bodies : List (List ℕ)) (frames : List Frame) → AreFramesOf bodies frames → length bodies ≡ length frames
+frames_of_bodies [] [] are = refl
+frames_of_bodies [] (frame ∷ frames) are = absurd are
+frames_of_bodies (body ∷ bodies) [] are = absurd are
+frames_of_bodies (body ∷ bodies) (frame ∷ frames) are = ap suc (frames_of_bodies bodies frames are.1)
+
+many : (bodies : List (Vec ℕ Global)) → length (map (λ (body : Vec ℕ Global). body.items) bodies) ≡ length bodies
+many [] = refl
+many (body ∷ bodies) = ap suc (many bodies)
+
+-- a batch has as many bodies as frames
+pub as_many : (bytes : List ℕ) (batch : BatchInParts) → IsCut bytes (bodies_in batch) batch.frames.items → length batch.bodies.items ≡ length batch.frames.items
+as_many bytes batch cut = sym (many batch.bodies.items) ∙ frames_of_bodies (bodies_in batch) batch.frames.items cut.1
+
+pub folder_held : (known : Type 0) (new : Holding) (folder : List ℕ) (p : Parting) (texts : List Text) → p.count ≤ 64 → texts ≡ folder_texts folder p
+    → (known → AreDistinct texts → AreHeld new texts) → known → AreHeld new (folder_texts folder p)
+folder_held known new folder p texts few are put is_known =
+    subst (AreHeld new) are (put is_known (subst AreDistinct (sym are) (folder_distinct folder p few)))
+
+pub parted_folder : (known : Type 0) (old new : Holding) (names : Names) (most : ℕ) (counts : List PartCount) (p : Parting) (book batch : List ℕ) (texts : List Text) → most ≤ 64
+    → IsHeld known old names.book book → IsAnswer (reading book) (Ok p.rows) → IsHeld known old names.batch batch → IsCut batch p.bodies p.frames → IsPlanned p most
+    → counts ≡ each_part (count_of_part p) p.count → AreReadBack p → texts ≡ folder_texts names.folder p
+    → (known → AreDistinct texts → AreHeld new texts) → IsParted known old new names most counts
+parted_folder known old new names most counts p book batch texts few book_held opening batch_held cut planned counted back are put =
+    record {
+      parting = p;
+      book = book;
+      book_held = book_held;
+      opening = opening;
+      batch = batch;
+      batch_held = batch_held;
+      cut = cut;
+      planned = planned;
+      counted = counted;
+      back = back;
+      written = folder_held known new names.folder p texts (omega (arith, planned.few, few)) are put;
+    }
+
+-- a file that isn't of the folder isn't written
+pub not_of_folder : (folder : List ℕ) (p : Parting) (other : List ℕ) (texts : List Text) → p.count ≤ 64 → texts ≡ folder_texts folder p → ¬ IsOfFolder folder other → IsNoneOf other texts
+not_of_folder folder p other texts few are not =
+    subst (IsNoneOf other) (sym are) (none_such (IsOfFolder folder) (folder_texts folder p) other (all_of_folder folder p few) not)

@@ -1,0 +1,9 @@
+pub mod PutTexts
+pub mod NamesApart
+pub mod FaultsOf
+pub mod DoneParts
+pub mod OwnBodies
+pub mod Parts
+pub mod Answered
+pub mod Joined
+pub mod OneRun

@@ -1,0 +1,74 @@
+use Rattle.std.proofs.Common.{ℕ, List, inl, inr, subst}
+use Rattle.std.proofs.lemmas.Result.{err_from_is_err_and}
+use Rattle.app_parts.proofs.DoneParts.{as_many, not_of_folder, parted_folder, planned_more}
+use Rattle.app_parts.proofs.FaultsOf.{batch_is_outside, book_is_outside, held_batch, parted_put_fault, unread_batch}
+use Rattle.app_parts.specs.Parting.{IsCut, names_of}
+use Rattle.app_parts.specs.Planning.{IsBatchFaultOf, bodies_in, parting_of}
+use Rattle.app_parts.specs.Texts.{texts_of}
+use Rattle.app_parts.proofs.parting.part_files.Goals as goal
+
+pub returns-in_err-check_outside-clause-fault : goal.returns-in_err-check_outside-clause-fault
+returns-in_err-check_outside-clause-fault g c =
+    let p = err_from_is_err_and c.from_residual.result c.from_residual.ensures.1 in
+    rw (p.1, p.2) (book_is_outside (g.F.Files.is_known c.args.files.now) (g.F.Files.holds c.args.files.now) (g.F.Files.failing c.args.files.now) (names_of c.args.names.now)
+    c.in_err-check_outside.field-0.0 c.in_err-check_outside.ensures)
+
+pub returns-in_err-check_outside-2-clause-fault : goal.returns-in_err-check_outside-2-clause-fault
+returns-in_err-check_outside-2-clause-fault g c =
+    let p = err_from_is_err_and c.from_residual-in_err-check_outside-2.result c.from_residual-in_err-check_outside-2.ensures.1 in
+    rw (p.1, p.2) (batch_is_outside (g.F.Files.is_known c.args.files.now) (g.F.Files.holds c.args.files.now) (g.F.Files.failing c.args.files.now) (names_of c.args.names.now)
+    c.in_err-check_outside-2.field-0.0 c.in_err-check_outside-2.ensures)
+
+pub returns-in_err-book-clause-fault : goal.returns-in_err-book-clause-fault
+returns-in_err-book-clause-fault g c =
+    let p = err_from_is_err_and c.from_residual-in_err-book.result c.from_residual-in_err-book.ensures.1 in
+    rw (p.1, p.2) (inl c.in_err-book.ensures.fault)
+
+pub returns-in_err-batch-clause-fault : goal.returns-in_err-batch-clause-fault
+returns-in_err-batch-clause-fault g c =
+    let p = err_from_is_err_and c.from_residual-in_err-batch.result c.from_residual-in_err-batch.ensures.1 in
+    rw (p.1, p.2) (inr (inl (unread_batch (g.F.Files.holds c.args.files.now) (g.F.Files.failing c.args.files.now) c.args.names.now.batch.now c.in_err-batch.field-0.0 c.in_err-batch.ensures.fault)))
+
+pub returns-in_err-planned-clause-fault : goal.returns-in_err-planned-clause-fault
+returns-in_err-planned-clause-fault g c =
+    let p = err_from_is_err_and c.from_residual-in_err-planned.result c.from_residual-in_err-planned.ensures.1 in
+    let why = c.in_err-planned.field-0.0 in
+    rw (p.1, p.2) (inr (inl (held_batch (g.F.Files.is_known c.args.files.now) (g.F.Files.holds c.args.files.now) (g.F.Files.failing c.args.files.now) c.args.names.now.batch.now
+    c.in_ok-batch.batch.items why c.in_ok-batch.ensures.held (subst (λ (bytes : List ℕ). IsBatchFaultOf bytes why) c.deref.ensures.value c.in_err-planned.ensures.fault))))
+
+pub make_folder-requires-clause-planned : goal.make_folder-requires-clause-planned
+make_folder-requires-clause-planned g c = planned_more (parting_of c.in_ok-book.book c.in_ok-planned.planned) c.args.most c.requires.few c.in_ok-planned.ensures.planned
+
+pub make_folder-requires-clause-each : goal.make_folder-requires-clause-each
+make_folder-requires-clause-each g c = as_many c.deref.result.now c.in_ok-planned.planned c.in_ok-planned.ensures.cut
+
+pub returns-in_err-put_texts-clause-fault : goal.returns-in_err-put_texts-clause-fault
+returns-in_err-put_texts-clause-fault g c =
+    let p = err_from_is_err_and c.from_residual-in_err-put_texts.result c.from_residual-in_err-put_texts.ensures.1 in
+    let parting = parting_of c.in_ok-book.book c.in_ok-planned.planned in
+    rw (p.1, p.2) (parted_put_fault (g.F.Files.is_known c.args.files.now) (g.F.Files.holds c.args.files.now) (g.F.Files.failing c.args.files.now) (names_of c.args.names.now) parting
+    (texts_of c.deref-2.result.now) c.in_err-put_texts.field-0.0 (planned_more parting c.args.most c.requires.few c.in_ok-planned.ensures.planned).few
+    (rw c.deref-2.ensures.value c.in_ok-texts.ensures.texts) c.in_err-put_texts.ensures.fault)
+
+pub returns-in_err-put_texts-clause-others : goal.returns-in_err-put_texts-clause-others
+returns-in_err-put_texts-clause-others g c = λ other not.
+    let parting = parting_of c.in_ok-book.book c.in_ok-planned.planned in
+    c.in_err-put_texts.ensures.others other
+    (not_of_folder c.args.names.now.folder.now parting other (texts_of c.deref-2.result.now) (planned_more parting c.args.most c.requires.few c.in_ok-planned.ensures.planned).few
+    (rw c.deref-2.ensures.value c.in_ok-texts.ensures.texts) not)
+
+pub returns-clause-others : goal.returns-clause-others
+returns-clause-others g c = λ other not.
+    let parting = parting_of c.in_ok-book.book c.in_ok-planned.planned in
+    c.in_ok-put_texts.ensures.others other
+    (not_of_folder c.args.names.now.folder.now parting other (texts_of c.deref-2.result.now) (planned_more parting c.args.most c.requires.few c.in_ok-planned.ensures.planned).few
+    (rw c.deref-2.ensures.value c.in_ok-texts.ensures.texts) not)
+
+pub returns-clause-parted : goal.returns-clause-parted
+returns-clause-parted g c =
+    let planned = c.in_ok-planned.planned in
+    parted_folder (g.F.Files.is_known c.args.files.now) (g.F.Files.holds c.args.files.now) (g.F.Files.holds c.put_texts.new.files) (names_of c.args.names.now) c.args.most c.in_ok-texts.counts.items
+    (parting_of c.in_ok-book.book planned) c.in_ok-book.ensures.book.0 c.in_ok-batch.batch.items (texts_of c.deref-2.result.now) c.requires.few
+    c.in_ok-book.ensures.book.1 c.in_ok-book.ensures.book.2 c.in_ok-batch.ensures.held
+    (subst (λ (bytes : List ℕ). IsCut bytes (bodies_in planned) planned.frames.items) c.deref.ensures.value c.in_ok-planned.ensures.cut) c.in_ok-planned.ensures.planned
+    c.in_ok-texts.ensures.counts c.in_ok-texts.ensures.back (rw c.deref-2.ensures.value c.in_ok-texts.ensures.texts) c.in_ok-put_texts.ensures.held

@@ -1,0 +1,117 @@
+ghost use Rattle.std.specs.Prelude.{◌≡◌, ◌≢◌, ℕ, List, IfOk, IfErr, OnErr, OnOk, Ok, map};
+ghost use Rattle.book_laws.specs.Reading.{reading};
+ghost use Rattle.book_laws.specs.Text.{book_text};
+ghost use Rattle.file_batch_laws.specs.Replies.{AreReplyBodies};
+ghost use Rattle.file_devices.specs.Holding.{AreAsTheyWere, IsAsItWas};
+ghost use Rattle.parts_books.specs.PartBooks.{AreInArrivalOrder};
+ghost use Rattle.app_parts.specs.Answers.{IsNoOrder, IsRest, IsRestFault};
+ghost use Rattle.app_parts.specs.Faults.{IsJoiningFault};
+ghost use Rattle.app_parts.specs.Joining.{IsJoined, joined_texts, names_of};
+ghost use Rattle.app_parts.specs.Texts.{texts_of};
+
+use crate::answers::open_answers;
+use crate::apart::check_joined;
+use crate::bodies::replies_text;
+use crate::join_names::JoinNames;
+use crate::named_text::NamedText;
+use crate::names::rest_name;
+use crate::parts_fault::PartsFault;
+use crate::plan_opening::open_plan;
+use crate::putting::put_texts;
+use crate::reading::{digest_of, read_text};
+use app_jobs::JobFault;
+use book_json::read_book;
+use book_text::write_book;
+use file_devices::Files;
+use issuer_rows::{Book, ReplyBody};
+use parts_books::{join_books, join_replies};
+use std::alloc::{AllocError, Global};
+use std::thread::Threads;
+
+/// Puts the parts of a folder together, and the replies to the whole batch in the order of arrival and the book behind it in place: both, or
+/// after a fault none. A folder is refused where a part isn't decided, or by another plan, or another file is there than the plan or the
+/// part's last file names.
+pub fn join_parts<R: Threads, F: Files>(
+    rt: &R,
+    alloc: Global,
+    files: &mut F,
+    names: &JoinNames<'_>,
+) -> Result<usize, PartsFault>
+    ensures joined { OnOk result (IsJoined (F.is_known files.old) (F.holds files.old) (F.holds files.new) (names_of names.now)) }
+    ensures fault { IfErr result (IsJoiningFault (F.is_known files.old) (F.holds files.old) (F.failing files.old) (names_of names.now)) }
+    ensures kept { OnErr result (AreAsTheyWere (F.holds files.old) (F.holds files.new)) }
+    ensures others { (other : List ℕ) → other ≢ names.now.replies.now → other ≢ names.now.new_book.now → IsAsItWas (F.holds files.old) (F.holds files.new) other }
+    ensures known { F.is_known files.old → F.is_known files.new }
+{
+    check_joined(files, names)?;
+    let open = open_plan(alloc, files, names.folder)?;
+    let rest = open_rest(rt, alloc, files, names.folder, &open.plan.rest)?;
+    let count = open.plan.digests.len() as u32;
+    let answers = open_answers(rt, alloc, files, names.folder, &open.digest, count)?;
+    let replies = in_order(alloc, &open.plan.parts, &answers.replies)?;
+    let book = join_books(&rest, &answers.books)?;
+    let texts = joined_texts(alloc, names, &replies, &book)?;
+    put_texts(alloc, files, &texts)?;
+    Ok(replies.len())
+}
+
+// Opens the rest's book, which is to have this digest.
+fn open_rest<R: Threads, F: Files>(
+    rt: &R,
+    alloc: Global,
+    files: &F,
+    folder: &str,
+    digest: &[u8; 32],
+) -> Result<Book, PartsFault>
+    ensures rest { IfOk result (IsRest (F.is_known files.now) (F.holds files.now) folder.now digest.now) }
+    ensures fault { IfErr result (IsRestFault (F.holds files.now) (F.failing files.now) folder.now digest.now) }
+{
+    let name = rest_name(alloc, folder)?;
+    let bytes = read_text(alloc, files, name.as_str())?;
+    let own = digest_of(&bytes);
+    if own != *digest {
+        return Err(PartsFault::OtherRest);
+    }
+    match read_book(rt, alloc, &bytes) {
+        Ok(book) => Ok(book),
+        Err(fault) => Err(PartsFault::Job(JobFault::Book(fault))),
+    }
+}
+
+// The replies of all parts in the order of arrival.
+fn in_order(
+    alloc: Global,
+    parts: &[u32],
+    replies: &[Vec<ReplyBody>],
+) -> Result<Vec<ReplyBody>, PartsFault>
+    ensures order { IfOk result (λ all. AreInArrivalOrder parts.now (map (λ list. list.items) replies.now) all.items) }
+    ensures fault { IfErr result (IsNoOrder parts.now (map (λ list. list.items) replies.now)) }
+{
+    match join_replies(alloc, parts, replies)? {
+        Some(all) => Ok(all),
+        None => Err(PartsFault::Replies),
+    }
+}
+
+// What is written.
+fn joined_texts(
+    alloc: Global,
+    names: &JoinNames<'_>,
+    replies: &[ReplyBody],
+    book: &Book,
+) -> Result<Vec<NamedText>, AllocError>
+    ensures texts { IfOk result (λ texts. texts_of texts.items ≡ joined_texts (names_of names.now) replies.now book.now) }
+    ensures bodies { OnOk result (AreReplyBodies replies.now) }
+    ensures back { OnOk result (reading (book_text book.now) ≡ Ok book.now) }
+{
+    let mut texts = Vec::new(alloc);
+    texts.push(NamedText {
+        name: String::from_str(alloc, names.replies)?,
+        text: replies_text(alloc, replies)?,
+    })?;
+    texts.push(NamedText {
+        name: String::from_str(alloc, names.new_book)?,
+        text: write_book(alloc, book)?,
+    })?;
+    Ok(texts)
+}
