@@ -8,7 +8,8 @@ use Rattle.issuer_rows.specs.declared.frame.Frame.{Frame}
 use Rattle.parts_books.specs.PartBooks.{each_part}
 use Rattle.parts_files.specs.Texts.{plan_of, plan_text}
 use Rattle.parts_files.specs.declared.part_digests.PartDigests.{PartDigests}
-use Rattle.app_parts.proofs.NamesApart.{all_of_decided, all_of_folder, decided_distinct, folder_distinct, none_such}
+use Rattle.app_parts.proofs.NamesApart.{all_of_decided, all_of_folder, decided_distinct, folder_distinct, none_such, outside_none}
+use Rattle.app_parts.specs.Apart.{IsOutside}
 use Rattle.app_parts.specs.Deciding.{IsDecidedText, made_texts}
 use Rattle.app_parts.specs.Joining.{IsPartDecided, decided_texts}
 use Rattle.app_parts.specs.Names.{IsOfDecided, IsOfFolder, part_name}
@@ -113,3 +114,7 @@ parted_folder known old new names most counts p book batch texts few book_held o
 pub not_of_folder : (folder : List ℕ) (p : Parting) (other : List ℕ) (texts : List Text) → p.count ≤ 64 → texts ≡ folder_texts folder p → ¬ IsOfFolder folder other → IsNoneOf other texts
 not_of_folder folder p other texts few are not =
     subst (IsNoneOf other) (sym are) (none_such (IsOfFolder folder) (folder_texts folder p) other (all_of_folder folder p few) not)
+
+-- a name outside of the folder is none of its files'
+pub not_outside : (folder : List ℕ) (p : Parting) (name : List ℕ) (most : ℕ) (texts : List Text) → p.count ≤ most → texts ≡ folder_texts folder p → IsOutside folder most name → IsNoneOf name texts
+not_outside folder p name most texts few are out = subst (IsNoneOf name) (sym are) (outside_none folder p name most few out)

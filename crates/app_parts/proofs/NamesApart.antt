@@ -12,6 +12,7 @@ use Rattle.app_parts.specs.Deciding.{made_texts}
 use Rattle.app_parts.specs.Faults.{IsPutFaultOf}
 use Rattle.app_parts.specs.Names.{IsOfDecided, IsOfFolder, part_name, plan_name, rest_name}
 use Rattle.app_parts.specs.Parting.{Parting, folder_texts, part_texts, plan_of_parting, rest_of}
+use Rattle.app_parts.specs.Apart.{IsOutside}
 use Rattle.app_parts.specs.Texts.{AreDistinct, HasOne, IsNoneOf, IsPutFault, Text}
 use Rattle.app_parts.specs.declared.part_file.PartFile.TheVariants.{Book, Batch}
 use Rattle.parts_files.specs.Texts.{plan_text}
@@ -145,6 +146,16 @@ from_all folder p part (suc count) fits = (
 -- all are files of the folder
 pub all_of_folder : (folder : List ℕ) (p : Parting) → p.count ≤ 64 → AllByRecursion (λ text. IsOfFolder folder text.name) (folder_texts folder p)
 all_of_folder folder p few = from_all folder p 0 p.count (omega (arith, few))
+
+from_none : (folder : List ℕ) (p : Parting) (name : List ℕ) (most part count : ℕ) → part + count ≤ most → IsOutside folder most name → IsNoneOf name (from_part folder p part count)
+from_none folder p name most part zero fits out = ((λ e. out.rest (sym e)), ((λ e. out.plan (sym e)), tt))
+from_none folder p name most part (suc count) fits out =
+    let own = out.parts part (omega (arith, fits)) in
+    ((λ e. own.0 (sym e)), ((λ e. own.1 (sym e)), from_none folder p name most (suc part) count (omega (arith, fits)) out))
+
+-- a name outside is none of theirs
+pub outside_none : (folder : List ℕ) (p : Parting) (name : List ℕ) (most : ℕ) → p.count ≤ most → IsOutside folder most name → IsNoneOf name (folder_texts folder p)
+outside_none folder p name most few out = from_none folder p name most 0 p.count (omega (arith, few)) out
 
 -- ---- the files that `decide` writes
 

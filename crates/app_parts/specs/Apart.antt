@@ -1,7 +1,8 @@
 -- Names that are to be of two files.
-use Rattle.std.specs.Prelude.{◌≡◌, ℕ, List}
-use Rattle.app_parts.specs.Names.{IsOfFolder}
+use Rattle.std.specs.Prelude.{◌≡◌, ◌≢◌, ◌<◌, ℕ, List}
+use Rattle.app_parts.specs.Names.{IsOfFolder, part_name, plan_name, rest_name}
 use Rattle.app_parts.specs.Opening.{IsNoMemory}
+use Rattle.app_parts.specs.declared.part_file.PartFile.TheVariants.{Book, Batch}
 use Rattle.app_parts.specs.declared.parts_fault.PartsFault.{PartsFault}
 use Rattle.app_parts.specs.declared.parts_fault.PartsFault.TheVariants as fault
 
@@ -16,3 +17,13 @@ abbrev pub IsOneFileFault : Type 0 → List ℕ → List ℕ → PartsFault → 
 IsOneFileFault known folder name (fault.OneFile role other) = known → IsOfFolder folder name
 IsOneFileFault known folder name (fault.Job job) = IsNoMemory job
 IsOneFileFault known folder name _ = ⊥
+
+-- it is no name of a file that is written for this part
+abbrev pub IsOutsidePart : List ℕ → ℕ → List ℕ → Type 0
+IsOutsidePart folder part name = (name ≢ part_name folder part Book) × (name ≢ part_name folder part Batch)
+
+-- it is no name of a file that is written for at most so many parts
+pub record IsOutside (folder : List ℕ) (most : ℕ) (name : List ℕ) : Type 0 where
+  pub plan : name ≢ plan_name folder
+  pub rest : name ≢ rest_name folder
+  pub parts : (part : ℕ) → part < most → IsOutsidePart folder part name

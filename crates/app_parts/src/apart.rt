@@ -1,5 +1,5 @@
 ghost use Rattle.std.specs.Prelude.{◌≡◌, ◌≢◌, IfErr, OnOk};
-ghost use Rattle.app_parts.specs.Apart.{IsOneFileFault, IsPairFault};
+ghost use Rattle.app_parts.specs.Apart.{IsOneFileFault, IsOutside, IsOutsidePart, IsPairFault};
 ghost use Rattle.app_parts.specs.Joining.{names_of};
 
 use crate::join_names::JoinNames;
@@ -18,7 +18,8 @@ pub(crate) fn check_outside<F: Files>(
     name: &str,
     role: &'static str,
 ) -> Result<(), PartsFault>
-    ensures { IfErr result (IsOneFileFault (F.is_known files.now) folder.now name.now) }
+    ensures outside { OnOk result (F.is_known files.now → IsOutside folder.now most name.now) }
+    ensures fault { IfErr result (IsOneFileFault (F.is_known files.now) folder.now name.now) }
 {
     let plan = plan_name(alloc, folder)?;
     check_pair(files, name, plan.as_str(), role, "FOLDER/plan")?;
@@ -39,12 +40,14 @@ fn check_part<F: Files>(
     name: &str,
     role: &'static str,
 ) -> Result<(), PartsFault>
-    ensures { IfErr result (IsOneFileFault (F.is_known files.now) folder.now name.now) }
+    ensures outside { OnOk result (F.is_known files.now → IsOutsidePart folder.now part name.now) }
+    ensures fault { IfErr result (IsOneFileFault (F.is_known files.now) folder.now name.now) }
 {
     let book = part_name(alloc, folder, part, PartFile::Book)?;
     check_pair(files, name, book.as_str(), role, "a part's book")?;
     let batch = part_name(alloc, folder, part, PartFile::Batch)?;
-    check_pair(files, name, batch.as_str(), role, "a part's batch")
+    check_pair(files, name, batch.as_str(), role, "a part's batch")?;
+    Ok(())
 }
 
 /// Checks that replies and new book are two files.

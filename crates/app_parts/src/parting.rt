@@ -1,4 +1,4 @@
-ghost use Rattle.std.specs.Prelude.{◌≡◌, ◌≤◌, ◌<◌, ℕ, List, IfOk, IfErr, OnErr, Ok};
+ghost use Rattle.std.specs.Prelude.{◌≡◌, ◌≤◌, ◌<◌, ℕ, List, IfOk, IfErr, OnErr, OnOk, Ok};
 ghost use Rattle.book_laws.specs.Reading.{IsAnswer, reading};
 ghost use Rattle.file_devices.specs.Holding.{AreAsTheyWere, IsAsItWas};
 ghost use Rattle.app_jobs.specs.Faults.{IsBookFault};
@@ -37,6 +37,8 @@ pub fn part_files<R: Threads, F: Files>(
     ensures parted { IfOk result (λ counts. IsParted (F.is_known files.old) (F.holds files.old) (F.holds files.new) (names_of names.now) most counts.items) }
     ensures fault { IfErr result (IsPartingFault (F.is_known files.old) (F.holds files.old) (F.failing files.old) (names_of names.now)) }
     ensures kept { OnErr result (AreAsTheyWere (F.holds files.old) (F.holds files.new)) }
+    ensures inputs { OnOk result (F.is_known files.old → IsAsItWas (F.holds files.old) (F.holds files.new) names.now.book.now
+        × IsAsItWas (F.holds files.old) (F.holds files.new) names.now.batch.now) }
     ensures others { (other : List ℕ) → ¬ IsOfFolder names.now.folder.now other → IsAsItWas (F.holds files.old) (F.holds files.new) other }
     ensures known { F.is_known files.old → F.is_known files.new }
 {

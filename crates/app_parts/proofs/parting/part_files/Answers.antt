@@ -1,8 +1,8 @@
-use Rattle.std.proofs.Common.{ℕ, List, inl, inr, subst}
+use Rattle.std.proofs.Common.{◌≡◌, ℕ, List, inl, inr, subst}
 use Rattle.std.proofs.lemmas.Result.{err_from_is_err_and}
-use Rattle.app_parts.proofs.DoneParts.{as_many, not_of_folder, parted_folder, planned_more}
+use Rattle.app_parts.proofs.DoneParts.{as_many, not_of_folder, not_outside, parted_folder, planned_more}
 use Rattle.app_parts.proofs.FaultsOf.{batch_is_outside, book_is_outside, held_batch, parted_put_fault, unread_batch}
-use Rattle.app_parts.specs.Parting.{IsCut, names_of}
+use Rattle.app_parts.specs.Parting.{IsCut, folder_texts, names_of}
 use Rattle.app_parts.specs.Planning.{IsBatchFaultOf, bodies_in, parting_of}
 use Rattle.app_parts.specs.Texts.{texts_of}
 use Rattle.app_parts.proofs.parting.part_files.Goals as goal
@@ -11,13 +11,13 @@ pub returns-in_err-check_outside-clause-fault : goal.returns-in_err-check_outsid
 returns-in_err-check_outside-clause-fault g c =
     let p = err_from_is_err_and c.from_residual.result c.from_residual.ensures.1 in
     rw (p.1, p.2) (book_is_outside (g.F.Files.is_known c.args.files.now) (g.F.Files.holds c.args.files.now) (g.F.Files.failing c.args.files.now) (names_of c.args.names.now)
-    c.in_err-check_outside.field-0.0 c.in_err-check_outside.ensures)
+    c.in_err-check_outside.field-0.0 c.in_err-check_outside.ensures.fault)
 
 pub returns-in_err-check_outside-2-clause-fault : goal.returns-in_err-check_outside-2-clause-fault
 returns-in_err-check_outside-2-clause-fault g c =
     let p = err_from_is_err_and c.from_residual-in_err-check_outside-2.result c.from_residual-in_err-check_outside-2.ensures.1 in
     rw (p.1, p.2) (batch_is_outside (g.F.Files.is_known c.args.files.now) (g.F.Files.holds c.args.files.now) (g.F.Files.failing c.args.files.now) (names_of c.args.names.now)
-    c.in_err-check_outside-2.field-0.0 c.in_err-check_outside-2.ensures)
+    c.in_err-check_outside-2.field-0.0 c.in_err-check_outside-2.ensures.fault)
 
 pub returns-in_err-book-clause-fault : goal.returns-in_err-book-clause-fault
 returns-in_err-book-clause-fault g c =
@@ -72,3 +72,16 @@ returns-clause-parted g c =
     c.in_ok-book.ensures.book.1 c.in_ok-book.ensures.book.2 c.in_ok-batch.ensures.held
     (subst (λ (bytes : List ℕ). IsCut bytes (bodies_in planned) planned.frames.items) c.deref.ensures.value c.in_ok-planned.ensures.cut) c.in_ok-planned.ensures.planned
     c.in_ok-texts.ensures.counts c.in_ok-texts.ensures.back (rw c.deref-2.ensures.value c.in_ok-texts.ensures.texts) c.in_ok-put_texts.ensures.held
+
+pub returns-clause-inputs : goal.returns-clause-inputs
+returns-clause-inputs g c = λ known.
+    let parting = parting_of c.in_ok-book.book c.in_ok-planned.planned in
+    let folder = c.args.names.now.folder.now in
+    let texts = texts_of c.deref-2.result.now in
+    let few = c.in_ok-planned.ensures.planned.few in
+    let are : texts ≡ folder_texts folder parting = rw c.deref-2.ensures.value c.in_ok-texts.ensures.texts in (
+      c.in_ok-put_texts.ensures.others c.args.names.now.book.now
+          (not_outside folder parting c.args.names.now.book.now c.args.most texts few are (c.in_ok-check_outside.ensures.outside known)),
+      c.in_ok-put_texts.ensures.others c.args.names.now.batch.now
+          (not_outside folder parting c.args.names.now.batch.now c.args.most texts few are (c.in_ok-check_outside-2.ensures.outside known)),
+    )
