@@ -1,6 +1,8 @@
 //! `switch`: decides card messages for an issuer.
 #![tactic(auto)]
 
+ghost use Rattle.app_parts.specs.Asked.{IsAskable};
+
 use app_archive::{ArchiveAsked, answer_archive, archive_asked};
 use app_commands::{Fault, Printer, act, print_fault};
 use app_messages::{MakeAsked, UnpackAsked, answer_make, answer_unpack, make_asked, unpack_asked};
@@ -240,7 +242,9 @@ fn parts_words<R: Threads + Wait + Sync, F: Files>(
     files: &mut F,
     asked: &PartsAsked<'_>,
     is_streamed: bool,
-) -> u8 {
+) -> u8
+    requires { IsAskable asked.now }
+{
     let (alloc, mut err) = (host.alloc(), host.stderr());
     if is_streamed {
         return answer_parts(rt, alloc, files, asked, &mut host.stderr(), &mut err);
