@@ -5,7 +5,7 @@ ghost use Rattle.book_laws.specs.Reading.{reading};
 
 use crate::share::Share;
 use crate::shares::{read_shares, shares_of};
-use book_text::write_book;
+use book_writer::is_text_of;
 use issuer_rows::Book;
 use std::alloc::{AllocError, Global};
 use std::thread::Threads;
@@ -41,7 +41,7 @@ fn book_of_lists<R: Threads>(
 
 /// The book whose text this is, where it is as books are written: version 3, without spaces, the keys of each object and the
 /// rows of each list in their order. It is read in one pass, a large one by several threads, without a value of JSON; that it
-/// was read right is seen by writing the book again. `None` says nothing of the text. Or memory ran out.
+/// was read right is seen by making its text again, piece by piece. `None` says nothing of the text. Or memory ran out.
 pub(crate) fn read_written<R: Threads>(
     rt: &R,
     alloc: Global,
@@ -52,9 +52,9 @@ pub(crate) fn read_written<R: Threads>(
     let Some(book) = book_of_lists(rt, alloc, bytes)? else {
         return Ok(None);
     };
-    let text = write_book(alloc, &book)?;
-    if text.as_slice() != bytes {
-        return Ok(None);
+    if is_text_of(alloc, &book, bytes)? {
+        Ok(Some(book))
+    } else {
+        Ok(None)
     }
-    Ok(Some(book))
 }

@@ -4,7 +4,7 @@ ghost use Rattle.book_text.specs.Left.{rows_listed};
 use crate::listing::Listing;
 use crate::of_rows::OfRows;
 use crate::sheets::Sheets;
-use crate::span::{ENTRIES, Span};
+use crate::span::Span;
 use crate::text_left::{TextLeft, TextPlace};
 use book_laws::RowList;
 use file_devices::Pieces;
@@ -90,12 +90,7 @@ impl<'a, R: Wait, B: OfRows> BookPieces<'a, R, B> {
         } = self.left;
         match self.listing.span(self.next) {
             Some(span) if span.fits(list, at, later) && span.is_within(rows.len()) => span,
-            _ => Span {
-                list,
-                at,
-                end: at.saturating_add(ENTRIES).min(rows.len()),
-                later,
-            },
+            _ => self.left.next_rows(list),
         }
     }
 }

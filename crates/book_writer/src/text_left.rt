@@ -1,10 +1,11 @@
 ghost use Rattle.std.specs.Prelude.{◌≤◌, length};
 
-use crate::span::Span;
+use crate::span::{ENTRIES, Span};
 use book_laws::RowList;
 use book_text::{
     ListedRow, begin_object, emptied, last_piece, list_behind, open_list, piece_between, skipped_if,
 };
+use file_devices::Pieces;
 use json::Writer;
 use std::alloc::{AllocError, Global};
 
@@ -132,10 +133,56 @@ impl<'a> TextLeft<'a> {
         Ok(())
     }
 
-    /// The piece that was made last.
-    pub(crate) fn piece(&self) -> &[u8]
-        ensures { result.now ≡ piece_of self.now }
+    /// The next rows of the list, as many as a sheet has.
+    pub(crate) fn next_rows(&self, list: RowList) -> Span
+        requires { self.now.at < length self.now.rows.now }
+        ensures list { result.list ≡ list }
+        ensures at { result.at ≡ self.now.at }
+        ensures later { result.later ≡ self.now.later }
+        ensures some { result.at < result.end }
+        ensures within { result.end ≤ length self.now.rows.now }
     {
+        Span {
+            list,
+            at: self.at,
+            end: self.at.saturating_add(ENTRIES).min(self.rows.len()),
+            later: self.later,
+        }
+    }
+
+    // Writes the entries of the next rows of the list, or what stands behind its last one.
+    fn go_on_alone(&mut self, list: RowList) -> Result<(), AllocError>
+        requires { self.old.place ≡ place.In list }
+        ensures rest { OnOk result (rest_of self.old ≡ piece_of self.new ++ rest_of self.new) }
+        ensures fewer { OnOk result (pieces_left self.new < pieces_left self.old) }
+    {
+        if self.at >= self.rows.len() {
+            return self.leave(list);
+        }
+        let span = self.next_rows(list);
+        self.write(span)
+    }
+}
+
+impl Pieces for TextLeft<'_> {
+    ghost use Rattle.book_writer.specs.Rest.{rest_of, piece_of, pieces_left};
+
+    ghost rest = { λ left. rest_of left };
+
+    ghost made = { λ left. piece_of left };
+
+    ghost left = { λ left. pieces_left left };
+
+    fn make_next(&mut self) -> Result<bool, AllocError> {
+        match self.place {
+            TextPlace::Start => self.start()?,
+            TextPlace::In(list) => self.go_on_alone(list)?,
+            TextPlace::End => return Ok(false),
+        }
+        Ok(true)
+    }
+
+    fn piece(&self) -> &[u8] {
         self.text.get(self.skipped..).unwrap_or(&[])
     }
 }
