@@ -12,9 +12,10 @@ use Rattle.clap.specs.declared.error.kind.ErrorKind.{ErrorKind}
 use Rattle.clap.specs.declared.error.kind.ErrorKind.TheVariants as kinds
 use Rattle.file_batch.specs.declared.strictness.Strictness.{Strictness}
 use Rattle.file_listing.specs.Bodies.{body_of}
-use Rattle.engine_workers.specs.declared.engine.Engine.{Engine}
+use Rattle.app_arguments.specs.declared.engine_choice.EngineChoice.{EngineChoice}
+use Rattle.app_arguments.specs.declared.engine_choice.EngineChoice.TheVariants.{Fastest, Named}
 use Rattle.engine_workers.specs.declared.engine.Engine.TheVariants.{Locked, Split, Parts}
-use Rattle.app_arguments.specs.Asked.{Asked, Names, asked, asked_of, audit, audit_blocks, audit_blocks_in, audit_in, blocks, blocks_in, engine_for, engine_in, help, names_in, one, one_in, but_last, last_of, pack, pack_as, pack_blocks, pack_by, pack_in, run, run_by, run_in, run_with_journal, serial, serial_in, show, show_in, strictness_in, version, workers_in}
+use Rattle.app_arguments.specs.Asked.{Asked, Names, asked, asked_of, audit, audit_blocks, audit_blocks_in, audit_in, blocks, blocks_in, engine_in, help, names_in, one, one_in, but_last, last_of, pack, pack_as, pack_blocks, pack_by, pack_in, run, run_by, run_in, run_with_journal, serial, serial_in, show, show_in, strictness_in, version, workers_in}
 use Rattle.app_arguments.specs.CommandLine.{command_line}
 use Rattle.app_arguments.specs.Arguments.{IsRead, IsReadAs, IsReadOfKind, asked_in}
 use Rattle.app_arguments.specs.declared.command.Command.{Command}
@@ -82,12 +83,13 @@ of_each : {A : Type 0} (f : A → Option Asked) → ((a : A) (what : Asked) → 
 of_each f each None what h = cc
 of_each f each (Some a) what h = each a what h
 
-of_run : (names : Names) (workers : ℕ) (engine : Engine) (strictness : Strictness) (journal : Option Text) (what : Asked)
+of_run : (names : Names) (workers : ℕ) (engine : EngineChoice) (strictness : Strictness) (journal : Option Text) (what : Asked)
     → run_by names workers engine strictness journal ≡ Some what → is_of_subcommand what ≡ true
 of_run names workers engine strictness None what h = let same : run names workers engine strictness ≡ what = cc in rw (← same) refl
-of_run names workers Locked strictness (Some journal) what h = let same : run_with_journal names workers journal strictness ≡ what = cc in rw (← same) refl
-of_run names workers Split strictness (Some journal) what h = cc
-of_run names workers Parts strictness (Some journal) what h = cc
+of_run names workers Fastest strictness (Some journal) what h = let same : run_with_journal names workers journal strictness ≡ what = cc in rw (← same) refl
+of_run names workers (Named Locked) strictness (Some journal) what h = let same : run_with_journal names workers journal strictness ≡ what = cc in rw (← same) refl
+of_run names workers (Named Split) strictness (Some journal) what h = cc
+of_run names workers (Named Parts) strictness (Some journal) what h = cc
 
 as_packed : (is_set : Bool) (texts : List Text) (file : Text) → is_of_subcommand (if is_set then pack_blocks texts file else pack texts file) ≡ true
 as_packed true texts file = refl
@@ -114,15 +116,15 @@ of_subcommand : (a b c d e f g i : Bool) (rows : List Row) (what : Asked)
     else (if i then pack_in rows else None)))))))) ≡ Some what → is_of_subcommand what ≡ true
 of_subcommand true b c d e f g i rows what h = of_one one (λ body. refl) (option_and_then body_of (first_of (codes "FRAME") rows)) what h
 of_subcommand false true c d e f g i rows what h =
-    of_each (λ names. option_and_then (λ workers. option_and_then (λ engine. run_by names workers engine (strictness_in rows) (first_of (codes "journal") rows)) (engine_in (engine_for (first_of (codes "journal") rows)) rows)) (workers_in rows))
-    (λ names. of_each (λ workers. option_and_then (λ engine. run_by names workers engine (strictness_in rows) (first_of (codes "journal") rows)) (engine_in (engine_for (first_of (codes "journal") rows)) rows))
+    of_each (λ names. option_and_then (λ workers. option_and_then (λ engine. run_by names workers engine (strictness_in rows) (first_of (codes "journal") rows)) (engine_in rows)) (workers_in rows))
+    (λ names. of_each (λ workers. option_and_then (λ engine. run_by names workers engine (strictness_in rows) (first_of (codes "journal") rows)) (engine_in rows))
     (λ workers. of_each (λ engine. run_by names workers engine (strictness_in rows) (first_of (codes "journal") rows))
-    (λ engine. of_run names workers engine (strictness_in rows) (first_of (codes "journal") rows)) (engine_in (engine_for (first_of (codes "journal") rows)) rows)) (workers_in rows))
+    (λ engine. of_run names workers engine (strictness_in rows) (first_of (codes "journal") rows)) (engine_in rows)) (workers_in rows))
     (names_in (codes "BATCH") rows) what h
 of_subcommand false false true d e f g i rows what h = of_one (λ names. serial names (strictness_in rows)) (λ names. refl) (names_in (codes "BATCH") rows) what h
 of_subcommand false false false true e f g i rows what h =
-    of_each (λ names. option_and_then (λ workers. option_map (λ engine. blocks names workers engine (strictness_in rows)) (engine_in Split rows)) (workers_in rows))
-    (λ names. of_two (λ workers engine. blocks names workers engine (strictness_in rows)) (λ workers engine. refl) (workers_in rows) (engine_in Split rows)) (names_in (codes "FILE") rows) what h
+    of_each (λ names. option_and_then (λ workers. option_map (λ engine. blocks names workers engine (strictness_in rows)) (engine_in rows)) (workers_in rows))
+    (λ names. of_two (λ workers engine. blocks names workers engine (strictness_in rows)) (λ workers engine. refl) (workers_in rows) (engine_in rows)) (names_in (codes "FILE") rows) what h
 of_subcommand false false false false true f g i rows what h =
     of_one (λ names. audit names (first_of (codes "journal") rows)) (λ names. refl) (names_in (codes "BATCH") rows) what h
 of_subcommand false false false false false true g i rows what h = of_one audit_blocks (λ names. refl) (names_in (codes "FILE") rows) what h

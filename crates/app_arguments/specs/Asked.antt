@@ -4,6 +4,8 @@ use Rattle.std.specs.Str.{bytes_eq}
 use Rattle.clap.specs.Walk.{Row, Text, all_of, byte_or_zero, first_of}
 use Rattle.engine_workers.specs.declared.engine.Engine.{Engine}
 use Rattle.engine_workers.specs.declared.engine.Engine.TheVariants.{Locked, Split, Parts}
+use Rattle.app_arguments.specs.declared.engine_choice.EngineChoice.{EngineChoice}
+use Rattle.app_arguments.specs.declared.engine_choice.EngineChoice.TheVariants.{Fastest, Named}
 use Rattle.file_batch.specs.declared.strictness.Strictness.{Strictness}
 use Rattle.file_batch.specs.declared.strictness.Strictness.TheVariants.{Lenient, Strict}
 use Rattle.file_listing.specs.Bodies.{body_of}
@@ -20,9 +22,9 @@ pub data Asked : Type 0 where
   version : Asked
   one : List ℕ → Asked
   serial : Names → Strictness → Asked
-  run : Names → ℕ → Engine → Strictness → Asked
+  run : Names → ℕ → EngineChoice → Strictness → Asked
   run_with_journal : Names → ℕ → Text → Strictness → Asked
-  blocks : Names → ℕ → Engine → Strictness → Asked
+  blocks : Names → ℕ → EngineChoice → Strictness → Asked
   audit : Names → Option Text → Asked
   audit_blocks : Names → Asked
   show : Text → Asked
@@ -44,19 +46,14 @@ engine_named text =
     else (if bytes_eq text (codes "split") then Some Split
     else (if bytes_eq text (codes "parts") then Some Parts else None))
 
--- the engine of this name; where there is none, this one
-abbrev pub engine_or : Engine → Option Text → Option Engine
-engine_or engine None = Some engine
-engine_or engine (Some name) = engine_named name
+-- the engine of this name; where none is named, whatever is fastest
+abbrev pub engine_or_fastest : Option Text → Option EngineChoice
+engine_or_fastest None = Some Fastest
+engine_or_fastest (Some name) = option_map Named (engine_named name)
 
--- the engine behind `--engine`; where it isn't there, this one
-abbrev pub engine_in : Engine → List Row → Option Engine
-engine_in engine rows = engine_or engine (first_of (codes "engine") rows)
-
--- where no engine is named, the locked one keeps the journal that is asked for, and without one the split one decides, which is faster
-abbrev pub engine_for : Option Text → Engine
-engine_for None = Split
-engine_for (Some journal) = Locked
+-- the engine behind `--engine`
+abbrev pub engine_in : List Row → Option EngineChoice
+engine_in rows = engine_or_fastest (first_of (codes "engine") rows)
 
 -- whether bodies that are no message are answered: not where the flag is set
 abbrev pub strictness_of : Option Text → Strictness
@@ -87,12 +84,13 @@ one_in rows = option_map one (option_and_then body_of (first_of (codes "FRAME") 
 abbrev pub serial_in : List Row → Option Asked
 serial_in rows = option_map (λ names. serial names (strictness_in rows)) (names_in (codes "BATCH") rows)
 
--- a run by this engine, or with this journal, which the locked engine alone keeps
-abbrev pub run_by : Names → ℕ → Engine → Strictness → Option Text → Option Asked
+-- a run by this engine; or with this journal, which the locked engine alone keeps: it decides where none is named
+abbrev pub run_by : Names → ℕ → EngineChoice → Strictness → Option Text → Option Asked
 run_by names workers engine strictness None = Some (run names workers engine strictness)
-run_by names workers Locked strictness (Some journal) = Some (run_with_journal names workers journal strictness)
-run_by names workers Split strictness (Some journal) = None
-run_by names workers Parts strictness (Some journal) = None
+run_by names workers Fastest strictness (Some journal) = Some (run_with_journal names workers journal strictness)
+run_by names workers (Named Locked) strictness (Some journal) = Some (run_with_journal names workers journal strictness)
+run_by names workers (Named Split) strictness (Some journal) = None
+run_by names workers (Named Parts) strictness (Some journal) = None
 
 -- the files, the workers and the engine behind `run`, and the journal
 abbrev pub run_in : List Row → Option Asked
@@ -100,7 +98,7 @@ run_in rows =
     option_and_then (λ names.
     option_and_then (λ workers.
     option_and_then (λ engine. run_by names workers engine (strictness_in rows) (first_of (codes "journal") rows))
-    (engine_in (engine_for (first_of (codes "journal") rows)) rows))
+    (engine_in rows))
     (workers_in rows))
     (names_in (codes "BATCH") rows)
 
@@ -110,7 +108,7 @@ blocks_in rows =
     option_and_then (λ names.
     option_and_then (λ workers.
     option_map (λ engine. blocks names workers engine (strictness_in rows))
-    (engine_in Split rows))
+    (engine_in rows))
     (workers_in rows))
     (names_in (codes "FILE") rows)
 

@@ -3,6 +3,7 @@ use Rattle.std.specs.Prelude.{◌≡◌, ◌≢◌, ℕ, List, [], ◌∷◌, So
 use Rattle.clap.specs.Walk.{Text}
 use Rattle.file_listing.specs.Bodies.{body_of}
 use Rattle.engine_workers.specs.declared.engine.Engine.TheVariants.{Split}
+use Rattle.app_arguments.specs.declared.engine_choice.EngineChoice.TheVariants.{Fastest, Named}
 use Rattle.file_batch.specs.declared.strictness.Strictness.TheVariants.{Lenient, Strict}
 use Rattle.app_arguments.specs.Asked.{Names, audit, audit_blocks, blocks, one, run, run_with_journal, serial}
 use Rattle.app_arguments.specs.Arguments.{Asks, IsHelp, IsUsageFault, IsVersion}
@@ -46,9 +47,9 @@ SerialIsRead name names = ArePlain names → Asks (arguments_of name (codes "ser
 abbrev pub StrictSerialIsRead : Text → Names → Type 0
 StrictSerialIsRead name names = ArePlain names → Asks (arguments_of name (codes "serial") names (codes "--strict" ∷ [])) (serial names Strict)
 
--- `run` with its files asks for 4 workers of the split engine and no journal
+-- `run` with its files asks for no engine by name and no journal
 abbrev pub RunIsRead : Text → Names → Type 0
-RunIsRead name names = ArePlain names → Asks (arguments_of name (codes "run") names []) (run names 4 Split Lenient)
+RunIsRead name names = ArePlain names → Asks (arguments_of name (codes "run") names []) (run names 4 Fastest Lenient)
 
 -- with `--journal FILE` behind them, for 4 workers of the locked engine, and the journal in FILE too
 abbrev pub JournalIsRead : Text → Names → Text → Type 0
@@ -57,7 +58,7 @@ JournalIsRead name names file =
 
 -- with `--engine split` behind them, for 4 workers of the split engine
 abbrev pub SplitIsRead : Text → Names → Type 0
-SplitIsRead name names = ArePlain names → Asks (arguments_of name (codes "run") names (codes "--engine" ∷ codes "split" ∷ [])) (run names 4 Split Lenient)
+SplitIsRead name names = ArePlain names → Asks (arguments_of name (codes "run") names (codes "--engine" ∷ codes "split" ∷ [])) (run names 4 (Named Split) Lenient)
 
 -- with both behind them they are a usage fault
 abbrev pub SplitJournalIsNone : Text → Names → Text → Type 0
@@ -65,13 +66,13 @@ SplitJournalIsNone name names file =
     ArePlain names → IsPlain file
     → IsUsageFault (arguments_of name (codes "run") names (codes "--engine" ∷ codes "split" ∷ codes "--journal" ∷ file ∷ []))
 
--- `blocks` with its files asks for 4 workers of the split engine, and so it does with `--engine split` behind them
+-- `blocks` with its files asks for no engine by name, and with `--engine split` behind them for 4 workers of the split engine
 abbrev pub BlocksAreRead : Text → Names → Type 0
-BlocksAreRead name names = ArePlain names → Asks (arguments_of name (codes "blocks") names []) (blocks names 4 Split Lenient)
+BlocksAreRead name names = ArePlain names → Asks (arguments_of name (codes "blocks") names []) (blocks names 4 Fastest Lenient)
 
 abbrev pub SplitBlocksAreRead : Text → Names → Type 0
 SplitBlocksAreRead name names =
-    ArePlain names → Asks (arguments_of name (codes "blocks") names (codes "--engine" ∷ codes "split" ∷ [])) (blocks names 4 Split Lenient)
+    ArePlain names → Asks (arguments_of name (codes "blocks") names (codes "--engine" ∷ codes "split" ∷ [])) (blocks names 4 (Named Split) Lenient)
 
 -- `audit` with its files asks for an audit without a journal, and with `--journal FILE` behind them for one against FILE
 abbrev pub AuditIsRead : Text → Names → Type 0

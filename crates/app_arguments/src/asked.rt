@@ -3,11 +3,12 @@ ghost use Rattle.clap.specs.Matches.{found_of};
 ghost use Rattle.clap.specs.Simple.{subcommand_rows_of};
 ghost use Rattle.clap.specs.Values.{kind_of};
 ghost use Rattle.clap.specs.Walk.{all_of, first_of, rows_of};
-ghost use Rattle.app_arguments.specs.Asked.{asked, asked_of, audit_blocks_in, audit_in, blocks_in, engine_for, engine_in, names_in, names_of, names_of_arguments, one_in, pack_as, pack_by, pack_in, run_by, run_in, serial_in, show_in, strictness_in, workers_in};
+ghost use Rattle.app_arguments.specs.Asked.{asked, asked_of, audit_blocks_in, audit_in, blocks_in, engine_in, names_in, names_of, names_of_arguments, one_in, pack_as, pack_by, pack_in, run_by, run_in, serial_in, show_in, strictness_in, workers_in};
 ghost use Rattle.app_arguments.specs.Arguments.{IsRead, IsReadAs, IsReadOfKind};
 
 use crate::command::Command;
 use crate::command_line::command_line;
+use crate::engine_choice::EngineChoice;
 use crate::line_fault::LineFault;
 use clap::error::ErrorKind;
 use clap::{ArgMatches, Error};
@@ -79,7 +80,7 @@ fn wrong_word(matches: &ArgMatches<'_>) -> &'static str {
 
 // What is wrong with the settings of a subcommand that decides.
 fn wrong_setting(deciding: &ArgMatches<'_>) -> &'static str {
-    if engine_of(deciding, Engine::Split).is_none() {
+    if engine_of(deciding).is_none() {
         return "--engine is locked, split or parts";
     }
     if workers_of(deciding).is_none() {
@@ -139,17 +140,17 @@ fn run_of(alloc: Global, matches: &ArgMatches<'_>) -> Result<Option<Command>, Al
         return Ok(None);
     };
     let journal = journal_of(alloc, matches)?;
-    let Some(engine) = engine_of(matches, engine_for(&journal)) else {
+    let Some(engine) = engine_of(matches) else {
         return Ok(None);
     };
     Ok(run_by(names, workers, engine, strictness_of(matches), journal))
 }
 
-// A run by this engine. The locked engine alone keeps a journal.
+// A run by this engine. The locked engine alone keeps a journal, and decides where none is named.
 fn run_by(
     names: BatchNames,
     workers: Workers,
-    engine: Engine,
+    engine: EngineChoice,
     strictness: Strictness,
     journal: Option<String>,
 ) -> Option<Command>
@@ -163,13 +164,15 @@ fn run_by(
             strictness,
         }),
         Some(journal) => match engine {
-            Engine::Locked => Some(Command::RunWithJournal {
-                names,
-                workers,
-                journal,
-                strictness,
-            }),
-            Engine::Split | Engine::Parts => None,
+            EngineChoice::Fastest | EngineChoice::Named(Engine::Locked) => Some(
+                Command::RunWithJournal {
+                    names,
+                    workers,
+                    journal,
+                    strictness,
+                },
+            ),
+            EngineChoice::Named(Engine::Split | Engine::Parts) => None,
         },
     }
 }
@@ -184,7 +187,7 @@ fn blocks_of(alloc: Global, matches: &ArgMatches<'_>) -> Result<Option<Command>,
     let Some(workers) = workers_of(matches) else {
         return Ok(None);
     };
-    match engine_of(matches, Engine::Split) {
+    match engine_of(matches) {
         Some(engine) => Ok(Some(Command::Blocks {
             names,
             workers,
@@ -284,26 +287,16 @@ fn pack_as(flag: Option<&str>, texts: Vec<String>, file: String) -> Command
     }
 }
 
-// The engine behind `--engine`; where it isn't there, this one.
-fn engine_of(matches: &ArgMatches<'_>, engine: Engine) -> Option<Engine>
-    ensures { result ≡ engine_in engine (rows_of (found_of matches.now)) }
+// The engine behind `--engine`, if it is there.
+fn engine_of(matches: &ArgMatches<'_>) -> Option<EngineChoice>
+    ensures { result ≡ engine_in (rows_of (found_of matches.now)) }
 {
     match word(matches, "engine") {
-        None => Some(engine),
-        Some("locked") => Some(Engine::Locked),
-        Some("split") => Some(Engine::Split),
-        Some("parts") => Some(Engine::Parts),
+        None => Some(EngineChoice::Fastest),
+        Some("locked") => Some(EngineChoice::Named(Engine::Locked)),
+        Some("split") => Some(EngineChoice::Named(Engine::Split)),
+        Some("parts") => Some(EngineChoice::Named(Engine::Parts)),
         Some(_) => None,
-    }
-}
-
-// The engine where none is named: the split one is faster, and keeps no journal.
-fn engine_for(journal: &Option<String>) -> Engine
-    ensures { result ≡ engine_for (option_map string_bytes journal.now) }
-{
-    match journal {
-        None => Engine::Split,
-        Some(_) => Engine::Locked,
     }
 }
 

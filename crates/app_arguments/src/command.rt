@@ -1,4 +1,5 @@
-use engine_workers::{Engine, Workers};
+use crate::engine_choice::EngineChoice;
+use engine_workers::Workers;
 use file_batch::Strictness;
 use file_devices::BatchNames;
 
@@ -22,10 +23,10 @@ pub enum Command {
     Run {
         /// The names of its files.
         names: BatchNames,
-        /// How many workers decide.
+        /// How many workers the engine has that is named.
         workers: Workers,
-        /// How they share their work.
-        engine: Engine,
+        /// The engine that decides.
+        engine: EngineChoice,
         /// Whether bodies that are no message are answered.
         strictness: Strictness,
     },
@@ -47,7 +48,7 @@ pub enum Command {
         /// How many workers may decide. One does.
         workers: Workers,
         /// How they would share their work.
-        engine: Engine,
+        engine: EngineChoice,
         /// Whether bodies that are no message are answered.
         strictness: Strictness,
     },

@@ -100,13 +100,13 @@ fn run_line<'a>(alloc: Global) -> Result<Command<'a>, AllocError>
     let files = batch_line(
         alloc,
         "run",
-        "Decides a batch on several threads; the answers are those of deciding one message after another",
+        "Decides a batch on threads; the answers are those of deciding one message after another",
     )?;
     let shared = with_engine(
         alloc,
         files,
-        "How many threads may decide: 1 to 64",
-        "How they share their work: split, each row, message and commit under a lock of its own, and of a long batch only what takes long to decide; parts, no lock at all, where a batch falls into parts that share no row, each with a worker of its own; locked, all of it under one lock, slower, with a journal. Without it: split, and locked with --journal",
+        "How many threads the engine has that is named: 1 to 64",
+        "How threads share what is to be decided: split, each row, message and commit under a lock of its own, and of a long batch only what takes long to decide; parts, no lock at all, where a batch falls into parts that share no row, each with a worker of its own; locked, all of it under one lock, slower, with a journal. Without it what is fastest for the tables: one thread decides while others read and write, as serial does; with --journal locked",
     )?;
     let logged = shared.arg(journal_setting(
         alloc,

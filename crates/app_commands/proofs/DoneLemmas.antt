@@ -6,7 +6,7 @@ use Rattle.std.specs.Global.{Vec}
 use Rattle.file_batch_laws.specs.declared.batch_fault.BatchFault.{BatchFault}
 use Rattle.app_jobs.specs.DecidedBlocks.{AreBlocksKept}
 use Rattle.app_jobs.specs.BlockFaults.{IsBlocksFault}
-use Rattle.engine_workers.specs.declared.engine.Engine.{Engine}
+use Rattle.app_arguments.specs.declared.engine_choice.EngineChoice.{EngineChoice}
 use Rattle.app_jobs.specs.Decided.{Holding}
 use Rattle.app_jobs.specs.declared.job_fault.JobFault.{JobFault}
 use Rattle.app_jobs.specs.declared.job_fault.JobFault.TheVariants.{Batch}
@@ -27,7 +27,7 @@ use Rattle.app_commands.specs.declared.report.Report.{Report}
 use Rattle.std.specs.Prelude.{IfSome}
 
 -- a fault of blocks, with those that are kept or with none
-pub halted : (known : Type 0) (old new : Holding) (devices : Failing) (names : Names) (workers : ℕ) (engine : Engine) (strictness : Strictness) (fault : JobFault) (kept : Option ℕ)
+pub halted : (known : Type 0) (old new : Holding) (devices : Failing) (names : Names) (workers : ℕ) (engine : EngineChoice) (strictness : Strictness) (fault : JobFault) (kept : Option ℕ)
     → ((count : ℕ) → kept ≡ Some count → (strictness ≡ Lenient) × (why : BatchFault) × (fault ≡ Batch why) × AreBlocksKept known old new names (devices.writing names.replies) why count)
     → (kept ≡ None → AreAsTheyWere old new) → IsBlocksFault strictness old devices names fault
     → IsFaultIn known old new devices (blocks names workers engine strictness) (fault_and_kept fault kept)

@@ -11,13 +11,13 @@ use crate::claims::claim_files;
 use crate::fault::Fault;
 use crate::refusal::Refusal;
 use crate::report::Report;
-use app_arguments::Command;
+use app_arguments::{Command, EngineChoice};
 use app_audit::{audit_text, block_audit_text};
 use app_jobs::{audit_batch, audit_batch_with_journal, audit_block_files, serial_batch};
 use app_reasons::words_of;
 use app_runs::{decide_one, run_batch, run_batch_with_journal, run_blocks};
 use app_texts::{pack_batch, pack_blocks, show_file};
-use engine_workers::{Engine, Workers};
+use engine_workers::Workers;
 use file_batch::Strictness;
 use file_devices::{BatchNames, Files};
 use std::alloc::Global;
@@ -137,14 +137,14 @@ fn serial<R: Threads + Wait + Sync, F: Files>(
     Ok(Report::Decided(count))
 }
 
-// A batch is decided by several workers of this engine.
+// A batch is decided by so many workers of the engine that is named; where none is, one message after another, which is the fastest.
 fn run<R: Clock + Threads + Wait + Sync, F: Files>(
     rt: &R,
     alloc: Global,
     files: &mut F,
     names: &BatchNames,
     workers: Workers,
-    engine: Engine,
+    engine: EngineChoice,
     strictness: Strictness,
 ) -> Result<Report, Fault>
     ensures done { MatchResult result
@@ -152,7 +152,12 @@ fn run<R: Clock + Threads + Wait + Sync, F: Files>(
         (IsFaultIn (F.is_known files.old) (F.holds files.old) (F.holds files.new) (F.failing files.old) (run (names_of names.now) workers engine strictness)) }
     ensures others { (other : List ℕ) → Spares (run (names_of names.now) workers engine strictness) other → IsAsItWas (F.holds files.old) (F.holds files.new) other }
 {
-    let count = run_batch(rt, alloc, files, names, workers, engine, strictness)?;
+    let count = match engine {
+        EngineChoice::Fastest => serial_batch(rt, alloc, files, names, strictness)?,
+        EngineChoice::Named(engine) => {
+            run_batch(rt, alloc, files, names, workers, engine, strictness)?
+        }
+    };
     Ok(Report::Decided(count))
 }
 
@@ -182,7 +187,7 @@ fn blocks<R: Clock + Threads + Wait + Sync, F: Files>(
     files: &mut F,
     names: &BatchNames,
     workers: Workers,
-    engine: Engine,
+    engine: EngineChoice,
     strictness: Strictness,
 ) -> Result<Report, Fault>
     ensures done { MatchResult result

@@ -29,7 +29,7 @@ use Rattle.app_jobs.specs.Faults.{IsAuditingFault}
 use Rattle.app_jobs.specs.Journaled.{IsAuditedWithJournal}
 use Rattle.app_jobs.specs.declared.job_fault.JobFault.{JobFault}
 use Rattle.app_runs.specs.Journaled.{IsDecidedWithJournal}
-use Rattle.engine_workers.specs.declared.engine.Engine.{Engine}
+use Rattle.app_arguments.specs.declared.engine_choice.EngineChoice.{EngineChoice}
 use Rattle.file_batch.specs.declared.strictness.Strictness.{Strictness}
 use Rattle.file_devices.specs.Failing.{Failing}
 use Rattle.file_devices.specs.Holding.{Holding, IsAsItWas}
@@ -305,7 +305,7 @@ serial_done : (known : Type 0) (old new : Holding) (names : Names) (strictness :
 serial_done known old new names strictness (report.Decided count) h = (count, h.0)
 serial_done known old new names strictness _ h = absurd h
 
-run_done : (known : Type 0) (old new : Holding) (names : Names) (workers : ℕ) (engine : Engine) (strictness : Strictness) (told : Report)
+run_done : (known : Type 0) (old new : Holding) (names : Names) (workers : ℕ) (engine : EngineChoice) (strictness : Strictness) (told : Report)
     → IsDoneAs known old new (run names workers engine strictness) told
     → (count : _) × IsDecided known old new names count
 run_done known old new names workers engine strictness (report.Decided count) h = (count, h.0)
@@ -316,7 +316,7 @@ journaled_done : (known : Type 0) (old new : Holding) (names : Names) (workers :
 journaled_done known old new names workers journal strictness (report.Decided count) h = (count, h.0)
 journaled_done known old new names workers journal strictness _ h = absurd h
 
-blocks_done : (known : Type 0) (old new : Holding) (names : Names) (workers : ℕ) (engine : Engine) (strictness : Strictness) (told : Report)
+blocks_done : (known : Type 0) (old new : Holding) (names : Names) (workers : ℕ) (engine : EngineChoice) (strictness : Strictness) (told : Report)
     → IsDoneAs known old new (blocks names workers engine strictness) told
     → (count : _) × (messages : _) × AreBlocksDecided known old new names count messages
 blocks_done known old new names workers engine strictness (report.DecidedBlocks count) h = (count.blocks, count.messages, h.0)

@@ -1,7 +1,7 @@
 -- What the program says of the files that it left.
 use Rattle.std.specs.Prelude.{◌≡◌, ◌≢◌, ◌⊎◌, ◌++◌, ℕ, false, true, List, Option, None, codes, length, option_map}
 use Rattle.std.specs.Global.{Vec}
-use Rattle.engine_workers.specs.declared.engine.Engine.{Engine}
+use Rattle.app_arguments.specs.declared.engine_choice.EngineChoice.{EngineChoice}
 use Rattle.file_batch.specs.declared.body_count.BodyCount.{BodyCount}
 use Rattle.file_batch.specs.declared.strictness.Strictness.{Strictness}
 use Rattle.file_devices.specs.Failing.{Failing}
@@ -25,10 +25,10 @@ pub record Acts (known : Type 0) (old new : Holding) (devices : Failing) (words 
 -- the second is the audit, without a journal, of what the first decides, by the same names
 pub data IsAuditOf : Names → Asked → Asked → Type 0 where
   of_serial : (names : Names) (strictness : Strictness) → IsAuditOf names (serial names strictness) (audit names None)
-  of_run : (names : Names) (workers : ℕ) (engine : Engine) (strictness : Strictness) → IsAuditOf names (run names workers engine strictness) (audit names None)
+  of_run : (names : Names) (workers : ℕ) (engine : EngineChoice) (strictness : Strictness) → IsAuditOf names (run names workers engine strictness) (audit names None)
   of_run_with_journal : (names : Names) (workers : ℕ) (journal : List ℕ) (strictness : Strictness)
       → IsAuditOf names (run_with_journal names workers journal strictness) (audit names None)
-  of_blocks : (names : Names) (workers : ℕ) (engine : Engine) (strictness : Strictness) → IsAuditOf names (blocks names workers engine strictness) (audit_blocks names)
+  of_blocks : (names : Names) (workers : ℕ) (engine : EngineChoice) (strictness : Strictness) → IsAuditOf names (blocks names workers engine strictness) (audit_blocks names)
 
 -- this line is printed on standard output, nothing on standard error, and the status is this
 pub record Reports (line : List ℕ) (code : ℕ) (old new : Pages) (status : ℕ) : Type 0 where

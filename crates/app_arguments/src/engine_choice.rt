@@ -1,0 +1,10 @@
+use engine_workers::Engine;
+
+/// By which engine messages are decided.
+#[derive(Clone, Copy)]
+pub enum EngineChoice {
+    /// None is named. What is fastest where decisions are light: one thread decides on the book itself, while others read and write.
+    Fastest,
+    /// The one that is named.
+    Named(Engine),
+}
