@@ -20,9 +20,6 @@ one_more : (bytes mid left : List ℕ) (blocks : List Block) (block : Block) →
 one_more bytes mid left [] block are is = (left, subst (λ (b : List ℕ). HasBlock b block left) (sym are) is, refl)
 one_more bytes mid left (b ∷ blocks) block are is = (are.0, are.1, one_more are.0 mid left blocks block are.2 is)
 
-pub begins : (count : ℕ) (bytes : List ℕ) → HaveBegun count bytes count bytes []
-begins count bytes = ([], refl, refl, refl)
-
 pub goes_on : (count : ℕ) (bytes : List ℕ) (left more : ℕ) (rest behind text : List ℕ) (texts after : List (List ℕ)) → left ≡ suc more
     → HasTextOf rest text behind → after ≡ texts ++ text ∷ [] → HaveBegun count bytes left rest texts → HaveBegun count bytes more behind after
 goes_on count bytes left more rest behind text texts after one next added so =

@@ -30,9 +30,19 @@ bind_ok (Err d) f y e = absurd cc
 pub ok_is : {A : Type 0} (x y : A) → Path (Result A BatchFault) (Ok x) (Ok y) → x ≡ y
 ok_is x y e = cc
 
+-- a test for a fault that was not found
+pub clean : {A : Type 0} (b : Bool) (d : BatchFault) (x y : A) → cond b (Err d) (Ok x) ≡ Ok y → (b ≡ false) × (x ≡ y)
+clean true d x y h = absurd cc
+clean false d x y h = (refl, cc)
+
+-- a test that a value passed
+pub passed : {A : Type 0} (b : Bool) (d : BatchFault) (x y : A) → cond b (Ok x) (Err d) ≡ Ok y → (b ≡ true) × (x ≡ y)
+passed true d x y h = (refl, cc)
+passed false d x y h = absurd cc
+
 -- nothing is read
 nothing_front : {A : Type 0} (x : A) → TakesFront (λ bytes. let r : Read A = Ok (x, bytes) in r)
-nothing_front x bytes y rest e =
+nothing_front {A = A} x bytes y rest e =
     let same = ok_is (x, bytes) (y, rest) e in
     let value : x ≡ y = ap (λ (p : A × List ℕ). p.0) same in
     record { front = []; is = ap (λ (p : A × List ℕ). p.1) same; again = λ more. ap (λ (z : A). let r : Read A = Ok (z, more) in r) value }
@@ -49,7 +59,7 @@ passed_front false e x bytes y rest read = absurd cc
 -- one behind the other
 then_front : {A B : Type 0} (read : List ℕ → Read A) (next : A → List ℕ → Read B) → TakesFront read → ((x : A) → TakesFront (next x))
     → TakesFront (λ bytes. read bytes >>= λ p. next p.0 p.1)
-then_front read next first second bytes y rest e =
+then_front {A = A} {B = B} read next first second bytes y rest e =
     let a = bind_ok (read bytes) (λ p. next p.0 p.1) (y, rest) e in
     let here = first bytes a.0.0 a.0.1 a.1 in
     let there = second a.0.0 a.0.1 y rest a.2 in
@@ -64,8 +74,23 @@ then_front read next first second bytes y rest e =
 
 -- ---- of a file
 
+field_again : (text rest : List ℕ) (size : ℕ) → length text ≡ size → field_at size (text ++ rest) ≡ Ok (text, rest)
+field_again text rest size len =
+    let long : ltb (length (text ++ rest)) size ≡ false = le-ltb _ _ (omega (arith, length-append text rest, len)) in
+    rw (long, take_at text rest size len, drop_at text rest size len) refl
+
+pub field_taken : (size : ℕ) (bytes field rest : List ℕ) → field_at size bytes ≡ Ok (field, rest) → (bytes ≡ field ++ rest) × (length field ≡ size)
+field_taken size bytes field rest e =
+    let there = clean (ltb (length bytes) size) Ended (take size bytes, drop size bytes) (field, rest) e in
+    let front : take size bytes ≡ field = ap (λ (p : List ℕ × List ℕ). p.0) there.1 in
+    let back : drop size bytes ≡ rest = ap (λ (p : List ℕ × List ℕ). p.1) there.1 in
+    let is : bytes ≡ field ++ rest = sym (take-append-drop size bytes) ∙ rw (front, back) refl in
+    (is, ap length (sym front) ∙ length-take-le size bytes (ltb-false (length bytes) size there.0))
+
 field_front : (size : ℕ) → TakesFront (field_at size)
-field_front size bytes field rest e = ?
+field_front size bytes field rest e =
+    let t = field_taken size bytes field rest e in
+    record { front = field; is = t.0; again = λ more. field_again field more size t.1 }
 
 number_front : (size : ℕ) → TakesFront (number_at size)
 unfolding number_at
@@ -101,9 +126,8 @@ unfolding block_at
 block_front = then_front count_at bodies_at count_front bodies_front
 
 -- version 1 and a count
-pub counted_at : List ℕ → Read ℕ
+abbrev pub counted_at : List ℕ → Read ℕ
 counted_at bytes = version_at bytes >>= λ version. count_at version.1
 
 pub counted_front : TakesFront counted_at
-unfolding counted_at
 counted_front = then_front version_at (λ _. count_at) version_front (λ _. count_front)
