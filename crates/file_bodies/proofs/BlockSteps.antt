@@ -1,7 +1,7 @@
 -- Going over the blocks of a file one by one.
-use Rattle.std.proofs.Common.{◌≡◌, ℕ, suc, ◌+◌, ◌<◌, List, [], ◌∷◌, ◌++◌, length, map, Ok, Err, refl, sym, ap, subst, ◌∙◌, inl, inr, arith}
-use Rattle.std.proofs.lemmas.List.{append-nil, length-append, map-append}
-use Rattle.file_batch_laws.specs.Blocks.{FailsBehind, InTurn, block_at}
+use Rattle.std.proofs.Common.{◌≡◌, ℕ, suc, ◌+◌, ◌<◌, List, [], ◌∷◌, ◌++◌, length, map, Err, refl, sym, subst, ◌∙◌, inl, inr, arith}
+use Rattle.std.proofs.lemmas.List.{length-append, map-append}
+use Rattle.file_batch_laws.specs.Blocks.{InTurn, block_at}
 use Rattle.file_batch_laws.specs.Reading.{ended}
 use Rattle.file_batch_laws.specs.declared.batch_fault.BatchFault.{BatchFault}
 use Rattle.file_bodies.specs.BlockLines.{FailsAmongBlocks, HasBlock, HasTextOf, HaveTextsOf}

@@ -1,5 +1,5 @@
 -- The texts of blocks are read as these blocks.
-use Rattle.std.proofs.Common.{◌≡◌, ℕ, zero, suc, ◌<◌, ◌≤◌, Bool, true, false, cond, ltb, List, [], ◌∷◌, ◌++◌, length, map, drop, Result, Ok, Err, refl, sym, ap, subst, ◌∙◌, append_assoc, arith}
+use Rattle.std.proofs.Common.{◌≡◌, ℕ, zero, suc, ◌<◌, ◌≤◌, false, cond, ltb, List, [], ◌∷◌, ◌++◌, length, map, drop, Result, Ok, Err, refl, sym, ap, subst, ◌∙◌, append_assoc, arith}
 use Rattle.std.specs.List.{flat_map, All, AllByRecursion, AllZip}
 use Rattle.std.specs.Str.{bytes_eq}
 use Rattle.std.proofs.lemmas.Bool.{ltb-false, le-ltb}
@@ -11,12 +11,12 @@ use Rattle.file_batch_laws.specs.Blocks.{InTurn, block_at, block_count_at, block
 use Rattle.file_batch_laws.specs.Files.{AreBodies, IsBatch, IsBody, batch_text, framed, head_text}
 use Rattle.file_batch_laws.specs.Reading.{◌>>=◌, batch_magic, bodies_at, bodies_of, count_at, field_at, head_at, magic_at, number_at, version_at}
 use Rattle.file_batch_laws.specs.declared.batch_fault.BatchFault.{BatchFault}
-use Rattle.file_batch_laws.specs.declared.batch_fault.BatchFault.TheVariants.{Blocks, Count, Magic}
+use Rattle.file_batch_laws.specs.declared.batch_fault.BatchFault.TheVariants.{Blocks, Magic}
 use Rattle.file_batch_laws.proofs.Again.{bodies_again, magic_again, version_again}
 use Rattle.file_batch_laws.proofs.Once.{batch_taken}
 use Rattle.file_listing.specs.Bodies as listing
-use Rattle.file_bodies.specs.BlockLines.{ArePackedFrom, AreTextsOf, HasBlock, HasBlocks}
-use Rattle.file_bodies.specs.BlockText.{block_file_text, block_text}
+use Rattle.file_bodies.specs.BlockLines.{ArePackedFrom, AreTextsOf, HasBlock}
+use Rattle.file_bodies.specs.BlockText.{block_text}
 use Rattle.file_bodies.specs.BodyLines.{body_lines}
 use Rattle.file_bodies.proofs.Fronts.{bind_ok, block_front, clean, counted_at, counted_front, field_taken, passed}
 use Rattle.file_bodies.proofs.PackedAgain.{AreBytes, bodies_are_bytes, front_of, read_lines, rest_of}
