@@ -29,11 +29,12 @@ estimate_of advance = estimate_in advance.read advance.seconds advance.whole
 abbrev pub mebibytes : ℕ → List ℕ
 mebibytes bytes = decimal (bytes / 1048576)
 
-abbrev words_of : Advance → Option Estimate → List ℕ
+-- with what follows, or without
+abbrev pub words_of : Advance → Option Estimate → List ℕ
 words_of advance (Some estimate) =
-    codes "read " ++ mebibytes advance.read ++ codes " of " ++ mebibytes estimate.whole ++ codes " MiB, " ++ decimal estimate.percent ++ codes " %, in "
-    ++ decimal advance.seconds ++ codes " s, " ++ mebibytes estimate.rate ++ codes " MiB/s, " ++ decimal estimate.left ++ codes " s left"
-words_of advance None = codes "read " ++ mebibytes advance.read ++ codes " MiB in " ++ decimal advance.seconds ++ codes " s"
+    codes "read " ++ (mebibytes advance.read ++ (codes " of " ++ (mebibytes estimate.whole ++ (codes " MiB, " ++ (decimal estimate.percent ++ (codes " %, in "
+    ++ (decimal advance.seconds ++ (codes " s, " ++ (mebibytes estimate.rate ++ (codes " MiB/s, " ++ (decimal estimate.left ++ codes " s left")))))))))))
+words_of advance None = codes "read " ++ (mebibytes advance.read ++ (codes " MiB in " ++ (decimal advance.seconds ++ codes " s")))
 
 -- what a person is told
 abbrev pub advance_words : Advance → List ℕ
