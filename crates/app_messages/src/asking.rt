@@ -1,14 +1,17 @@
-ghost use Rattle.std.specs.Prelude.{IfSome, IfNone, OnSome, codes, map, string_bytes};
-ghost use Rattle.app_messages.specs.UnpackAsked.{IsAskedBy};
+ghost use Rattle.std.specs.Prelude.{◌≡◌, ◌<◌, ◌+◌, ℕ, IfSome, IfNone, OnSome, codes, length, map, string_bytes};
+ghost use Rattle.std.specs.Option.{SomeIff};
+ghost use Rattle.app_messages.specs.UnpackAsked.{IsAskedBy, IsNumber, SaysBlock, number_of};
 ghost use Rattle.app_words.specs.Words.{IsCommand};
 
-use app_words::{asks_help, is_command};
+use app_words::{asks_help, is_command, is_word};
 
 /// What words ask of `unpack`.
 #[derive(Clone, Copy)]
 pub enum UnpackAsked<'a> {
     /// The bodies of the batch in this file.
     Batch(&'a str),
+    /// The bodies of the block of this number, from 0 on, of the blocks in this file.
+    Block(&'a str, usize),
     /// What `unpack` takes.
     Help,
     /// Nothing: they begin with `unpack` and don't go on so.
@@ -35,8 +38,45 @@ fn asked_behind(words: &[String]) -> UnpackAsked<'_>
     if asks_help(words) {
         return UnpackAsked::Help;
     }
-    if words.len() == 3 {
-        return UnpackAsked::Batch(words[2].as_str());
+    match words.len() {
+        3 => UnpackAsked::Batch(words[2].as_str()),
+        5 => block_asked(words),
+        _ => UnpackAsked::Wrong,
+    }
+}
+
+// What is asked by five such words: `--block N FILE` or `FILE --block N`, or nothing.
+fn block_asked(words: &[String]) -> UnpackAsked<'_>
+    requires { length words.now ≡ 5 }
+    ensures { IsAskedBy (map string_bytes words.now) result }
+{
+    if let Some(number) = number_behind(words, 2) {
+        return UnpackAsked::Block(words[4].as_str(), number);
+    }
+    if let Some(number) = number_behind(words, 3) {
+        return UnpackAsked::Block(words[2].as_str(), number);
     }
     UnpackAsked::Wrong
+}
+
+// The number of a block that stands behind the word at this place, if that is `--block`.
+fn number_behind(words: &[String], place: usize) -> Option<usize>
+    requires { place + 1 < length words.now }
+    ensures some { IfSome result (SaysBlock (map string_bytes words.now) place) }
+    ensures none { IfNone result ((number : ℕ) → ¬ SaysBlock (map string_bytes words.now) place number) }
+{
+    if !is_word(words, place, "--block") {
+        return None;
+    }
+    number_in(words[place + 1].as_str())
+}
+
+// The number of a block that a word says, if it says one.
+fn number_in(word: &str) -> Option<usize>
+    ensures { SomeIff result (IsNumber word.now) (number_of word.now) }
+{
+    match word.parse::<u32>() {
+        Ok(number) => Some(number as usize),
+        Err(_) => None,
+    }
 }

@@ -1,29 +1,34 @@
 /// What `switch unpack --help` prints.
 pub const UNPACK_HELP: &str =
-    "Prints the bodies of a batch as a text: one a line, in hexadecimal, as `switch pack` reads them
+    "Prints the bodies of a batch, or of one block of a file of blocks, as a text: one a line, in hexadecimal, as `switch pack` reads them
 
 Usage: switch unpack <BATCH>
+       switch unpack --block <N> <BLOCKS>
 
 Arguments:
-  <BATCH>  The batch
+  <BATCH>   The batch
+  <BLOCKS>  The file of blocks
 
 Options:
-  -h, --help  Print help
+      --block <N>  Which block, from 0 on, as `switch show` numbers them; it may stand behind <BLOCKS>, too
+  -h, --help       Print help
 
-`switch pack` makes BATCH of these lines again, byte for byte. Bodies that are no message are printed, too.
+`switch pack` makes BATCH of these lines again, and `switch pack --blocks` makes BLOCKS of the texts of all its blocks, in order,
+byte for byte. Bodies that are no message are printed, too.
 
-Exit status: 0 done, 1 fault, 2 usage error.
+Exit status: 0 done, 1 fault, 2 usage error, or no such block.
 
 A fault is printed on standard error as what it is of and its number there:
-  file 1     BATCH can't be opened or read
-  batch N    BATCH is no batch, as `switch --help` lists; nothing is printed
+  file 1     BATCH or BLOCKS can't be opened or read
+  batch N    BATCH is no batch, or BLOCKS none of blocks, as `switch --help` lists; nothing is printed
+  block N    BLOCKS has N blocks, and none of the number that was asked for
   output 1   standard output doesn't take what is printed
   memory 1   memory ran out
 ";
 
 // What is said of words that are no command.
 pub(crate) const UNPACK_USAGE: &str =
-    "usage: switch unpack <BATCH>; `switch unpack --help` says more\n";
+    "usage: switch unpack <BATCH>, or switch unpack --block <N> <BLOCKS>; `switch unpack --help` says more\n";
 
 /// What `switch make --help` prints.
 pub const MAKE_HELP: &str =

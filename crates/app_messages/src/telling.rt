@@ -2,6 +2,8 @@ ghost use Rattle.std.specs.Prelude.{◌≡◌, ◌≤◌};
 ghost use Rattle.app_messages.specs.Unpacked.{IsSaid};
 
 use crate::asking::UnpackAsked;
+use crate::block_fault::BlockFault;
+use crate::block_unpacking::unpack_block;
 use crate::help::{UNPACK_HELP, UNPACK_USAGE};
 use crate::unpacking::unpack;
 use app_reasons::{FileKind, tell_of_file};
@@ -11,7 +13,7 @@ use std::alloc::Global;
 use std::io::Write;
 
 /// Does what is asked of `unpack` over these files, which are read alone, and returns the exit status: 0 done, 1 fault, 2 words that are
-/// no command. What is asked for goes to `out`, a fault to `err`; what that doesn't take is dropped.
+/// no command, or no such block. What is asked for goes to `out`, a fault to `err`; what that doesn't take is dropped.
 pub fn answer_unpack<F: Files, O: Write, E: Write>(
     alloc: Global,
     files: &F,
@@ -30,6 +32,13 @@ pub fn answer_unpack<F: Files, O: Write, E: Write>(
                 return 1;
             }
         },
+        UnpackAsked::Block(name, number) => match unpack_block(alloc, files, name, *number) {
+            Ok(text) => put(out, &text),
+            Err(fault) => {
+                tell_of_blocks(alloc, files, name, &fault, err);
+                return fault.status();
+            }
+        },
         UnpackAsked::Help => put(out, UNPACK_HELP.as_bytes()),
         UnpackAsked::Wrong => {
             let _ = err.write_all(UNPACK_USAGE.as_bytes());
@@ -37,4 +46,23 @@ pub fn answer_unpack<F: Files, O: Write, E: Write>(
         }
     };
     status_of(said, err)
+}
+
+// Tells the fault, and behind it what is known of the file, or how many blocks it has. What `err` doesn't take is dropped.
+fn tell_of_blocks<F: Files, E: Write>(
+    alloc: Global,
+    files: &F,
+    name: &str,
+    fault: &BlockFault,
+    err: &mut E,
+) {
+    match fault {
+        BlockFault::Job(fault) => tell_of_file(alloc, files, name, FileKind::Blocks, fault, err),
+        BlockFault::Number(count) => {
+            let _ = write!(
+                err,
+                "{fault}\n{name}: it has {count} blocks, numbered from 0\n"
+            );
+        }
+    }
 }

@@ -9,7 +9,7 @@ use Rattle.file_batch_laws.specs.Blocks.{AreBlocks, IsBlock, IsBlockFileOf, bloc
 use Rattle.file_batch_laws.specs.Files.{AreBodies, framed, head_text}
 use Rattle.file_batch_laws.specs.Frames.{AreFramesOf}
 use Rattle.file_batch_laws.proofs.Again.{bodies_again, count_again, magic_again, number_4, version_again}
-use Rattle.app_texts.specs.BlockText.{AreBlocksOfBodies, block_file_text, block_text}
+use Rattle.file_bodies.specs.BlockText.{AreBlocksOfBodies, block_file_text, block_text}
 
 count_is_read : (n : ℕ) (rest : List ℕ) → n ≤ 1000 → block_count_at (big_bytes 4 n ++ rest) ≡ Ok (n, rest)
 unfolding block_count_at

@@ -1,4 +1,3 @@
-pub mod BlockText
 pub mod Handed
 pub mod Packed
 pub mod Shown

@@ -1,2 +1,5 @@
 mod Steps
+mod BlockSteps
 mod PackedAgain
+mod Fronts
+mod BlocksPackedAgain

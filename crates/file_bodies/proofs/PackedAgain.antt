@@ -14,14 +14,14 @@ use Rattle.file_bodies.specs.BodyLines.{IsPackedFrom, IsTextOf, body_lines}
 
 -- ---- bytes
 
-abbrev AreBytes : List ℕ → Type 0
+abbrev pub AreBytes : List ℕ → Type 0
 AreBytes bytes = AllByRecursion (λ byte. byte < 256) bytes
 
-front_of : (xs ys : List ℕ) → AreBytes (xs ++ ys) → AreBytes xs
+pub front_of : (xs ys : List ℕ) → AreBytes (xs ++ ys) → AreBytes xs
 front_of [] ys all = tt
 front_of (x ∷ xs) ys all = (all.0, front_of xs ys all.1)
 
-rest_of : (xs ys : List ℕ) → AreBytes (xs ++ ys) → AreBytes ys
+pub rest_of : (xs ys : List ℕ) → AreBytes (xs ++ ys) → AreBytes ys
 rest_of [] ys all = all
 rest_of (x ∷ xs) ys all = rest_of xs ys all.1
 
@@ -30,7 +30,7 @@ indexed [] all i = omega arith
 indexed (x ∷ xs) all zero = all.0
 indexed (x ∷ xs) all (suc i) = indexed xs all.1 i
 
-bodies_are_bytes : (bodies : List (List ℕ)) → AreBytes (flat_map framed bodies) → AllByRecursion IsBytes bodies
+pub bodies_are_bytes : (bodies : List (List ℕ)) → AreBytes (flat_map framed bodies) → AllByRecursion IsBytes bodies
 bodies_are_bytes [] all = tt
 bodies_are_bytes (b ∷ bodies) all =
     let here = front_of (framed b) (flat_map framed bodies) all in
@@ -84,7 +84,7 @@ read_line (b ∷ rest) is bytes =
     (plain_digit (b / 16) (omega (arith, fits))).1 (read_body (b ∷ rest) is bytes)
 
 -- the lines of bodies, from any number on
-read_lines : (n : ℕ) (bodies : List (List ℕ)) → AllByRecursion IsBody bodies → AllByRecursion IsBytes bodies
+pub read_lines : (n : ℕ) (bodies : List (List ℕ)) → AllByRecursion IsBody bodies → AllByRecursion IsBytes bodies
     → bodies_from n (lines_of (body_lines bodies)) ≡ Ok bodies
 read_lines n [] are bytes = refl
 read_lines n (b ∷ bodies) are bytes =

@@ -1,1 +1,3 @@
+pub mod BlockLines
+pub mod BlockText
 pub mod BodyLines

@@ -28,8 +28,12 @@ pub fn lines_of_batch(alloc: Global, batch: &[u8]) -> Result<Vec<u8>, BatchFault
     Ok(text)
 }
 
-// The lines of so many bodies, and the bytes behind them.
-fn lines_of_bodies(alloc: Global, count: u32, bytes: &[u8]) -> Result<(Vec<u8>, &[u8]), BatchFault>
+/// The lines of so many bodies, and the bytes behind them.
+pub(crate) fn lines_of_bodies(
+    alloc: Global,
+    count: u32,
+    bytes: &[u8],
+) -> Result<(Vec<u8>, &[u8]), BatchFault>
     ensures lines { IfOk result (λ parts. HasLinesOf count bytes.now parts.0.items parts.1.now) }
     ensures fault { IfErr result (λ fault. fault ≢ BatchFault.OutOfMemory → bodies_at count bytes.now ≡ Err fault) }
 {

@@ -14,13 +14,13 @@ pub struct ProgressFile<S, P> {
 impl<S: Source, P: Progress> ProgressFile<S, P> {
     ghost use Rattle.std.specs.Prelude.{◌≡◌};
 
-    /// Nothing of this file is read yet. Without a place to tell it, nothing is told.
-    pub fn new(source: S, progress: Option<P>) -> ProgressFile<S, P>
+    /// A file of this name, of which nothing is read yet. Without a place to tell it, nothing is told.
+    pub fn new(source: S, progress: Option<P>, name: &str) -> ProgressFile<S, P>
         ensures source { result.source ≡ source }
     {
         ProgressFile {
             source,
-            reading: Reading::new(progress),
+            reading: Reading::new(progress, name),
             read: 0,
         }
     }

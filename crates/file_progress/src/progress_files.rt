@@ -41,10 +41,7 @@ impl<F: Files, P: Progress> Files for ProgressFiles<F, P> {
 
     fn open(&self, name: &str) -> Result<ProgressFile<F::Input, P>, ReadFault> {
         let input = self.files.open(name)?;
-        if let Some(progress) = &self.progress {
-            progress.is_opened(name);
-        }
-        Ok(ProgressFile::new(input, self.progress))
+        Ok(ProgressFile::new(input, self.progress, name))
     }
 
     fn create(&self, name: &str) -> Result<F::Output, WriteFault> {
@@ -75,7 +72,7 @@ impl<F: Files, P: Progress> Files for ProgressFiles<F, P> {
 
     fn open_again(&self, name: &str) -> Result<Option<ProgressFile<F::Input, P>>, HostReason> {
         match self.files.open_again(name) {
-            Ok(Some(input)) => Ok(Some(ProgressFile::new(input, None))),
+            Ok(Some(input)) => Ok(Some(ProgressFile::new(input, None, name))),
             Ok(None) => Ok(None),
             Err(reason) => Err(reason),
         }

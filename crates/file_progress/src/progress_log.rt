@@ -13,13 +13,13 @@ pub struct ProgressLog<L, P> {
 impl<L: LockedLog, P: Progress> ProgressLog<L, P> {
     ghost use Rattle.std.specs.Prelude.{◌≡◌};
 
-    /// This log. Without a place to tell it, nothing is told.
-    pub fn new(log: L, progress: Option<P>) -> ProgressLog<L, P>
+    /// This log, of this name. Without a place to tell it, nothing is told.
+    pub fn new(log: L, progress: Option<P>, name: &str) -> ProgressLog<L, P>
         ensures log { result.log ≡ log }
     {
         ProgressLog {
             log,
-            reading: Reading::new(progress),
+            reading: Reading::new(progress, name),
         }
     }
 }

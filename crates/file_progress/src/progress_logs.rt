@@ -32,9 +32,6 @@ impl<L: LockedLogs, P: Progress> LockedLogs for ProgressLogs<L, P> {
 
     fn open(&self, name: &str) -> Result<ProgressLog<L::Log, P>, OpenFault> {
         let log = self.logs.open(name)?;
-        if let Some(progress) = &self.progress {
-            progress.is_opened(name);
-        }
-        Ok(ProgressLog::new(log, self.progress))
+        Ok(ProgressLog::new(log, self.progress, name))
     }
 }

@@ -12,7 +12,7 @@ use app_show::{ShowAsked, answer_show, show_asked};
 use app_why::{answer_why, why_asked};
 use app_words::{names_standard_output, take_progress, topic_asked, with_streams};
 use file_devices::{Files, FromRead, HostFiles, IntoWrite};
-use file_progress::{Progress, ProgressFiles, ProgressLogs};
+use file_progress::{Advance, Progress, ProgressFiles, ProgressLogs};
 use host_commands::{
     AskedLinks, HostAsked, HostLogs, PipeSink, PipeSource, SERVE_HELP, host_asked, links_asked,
     serve, serve_links,
@@ -28,7 +28,7 @@ use std::process::ExitCode;
 use std::sync::Wait;
 use std::thread::Threads;
 use std::time::Clock;
-use std::{env, io};
+use std::{env, fs, io};
 
 fn main(rt: HostRuntime) -> ExitCode {
     let mut err = Printer::new(rt.stderr());
@@ -305,6 +305,13 @@ impl Progress for OnStandardError {
         }
     }
 
+    fn size_of(&self, name: &str) -> Option<u64> {
+        match fs::metadata(&self.rt, name) {
+            Ok(metadata) if metadata.is_file() => Some(metadata.len()),
+            _ => None,
+        }
+    }
+
     fn second(&self) -> u64 {
         match self.rt.monotonic() {
             Ok(since) => since.as_secs(),
@@ -312,9 +319,8 @@ impl Progress for OnStandardError {
         }
     }
 
-    fn has_read(&self, bytes: u64, seconds: u64) {
-        let mebibytes = bytes / 1_048_576;
-        let _ = write!(self.rt.stderr(), "read {mebibytes} MiB in {seconds} s\n");
+    fn has_read(&self, advance: &Advance) {
+        let _ = write!(self.rt.stderr(), "{advance}\n");
     }
 }
 

@@ -1,4 +1,4 @@
-//! Tests of messages that are written by hand and of batches that are taken apart and shown as JSON, over files in memory.
+//! Tests of messages that are written by hand and of batches and blocks that are taken apart and shown as JSON, over files in memory.
 #![tactic(auto)]
 
 #[cfg(test)]
@@ -7,3 +7,5 @@ mod making;
 mod showing;
 #[cfg(test)]
 mod unpacking;
+#[cfg(test)]
+mod unpacking_blocks;

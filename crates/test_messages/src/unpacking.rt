@@ -1,4 +1,4 @@
-//! `unpack` over files in memory: its statuses, its lines, and what stands on standard error.
+//! `unpack` of batches over files in memory: its statuses, its lines, and what stands on standard error.
 
 use app_messages::{UNPACK_HELP, UnpackAsked, answer_unpack, unpack_asked};
 use file_devices::MemoryFiles;
@@ -105,7 +105,7 @@ fn says_what_it_takes(rt: HostRuntime) {
     assert!(rt; wrong.0 == 2 && wrong.1.is_empty());
     assert!(rt;
         wrong.2.as_slice()
-            == b"usage: switch unpack <BATCH>; `switch unpack --help` says more\n".as_slice()
+            == b"usage: switch unpack <BATCH>, or switch unpack --block <N> <BLOCKS>; `switch unpack --help` says more\n".as_slice()
     );
 }
 

@@ -1,0 +1,51 @@
+/// What follows for a whole file from how far it is read. All numbers are rounded down.
+#[derive(Clone, Copy)]
+pub struct Estimate {
+    /// How many bytes the file has.
+    pub whole: u64,
+    /// How much of it is read, in per cent.
+    pub percent: u64,
+    /// How many bytes were read a second.
+    pub rate: u64,
+    /// In how many seconds the rest is read, if it is read as fast.
+    pub left: u128,
+}
+
+impl Estimate {
+    ghost use Rattle.std.specs.Prelude.{◌≡◌, ◌≤◌, ◌<◌};
+    ghost use Rattle.file_progress.specs.Advancing.{estimated, left_of, percent_of};
+
+    /// Of so many bytes that are read in so many seconds, of a file that has as many as the third number says.
+    pub fn new(read: u64, seconds: u64, whole: u64) -> Estimate
+        requires read { 0 < read }
+        requires seconds { 0 < seconds }
+        ensures { result ≡ estimated read seconds whole }
+    {
+        Estimate {
+            whole,
+            percent: Estimate::percent_of(read, whole),
+            rate: read / seconds,
+            left: Estimate::left_of(read, seconds, whole),
+        }
+    }
+
+    // How much is read, in per cent.
+    fn percent_of(read: u64, whole: u64) -> u64
+        ensures percent { result ≡ percent_of read whole }
+        ensures within { result ≤ 100 }
+    {
+        if whole <= read {
+            return 100;
+        }
+        (u128::from(read) * 100 / u128::from(whole)) as u64
+    }
+
+    // In how many seconds the rest is read.
+    fn left_of(read: u64, seconds: u64, whole: u64) -> u128
+        requires { 0 < read }
+        ensures { result ≡ left_of read seconds whole }
+    {
+        let rest = whole.saturating_sub(read);
+        u128::from(rest) * u128::from(seconds) / u128::from(read)
+    }
+}
