@@ -1,6 +1,7 @@
 ghost use Rattle.std.specs.Prelude.{◌≡◌, IfSome, MatchResult, OnOk, ℕ, List, None, Some, map, option_map, string_bytes};
 ghost use Rattle.app_arguments.specs.Asked.{asked_of, audit, audit_blocks, blocks, names_of, one, pack, pack_blocks, run, run_with_journal, serial, show};
 ghost use Rattle.file_devices.specs.Holding.{IsAsItWas};
+ghost use Rattle.app_jobs.specs.Deciding.{DecidesFiles};
 ghost use Rattle.app_commands.specs.Apart.{AreApart, names_apart};
 ghost use Rattle.app_commands.specs.Claims.{claims_for};
 ghost use Rattle.file_devices.specs.Claims.{AreOn};
@@ -13,12 +14,12 @@ use crate::refusal::Refusal;
 use crate::report::Report;
 use app_arguments::{Command, EngineChoice};
 use app_audit::{audit_text, block_audit_text};
-use app_jobs::{audit_batch, audit_batch_with_journal, audit_block_files, serial_batch};
+use app_jobs::{JobFault, audit_batch, audit_batch_with_journal, audit_block_files, serial_batch};
 use app_reasons::words_of;
 use app_runs::{decide_one, run_batch, run_batch_with_journal, run_blocks};
 use app_texts::{pack_batch, pack_blocks, show_file};
 use engine_workers::Workers;
-use file_batch::Strictness;
+use file_batch::{BodyCount, Strictness};
 use file_devices::{BatchNames, Files};
 use std::alloc::Global;
 use std::sync::Wait;
@@ -152,13 +153,28 @@ fn run<R: Clock + Threads + Wait + Sync, F: Files>(
         (IsFaultIn (F.is_known files.old) (F.holds files.old) (F.holds files.new) (F.failing files.old) (run (names_of names.now) workers engine strictness)) }
     ensures others { (other : List ℕ) → Spares (run (names_of names.now) workers engine strictness) other → IsAsItWas (F.holds files.old) (F.holds files.new) other }
 {
-    let count = match engine {
-        EngineChoice::Fastest => serial_batch(rt, alloc, files, names, strictness)?,
-        EngineChoice::Named(engine) => {
-            run_batch(rt, alloc, files, names, workers, engine, strictness)?
-        }
-    };
+    let count = decided(rt, alloc, files, names, workers, engine, strictness)?;
     Ok(Report::Decided(count))
+}
+
+// Decides a batch by the engine that is named, or else one message after another. Returns how many bodies it has.
+fn decided<R: Clock + Threads + Wait + Sync, F: Files>(
+    rt: &R,
+    alloc: Global,
+    files: &mut F,
+    names: &BatchNames,
+    workers: Workers,
+    engine: EngineChoice,
+    strictness: Strictness,
+) -> Result<BodyCount, JobFault>
+    ensures decides { DecidesFiles F.is_known F.holds F.failing strictness files.old files.new (names_of names.now) result }
+{
+    match engine {
+        EngineChoice::Fastest => serial_batch(rt, alloc, files, names, strictness),
+        EngineChoice::Named(engine) => {
+            run_batch(rt, alloc, files, names, workers, engine, strictness)
+        }
+    }
 }
 
 // A batch is decided by several workers under one lock, and the run's journal is kept.
