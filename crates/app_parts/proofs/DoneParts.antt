@@ -69,8 +69,8 @@ not_of_part folder number plan replies new_book other texts are not =
 
 -- ---- a batch is put in parts
 
-pub planned_more : (p : Parting) (most : ℕ) → most ≤ 64 → IsPlanned p most → IsPlanned p 64
-planned_more p most few planned = record { some = planned.some; few = omega (arith, planned.few, few); each = planned.each; below = planned.below; apart = planned.apart }
+pub few_parts : (p : Parting) (most count : ℕ) → count ≡ most → count ≤ 64 → IsPlanned p most → p.count ≤ 64
+few_parts p most count is few planned = omega (arith, planned.few, is, few)
 
 frames_of_bodies : (bodies : List (List ℕ)) (frames : List Frame) → AreFramesOf bodies frames → length bodies ≡ length frames
 frames_of_bodies [] [] are = refl

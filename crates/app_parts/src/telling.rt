@@ -1,6 +1,5 @@
 ghost use Rattle.std.specs.Prelude.{◌≡◌, ◌+◌, ◌++◌, ◌^◌, ◌<◌, ℕ, List, IfOk, OnOk, length, string_bytes};
 ghost use Rattle.std.specs.Io.KnownBytes.{Appends};
-ghost use Rattle.app_parts.specs.Asked.{IsAskable, IsMost};
 ghost use Rattle.app_parts.specs.Faults.{status_of};
 ghost use Rattle.app_parts.specs.Told.{IsAnswered, IsWritten, count_line, count_lines};
 ghost use Rattle.app_parts.specs.declared.asking.PartsAsked.TheVariants as asked;
@@ -16,6 +15,7 @@ use crate::parting::part_files;
 use crate::parts_fault::PartsFault;
 use app_words::{put, status_of};
 use file_devices::Files;
+use parts_files::MostParts;
 use std::alloc::{AllocError, Global};
 use std::io;
 use std::io::Write;
@@ -32,7 +32,6 @@ pub fn answer_parts<R: Threads + Wait + Sync, F: Files, O: Write, E: Write>(
     out: &mut O,
     err: &mut E,
 ) -> u8
-    requires { IsAskable asked.now }
     ensures answered { IsAnswered (F.is_known files.old) (F.holds files.old) (F.holds files.new) (F.failing files.old) asked.now (O.contents out.old) (O.contents out.new) result }
     ensures others { (name : List ℕ) → ¬ IsWritten asked.now name → IsAsItWas (F.holds files.old) (F.holds files.new) name }
 {
@@ -56,11 +55,10 @@ fn answer_part<R: Threads, F: Files, O: Write, E: Write>(
     alloc: Global,
     files: &mut F,
     names: &PartNames<'_>,
-    most: u32,
+    most: MostParts,
     out: &mut O,
     err: &mut E,
 ) -> u8
-    requires { IsMost most }
     ensures answered { IsAnswered (F.is_known files.old) (F.holds files.old) (F.holds files.new) (F.failing files.old) (asked.Part names.now most) (O.contents out.old) (O.contents out.new) result }
     ensures others { (name : List ℕ) → ¬ IsWritten (asked.Part names.now most) name → IsAsItWas (F.holds files.old) (F.holds files.new) name }
 {
