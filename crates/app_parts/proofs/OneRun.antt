@@ -116,19 +116,19 @@ module _ (known : Type 0) (holds : Holding) (folder : List ℕ) (most : ℕ) (p 
 -- ---- all of them
 
 pub one_run : (known : Type 0) (old new : Holding) (names : Names) (p : Parting) → JoinsOneRun known old new names p
-one_run known old new names p h joined =
+one_run known old new names p h count joined =
     let folder = joined.folder in
     let plan : joined.plan ≡ plan_of_parting p = the_plan p h.planned joined.plan folder.is_plan (folder.plan_held.only (plan_text (plan_of_parting p)) h.plan) in
     let parts : joined.plan.parts ≡ p.parts = ap (λ (plan : Plan). plan.parts) plan in
-    let count : length joined.answers ≡ p.count = folder.each ∙ ap (λ (plan : Plan). length plan.digests) plan ∙ length-each (digests_of_part p) p.count in
-    let answers = the_answers known old names.folder 64 p h (sha256 (plan_text joined.plan)) joined.answers 0 (omega (arith, count)) folder.are in
+    let many : length joined.answers ≡ p.count = folder.each ∙ ap (λ (plan : Plan). length plan.digests) plan ∙ length-each (digests_of_part p) p.count in
+    let answers = the_answers known old names.folder 64 p h (sha256 (plan_text joined.plan)) joined.answers 0 (omega (arith, many)) folder.are in
     let whole = the_whole p.rows (parted p) p.count h.planned.apart (zip_below p.count p.parts p.frames h.planned.below) in
     let all : bodies (parted p) ≡ p.frames = bodies_zip p.parts p.frames h.planned.each in
     let numbers : map (λ (m : ℕ × Frame). m.0) (parted p) ≡ p.parts = parts_zip p.parts p.frames h.planned.each in
     let lists : map (λ (a : Answer). a.replies) joined.answers ≡ each_part (part_replies p.rows (parted p)) p.count =
-    answers.0 ∙ ap (each_part (part_replies p.rows (parted p))) count in
+    answers.0 ∙ ap (each_part (part_replies p.rows (parted p))) many in
     let books : map (λ (a : Answer). a.rows) joined.answers ≡ each_part (part_rows_after p.rows (parted p)) p.count =
-    answers.1 ∙ ap (each_part (part_rows_after p.rows (parted p))) count in
+    answers.1 ∙ ap (each_part (part_rows_after p.rows (parted p))) many in
     let rest : joined.rest ≡ rest_rows p.rows (bodies (parted p)) =
     the_book folder.book (rest_of p) joined.rest (rest_rows p.rows p.frames) (folder.rest_held.only (rest_of p) h.rest) folder.opening h.back.rest ∙ ap (rest_rows p.rows) (sym all) in
     let order : AreInArrivalOrder (map (λ (m : ℕ × Frame). m.0) (parted p)) (each_part (part_replies p.rows (parted p)) p.count) joined.replies =

@@ -35,5 +35,5 @@ pub record IsOneRun (p : Parting) (replies : List ReplyBody) (book : Rows) : Typ
 -- where the files hold such a run of at most 64 parts, and `join` puts it together
 abbrev pub JoinsOneRun : Type 0 → Holding → Holding → Names → Parting → Type 0
 JoinsOneRun known old new names p =
-    HoldsRun old names.folder 64 p → (joined : IsJoined known old new names)
+    HoldsRun old names.folder 64 p → (count : ℕ) (joined : IsJoined known old new names count)
     → IsOneRun p joined.replies (joined_books joined.rest (map (λ answer. answer.rows) joined.answers))
