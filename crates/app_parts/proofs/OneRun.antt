@@ -1,5 +1,5 @@
 -- That parts which are put together are one run.
-use Rattle.std.proofs.Common.{◌≡◌, ◌<◌, ◌≤◌, ◌+◌, ◌*◌, ℕ, zero, suc, List, [], ◌∷◌, ◌++◌, length, map, zip, Result, Ok, Err, refl, sym, ap, ◌∙◌, subst, arith}
+use Rattle.std.proofs.Common.{◌≡◌, ◌<◌, ◌≤◌, ◌+◌, ◌*◌, ℕ, zero, suc, List, [], ◌∷◌, ◌++◌, length, map, Result, Ok, Err, refl, sym, ap, ◌∙◌, subst, arith}
 use Rattle.std.proofs.lemmas.List.{length-append}
 use Rattle.std.proofs.lemmas.List.Elements.{All-from_recursion}
 use Rattle.std.specs.List.{All, AllByRecursion, flat_map}
@@ -13,7 +13,7 @@ use Rattle.file_batch_laws.proofs.ReadBack.{replies_alone}
 use Rattle.file_batch_laws.specs.Files.{replies_text}
 use Rattle.file_batch_laws.specs.Replies.{IsReplyFileOf}
 use Rattle.file_devices.specs.Holding.{Holding}
-use Rattle.issuer_laws.specs.Parts.{Parted, bodies}
+use Rattle.issuer_laws.specs.Parts.{bodies}
 use Rattle.issuer_rows.specs.Fold.{Rows, replies_to, rows_after}
 use Rattle.issuer_rows.specs.declared.frame.Frame.{Frame}
 use Rattle.issuer_rows.specs.declared.reply_body.ReplyBody.{ReplyBody}
@@ -24,9 +24,9 @@ use Rattle.parts_books.specs.PartBooks.{AreInArrivalOrder, each_from, each_part,
 use Rattle.parts_files.proofs.Fronts.{behind_letters, behind_number, counted, long, numbered, same_plan}
 use Rattle.parts_files.specs.Texts.{AreDigests, IsPlan, Plan, digests_text, listed_text, plan_text}
 use Rattle.app_parts.proofs.Parts.{length-each}
-use Rattle.app_parts.specs.Joining.{Answer, AreAnswersFrom, IsJoined, Names}
+use Rattle.app_parts.specs.Joining.{Answer, AreAnswersFrom, Names}
 use Rattle.app_parts.specs.Parting.{IsPlanned, Parting, batch_of_part, book_of_part, digests_of_part, parted, plan_of_parting, rest_of}
-use Rattle.app_parts.specs.Run.{HoldsRun, IsOneRun, JoinsOneRun}
+use Rattle.app_parts.specs.Run.{HoldsRun, JoinsOneRun}
 
 -- ---- the plan
 

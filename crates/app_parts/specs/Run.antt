@@ -1,6 +1,5 @@
 -- A batch that is put in parts, decided part by part, and put together.
 use Rattle.std.specs.Prelude.{◌≡◌, ◌<◌, ℕ, List, Ok, map}
-use Rattle.book_laws.specs.CheckBook.{IsSound}
 use Rattle.book_laws.specs.Reading.{reading}
 use Rattle.book_laws.specs.Text.{book_text}
 use Rattle.file_batch_laws.specs.Files.{replies_text}

@@ -1,4 +1,4 @@
-use Rattle.std.proofs.Common.{◌≡◌, ◌<◌, length, List, ℕ, ap, subst, zip, arith, ◌∙◌}
+use Rattle.std.proofs.Common.{◌<◌, length, List, ap, subst, zip, arith, ◌∙◌}
 use Rattle.std.specs.List.{AllByRecursion}
 use Rattle.issuer_laws.specs.Parts.{AreApart}
 use Rattle.issuer_rows.specs.declared.frame.Frame.{Frame}
