@@ -170,7 +170,7 @@ fn decided<R: Clock + Threads + Wait + Sync, F: Files>(
     ensures decides { DecidesFiles F.is_known F.holds F.failing strictness files.old files.new (names_of names.now) result }
 {
     match engine {
-        EngineChoice::Fastest => serial_batch(rt, alloc, files, names, strictness),
+        EngineChoice::NotNamed => serial_batch(rt, alloc, files, names, strictness),
         EngineChoice::Named(engine) => {
             run_batch(rt, alloc, files, names, workers, engine, strictness)
         }

@@ -1,7 +1,7 @@
 //! A live host that several links share: each link is served by a thread of its own, and takes its turns at the host one after another.
 #![tactic(auto)]
 
-mod behind;
+mod links_outcome;
 mod buffers;
 mod ends;
 mod history;
@@ -16,7 +16,7 @@ mod shared_host;
 mod turning;
 mod watch_links;
 
-pub use behind::Behind;
+pub use links_outcome::LinksOutcome;
 pub use buffers::LinkBuffers;
 pub use ends::{LinkSink, LinkSource};
 pub use history::{Came, Front, History, Opened, Trace};
