@@ -16,11 +16,12 @@ mod rows;
 mod rules;
 mod write_book;
 
+use crate::batch::Bodies;
 use crate::keys::Key;
 use crate::rows::{Book, Hashed, Places};
 use std::collections::BTreeMap;
 use std::fs::{self, File};
-use std::io;
+use std::io::{self, Write};
 use std::process::ExitCode;
 
 /// How many bytes are written at once.
@@ -89,27 +90,29 @@ pub fn write(name: &str, bytes: &[u8]) -> Result<(), Fault> {
     fs::write(name, bytes).map_err(|fault| Fault::of(name, fault))
 }
 
-/// Decides a batch on a book.
+/// Decides a batch on a book. Where BATCH is no batch, REPLIES has a beginning of the replies.
 fn serial<P: Places>(book_name: &str, batch_name: &str, replies_name: &str, new_book_name: &str) -> Result<(), Fault> {
     let mut book: Book<P> = read_book::read_book(&read(book_name)?)
         .ok_or_else(|| Fault::new(format!("{book_name}: no book of version 3 as it is written, or a wrong one")))?;
     let batch = read(batch_name)?;
-    let (replies, said) = decide(&mut book, &batch).ok_or_else(|| Fault::new(format!("{batch_name}: no batch")))?;
-    write(replies_name, &replies)?;
+    let bodies = batch::bodies_of(&batch).ok_or_else(|| Fault::new(format!("{batch_name}: no batch")))?;
+    let count = bodies.left();
+    let decided = File::create(replies_name).and_then(|file| decide(&mut book, bodies, file));
+    let decided = decided.map_err(|fault| Fault::of(replies_name, fault))?;
+    let unreadable = decided.ok_or_else(|| Fault::new(format!("{batch_name}: no batch")))?;
     write_book(new_book_name, &book)?;
-    println!("{said}");
+    println!("decided {count}, {unreadable} unreadable");
     Ok(())
 }
 
-/// The reply file of a batch, if it is one, and what is said of it. Some messages are decoded before they are decided, so that
-/// the processor waits for the rows of several at once.
-fn decide<P: Places>(book: &mut Book<P>, batch: &[u8]) -> Option<(Vec<u8>, String)> {
-    let mut bodies = batch::bodies_of(batch)?;
-    let (count, mut unreadable) = (bodies.left(), 0);
-    book.seen.reserve(count);
-    let mut replies = batch::header(b"I83R", count);
-    replies.reserve(batch.len() + 16 * count);
+/// Decides bodies, and writes a reply file; then how many are no message, or nothing where they end too early or too late. Some
+/// are decoded before they are decided, so that the processor waits for the rows of several at once.
+fn decide<P: Places>(book: &mut Book<P>, mut bodies: Bodies, mut file: File) -> io::Result<Option<usize>> {
+    book.seen.reserve(bodies.left());
+    let mut replies = Vec::with_capacity(2 * PIECE);
+    replies.extend_from_slice(&batch::header(b"I83R", bodies.left()));
     let (mut messages, mut answers) = (Vec::with_capacity(AT_ONCE), Vec::with_capacity(AT_ONCE));
+    let mut unreadable = 0;
     loop {
         messages.extend(bodies.by_ref().take(AT_ONCE).map(decode::decode));
         if messages.is_empty() {
@@ -119,13 +122,18 @@ fn decide<P: Places>(book: &mut Book<P>, batch: &[u8]) -> Option<(Vec<u8>, Strin
         let mut answers = answers.drain(..);
         for message in messages.drain(..) {
             match message {
-                Ok(message) => encode::encode(&message, &answers.next()?, &mut replies),
+                Ok(message) => encode::encode(&message, &answers.next().expect("each has a reply"), &mut replies),
                 Err(fault) => {
                     unreadable += 1;
                     encode::encode_fault(fault, &mut replies);
                 }
             }
         }
+        if replies.len() >= PIECE {
+            file.write_all(&replies)?;
+            replies.clear();
+        }
     }
-    bodies.are_whole().then(|| (replies, format!("decided {count}, {unreadable} unreadable")))
+    file.write_all(&replies)?;
+    Ok(bodies.are_whole().then_some(unreadable))
 }
