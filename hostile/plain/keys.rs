@@ -1,5 +1,6 @@
 //! What names a row, as a number whose order is that of the texts.
 
+use crate::index::hash_of;
 use std::cmp::Ordering;
 use std::num::NonZeroU64;
 
@@ -16,7 +17,7 @@ const NONE: u8 = b'/';
 ///
 /// A card number has 19 places, and its day six more; an identity has eleven for the acquirer, six for the trace number and
 /// twelve for the local date and time; a prefix has six.
-#[derive(Clone, Copy, PartialEq, Eq, Hash)]
+#[derive(Clone, Copy, PartialEq, Eq)]
 pub struct Key {
     high: NonZeroU64,
     low: u64,
@@ -112,6 +113,11 @@ impl Key {
     #[inline]
     pub fn prefix(self) -> Key {
         Key::new(self.high.get() >> 40 << 40, 0)
+    }
+
+    #[inline]
+    pub fn hash(self) -> u64 {
+        hash_of([self.high.get(), self.low])
     }
 
     /// How many of the first places have a digit, where all digits stand before those that have none.

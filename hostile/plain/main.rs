@@ -8,6 +8,7 @@
 mod batch;
 mod decode;
 mod encode;
+mod index;
 mod keys;
 mod make;
 mod message;
@@ -17,8 +18,9 @@ mod rules;
 mod write_book;
 
 use crate::batch::Bodies;
+use crate::index::Index;
 use crate::keys::Key;
-use crate::rows::{Book, Hashed, Places};
+use crate::rows::{Book, Places};
 use std::collections::BTreeMap;
 use std::fs::{self, File};
 use std::io::{self, Write};
@@ -58,7 +60,7 @@ fn main() -> ExitCode {
     let words: Vec<&str> = words.iter().map(String::as_str).collect();
     let done = match words[..] {
         ["serial", book, batch, replies, new_book] | ["serial", book, batch, replies, new_book, "--map", "hash"] => {
-            serial::<Hashed<Key>>(book, batch, replies, new_book)
+            serial::<Index>(book, batch, replies, new_book)
         }
         ["serial", book, batch, replies, new_book, "--map", "btree"] => {
             serial::<BTreeMap<Key, u32>>(book, batch, replies, new_book)

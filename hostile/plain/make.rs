@@ -6,9 +6,10 @@
 //! within a thousand messages, requests and advices name an account, and cards and messages are odd: what some rule refuses.
 
 use crate::batch::{header, MOST_BODIES};
+use crate::index::Index;
 use crate::keys::{month_of, passes_luhn, Key};
 use crate::message::bitmap_of;
-use crate::rows::{Account, Book, Budget, Card, Hashed, Name, Status};
+use crate::rows::{Account, Book, Budget, Card, Name, Status};
 use crate::rules::GREATEST;
 use crate::{write, write_book, Fault};
 use std::collections::BTreeMap;
@@ -122,7 +123,7 @@ fn card_number(place: usize, size: usize) -> String {
     with_luhn(&format!("40000{}{:0size$}", place % PREFIXES, place / PREFIXES))
 }
 
-fn make_book(options: &Options, random: &mut Random) -> (Book<Hashed<Key>>, Vec<Known>) {
+fn make_book(options: &Options, random: &mut Random) -> (Book<Index>, Vec<Known>) {
     let mut book = Book::new();
     let mut cards = Vec::new();
     for place in 0..options.cards {
@@ -140,13 +141,13 @@ fn make_book(options: &Options, random: &mut Random) -> (Book<Hashed<Key>>, Vec<
     (book, cards)
 }
 
-fn add_account(book: &mut Book<Hashed<Key>>, name: &str, available: u64, currency: [u8; 3]) {
+fn add_account(book: &mut Book<Index>, name: &str, available: u64, currency: [u8; 3]) {
     book.money.names.push(Name::new(name.as_bytes()).expect("a name"));
     book.money.accounts.push(Account { available, currency });
 }
 
 /// A card, and its first account; the second accounts of all cards stand behind these.
-fn make_card(book: &mut Book<Hashed<Key>>, options: &Options, random: &mut Random, place: usize) -> Known {
+fn make_card(book: &mut Book<Index>, options: &Options, random: &mut Random, place: usize) -> Known {
     let second = place % 3 == 0;
     let mut card = Card {
         account: place as u32,

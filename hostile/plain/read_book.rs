@@ -1,9 +1,10 @@
 //! A book from its text, in the form in which it is written.
 
 use crate::decode::{are_digits, is_day, is_stamp};
+use crate::index::Index;
 use crate::keys::{month_of, passes_luhn, Key, ACQUIRER};
 use crate::message::Kind;
-use crate::rows::{Account, Book, Budget, Card, Day, Hashed, Mark, Name, Original, Payer, Places, Seen};
+use crate::rows::{Account, Book, Budget, Card, Day, Mark, Name, Original, Payer, Places, Seen};
 use crate::rules::{GREATEST, MOST_APPROVALS};
 use crate::write_book::STATUSES;
 use std::collections::BTreeMap;
@@ -13,15 +14,11 @@ const MOST_AMOUNT: u64 = 999_999_999_999;
 /// The book, or nothing where the text isn't in the form that `write_book` gives it, or something is wrong with the book.
 pub fn read_book<P: Places>(text: &[u8]) -> Option<Book<P>> {
     let mut book = Book::new();
-    let mut reader = Reader { rest: text, places: Hashed::default() };
+    let mut reader = Reader { rest: text, names: Vec::new(), places: Index::default() };
     reader.list(b"{\"accounts\":[", |it| {
-        let (name, row) = it.account()?;
-        let (accounts, names) = (&mut book.money.accounts, &mut book.money.names);
-        let is_next = names.last().is_none_or(|last| *last < name);
-        it.places.insert(name, names.len() as u32);
-        names.push(name);
-        accounts.push(row);
-        is_next.then_some(())
+        let row = it.account()?;
+        book.money.accounts.push(row);
+        Some(())
     })?;
     reader.list(b"],\"ahead\":[", |it| {
         let (key, row) = it.ahead()?;
@@ -44,6 +41,7 @@ pub fn read_book<P: Places>(text: &[u8]) -> Option<Book<P>> {
         book.seen.add(key, Seen::Original(row)).then_some(())
     })?;
     reader.text(b"],\"version\":3}")?;
+    book.money.names = reader.names;
     (reader.rest.is_empty() && are_backings_in_range(&book)).then_some(book)
 }
 
@@ -62,10 +60,11 @@ fn are_backings_in_range<P: Places>(book: &Book<P>) -> bool {
     accounts.iter().chain(budgets.values()).all(|&backing| backing <= GREATEST)
 }
 
-/// The text that is left, and the places of accounts by their names.
+/// The text that is left, and the names of the accounts that were read, with their places.
 struct Reader<'a> {
     rest: &'a [u8],
-    places: Hashed<Name>,
+    names: Vec<Name>,
+    places: Index,
 }
 
 impl<'a> Reader<'a> {
@@ -171,7 +170,7 @@ impl<'a> Reader<'a> {
     /// An account by its name; one that has no row is none.
     fn place(&mut self, before: &[u8]) -> Option<u32> {
         let name = self.name(before)?;
-        self.places.get(&name).copied()
+        self.places.find(name.hash(), |place| self.names[place as usize] == name)
     }
 
     /// What is there, or null.
@@ -183,12 +182,17 @@ impl<'a> Reader<'a> {
 
 /// Entries.
 impl Reader<'_> {
-    fn account(&mut self) -> Option<(Name, Account)> {
+    /// An account, whose name comes behind those before it.
+    fn account(&mut self) -> Option<Account> {
         let available = self.number(b"{\"available\":", GREATEST)?;
         let currency = self.digits(b",\"currency\":\"")?;
         let name = self.name(b"\",\"id\":")?;
         self.text(b"}")?;
-        Some((name, Account { available, currency }))
+        let is_next = self.names.last().is_none_or(|last| *last < name);
+        self.places.reserve(1, |place| self.names[place as usize].hash());
+        self.places.find_or_put(name.hash(), self.names.len() as u32, |_| false);
+        self.names.push(name);
+        is_next.then_some(Account { available, currency })
     }
 
     fn ahead(&mut self) -> Option<(Key, Mark)> {

@@ -1,10 +1,10 @@
 //! The rows of a book, and the tables that they stand in.
 
+use crate::index::{hash_of, Index};
 use crate::keys::Key;
 use crate::message::Kind;
 use crate::AT_ONCE;
-use std::collections::{BTreeMap, HashMap};
-use std::hash::{BuildHasherDefault, Hash, Hasher};
+use std::collections::BTreeMap;
 
 /// The name of an account: up to 28 bytes, zeros behind them, and last how many there are.
 #[derive(Clone, Copy, PartialEq, Eq, PartialOrd, Ord)]
@@ -30,13 +30,10 @@ impl Name {
     pub fn is_plain(&self) -> bool {
         self.0.iter().fold(true, |all, &it| all & (it != b'"') & (it != b'\\'))
     }
-}
 
-impl Hash for Name {
-    #[inline]
-    fn hash<H: Hasher>(&self, hasher: &mut H) {
+    pub fn hash(&self) -> u64 {
         let (words, _) = self.0.as_chunks();
-        words.iter().for_each(|&word| hasher.write_u64(u64::from_ne_bytes(word)));
+        hash_of([0, 1, 2, 3].map(|place| u64::from_ne_bytes(words[place])))
     }
 }
 
@@ -118,51 +115,29 @@ pub enum Seen {
 
 /// The places of rows by their keys.
 pub trait Places: Default {
-    fn reserve(&mut self, more: usize);
-    fn find(&self, key: Key) -> Option<u32>;
-    /// The place that the key has, or gets.
-    fn find_or_put(&mut self, key: Key, place: u32) -> u32;
+    /// Makes room for so many rows behind these.
+    fn reserve<R>(&mut self, more: usize, rows: &[(Key, R)]);
+    fn find<R>(&self, key: Key, rows: &[(Key, R)]) -> Option<u32>;
+    /// The place of the key's row, or the one behind all rows: then that is its place from now on.
+    fn find_or_put<R>(&mut self, key: Key, rows: &[(Key, R)]) -> u32;
     /// The places of those of the rows that pass a test, in the order of their keys.
     fn order<R>(&self, rows: &[(Key, R)], test: impl Fn(&R) -> bool) -> Vec<u32>;
 }
 
-/// A hash table, whose hash is a folded product.
-pub type Hashed<K> = HashMap<K, u32, BuildHasherDefault<Folding>>;
-
-#[derive(Default)]
-pub struct Folding(u64);
-
-impl Hasher for Folding {
-    #[inline]
-    fn write(&mut self, bytes: &[u8]) {
-        bytes.iter().for_each(|&byte| self.write_u64(byte.into()));
+impl Places for Index {
+    fn reserve<R>(&mut self, more: usize, rows: &[(Key, R)]) {
+        Index::reserve(self, more, |place| rows[place as usize].0.hash());
     }
 
     #[inline]
-    fn write_u64(&mut self, word: u64) {
-        let product = u128::from(self.0 ^ 0x9e37_79b9_7f4a_7c15) * u128::from(word ^ 0xd6e8_feb8_6659_fd93);
-        self.0 = product as u64 ^ (product >> 64) as u64;
+    fn find<R>(&self, key: Key, rows: &[(Key, R)]) -> Option<u32> {
+        Index::find(self, key.hash(), |place| rows[place as usize].0 == key)
     }
 
     #[inline]
-    fn finish(&self) -> u64 {
-        self.0
-    }
-}
-
-impl Places for Hashed<Key> {
-    fn reserve(&mut self, more: usize) {
-        HashMap::reserve(self, more);
-    }
-
-    #[inline]
-    fn find(&self, key: Key) -> Option<u32> {
-        self.get(&key).copied()
-    }
-
-    #[inline]
-    fn find_or_put(&mut self, key: Key, place: u32) -> u32 {
-        *self.entry(key).or_insert(place)
+    fn find_or_put<R>(&mut self, key: Key, rows: &[(Key, R)]) -> u32 {
+        Places::reserve(self, 1, rows);
+        Index::find_or_put(self, key.hash(), rows.len() as u32, |place| rows[place as usize].0 == key)
     }
 
     fn order<R>(&self, rows: &[(Key, R)], test: impl Fn(&R) -> bool) -> Vec<u32> {
@@ -174,14 +149,14 @@ impl Places for Hashed<Key> {
 }
 
 impl Places for BTreeMap<Key, u32> {
-    fn reserve(&mut self, _: usize) {}
+    fn reserve<R>(&mut self, _: usize, _: &[(Key, R)]) {}
 
-    fn find(&self, key: Key) -> Option<u32> {
+    fn find<R>(&self, key: Key, _: &[(Key, R)]) -> Option<u32> {
         self.get(&key).copied()
     }
 
-    fn find_or_put(&mut self, key: Key, place: u32) -> u32 {
-        *self.entry(key).or_insert(place)
+    fn find_or_put<R>(&mut self, key: Key, rows: &[(Key, R)]) -> u32 {
+        *self.entry(key).or_insert(rows.len() as u32)
     }
 
     fn order<R>(&self, rows: &[(Key, R)], test: impl Fn(&R) -> bool) -> Vec<u32> {
@@ -203,20 +178,20 @@ impl<R, P: Places> Table<R, P> {
     /// Makes room for so many rows more.
     pub fn reserve(&mut self, more: usize) {
         self.rows.reserve(more);
-        self.places.reserve(more);
+        self.places.reserve(more, &self.rows);
     }
 
     pub fn find(&self, key: Key) -> Option<&R> {
-        self.places.find(key).map(|place| &self.rows[place as usize].1)
+        self.places.find(key, &self.rows).map(|place| &self.rows[place as usize].1)
     }
 
     pub fn find_mut(&mut self, key: Key) -> Option<&mut R> {
-        self.places.find(key).map(|place| &mut self.rows[place as usize].1)
+        self.places.find(key, &self.rows).map(|place| &mut self.rows[place as usize].1)
     }
 
     /// The row of the key, or none: then the row that is added next is its row.
     pub fn find_or_reserve(&mut self, key: Key) -> Option<&mut R> {
-        let place = self.places.find_or_put(key, self.rows.len() as u32);
+        let place = self.places.find_or_put(key, &self.rows);
         self.rows.get_mut(place as usize).map(|row| &mut row.1)
     }
 
