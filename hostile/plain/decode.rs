@@ -50,7 +50,11 @@ impl<'a> Rest<'a> {
     #[inline(always)]
     fn digits<const N: usize>(&mut self, element: u8) -> Result<&'a [u8; N], Fault> {
         let text = self.bytes(element)?;
-        if are_digits(text) { Ok(text) } else { fault(BAD_CHARACTER, element) }
+        if are_digits(text) {
+            Ok(text)
+        } else {
+            fault(BAD_CHARACTER, element)
+        }
     }
 
     /// A text of varying length, behind two digits of it.
@@ -66,7 +70,11 @@ impl<'a> Rest<'a> {
         }
         let Some((text, rest)) = self.0.split_at_checked(length) else { return fault(SHORT, element) };
         self.0 = rest;
-        if class(text) { Ok(text) } else { fault(BAD_CHARACTER, element) }
+        if class(text) {
+            Ok(text)
+        } else {
+            fault(BAD_CHARACTER, element)
+        }
     }
 
     /// What of these bytes was read since.
@@ -192,7 +200,11 @@ fn function(rest: &mut Rest, kind: Type, bitmap: u128) -> Result<Option<u64>, Fa
         (b"401", true) => {
             let text = rest.digits::<24>(30)?;
             let (amount, zeros) = text.split_first_chunk().expect("24 digits");
-            if zeros == b"000000000000" { Ok(Some(number_of(amount))) } else { fault(BAD_VALUE, 30) }
+            if zeros == b"000000000000" {
+                Ok(Some(number_of(amount)))
+            } else {
+                fault(BAD_VALUE, 30)
+            }
         }
         _ => fault(BAD_VALUE, 24),
     }
@@ -244,7 +256,11 @@ fn front<'a>(rest: &mut Rest<'a>) -> Result<Front<'a>, Fault> {
     rest.digits::<10>(7)?;
     let trace = rest.digits(11)?;
     let stamp = rest.digits(12)?;
-    if is_stamp(stamp) { Ok(Front { card, processing, amount, trace, stamp }) } else { fault(BAD_VALUE, 12) }
+    if is_stamp(stamp) {
+        Ok(Front { card, processing, amount, trace, stamp })
+    } else {
+        fault(BAD_VALUE, 12)
+    }
 }
 
 /// Elements 41 and 49, of which the currency is answered.

@@ -152,7 +152,11 @@ pub fn month_text(month: u16) -> [u8; 4] {
 pub fn passes_luhn(text: &[u8]) -> bool {
     let value = |(place, digit): (usize, &u8)| {
         let value = u32::from(digit - b'0') << (place % 2);
-        if value > 9 { value - 9 } else { value }
+        if value > 9 {
+            value - 9
+        } else {
+            value
+        }
     };
     text.iter().rev().enumerate().map(value).sum::<u32>() % 10 == 0
 }

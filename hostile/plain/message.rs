@@ -13,9 +13,15 @@ pub enum Kind {
 pub enum Asks {
     Request,
     /// An advice, and whether the acquirer approved.
-    Advice { approved: bool },
+    Advice {
+        approved: bool,
+    },
     /// A reversal of the original of this identity and kind: of all of it, or in part, where it names the original's amount.
-    Reversal { original: Key, kind: Kind, part: Option<u64> },
+    Reversal {
+        original: Key,
+        kind: Kind,
+        part: Option<u64>,
+    },
 }
 
 /// A message, whose texts stand in the batch.

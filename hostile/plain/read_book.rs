@@ -88,7 +88,7 @@ impl<'a> Reader<'a> {
         Some(())
     }
 
-    /// A number behind such a text, up to this one.
+    /// A number behind such a text, up to this one, without a zero in front.
     #[inline]
     fn number(&mut self, before: &[u8], most: u64) -> Option<u64> {
         self.text(before)?;
@@ -101,8 +101,9 @@ impl<'a> Reader<'a> {
                 return None;
             }
         }
+        let is_number = size == 1 || size > 1 && self.rest[0] != b'0';
         self.rest = &self.rest[size..];
-        (size > 0).then_some(number)
+        is_number.then_some(number)
     }
 
     /// What stands between such a text and the next quotes.
@@ -176,7 +177,11 @@ impl<'a> Reader<'a> {
     /// What is there, or null.
     fn or_null<T>(&mut self, before: &[u8], read: impl FnOnce(&mut Self) -> Option<T>) -> Option<Option<T>> {
         self.text(before)?;
-        if self.text(b"null").is_some() { Some(None) } else { read(self).map(Some) }
+        if self.text(b"null").is_some() {
+            Some(None)
+        } else {
+            read(self).map(Some)
+        }
     }
 }
 

@@ -197,7 +197,11 @@ fn unpaid(message: &Message, kind: Kind, action: u16) -> Original {
 
 /// What a request on a card without a record is refused for. The numbers of a book's cards pass the Luhn test.
 fn unknown(card: Key) -> u16 {
-    if passes_luhn(&card.places()[..card.digits_in(CARD)]) { 118 } else { 111 }
+    if passes_luhn(&card.places()[..card.digits_in(CARD)]) {
+        118
+    } else {
+        111
+    }
 }
 
 /// The account that a request is to be paid from, or the action that refuses it.
@@ -212,7 +216,11 @@ fn usable_account(message: &Message, card: &Card, accounts: &[Account], names: &
         return Err(101);
     }
     let place = account_of(message, card, names).ok_or(119u16)?;
-    if accounts[place as usize].currency == message.currency { Ok(place) } else { Err(100) }
+    if accounts[place as usize].currency == message.currency {
+        Ok(place)
+    } else {
+        Err(100)
+    }
 }
 
 /// The card's account that the message names, if it is one of them; where it names none, the first.
@@ -230,5 +238,9 @@ fn within_limits(card: &Card, count: u32, sum: u64) -> Result<(), u16> {
     if card.day_amount < sum {
         return Err(121);
     }
-    if card.approvals >= MOST_APPROVALS { Err(909) } else { Ok(()) }
+    if card.approvals >= MOST_APPROVALS {
+        Err(909)
+    } else {
+        Ok(())
+    }
 }

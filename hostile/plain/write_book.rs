@@ -7,12 +7,8 @@ use crate::rows::{Account, Book, Budget, Card, Day, Name, Payer, Places, Seen, S
 use crate::PIECE;
 use std::io::{self, Write};
 
-pub const STATUSES: [(Status, &[u8]); 4] = [
-    (Status::Active, b"active"),
-    (Status::Blocked, b"blocked"),
-    (Status::Lost, b"lost"),
-    (Status::Stolen, b"stolen"),
-];
+pub const STATUSES: [(Status, &[u8]); 4] =
+    [(Status::Active, b"active"), (Status::Blocked, b"blocked"), (Status::Lost, b"lost"), (Status::Stolen, b"stolen")];
 
 /// 00 to 99.
 const PAIRS: [[u8; 2]; 100] = {
@@ -32,7 +28,9 @@ pub fn write_book<P: Places>(book: &Book<P>, to: impl Write) -> io::Result<()> {
     out.list(b"{\"accounts\":[", money.names.iter().zip(&money.accounts), account)?;
     out.list(b"],\"ahead\":[", seen.at(&seen.order(|it| matches!(it, Seen::Mark(_)))), ahead)?;
     out.list(b"],\"budgets\":[", money.budgets.at(&money.budgets.order(|_| true)), budget)?;
-    out.list(b"],\"cards\":[", money.cards.at(&money.cards.order(|_| true)), |text, row| card(text, row, &money.names))?;
+    out.list(b"],\"cards\":[", money.cards.at(&money.cards.order(|_| true)), |text, row| {
+        card(text, row, &money.names)
+    })?;
     out.list(b"],\"days\":[", money.days.at(&money.days.order(|_| true)), day)?;
     let originals = seen.order(|it| matches!(it, Seen::Original(_)));
     out.list(b"],\"originals\":[", seen.at(&originals), |text, row| original(text, row, &money.names))?;
@@ -47,7 +45,12 @@ struct Output<W> {
 
 impl<W: Write> Output<W> {
     /// The entries of a list, behind its beginning.
-    fn list<R>(&mut self, begin: &[u8], rows: impl IntoIterator<Item = R>, entry: impl Fn(&mut Vec<u8>, R)) -> io::Result<()> {
+    fn list<R>(
+        &mut self,
+        begin: &[u8],
+        rows: impl IntoIterator<Item = R>,
+        entry: impl Fn(&mut Vec<u8>, R),
+    ) -> io::Result<()> {
         self.text.extend_from_slice(begin);
         for (place, row) in rows.into_iter().enumerate() {
             if place > 0 {
@@ -103,7 +106,14 @@ fn card(text: &mut Vec<u8>, (key, it): (Key, Card), names: &[Name]) {
     number(text, it.day_amount);
     put!(text, b",\"day_count\":");
     number(text, it.day_count.into());
-    put!(text, b",\"expiry\":\"", &month_text(it.expiry), b"\",\"pan\":\"", &key.places()[..key.digits_in(CARD)], b"\",\"second\":");
+    put!(
+        text,
+        b",\"expiry\":\"",
+        &month_text(it.expiry),
+        b"\",\"pan\":\"",
+        &key.places()[..key.digits_in(CARD)],
+        b"\",\"second\":"
+    );
     match it.second {
         Some(place) => name(text, &names[place as usize]),
         None => put!(text, b"null"),
@@ -115,7 +125,14 @@ fn day(text: &mut Vec<u8>, (key, it): (Key, Day)) {
     let places = key.places();
     put!(text, b"{\"count\":");
     number(text, it.count.into());
-    put!(text, b",\"day\":\"", &places[CARD..CARD + 6], b"\",\"pan\":\"", &places[..key.digits_in(CARD)], b"\",\"sum\":");
+    put!(
+        text,
+        b",\"day\":\"",
+        &places[CARD..CARD + 6],
+        b"\",\"pan\":\"",
+        &places[..key.digits_in(CARD)],
+        b"\",\"sum\":"
+    );
     number(text, it.sum);
     put!(text, b"}");
 }
@@ -128,13 +145,27 @@ fn original(text: &mut Vec<u8>, (key, seen): (Key, Seen), names: &[Name]) {
         Payer::Account(place) => name(text, &names[place as usize]),
         Payer::Nothing | Payer::Budget => put!(text, b"null"),
     }
-    put!(text, b",\"acquirer\":\"", &places[..key.digits_in(ACQUIRER)], b"\",\"action\":\"", &fixed_digits::<3>(it.action.into()), b"\",\"amount\":");
+    put!(
+        text,
+        b",\"acquirer\":\"",
+        &places[..key.digits_in(ACQUIRER)],
+        b"\",\"action\":\"",
+        &fixed_digits::<3>(it.action.into()),
+        b"\",\"amount\":"
+    );
     number(text, it.amount);
     match &it.approval {
         Some(code) => put!(text, b",\"approval\":\"", code, b"\",\"kind\":\""),
         None => put!(text, b",\"approval\":null,\"kind\":\""),
     }
-    put!(text, kind_word(it.kind), b"\",\"paid\":\"", payer_word(it.payer), b"\",\"pan\":\"", &card[..it.card.digits_in(CARD)]);
+    put!(
+        text,
+        kind_word(it.kind),
+        b"\",\"paid\":\"",
+        payer_word(it.payer),
+        b"\",\"pan\":\"",
+        &card[..it.card.digits_in(CARD)]
+    );
     put!(text, b"\",\"processing\":\"", &it.processing, b"\",\"reversed\":");
     match it.reversed {
         Some(reversal) => identity(text, reversal),
@@ -148,7 +179,16 @@ fn original(text: &mut Vec<u8>, (key, seen): (Key, Seen), names: &[Name]) {
 /// The identity of a reversal.
 fn identity(text: &mut Vec<u8>, key: Key) {
     let places = key.places();
-    put!(text, b"{\"acquirer\":\"", &places[..key.digits_in(ACQUIRER)], b"\",\"stamp\":\"", stamp_of(&places), b"\",\"trace\":\"", trace_of(&places), b"\"}");
+    put!(
+        text,
+        b"{\"acquirer\":\"",
+        &places[..key.digits_in(ACQUIRER)],
+        b"\",\"stamp\":\"",
+        stamp_of(&places),
+        b"\",\"trace\":\"",
+        trace_of(&places),
+        b"\"}"
+    );
 }
 
 fn trace_of(places: &[u8; DIGITS]) -> &[u8] {
