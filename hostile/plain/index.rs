@@ -1,7 +1,7 @@
 //! A hash table of the places of rows that stand in a list.
 
 /// One mark and one place in each slot; a mark of 0 is a free slot, any other seven bits of a hash. What finds its slot taken
-/// stands in the next free one. At least half of the slots are free.
+/// stands in the next free one. At least half of the slots are free. The rows are those from 0 on, as many as slots are taken.
 #[derive(Default)]
 pub struct Index {
     marks: Vec<u8>,
@@ -10,15 +10,14 @@ pub struct Index {
 }
 
 impl Index {
-    /// Makes room for so many places more, of rows with these hashes.
+    /// Makes room for so many places more; the rows there are have these hashes.
     pub fn reserve(&mut self, more: usize, hash_of: impl Fn(u32) -> u64) {
         if 2 * (self.taken + more) <= self.marks.len() {
             return;
         }
         let slots = (2 * (self.taken + more)).next_power_of_two().max(16);
-        let marks = std::mem::replace(&mut self.marks, vec![0; slots]);
-        let places = std::mem::replace(&mut self.places, vec![0; slots]);
-        for (_, place) in marks.into_iter().zip(places).filter(|it| it.0 != 0) {
+        (self.marks, self.places) = (vec![0; slots], vec![0; slots]);
+        for place in 0..self.taken as u32 {
             let hash = hash_of(place);
             let at = self.slot_of(hash, |_| false);
             (self.marks[at], self.places[at]) = (mark_of(hash), place);
@@ -35,12 +34,12 @@ impl Index {
         (self.marks[at] != 0).then(|| self.places[at])
     }
 
-    /// The same, or else this place, which is put there. There has to be room for it.
+    /// The same, or else the next place, which has this hash from now on. There has to be room for it.
     #[inline]
-    pub fn find_or_put(&mut self, hash: u64, place: u32, is_it: impl Fn(u32) -> bool) -> u32 {
+    pub fn find_or_put(&mut self, hash: u64, is_it: impl Fn(u32) -> bool) -> u32 {
         let at = self.slot_of(hash, is_it);
         if self.marks[at] == 0 {
-            (self.marks[at], self.places[at]) = (mark_of(hash), place);
+            (self.marks[at], self.places[at]) = (mark_of(hash), self.taken as u32);
             self.taken += 1;
         }
         self.places[at]

@@ -343,7 +343,8 @@ impl<'a> Traffic<'a> {
     /// A reversal of a message that was sent, or of one that follows.
     fn reversal(&mut self, place: usize) -> Draft {
         let original = if self.random.percent(self.options.ahead) {
-            let original = self.original(place, self.random.0 as usize % 90);
+            let draw = self.random.below(90);
+            let original = self.original(place, draw);
             self.later.push((place + 1 + self.random.below(POOL), original.clone()));
             original
         } else {

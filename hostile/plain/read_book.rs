@@ -195,7 +195,7 @@ impl Reader<'_> {
         self.text(b"}")?;
         let is_next = self.names.last().is_none_or(|last| *last < name);
         self.places.reserve(1, |place| self.names[place as usize].hash());
-        self.places.find_or_put(name.hash(), self.names.len() as u32, |_| false);
+        self.places.find_or_put(name.hash(), |_| false);
         self.names.push(name);
         is_next.then_some(Account { available, currency })
     }

@@ -137,7 +137,7 @@ impl Places for Index {
     #[inline]
     fn find_or_put<R>(&mut self, key: Key, rows: &[(Key, R)]) -> u32 {
         Places::reserve(self, 1, rows);
-        Index::find_or_put(self, key.hash(), rows.len() as u32, |place| rows[place as usize].0 == key)
+        Index::find_or_put(self, key.hash(), |place| rows[place as usize].0 == key)
     }
 
     fn order<R>(&self, rows: &[(Key, R)], test: impl Fn(&R) -> bool) -> Vec<u32> {
