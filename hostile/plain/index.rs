@@ -51,7 +51,7 @@ impl Index {
         let (last, mark) = (self.marks.len() - 1, mark_of(hash));
         let mut at = hash as usize & last;
         while self.marks[at] != 0 && !(self.marks[at] == mark && is_it(self.places[at])) {
-            at = at + 1 & last;
+            at = (at + 1) & last;
         }
         at
     }

@@ -80,13 +80,13 @@ impl Key {
     #[inline(always)]
     pub fn of_card(text: &[u8]) -> Key {
         let (high, low) = text.split_at(text.len().min(16));
-        Key::new(packed(high) << 4 * (16 - high.len()), packed(low) << 4 << 4 * (15 - low.len()))
+        Key::new(packed(high) << (4 * (16 - high.len())), packed(low) << 4 << (4 * (15 - low.len())))
     }
 
     /// An identity: acquirer, trace number, local date and time.
     #[inline(always)]
     pub fn of_identity(acquirer: &[u8], trace: &[u8; 6], stamp: &[u8; 12]) -> Key {
-        let acquirer = packed(acquirer) << 4 * (16 - acquirer.len());
+        let acquirer = packed(acquirer) << (4 * (16 - acquirer.len()));
         let trace = packed(trace);
         Key::new(acquirer | trace >> 4, trace << 60 | packed(stamp) << 12)
     }
@@ -94,19 +94,19 @@ impl Key {
     /// A card's day: the day of an identity.
     #[inline]
     pub fn with_day_of(self, identity: Key) -> Key {
-        let day = identity.low >> 4 * (DIGITS - ACQUIRER - 12) & 0xff_ffff;
-        Key { low: self.low | day << 4 * (DIGITS - CARD - 6), ..self }
+        let day = identity.low >> (4 * (DIGITS - ACQUIRER - 12)) & 0xff_ffff;
+        Key { low: self.low | day << (4 * (DIGITS - CARD - 6)), ..self }
     }
 
     /// A card's day, in six digits.
     pub fn with_day(self, day: &[u8; 6]) -> Key {
-        Key { low: self.low | packed(day) << 4 * (DIGITS - CARD - 6), ..self }
+        Key { low: self.low | packed(day) << (4 * (DIGITS - CARD - 6)), ..self }
     }
 
     /// The month of an identity's date, as `month_of` has one.
     #[inline]
     pub fn month(self) -> u16 {
-        (self.low >> 4 * (DIGITS - ACQUIRER - 10)) as u16
+        (self.low >> (4 * (DIGITS - ACQUIRER - 10))) as u16
     }
 
     /// The prefix of a card number.
@@ -123,7 +123,7 @@ impl Key {
     /// How many of the first places have a digit, where all digits stand before those that have none.
     #[inline]
     pub fn digits_in(self, first: usize) -> usize {
-        first - (self.all() >> 4 * (DIGITS - first)).trailing_zeros() as usize / 4
+        first - (self.all() >> (4 * (DIGITS - first))).trailing_zeros() as usize / 4
     }
 
     /// The key's 32 places, of which those without a digit hold another byte.
@@ -132,7 +132,7 @@ impl Key {
         let mut places = [NONE; DIGITS];
         let (chunks, _) = places.as_chunks_mut::<8>();
         for (place, chunk) in chunks.iter_mut().enumerate() {
-            *chunk = unpacked((self.all() >> 96 - 32 * place) as u32);
+            *chunk = unpacked((self.all() >> (96 - 32 * place)) as u32);
         }
         places
     }
@@ -145,7 +145,7 @@ pub fn month_of(text: &[u8; 4]) -> u16 {
 
 /// A month's four digits.
 pub fn month_text(month: u16) -> [u8; 4] {
-    std::array::from_fn(|place| (month >> 12 - 4 * place & 15) as u8 + NONE)
+    std::array::from_fn(|place| (month >> (12 - 4 * place) & 15) as u8 + NONE)
 }
 
 /// The Luhn test: from the right, every second digit counts twice, less 9 where that has two digits.

@@ -148,7 +148,7 @@ fn add_account(book: &mut Book<Index>, name: &str, available: u64, currency: [u8
 
 /// A card, and its first account; the second accounts of all cards stand behind these.
 fn make_card(book: &mut Book<Index>, options: &Options, random: &mut Random, place: usize) -> Known {
-    let second = place % 3 == 0;
+    let second = place.is_multiple_of(3);
     let mut card = Card {
         account: place as u32,
         second: second.then_some((options.cards + place / 3) as u32),

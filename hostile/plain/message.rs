@@ -68,7 +68,7 @@ pub struct Fault {
 pub const fn bitmap_of(elements: &[u32]) -> u128 {
     let (mut bitmap, mut place) = (0, 0);
     while place < elements.len() {
-        bitmap |= 1 << 128 - elements[place];
+        bitmap |= 1 << (128 - elements[place]);
         place += 1;
     }
     bitmap
