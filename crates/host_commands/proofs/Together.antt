@@ -1,11 +1,11 @@
 -- Serving several links on a log that was opened.
-use Rattle.std.proofs.Common.{◌≡◌, ℕ, List, ◌++◌, IsTrue, subst, sym}
+use Rattle.std.proofs.Common.{ℕ, List, IsTrue, subst, sym}
 use Rattle.std.proofs.Math.Logic.{∥∥₁_map}
-use Rattle.issuer_rows.specs.Fold.{Rows, rows_after}
+use Rattle.issuer_rows.specs.Fold.{rows_after}
 use Rattle.host_serving.specs.Entering.{book_of}
 use Rattle.host_serving.specs.declared.host.Host.{Host}
 use Rattle.host_opening.specs.Opening.{book_digest, HoldsEntries}
-use Rattle.host_links.specs.Merged.{LinkMerged, MergesAll}
+use Rattle.host_links.specs.Merged.{MergesAll}
 use Rattle.host_links.specs.declared.links_outcome.LinksOutcome.{LinksOutcome}
 use Rattle.host_links.specs.declared.seat.Seat.{Seat}
 use Rattle.host_links.proofs.Merging.{merged_for}
