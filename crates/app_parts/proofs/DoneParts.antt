@@ -25,19 +25,19 @@ use Rattle.app_parts.specs.declared.plan_opening.OpenPlan.{OpenPlan}
 -- ---- a part is decided
 
 -- what is written
-the_texts : (folder : List ℕ) (number : ℕ) (opened : OpenPlan) (book batch replies new_book : List ℕ) (d : IsDecidedText book batch replies new_book)
+the_texts : (folder : List ℕ) (number : ℕ) (opened : OpenPlan) (book batch replies new_book : List ℕ) (count : ℕ) (d : IsDecidedText book batch replies new_book count)
     → opened.digest ≡ sha256 (plan_text (plan_of opened.plan))
     → made_texts folder number opened.digest replies new_book ≡ decided_texts folder number (plan_of opened.plan) d.rows d.frames
-the_texts folder number opened book batch replies new_book d digest =
+the_texts folder number opened book batch replies new_book count d digest =
     (λ i. made_texts folder number (digest i) (d.replies_are i) (d.book_is i))
 
-pub part_decided : (known : Type 0) (old new : Holding) (folder : List ℕ) (number : ℕ) (opened : OpenPlan) (digests : PartDigests) (book batch replies new_book : List ℕ) (texts : List Text)
+pub part_decided : (known : Type 0) (old new : Holding) (folder : List ℕ) (number : ℕ) (opened : OpenPlan) (digests : PartDigests) (book batch replies new_book : List ℕ) (count : ℕ) (texts : List Text)
     → IsOpenPlan known old folder opened → slice_get opened.plan.digests.items number ≡ Some digests
     → IsHeld known old (part_name folder number Book) book → sha256 book ≡ digests.book
     → IsHeld known old (part_name folder number Batch) batch → sha256 batch ≡ digests.batch
-    → IsDecidedText book batch replies new_book → texts ≡ made_texts folder number opened.digest replies new_book
-    → (known → AreDistinct texts → AreHeld new texts) → IsPartDecided known old new folder number
-part_decided known old new folder number opened digests book batch replies new_book texts is found book_held of_book batch_held of_batch d are put =
+    → IsDecidedText book batch replies new_book count → texts ≡ made_texts folder number opened.digest replies new_book
+    → (known → AreDistinct texts → AreHeld new texts) → IsPartDecided known old new folder number count
+part_decided known old new folder number opened digests book batch replies new_book count texts is found book_held of_book batch_held of_batch d are put =
     record {
       plan = plan_of opened.plan;
       is_plan = is.is_plan;
@@ -54,11 +54,12 @@ part_decided known old new folder number opened digests book batch replies new_b
       opening = d.opening;
       frames = d.frames;
       messages = d.messages;
+      counted = d.counted;
       back = d.back;
       bodies = d.bodies;
       written = λ is_known.
           let distinct = subst AreDistinct (sym are) (decided_distinct folder number opened.digest replies new_book) in
-          subst (AreHeld new) (are ∙ the_texts folder number opened book batch replies new_book d is.digest) (put is_known distinct);
+          subst (AreHeld new) (are ∙ the_texts folder number opened book batch replies new_book count d is.digest) (put is_known distinct);
     }
 
 -- a file that isn't of the part isn't written
@@ -69,8 +70,8 @@ not_of_part folder number plan replies new_book other texts are not =
 
 -- ---- a batch is put in parts
 
-pub planned_more : (p : Parting) (most : ℕ) → most ≤ 64 → IsPlanned p most → IsPlanned p 64
-planned_more p most few planned = record { some = planned.some; few = omega (arith, planned.few, few); each = planned.each; below = planned.below; apart = planned.apart }
+pub few_parts : (p : Parting) (most count : ℕ) → count ≡ most → count ≤ 64 → IsPlanned p most → p.count ≤ 64
+few_parts p most count is few planned = omega (arith, planned.few, is, few)
 
 frames_of_bodies : (bodies : List (List ℕ)) (frames : List Frame) → AreFramesOf bodies frames → length bodies ≡ length frames
 frames_of_bodies [] [] are = refl

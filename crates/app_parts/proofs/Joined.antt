@@ -173,12 +173,12 @@ both_written known new names replies rows texts are apart held k =
     let distinct : AreDistinct (joined_texts names replies rows) = (((λ e. apart k (sym e)), tt), (tt, tt)) in
     subst (λ (all : List Text). AreHeld new all) are (held k (subst (λ (all : List Text). AreDistinct all) (sym are) distinct))
 
-pub joined : (known : Type 0) (old new : Holding) (names : Names) (opened : OpenPlan) (rest : Rows) (own : Answers) (replies : List ReplyBody) (book : Rows)
+pub joined : (known : Type 0) (old new : Holding) (names : Names) (opened : OpenPlan) (rest : Rows) (own : Answers) (replies : List ReplyBody) (book : Rows) (count : ℕ)
     → IsOpenPlan known old names.folder opened → IsRest known old names.folder opened.plan.rest rest → AreOpened known old names.folder opened own
-    → AreInArrivalOrder opened.plan.parts.items (map (λ list. list.items) own.replies.items) replies → book ≡ joined_books rest own.books.items
+    → AreInArrivalOrder opened.plan.parts.items (map (λ list. list.items) own.replies.items) replies → count ≡ length replies → book ≡ joined_books rest own.books.items
     → AreReplyBodies replies → reading (book_text book) ≡ Ok book → (known → AreHeld new (joined_texts names replies book))
-    → IsJoined known old new names
-joined known old new names opened rest own replies book is_open of_rest of_answers order is bodies back written =
+    → IsJoined known old new names count
+joined known old new names opened rest own replies book count is_open of_rest of_answers order counted is bodies back written =
     let answers = of_answers.0 in
     let have = of_answers.2 in
     let whole : book ≡ joined_books rest (map (λ answer. answer.rows) answers) = is ∙ ap (joined_books rest) have.books in
@@ -198,6 +198,7 @@ joined known old new names opened rest own replies book is_open of_rest of_answe
       };
       replies = replies;
       order = subst (λ (lists : List (List ReplyBody)). AreInArrivalOrder opened.plan.parts.items lists replies) have.replies order;
+      counted = counted;
       bodies = bodies;
       back = subst (λ (rows : Rows). reading (book_text rows) ≡ Ok rows) whole back;
       written = λ k. subst (λ (rows : Rows). AreHeld new (joined_texts names replies rows)) whole (written k);

@@ -7,3 +7,4 @@ pub mod Parts
 pub mod Answered
 pub mod Joined
 pub mod OneRun
+pub mod Said

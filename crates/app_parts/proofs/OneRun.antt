@@ -1,5 +1,5 @@
 -- That parts which are put together are one run.
-use Rattle.std.proofs.Common.{◌≡◌, ◌<◌, ◌≤◌, ◌+◌, ◌*◌, ℕ, zero, suc, List, [], ◌∷◌, ◌++◌, length, map, zip, Result, Ok, Err, refl, sym, ap, ◌∙◌, subst, arith}
+use Rattle.std.proofs.Common.{◌≡◌, ◌<◌, ◌≤◌, ◌+◌, ◌*◌, ℕ, zero, suc, List, [], ◌∷◌, ◌++◌, length, map, Result, Ok, Err, refl, sym, ap, ◌∙◌, subst, arith}
 use Rattle.std.proofs.lemmas.List.{length-append}
 use Rattle.std.proofs.lemmas.List.Elements.{All-from_recursion}
 use Rattle.std.specs.List.{All, AllByRecursion, flat_map}
@@ -13,7 +13,7 @@ use Rattle.file_batch_laws.proofs.ReadBack.{replies_alone}
 use Rattle.file_batch_laws.specs.Files.{replies_text}
 use Rattle.file_batch_laws.specs.Replies.{IsReplyFileOf}
 use Rattle.file_devices.specs.Holding.{Holding}
-use Rattle.issuer_laws.specs.Parts.{Parted, bodies}
+use Rattle.issuer_laws.specs.Parts.{bodies}
 use Rattle.issuer_rows.specs.Fold.{Rows, replies_to, rows_after}
 use Rattle.issuer_rows.specs.declared.frame.Frame.{Frame}
 use Rattle.issuer_rows.specs.declared.reply_body.ReplyBody.{ReplyBody}
@@ -24,9 +24,9 @@ use Rattle.parts_books.specs.PartBooks.{AreInArrivalOrder, each_from, each_part,
 use Rattle.parts_files.proofs.Fronts.{behind_letters, behind_number, counted, long, numbered, same_plan}
 use Rattle.parts_files.specs.Texts.{AreDigests, IsPlan, Plan, digests_text, listed_text, plan_text}
 use Rattle.app_parts.proofs.Parts.{length-each}
-use Rattle.app_parts.specs.Joining.{Answer, AreAnswersFrom, IsJoined, Names}
+use Rattle.app_parts.specs.Joining.{Answer, AreAnswersFrom, Names}
 use Rattle.app_parts.specs.Parting.{IsPlanned, Parting, batch_of_part, book_of_part, digests_of_part, parted, plan_of_parting, rest_of}
-use Rattle.app_parts.specs.Run.{HoldsRun, IsOneRun, JoinsOneRun}
+use Rattle.app_parts.specs.Run.{HoldsRun, JoinsOneRun}
 
 -- ---- the plan
 
@@ -116,19 +116,19 @@ module _ (known : Type 0) (holds : Holding) (folder : List ℕ) (most : ℕ) (p 
 -- ---- all of them
 
 pub one_run : (known : Type 0) (old new : Holding) (names : Names) (p : Parting) → JoinsOneRun known old new names p
-one_run known old new names p h joined =
+one_run known old new names p h count joined =
     let folder = joined.folder in
     let plan : joined.plan ≡ plan_of_parting p = the_plan p h.planned joined.plan folder.is_plan (folder.plan_held.only (plan_text (plan_of_parting p)) h.plan) in
     let parts : joined.plan.parts ≡ p.parts = ap (λ (plan : Plan). plan.parts) plan in
-    let count : length joined.answers ≡ p.count = folder.each ∙ ap (λ (plan : Plan). length plan.digests) plan ∙ length-each (digests_of_part p) p.count in
-    let answers = the_answers known old names.folder 64 p h (sha256 (plan_text joined.plan)) joined.answers 0 (omega (arith, count)) folder.are in
+    let many : length joined.answers ≡ p.count = folder.each ∙ ap (λ (plan : Plan). length plan.digests) plan ∙ length-each (digests_of_part p) p.count in
+    let answers = the_answers known old names.folder 64 p h (sha256 (plan_text joined.plan)) joined.answers 0 (omega (arith, many)) folder.are in
     let whole = the_whole p.rows (parted p) p.count h.planned.apart (zip_below p.count p.parts p.frames h.planned.below) in
     let all : bodies (parted p) ≡ p.frames = bodies_zip p.parts p.frames h.planned.each in
     let numbers : map (λ (m : ℕ × Frame). m.0) (parted p) ≡ p.parts = parts_zip p.parts p.frames h.planned.each in
     let lists : map (λ (a : Answer). a.replies) joined.answers ≡ each_part (part_replies p.rows (parted p)) p.count =
-    answers.0 ∙ ap (each_part (part_replies p.rows (parted p))) count in
+    answers.0 ∙ ap (each_part (part_replies p.rows (parted p))) many in
     let books : map (λ (a : Answer). a.rows) joined.answers ≡ each_part (part_rows_after p.rows (parted p)) p.count =
-    answers.1 ∙ ap (each_part (part_rows_after p.rows (parted p))) count in
+    answers.1 ∙ ap (each_part (part_rows_after p.rows (parted p))) many in
     let rest : joined.rest ≡ rest_rows p.rows (bodies (parted p)) =
     the_book folder.book (rest_of p) joined.rest (rest_rows p.rows p.frames) (folder.rest_held.only (rest_of p) h.rest) folder.opening h.back.rest ∙ ap (rest_rows p.rows) (sym all) in
     let order : AreInArrivalOrder (map (λ (m : ℕ × Frame). m.0) (parted p)) (each_part (part_replies p.rows (parted p)) p.count) joined.replies =

@@ -1,5 +1,5 @@
 -- What words ask of `part`, `decide` and `join`.
-use Rattle.std.specs.Prelude.{◌≡◌, ◌≤◌, ◌<◌, ◌^◌, ◌⊎◌, ⊤, ℕ, List, Some, codes, length, slice_get}
+use Rattle.std.specs.Prelude.{◌≡◌, ◌≤◌, ◌<◌, ◌^◌, ◌⊎◌, ℕ, List, Some, codes, length, slice_get}
 use Rattle.std.specs.Str.Parse.{IsNumeral, digits_value, without_leading_plus}
 use Rattle.app_words.specs.Words.{AsksHelp, IsCommand}
 use Rattle.app_parts.specs.declared.asking.PartsAsked.{PartsAsked}
@@ -49,8 +49,3 @@ IsAskedBy words (Wrong usage) =
     (¬ AsksHelp words)
     × ((IsCommand (codes "part") words × (¬ AsksPart words))
     ⊎ ((IsCommand (codes "decide") words × (¬ AsksDecide words)) ⊎ (IsCommand (codes "join") words × (¬ AsksJoin words))))
-
--- it can be done: a batch is put in so many parts as there can be
-abbrev pub IsAskable : PartsAsked → Type 0
-IsAskable (Part names most) = IsMost most
-IsAskable _ = ⊤

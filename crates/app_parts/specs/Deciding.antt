@@ -1,5 +1,5 @@
 -- A part's bytes that are decided.
-use Rattle.std.specs.Prelude.{◌≡◌, ℕ, List, [], ◌∷◌, Ok, Err}
+use Rattle.std.specs.Prelude.{◌≡◌, ℕ, List, [], ◌∷◌, Ok, Err, length}
 use Rattle.sha2.specs.Sha256.{sha256}
 use Rattle.book_laws.specs.Reading.{IsAnswer, reading}
 use Rattle.book_laws.specs.Text.{book_text}
@@ -16,12 +16,14 @@ use Rattle.app_parts.specs.Planning.{IsBatchFaultOf}
 use Rattle.app_parts.specs.Texts.{Text}
 use Rattle.app_parts.specs.declared.part_file.PartFile.TheVariants.{Replies, NewBook, Decided}
 
--- these are the texts of the replies and of the book that a batch of these bytes comes to on a book of these, one message after another
-pub record IsDecidedText (book batch replies new_book : List ℕ) : Type 0 where
+-- these are the texts of the replies and of the book that a batch of these bytes, of so many messages, comes to on a book of these, one
+-- message after another
+pub record IsDecidedText (book batch replies new_book : List ℕ) (count : ℕ) : Type 0 where
   pub rows : Rows
   pub opening : IsAnswer (reading book) (Ok rows)
   pub frames : List Frame
   pub messages : IsBatchOf batch frames
+  pub counted : count ≡ length frames
   pub replies_are : replies ≡ replies_text (replies_to rows frames)
   pub book_is : new_book ≡ book_text (rows_after rows frames)
   pub back : reading (book_text (rows_after rows frames)) ≡ Ok (rows_after rows frames)

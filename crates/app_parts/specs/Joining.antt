@@ -1,6 +1,5 @@
 -- A part that is decided, and parts that are put together, as files hold them.
-use Rattle.std.specs.Prelude.{◌≡◌, ◌<◌, ℕ, suc, List, [], ◌∷◌, ⊤, Some, Ok, length, map, slice_get}
-use Rattle.std.specs.FinMap as map
+use Rattle.std.specs.Prelude.{◌≡◌, ℕ, suc, List, [], ◌∷◌, ⊤, Some, Ok, length, map, slice_get}
 use Rattle.sha2.specs.Sha256.{sha256}
 use Rattle.book_laws.specs.Reading.{IsAnswer, reading}
 use Rattle.book_laws.specs.Text.{book_text}
@@ -31,8 +30,8 @@ decided_texts folder part plan rows frames =
     ∷ record { name = part_name folder part Decided; text = decided_text part (sha256 (plan_text plan)) (sha256 replies) (sha256 new_book) } ∷ []
 
 -- The part's book and batch that the files of the folder held are those of the plan. They were decided one message after another, and the
--- files of the part hold the replies, the new book, and of which plan they are. Both are read again.
-pub record IsPartDecided (known : Type 0) (old new : Holding) (folder : List ℕ) (part : ℕ) : Type 0 where
+-- files of the part hold the replies, the new book, and of which plan they are. Both are read again. So many messages it has.
+pub record IsPartDecided (known : Type 0) (old new : Holding) (folder : List ℕ) (part count : ℕ) : Type 0 where
   pub plan : Plan
   pub is_plan : IsPlan plan
   pub plan_held : IsHeld known old (plan_name folder) (plan_text plan)
@@ -48,6 +47,7 @@ pub record IsPartDecided (known : Type 0) (old new : Holding) (folder : List ℕ
   pub opening : IsAnswer (reading book) (Ok rows)
   pub frames : List Frame
   pub messages : IsBatchOf batch frames
+  pub counted : count ≡ length frames
   pub back : reading (book_text (rows_after rows frames)) ≡ Ok (rows_after rows frames)
   pub bodies : AreReplyBodies (replies_to rows frames)
   pub written : known → AreHeld new (decided_texts folder part plan rows frames)
@@ -101,13 +101,15 @@ pub record IsFolder (known : Type 0) (holds : Holding) (folder : List ℕ) (plan
   pub are : AreAnswersFrom known holds folder (sha256 (plan_text plan)) 0 answers
 
 -- The parts of the folder were put together: the files hold the replies in the order of arrival, and the rest with the books of the parts.
-pub record IsJoined (known : Type 0) (old new : Holding) (names : Names) : Type 0 where
+-- So many replies there are.
+pub record IsJoined (known : Type 0) (old new : Holding) (names : Names) (count : ℕ) : Type 0 where
   pub plan : Plan
   pub rest : Rows
   pub answers : List Answer
   pub folder : IsFolder known old names.folder plan rest answers
   pub replies : List ReplyBody
   pub order : AreInArrivalOrder plan.parts (map (λ answer. answer.replies) answers) replies
+  pub counted : count ≡ length replies
   pub bodies : AreReplyBodies replies
   pub back : reading (book_text (joined_books rest (map (λ answer. answer.rows) answers))) ≡ Ok (joined_books rest (map (λ answer. answer.rows) answers))
   pub written : known → AreHeld new (joined_texts names replies (joined_books rest (map (λ answer. answer.rows) answers)))

@@ -4,7 +4,7 @@ use Rattle.sha2.specs.Sha256.{sha256}
 use Rattle.file_devices.specs.Failing.{Failing}
 use Rattle.file_devices.specs.Holding.{Holding}
 use Rattle.app_jobs.specs.declared.job_fault.JobFault.{JobFault}
-use Rattle.app_jobs.specs.declared.job_fault.JobFault.TheVariants.{Unreadable, OutOfMemory}
+use Rattle.app_jobs.specs.declared.job_fault.JobFault.TheVariants.{OutOfMemory}
 use Rattle.parts_files.specs.Texts.{IsPlan, decided_head, decided_text, plan_of, plan_text}
 use Rattle.app_parts.specs.Faults.{HasNoPlan}
 use Rattle.app_parts.specs.Names.{plan_name}

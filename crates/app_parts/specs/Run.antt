@@ -1,6 +1,5 @@
 -- A batch that is put in parts, decided part by part, and put together.
 use Rattle.std.specs.Prelude.{◌≡◌, ◌<◌, ℕ, List, Ok, map}
-use Rattle.book_laws.specs.CheckBook.{IsSound}
 use Rattle.book_laws.specs.Reading.{reading}
 use Rattle.book_laws.specs.Text.{book_text}
 use Rattle.file_batch_laws.specs.Files.{replies_text}
@@ -35,5 +34,5 @@ pub record IsOneRun (p : Parting) (replies : List ReplyBody) (book : Rows) : Typ
 -- where the files hold such a run of at most 64 parts, and `join` puts it together
 abbrev pub JoinsOneRun : Type 0 → Holding → Holding → Names → Parting → Type 0
 JoinsOneRun known old new names p =
-    HoldsRun old names.folder 64 p → (joined : IsJoined known old new names)
+    HoldsRun old names.folder 64 p → (count : ℕ) (joined : IsJoined known old new names count)
     → IsOneRun p joined.replies (joined_books joined.rest (map (λ answer. answer.rows) joined.answers))

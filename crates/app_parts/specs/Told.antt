@@ -25,6 +25,14 @@ count_lines part [] = []
 count_lines part (count ∷ counts) =
     count_line part count ++ count_lines (suc part) counts
 
+-- the line of what was done, with so many messages
+abbrev pub done_line : List ℕ → ℕ → List ℕ
+done_line done count = done ++ (codes " " ++ (decimal count ++ codes "\n"))
+
+-- The status where this text is to be said behind the work: 0 where it is said, behind what was said before; 1 where it couldn't be said.
+abbrev pub IsSaid : Option (List ℕ) → Option (List ℕ) → List ℕ → ℕ → Type 0
+IsSaid before after text status = ((status ≡ 0) × Appends before after text) ⊎ (status ≡ 1)
+
 -- A status behind a fault: that of the fault, and all files are as they were.
 abbrev pub IsRefused : Holding → Holding → (PartsFault → Type 0) → ℕ → Type 0
 IsRefused old new is_fault status = (fault : PartsFault) × (status ≡ status_of fault) × is_fault fault × AreAsTheyWere old new
@@ -33,13 +41,14 @@ IsRefused old new is_fault status = (fault : PartsFault) × (status ≡ status_o
 -- as they were; these have status 2.
 abbrev pub IsAnswered : Type 0 → Holding → Holding → Failing → PartsAsked → Option (List ℕ) → Option (List ℕ) → ℕ → Type 0
 IsAnswered known old new failing (Part names most) before after status =
-    ((counts : List PartCount) × IsParted known old new (parting.names_of names) most counts
-    × (((status ≡ 0) × Appends before after (count_lines 0 counts)) ⊎ (status ≡ 1)))
+    ((counts : List PartCount) × IsParted known old new (parting.names_of names) most counts × IsSaid before after (count_lines 0 counts) status)
     ⊎ IsRefused old new (IsPartingFault known old failing (parting.names_of names)) status
 IsAnswered known old new failing (Decide folder part) before after status =
-    (IsPartDecided known old new folder.now part × (status ≤ 1)) ⊎ IsRefused old new (IsDecidingFault old failing folder.now part) status
+    ((count : ℕ) × IsPartDecided known old new folder.now part count × IsSaid before after (done_line (codes "decided") count) status)
+    ⊎ IsRefused old new (IsDecidingFault old failing folder.now part) status
 IsAnswered known old new failing (Join names) before after status =
-    (IsJoined known old new (joining.names_of names) × (status ≤ 1)) ⊎ IsRefused old new (IsJoiningFault known old failing (joining.names_of names)) status
+    ((count : ℕ) × IsJoined known old new (joining.names_of names) count × IsSaid before after (done_line (codes "joined") count) status)
+    ⊎ IsRefused old new (IsJoiningFault known old failing (joining.names_of names)) status
 IsAnswered known old new failing (Help text) before after status = (status ≤ 1) × AreAsTheyWere old new
 IsAnswered known old new failing (Wrong usage) before after status = (status ≡ 2) × AreAsTheyWere old new
 

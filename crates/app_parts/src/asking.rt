@@ -1,17 +1,18 @@
 ghost use Rattle.std.specs.Prelude.{◌⊎◌, IfSome, IfNone, SomeIff, codes, map, string_bytes};
-ghost use Rattle.app_parts.specs.Asked.{IsAskable, IsAskedBy, IsNumber, number_of};
+ghost use Rattle.app_parts.specs.Asked.{IsAskedBy, IsMost, IsNumber, number_of};
 ghost use Rattle.app_words.specs.Words.{IsCommand};
 
 use crate::help::{DECIDE_HELP, DECIDE_USAGE, JOIN_HELP, JOIN_USAGE, PART_HELP, PART_USAGE};
 use crate::join_names::JoinNames;
 use crate::part_names::PartNames;
 use app_words::{asks_help, is_command};
+use parts_files::MostParts;
 
 /// What words ask of `part`, `decide` and `join`.
 #[derive(Clone, Copy)]
 pub enum PartsAsked<'a> {
-    /// To put the batch of these files in at most so many parts, 1 to 64.
-    Part(PartNames<'a>, u32),
+    /// To put the batch of these files in at most so many parts.
+    Part(PartNames<'a>, MostParts),
     /// To decide the part of this number, of this folder.
     Decide(&'a str, u32),
     /// To put the parts of a folder together.
@@ -25,7 +26,6 @@ pub enum PartsAsked<'a> {
 /// What the program's words, of which the first is its name, ask of parts. `None` where they don't ask it.
 pub fn parts_asked(words: &[String]) -> Option<PartsAsked<'_>>
     ensures asked { IfSome result (IsAskedBy (map string_bytes words.now)) }
-    ensures askable { IfSome result IsAskable }
     ensures none { IfNone result (¬ (IsCommand (codes "part") (map string_bytes words.now)
         ⊎ (IsCommand (codes "decide") (map string_bytes words.now) ⊎ IsCommand (codes "join") (map string_bytes words.now)))) }
 {
@@ -43,8 +43,7 @@ pub fn parts_asked(words: &[String]) -> Option<PartsAsked<'_>>
 // What is asked by words of which the second is `part`.
 fn part_asked(words: &[String]) -> PartsAsked<'_>
     requires { IsCommand (codes "part") (map string_bytes words.now) }
-    ensures asked { IsAskedBy (map string_bytes words.now) result }
-    ensures askable { IsAskable result }
+    ensures { IsAskedBy (map string_bytes words.now) result }
 {
     if asks_help(words) {
         return PartsAsked::Help(PART_HELP);
@@ -57,17 +56,16 @@ fn part_asked(words: &[String]) -> PartsAsked<'_>
         batch: words[3].as_str(),
         folder: words[5].as_str(),
     };
-    match number_of(words[4].as_str()) {
-        Some(count) if count >= 1 && count <= 64 => PartsAsked::Part(names, count),
-        _ => PartsAsked::Wrong(PART_USAGE),
+    match most_of(words[4].as_str()) {
+        Some(most) => PartsAsked::Part(names, most),
+        None => PartsAsked::Wrong(PART_USAGE),
     }
 }
 
 // What is asked by words of which the second is `decide`.
 fn decide_asked(words: &[String]) -> PartsAsked<'_>
     requires { IsCommand (codes "decide") (map string_bytes words.now) }
-    ensures asked { IsAskedBy (map string_bytes words.now) result }
-    ensures askable { IsAskable result }
+    ensures { IsAskedBy (map string_bytes words.now) result }
 {
     if asks_help(words) {
         return PartsAsked::Help(DECIDE_HELP);
@@ -84,8 +82,7 @@ fn decide_asked(words: &[String]) -> PartsAsked<'_>
 // What is asked by words of which the second is `join`.
 fn join_asked(words: &[String]) -> PartsAsked<'_>
     requires { IsCommand (codes "join") (map string_bytes words.now) }
-    ensures asked { IsAskedBy (map string_bytes words.now) result }
-    ensures askable { IsAskable result }
+    ensures { IsAskedBy (map string_bytes words.now) result }
 {
     if asks_help(words) {
         return PartsAsked::Help(JOIN_HELP);
@@ -98,6 +95,16 @@ fn join_asked(words: &[String]) -> PartsAsked<'_>
         replies: words[3].as_str(),
         new_book: words[4].as_str(),
     })
+}
+
+// How many parts this word asks for at most.
+fn most_of(word: &str) -> Option<MostParts>
+    ensures { SomeIff result (IsNumber word.now × IsMost (number_of word.now)) (number_of word.now) }
+{
+    match number_of(word) {
+        Some(number) => MostParts::new(number),
+        None => None,
+    }
 }
 
 // The number of this word, in decimal digits.

@@ -1,4 +1,4 @@
-ghost use Rattle.std.specs.Prelude.{◌≡◌, ◌≤◌, ℕ, List, IfOk, IfErr, OnErr, OnOk, Ok, Some, length, slice_get};
+ghost use Rattle.std.specs.Prelude.{◌≡◌, ◌≤◌, ℕ, List, IfOk, IfErr, OnErr, Ok, Some, length, slice_get};
 ghost use Rattle.sha2.specs.Sha256.{sha256};
 ghost use Rattle.book_laws.specs.Reading.{IsAnswer, reading};
 ghost use Rattle.file_devices.specs.Holding.{AreAsTheyWere, IsAsItWas};
@@ -37,7 +37,7 @@ pub fn decide_part<R: Threads + Wait + Sync, F: Files>(
     folder: &str,
     part: u32,
 ) -> Result<BodyCount, PartsFault>
-    ensures decided { OnOk result (IsPartDecided (F.is_known files.old) (F.holds files.old) (F.holds files.new) folder.now part) }
+    ensures decided { IfOk result (λ count. IsPartDecided (F.is_known files.old) (F.holds files.old) (F.holds files.new) folder.now part count.bodies) }
     ensures fault { IfErr result (IsDecidingFault (F.holds files.old) (F.failing files.old) folder.now part) }
     ensures kept { OnErr result (AreAsTheyWere (F.holds files.old) (F.holds files.new)) }
     ensures others { (other : List ℕ) → ¬ IsOfDecided folder.now part other → IsAsItWas (F.holds files.old) (F.holds files.new) other }
@@ -102,7 +102,7 @@ fn decide_bytes<R: Threads + Wait + Sync>(
     book: &[u8],
     batch: &[u8],
 ) -> Result<DecidedBytes, JobFault>
-    ensures decided { IfOk result (λ decided. IsDecidedText book.now batch.now decided.replies.items decided.new_book.items) }
+    ensures decided { IfOk result (λ decided. IsDecidedText book.now batch.now decided.replies.items decided.new_book.items decided.count.bodies) }
     ensures fault { IfErr result (IsDecidedFaultOf book.now batch.now) }
 {
     let book = match read_book(rt, alloc, book) {

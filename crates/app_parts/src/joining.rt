@@ -30,14 +30,14 @@ use std::thread::Threads;
 
 /// Puts the parts of a folder together, and the replies to the whole batch in the order of arrival and the book behind it in place: both, or
 /// after a fault none. A folder is refused where a part isn't decided, or by another plan, or another file is there than the plan or the
-/// part's last file names.
+/// part's last file names. Returns how many replies there are.
 pub fn join_parts<R: Threads, F: Files>(
     rt: &R,
     alloc: Global,
     files: &mut F,
     names: &JoinNames<'_>,
 ) -> Result<usize, PartsFault>
-    ensures joined { OnOk result (IsJoined (F.is_known files.old) (F.holds files.old) (F.holds files.new) (names_of names.now)) }
+    ensures joined { IfOk result (IsJoined (F.is_known files.old) (F.holds files.old) (F.holds files.new) (names_of names.now)) }
     ensures fault { IfErr result (IsJoiningFault (F.is_known files.old) (F.holds files.old) (F.failing files.old) (names_of names.now)) }
     ensures kept { OnErr result (AreAsTheyWere (F.holds files.old) (F.holds files.new)) }
     ensures others { (other : List ℕ) → other ≢ names.now.replies.now → other ≢ names.now.new_book.now → IsAsItWas (F.holds files.old) (F.holds files.new) other }

@@ -23,7 +23,7 @@ use crate::reading::digest_of;
 use book_text::write_book;
 use issuer_rows::{Book, Frame};
 use parts_books::{part_book, rest_book};
-use parts_files::{PartDigests, PlanFile, plan_text};
+use parts_files::{MostParts, PartDigests, PlanFile, plan_text};
 use std::alloc::{AllocError, Global};
 
 // What is made of some parts.
@@ -42,20 +42,23 @@ struct OnePart {
     count: PartCount,
 }
 
-/// All files of the folder of a batch in parts, and how much each part has. It fails only where memory runs out.
+/// All files of the folder of a batch in at most so many parts, and how much each part has. It fails only where memory runs out.
 pub(crate) fn make_folder(
     alloc: Global,
     folder: &str,
     book: &Book,
     batch: &BatchInParts,
+    most: MostParts,
 ) -> Result<(Vec<NamedText>, Vec<PartCount>), AllocError>
-    requires planned { IsPlanned (parting_of book.now batch.now) 64 }
+    requires planned { IsPlanned (parting_of book.now batch.now) most }
     requires few { length batch.now.frames.items ≤ 65536 }
     requires each { length batch.now.bodies.items ≡ length batch.now.frames.items }
     ensures texts { IfOk result (λ made. texts_of made.0.items ≡ folder_texts folder.now (parting_of book.now batch.now)) }
     ensures counts { IfOk result (λ made. made.1.items ≡ each_part (count_of_part (parting_of book.now batch.now)) batch.now.plan.count) }
     ensures back { OnOk result (AreReadBack (parting_of book.now batch.now)) }
 {
+    // A file of the plan can have so many.
+    let _most = most.count();
     let made = make_parts(alloc, folder, book, batch)?;
     let MadeParts {
         texts,

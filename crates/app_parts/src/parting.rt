@@ -1,4 +1,4 @@
-ghost use Rattle.std.specs.Prelude.{◌≡◌, ◌≤◌, ◌<◌, ℕ, List, IfOk, IfErr, OnErr, OnOk, Ok};
+ghost use Rattle.std.specs.Prelude.{◌≡◌, ℕ, List, IfOk, IfErr, OnErr, OnOk, Ok};
 ghost use Rattle.book_laws.specs.Reading.{IsAnswer, reading};
 ghost use Rattle.file_devices.specs.Holding.{AreAsTheyWere, IsAsItWas};
 ghost use Rattle.app_jobs.specs.Faults.{IsBookFault};
@@ -19,6 +19,7 @@ use app_jobs::JobFault;
 use book_json::read_book;
 use file_devices::Files;
 use issuer_rows::Book;
+use parts_files::MostParts;
 use std::alloc::Global;
 use std::thread::Threads;
 
@@ -30,10 +31,8 @@ pub fn part_files<R: Threads, F: Files>(
     alloc: Global,
     files: &mut F,
     names: &PartNames<'_>,
-    most: u32,
+    most: MostParts,
 ) -> Result<Vec<PartCount>, PartsFault>
-    requires some { 0 < most }
-    requires few { most ≤ 64 }
     ensures parted { IfOk result (λ counts. IsParted (F.is_known files.old) (F.holds files.old) (F.holds files.new) (names_of names.now) most counts.items) }
     ensures fault { IfErr result (IsPartingFault (F.is_known files.old) (F.holds files.old) (F.failing files.old) (names_of names.now)) }
     ensures kept { OnErr result (AreAsTheyWere (F.holds files.old) (F.holds files.new)) }
@@ -42,12 +41,13 @@ pub fn part_files<R: Threads, F: Files>(
     ensures others { (other : List ℕ) → ¬ IsOfFolder names.now.folder.now other → IsAsItWas (F.holds files.old) (F.holds files.new) other }
     ensures known { F.is_known files.old → F.is_known files.new }
 {
-    check_outside(alloc, files, names.folder, most, names.book, "BOOK")?;
-    check_outside(alloc, files, names.folder, most, names.batch, "BATCH")?;
+    let count = most.count();
+    check_outside(alloc, files, names.folder, count, names.book, "BOOK")?;
+    check_outside(alloc, files, names.folder, count, names.batch, "BATCH")?;
     let book = open_held(rt, alloc, files, names.book)?;
     let batch = read_text(alloc, files, names.batch)?;
     let planned = plan_batch(alloc, &book, &batch, most)?;
-    let (texts, counts) = make_folder(alloc, names.folder, &book, &planned)?;
+    let (texts, counts) = make_folder(alloc, names.folder, &book, &planned, most)?;
     put_texts(alloc, files, &texts)?;
     Ok(counts)
 }

@@ -1,4 +1,4 @@
-ghost use Rattle.std.specs.Prelude.{◌≡◌, ◌<◌, ◌≤◌, IfErr, IfOk, Ok, length, map};
+ghost use Rattle.std.specs.Prelude.{◌≡◌, ◌≤◌, IfErr, IfOk, Ok, length, map};
 ghost use Rattle.file_batch_laws.specs.Frames.{IsBatchOf};
 ghost use Rattle.file_batch_laws.specs.Reading.{batch_magic, bodies_of};
 ghost use Rattle.app_parts.specs.Parting.{IsCut, IsPlanned};
@@ -9,6 +9,7 @@ use app_jobs::JobFault;
 use file_batch::read_batch;
 use file_bodies::bodies_of_batch;
 use issuer_rows::{Book, Frame};
+use parts_files::MostParts;
 use parts_plan::plan_parts;
 use std::alloc::Global;
 
@@ -17,9 +18,8 @@ pub(crate) fn plan_batch(
     alloc: Global,
     book: &Book,
     batch: &[u8],
-    most: u32,
+    most: MostParts,
 ) -> Result<BatchInParts, JobFault>
-    requires { 0 < most }
     ensures cut { IfOk result (λ own. IsCut batch.now (bodies_in own) own.frames.items) }
     ensures few { IfOk result (λ own. length own.frames.items ≤ 65536) }
     ensures planned { IfOk result (λ own. IsPlanned (parting_of book.now own) most) }
@@ -27,7 +27,7 @@ pub(crate) fn plan_batch(
 {
     let frames = frames_of(alloc, batch)?;
     let bodies = bodies_of(alloc, batch)?;
-    let plan = plan_parts(alloc, book, &frames, most)?;
+    let plan = plan_parts(alloc, book, &frames, most.count())?;
     // What these say holds of every plan.
     let (_count, _parts) = (plan.count(), plan.parts());
     Ok(BatchInParts {

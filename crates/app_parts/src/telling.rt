@@ -1,8 +1,7 @@
 ghost use Rattle.std.specs.Prelude.{◌≡◌, ◌+◌, ◌++◌, ◌^◌, ◌<◌, ℕ, List, IfOk, OnOk, length, string_bytes};
 ghost use Rattle.std.specs.Io.KnownBytes.{Appends};
-ghost use Rattle.app_parts.specs.Asked.{IsAskable, IsMost};
 ghost use Rattle.app_parts.specs.Faults.{status_of};
-ghost use Rattle.app_parts.specs.Told.{IsAnswered, IsWritten, count_line, count_lines};
+ghost use Rattle.app_parts.specs.Told.{IsAnswered, IsWritten, count_line, count_lines, done_line};
 ghost use Rattle.app_parts.specs.declared.asking.PartsAsked.TheVariants as asked;
 ghost use Rattle.file_devices.specs.Holding.{IsAsItWas};
 
@@ -16,6 +15,7 @@ use crate::parting::part_files;
 use crate::parts_fault::PartsFault;
 use app_words::{put, status_of};
 use file_devices::Files;
+use parts_files::MostParts;
 use std::alloc::{AllocError, Global};
 use std::io;
 use std::io::Write;
@@ -32,7 +32,6 @@ pub fn answer_parts<R: Threads + Wait + Sync, F: Files, O: Write, E: Write>(
     out: &mut O,
     err: &mut E,
 ) -> u8
-    requires { IsAskable asked.now }
     ensures answered { IsAnswered (F.is_known files.old) (F.holds files.old) (F.holds files.new) (F.failing files.old) asked.now (O.contents out.old) (O.contents out.new) result }
     ensures others { (name : List ℕ) → ¬ IsWritten asked.now name → IsAsItWas (F.holds files.old) (F.holds files.new) name }
 {
@@ -56,11 +55,10 @@ fn answer_part<R: Threads, F: Files, O: Write, E: Write>(
     alloc: Global,
     files: &mut F,
     names: &PartNames<'_>,
-    most: u32,
+    most: MostParts,
     out: &mut O,
     err: &mut E,
 ) -> u8
-    requires { IsMost most }
     ensures answered { IsAnswered (F.is_known files.old) (F.holds files.old) (F.holds files.new) (F.failing files.old) (asked.Part names.now most) (O.contents out.old) (O.contents out.new) result }
     ensures others { (name : List ℕ) → ¬ IsWritten (asked.Part names.now most) name → IsAsItWas (F.holds files.old) (F.holds files.new) name }
 {
@@ -84,7 +82,7 @@ fn answer_decide<R: Threads + Wait + Sync, F: Files, O: Write, E: Write>(
     ensures others { (name : List ℕ) → ¬ IsWritten (asked.Decide folder.entry part) name → IsAsItWas (F.holds files.old) (F.holds files.new) name }
 {
     match decide_part(rt, alloc, files, folder, part) {
-        Ok(count) => status_of(say(alloc, "decided", u64::from(count.bodies), out), err),
+        Ok(count) => status_of(say(alloc, "decided", count.bodies as usize, out), err),
         Err(fault) => refuse(&fault, err),
     }
 }
@@ -102,7 +100,7 @@ fn answer_join<R: Threads, F: Files, O: Write, E: Write>(
     ensures others { (name : List ℕ) → ¬ IsWritten (asked.Join names.now) name → IsAsItWas (F.holds files.old) (F.holds files.new) name }
 {
     match join_parts(rt, alloc, files, names) {
-        Ok(count) => status_of(say(alloc, "joined", count as u64, out), err),
+        Ok(count) => status_of(say(alloc, "joined", count, out), err),
         Err(fault) => refuse(&fault, err),
     }
 }
@@ -162,9 +160,18 @@ fn line_of(alloc: Global, part: u64, count: &PartCount) -> Result<String, AllocE
 }
 
 // Says what was done, with so many messages.
-fn say<O: Write>(alloc: Global, done: &str, count: u64, out: &mut O) -> io::Result<()> {
-    match format!(in alloc; "{done} {count}\n") {
+fn say<O: Write>(alloc: Global, done: &str, count: usize, out: &mut O) -> io::Result<()>
+    ensures { OnOk result (Appends (O.contents out.old) (O.contents out.new) (done_line done.now count)) }
+{
+    match done_line(alloc, done, count) {
         Ok(line) => put(out, line.as_bytes()),
         Err(_) => Err(io::Error::from(io::ErrorKind::OutOfMemory)),
     }
+}
+
+// The same as a line.
+fn done_line(alloc: Global, done: &str, count: usize) -> Result<String, AllocError>
+    ensures { IfOk result (λ line. string_bytes line ≡ done_line done.now count) }
+{
+    format!(in alloc; "{done} {count}\n")
 }

@@ -79,8 +79,8 @@ fn payer_of(val: &RowVal) -> Option<RowKey>
     }
 }
 
-// Puts a row of the book into another. Each is of its key's kind, so that none is looked up.
-fn put_row(book: &Book, key: &RowKey, val: &RowVal, other: &mut Book) -> Result<(), AllocError>
+/// Puts a row of the book into another. Each is of its key's kind, so that none is looked up. It fails only where memory runs out.
+pub fn put_row(book: &Book, key: &RowKey, val: &RowVal, other: &mut Book) -> Result<(), AllocError>
     requires { map.get book.now key.now ≡ Some val.now }
     ensures { OnOk result (other.new ≡ map.insert other.old key.now val.now) }
 {

@@ -11,4 +11,4 @@ pub use archive_laws::{
     days_stay_in_order, what_needs_no_past_is_answered_alike,
 };
 pub use archived::Archived;
-pub use archiving::{archive_book, is_past};
+pub use archiving::{archive_book, is_past, put_row};

@@ -6,6 +6,7 @@ ghost use Rattle.issuer_rows.specs.Typed.{account_in};
 ghost use Rattle.issuer_rows.specs.declared.row_key.RowKey.{RowKey as Key};
 ghost use Rattle.parts_books.specs.PartBooks.{is_as_in_rest, is_same_account_row, joined_books, own_rows};
 
+use book_archive::put_row;
 use issuer_rows::{Book, RowKey, RowVal};
 use std::alloc::AllocError;
 
@@ -56,19 +57,5 @@ fn stands_so(rest: &Book, key: &RowKey, val: &RowVal) -> bool
     match (rest.row(key), val) {
         (Some(RowVal::Account(theirs)), RowVal::Account(mine)) => theirs == mine,
         _ => false,
-    }
-}
-
-// Puts a row of the book into another. Each is of its key's kind, so that none is looked up.
-fn put_row(book: &Book, key: &RowKey, val: &RowVal, other: &mut Book) -> Result<(), AllocError>
-    requires { map.get book.now key.now ≡ Some val.now }
-    ensures { OnOk result (other.new ≡ map.insert other.old key.now val.now) }
-{
-    if val.suits(key) {
-        return other.put_copy(key, val);
-    }
-    match book.row(key) {
-        Some(row) => other.put_copy(key, row),
-        None => unreachable!(),
     }
 }

@@ -1,8 +1,6 @@
 //! `switch`: decides card messages for an issuer.
 #![tactic(auto)]
 
-ghost use Rattle.app_parts.specs.Asked.{IsAskable};
-
 use app_archive::{ArchiveAsked, answer_archive, archive_asked};
 use app_commands::{Fault, Printer, act, print_fault};
 use app_messages::{MakeAsked, UnpackAsked, answer_make, answer_unpack, make_asked, unpack_asked};
@@ -242,9 +240,7 @@ fn parts_words<R: Threads + Wait + Sync, F: Files>(
     files: &mut F,
     asked: &PartsAsked<'_>,
     is_streamed: bool,
-) -> u8
-    requires { IsAskable asked.now }
-{
+) -> u8 {
     let (alloc, mut err) = (host.alloc(), host.stderr());
     if is_streamed {
         return answer_parts(rt, alloc, files, asked, &mut host.stderr(), &mut err);

@@ -1,4 +1,4 @@
-use Rattle.std.proofs.Common.{◌≡◌, ◌<◌, ◌+◌, ◌++◌, ◌∷◌, [], ℕ, List, Vec, Global, drop, zip, get_or, length, sym, ap, ◌∙◌, arith, append_assoc, append-nil}
+use Rattle.std.proofs.Common.{◌≡◌, ◌<◌, ◌+◌, ◌++◌, ◌∷◌, [], ℕ, List, Vec, Global, drop, zip, length, sym, ap, ◌∙◌, arith, append_assoc, append-nil}
 use Rattle.file_batch.specs.Bodies.{bytes_of}
 use Rattle.issuer_laws.specs.Parts.{of_part}
 use Rattle.app_parts.proofs.OwnBodies.{mine, none_left, one_behind, other}

@@ -40,10 +40,11 @@ returns-clause-decided g c =
     let book = c.in_ok-book.book.items in
     let replies = c.in_ok-decided.decided.replies.items in
     let new_book = c.in_ok-decided.decided.new_book.items in
+    let count = c.in_ok-decided.decided.count.bodies in
     let decided =
-    subst (λ (batch : List ℕ). IsDecidedText book batch replies new_book) c.deref-2.ensures.value
-    (subst (λ (bytes : List ℕ). IsDecidedText bytes c.deref-2.result.now replies new_book) c.deref.ensures.value c.in_ok-decided.ensures.decided) in
+    subst (λ (batch : List ℕ). IsDecidedText book batch replies new_book count) c.deref-2.ensures.value
+    (subst (λ (bytes : List ℕ). IsDecidedText bytes c.deref-2.result.now replies new_book count) c.deref.ensures.value c.in_ok-decided.ensures.decided) in
     part_decided (g.F.Files.is_known c.args.files.now) (g.F.Files.holds c.args.files.now) (g.F.Files.holds c.put_texts.new.files) c.args.folder.now c.args.part
-    c.in_ok-open.open c.in_ok-digests.digests book c.in_ok-batch.batch.items replies new_book (texts_of c.deref-3.result.now)
+    c.in_ok-open.open c.in_ok-digests.digests book c.in_ok-batch.batch.items replies new_book count (texts_of c.deref-3.result.now)
     c.in_ok-open.ensures.plan c.in_ok-digests.ensures.ok c.in_ok-book.ensures.held c.in_ok-book.ensures.digest c.in_ok-batch.ensures.held c.in_ok-batch.ensures.digest
     decided (rw c.deref-3.ensures.value c.in_ok-texts.ensures) c.in_ok-put_texts.ensures.held

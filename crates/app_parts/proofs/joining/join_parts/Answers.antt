@@ -1,4 +1,4 @@
-use Rattle.std.proofs.Common.{arith}
+use Rattle.std.proofs.Common.{arith, ◌∙◌}
 use Rattle.std.proofs.lemmas.Result.{err_from_is_err_and}
 use Rattle.app_parts.specs.Joining.{names_of}
 use Rattle.app_parts.specs.Texts.{texts_of}
@@ -38,9 +38,10 @@ returns-clause-joined g c =
     let answers = c.in_ok-answers.ensures.answers in
     let all : AreOpened known holds names.folder c.in_ok-open.open c.in_ok-answers.answers =
     (answers.0, omega (arith, answers.1, c.len-count.ensures, c.in_ok-open.ensures.plan.is_plan.listed.few), answers.2) in
-    joined known holds new names c.in_ok-open.open c.in_ok-rest.rest c.in_ok-answers.answers c.in_ok-replies.replies.items c.in_ok-book.book
+    joined known holds new names c.in_ok-open.open c.in_ok-rest.rest c.in_ok-answers.answers c.in_ok-replies.replies.items c.in_ok-book.book c.len.result
     c.in_ok-open.ensures.plan c.in_ok-rest.ensures.rest all
     (rw (c.deref.ensures.value, c.deref-2.ensures.value) at c.in_ok-replies.ensures.order)
+    (c.len.ensures ∙ c.in_ok-replies.replies.ok.0)
     (rw c.deref-3.ensures.value at c.in_ok-book.ensures)
     (rw c.deref-4.ensures.value at c.in_ok-texts.ensures.bodies)
     c.in_ok-texts.ensures.back

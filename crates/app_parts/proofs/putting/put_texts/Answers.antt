@@ -1,4 +1,4 @@
-use Rattle.std.proofs.Common.{◌≡◌, Err, ap}
+use Rattle.std.proofs.Common.{Err, ap}
 use Rattle.std.proofs.lemmas.Result.{err_from_is_err_and}
 use Rattle.file_devices.specs.declared.write_fault.WriteFault.{WriteFault}
 use Rattle.app_parts.specs.Texts.{texts_of}

@@ -1,4 +1,4 @@
-use Rattle.std.proofs.Common.{◌≡◌, ◌+◌, take, rules, subst, sym}
+use Rattle.std.proofs.Common.{◌+◌, take, rules, subst, sym}
 use Rattle.std.proofs.lemmas.Result.{err_from_is_err_and}
 use Rattle.app_jobs.specs.Faults.{MayNotBePut}
 use Rattle.app_parts.specs.Texts.{texts_of}
