@@ -8,10 +8,10 @@ ghost use Rattle.host_links.specs.Merged.{LinkMerged, MergesAll};
 ghost use Rattle.host_links.specs.Seats.{SeatServed};
 ghost use Rattle.host_links.specs.Turns.{turns_of};
 
-use crate::links_outcome::LinksOutcome;
 use crate::ends::{LinkSink, LinkSource};
 use crate::history::{Front, History, Opened};
 use crate::line::Line;
+use crate::links_outcome::LinksOutcome;
 use crate::naming::Before;
 use crate::seat::{Seat, SeenTurns};
 use crate::serving::serve_line;
