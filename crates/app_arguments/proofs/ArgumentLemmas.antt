@@ -13,7 +13,7 @@ use Rattle.clap.specs.declared.error.kind.ErrorKind.TheVariants as kinds
 use Rattle.file_batch.specs.declared.strictness.Strictness.{Strictness}
 use Rattle.file_listing.specs.Bodies.{body_of}
 use Rattle.app_arguments.specs.declared.engine_choice.EngineChoice.{EngineChoice}
-use Rattle.app_arguments.specs.declared.engine_choice.EngineChoice.TheVariants.{Fastest, Named}
+use Rattle.app_arguments.specs.declared.engine_choice.EngineChoice.TheVariants.{NotNamed, Named}
 use Rattle.engine_workers.specs.declared.engine.Engine.TheVariants.{Locked, Split, Parts}
 use Rattle.app_arguments.specs.Asked.{Asked, Names, asked, asked_of, audit, audit_blocks, audit_blocks_in, audit_in, blocks, blocks_in, engine_in, help, names_in, one, one_in, but_last, last_of, pack, pack_as, pack_blocks, pack_by, pack_in, run, run_by, run_in, run_with_journal, serial, serial_in, show, show_in, strictness_in, version, workers_in}
 use Rattle.app_arguments.specs.CommandLine.{command_line}
@@ -86,7 +86,7 @@ of_each f each (Some a) what h = each a what h
 of_run : (names : Names) (workers : ℕ) (engine : EngineChoice) (strictness : Strictness) (journal : Option Text) (what : Asked)
     → run_by names workers engine strictness journal ≡ Some what → is_of_subcommand what ≡ true
 of_run names workers engine strictness None what h = let same : run names workers engine strictness ≡ what = cc in rw (← same) refl
-of_run names workers Fastest strictness (Some journal) what h = let same : run_with_journal names workers journal strictness ≡ what = cc in rw (← same) refl
+of_run names workers NotNamed strictness (Some journal) what h = let same : run_with_journal names workers journal strictness ≡ what = cc in rw (← same) refl
 of_run names workers (Named Locked) strictness (Some journal) what h = let same : run_with_journal names workers journal strictness ≡ what = cc in rw (← same) refl
 of_run names workers (Named Split) strictness (Some journal) what h = cc
 of_run names workers (Named Parts) strictness (Some journal) what h = cc

@@ -5,7 +5,7 @@ use Rattle.clap.specs.Walk.{Row, Text, all_of, byte_or_zero, first_of}
 use Rattle.engine_workers.specs.declared.engine.Engine.{Engine}
 use Rattle.engine_workers.specs.declared.engine.Engine.TheVariants.{Locked, Split, Parts}
 use Rattle.app_arguments.specs.declared.engine_choice.EngineChoice.{EngineChoice}
-use Rattle.app_arguments.specs.declared.engine_choice.EngineChoice.TheVariants.{Fastest, Named}
+use Rattle.app_arguments.specs.declared.engine_choice.EngineChoice.TheVariants.{NotNamed, Named}
 use Rattle.file_batch.specs.declared.strictness.Strictness.{Strictness}
 use Rattle.file_batch.specs.declared.strictness.Strictness.TheVariants.{Lenient, Strict}
 use Rattle.file_listing.specs.Bodies.{body_of}
@@ -47,13 +47,13 @@ engine_named text =
     else (if bytes_eq text (codes "parts") then Some Parts else None))
 
 -- the engine of this name; where none is named, whatever is fastest
-abbrev pub engine_or_fastest : Option Text → Option EngineChoice
-engine_or_fastest None = Some Fastest
-engine_or_fastest (Some name) = option_map Named (engine_named name)
+abbrev pub engine_choice : Option Text → Option EngineChoice
+engine_choice None = Some NotNamed
+engine_choice (Some name) = option_map Named (engine_named name)
 
 -- the engine behind `--engine`
 abbrev pub engine_in : List Row → Option EngineChoice
-engine_in rows = engine_or_fastest (first_of (codes "engine") rows)
+engine_in rows = engine_choice (first_of (codes "engine") rows)
 
 -- whether bodies that are no message are answered: not where the flag is set
 abbrev pub strictness_of : Option Text → Strictness
@@ -87,7 +87,7 @@ serial_in rows = option_map (λ names. serial names (strictness_in rows)) (names
 -- a run by this engine; or with this journal, which the locked engine alone keeps: it decides where none is named
 abbrev pub run_by : Names → ℕ → EngineChoice → Strictness → Option Text → Option Asked
 run_by names workers engine strictness None = Some (run names workers engine strictness)
-run_by names workers Fastest strictness (Some journal) = Some (run_with_journal names workers journal strictness)
+run_by names workers NotNamed strictness (Some journal) = Some (run_with_journal names workers journal strictness)
 run_by names workers (Named Locked) strictness (Some journal) = Some (run_with_journal names workers journal strictness)
 run_by names workers (Named Split) strictness (Some journal) = None
 run_by names workers (Named Parts) strictness (Some journal) = None

@@ -3,7 +3,7 @@ use Rattle.std.specs.Prelude.{◌≡◌, ◌≢◌, ℕ, List, [], ◌∷◌, So
 use Rattle.clap.specs.Walk.{Text}
 use Rattle.file_listing.specs.Bodies.{body_of}
 use Rattle.engine_workers.specs.declared.engine.Engine.TheVariants.{Split}
-use Rattle.app_arguments.specs.declared.engine_choice.EngineChoice.TheVariants.{Fastest, Named}
+use Rattle.app_arguments.specs.declared.engine_choice.EngineChoice.TheVariants.{NotNamed, Named}
 use Rattle.file_batch.specs.declared.strictness.Strictness.TheVariants.{Lenient, Strict}
 use Rattle.app_arguments.specs.Asked.{Names, audit, audit_blocks, blocks, one, run, run_with_journal, serial}
 use Rattle.app_arguments.specs.Arguments.{Asks, IsHelp, IsUsageFault, IsVersion}
@@ -49,7 +49,7 @@ StrictSerialIsRead name names = ArePlain names → Asks (arguments_of name (code
 
 -- `run` with its files asks for no engine by name and no journal
 abbrev pub RunIsRead : Text → Names → Type 0
-RunIsRead name names = ArePlain names → Asks (arguments_of name (codes "run") names []) (run names 4 Fastest Lenient)
+RunIsRead name names = ArePlain names → Asks (arguments_of name (codes "run") names []) (run names 4 NotNamed Lenient)
 
 -- with `--journal FILE` behind them, for 4 workers of the locked engine, and the journal in FILE too
 abbrev pub JournalIsRead : Text → Names → Text → Type 0
@@ -68,7 +68,7 @@ SplitJournalIsNone name names file =
 
 -- `blocks` with its files asks for no engine by name, and with `--engine split` behind them for 4 workers of the split engine
 abbrev pub BlocksAreRead : Text → Names → Type 0
-BlocksAreRead name names = ArePlain names → Asks (arguments_of name (codes "blocks") names []) (blocks names 4 Fastest Lenient)
+BlocksAreRead name names = ArePlain names → Asks (arguments_of name (codes "blocks") names []) (blocks names 4 NotNamed Lenient)
 
 abbrev pub SplitBlocksAreRead : Text → Names → Type 0
 SplitBlocksAreRead name names =

@@ -164,7 +164,7 @@ fn run_by(
             strictness,
         }),
         Some(journal) => match engine {
-            EngineChoice::Fastest | EngineChoice::Named(Engine::Locked) => Some(
+            EngineChoice::NotNamed | EngineChoice::Named(Engine::Locked) => Some(
                 Command::RunWithJournal {
                     names,
                     workers,
@@ -292,7 +292,7 @@ fn engine_of(matches: &ArgMatches<'_>) -> Option<EngineChoice>
     ensures { result ≡ engine_in (rows_of (found_of matches.now)) }
 {
     match word(matches, "engine") {
-        None => Some(EngineChoice::Fastest),
+        None => Some(EngineChoice::NotNamed),
         Some("locked") => Some(EngineChoice::Named(Engine::Locked)),
         Some("split") => Some(EngineChoice::Named(Engine::Split)),
         Some("parts") => Some(EngineChoice::Named(Engine::Parts)),

@@ -13,7 +13,7 @@ const AFTER_HELP: &str = "Commands with help of their own, as `switch serve --he
   why        Tells why a message of a batch was answered so
   report     Says how a day went: totals of a batch and its replies, as lines or as a page
   make       Prints the body of a message as a line that `pack` reads, from its elements by name
-  unpack     Prints the bodies of a batch as the text that `pack` reads
+  unpack     Prints the bodies of a batch, or of one block, as the text that `pack` reads
   archive    Takes the originals and days before a date out of a book
   part       Cuts a batch and its book into parts that share no row, to be decided anywhere
   decide     Decides one of these parts

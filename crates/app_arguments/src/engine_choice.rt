@@ -4,7 +4,7 @@ use engine_workers::Engine;
 #[derive(Clone, Copy)]
 pub enum EngineChoice {
     /// None is named. What is fastest where decisions are light: one thread decides on the book itself, while others read and write.
-    Fastest,
+    NotNamed,
     /// The one that is named.
     Named(Engine),
 }

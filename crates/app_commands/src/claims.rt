@@ -1,4 +1,4 @@
-ghost use Rattle.std.specs.Prelude.{◌≡◌, [], ◌∷◌, IfOk, IfErr};
+ghost use Rattle.std.specs.Prelude.{[], ◌∷◌, IfOk, IfErr};
 ghost use Rattle.app_arguments.specs.Asked.{asked_of, names_of};
 ghost use Rattle.app_commands.specs.Answered.{IsAnswerInUse, IsAuditedInUse, IsClaimFault, IsOneInUse};
 ghost use Rattle.app_commands.specs.Claims.{answer_claims, audit_claims, claims_for};

@@ -1,5 +1,5 @@
-ghost use Rattle.std.specs.Prelude.{◌≡◌, IfSome, MatchResult, OnOk, ℕ, List, None, Some, map, option_map, string_bytes};
-ghost use Rattle.app_arguments.specs.Asked.{asked_of, audit, audit_blocks, blocks, names_of, one, pack, pack_blocks, run, run_with_journal, serial, show};
+ghost use Rattle.std.specs.Prelude.{◌≡◌, IfSome, MatchResult, OnOk, ℕ, List, None, Some, map, string_bytes};
+ghost use Rattle.app_arguments.specs.Asked.{asked_of, audit, audit_blocks, blocks, names_of, pack, pack_blocks, run, run_with_journal, serial, show};
 ghost use Rattle.file_devices.specs.Holding.{IsAsItWas};
 ghost use Rattle.app_jobs.specs.Deciding.{DecidesFiles};
 ghost use Rattle.app_commands.specs.Apart.{AreApart, names_apart};
@@ -170,7 +170,7 @@ fn decided<R: Clock + Threads + Wait + Sync, F: Files>(
     ensures decides { DecidesFiles F.is_known F.holds F.failing strictness files.old files.new (names_of names.now) result }
 {
     match engine {
-        EngineChoice::Fastest => serial_batch(rt, alloc, files, names, strictness),
+        EngineChoice::NotNamed => serial_batch(rt, alloc, files, names, strictness),
         EngineChoice::Named(engine) => {
             run_batch(rt, alloc, files, names, workers, engine, strictness)
         }

@@ -18,7 +18,6 @@ use Rattle.app_jobs.specs.declared.job_fault.JobFault.TheVariants as job
 use Rattle.app_reasons.specs.Says.{Says, SaysUnread}
 use Rattle.app_reasons.specs.declared.file_kind.FileKind.{FileKind}
 use Rattle.app_reasons.specs.declared.file_kind.FileKind.TheVariants as kind
-use Rattle.app_reasons.specs.declared.line_reason.LineReason.{LineReason}
 use Rattle.app_reasons.specs.declared.reason.Reason.{Reason}
 use Rattle.app_reasons.specs.declared.reason.Reason.TheVariants.{Host, InUse, Book, JournalLine, JournalEntry, TextLine, TooManyLines}
 

@@ -1,5 +1,5 @@
 -- What a person is told of a fault.
-use Rattle.std.specs.Prelude.{ℕ, List, [], ◌∷◌, ◌++◌, Option, Some, None, codes, decimal}
+use Rattle.std.specs.Prelude.{ℕ, List, [], ◌++◌, Option, Some, None, codes, decimal}
 use Rattle.iso8583.specs.CodecFault.{number_of_fault, element_of_fault}
 use Rattle.iso8583.specs.Number.{fixed_digits}
 use Rattle.iso_shown.specs.declared.opening.Opening.{Opening}

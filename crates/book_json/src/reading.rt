@@ -1,17 +1,18 @@
 //! A book from its text.
 
-ghost use Rattle.std.specs.Prelude.{◌≡◌};
+ghost use Rattle.std.specs.Prelude.{◌≡◌, ◌↔◌, Ok, IsOk, IfErr};
 ghost use Rattle.serde_json.specs.View.{view};
+ghost use Rattle.book_laws.specs.CheckBook.{IsFirstFault, IsSound};
 ghost use Rattle.book_laws.specs.Reading.{version_of_keys, version_of, add_lists, all_lists, book_of, reading, IsAnswer};
 ghost use Rattle.book_laws.specs.Steps.{GivesOrMemory};
 
 use crate::lists::add_list;
 use crate::written::read_written;
 use book_entries::{has_keys, number_at};
-use book_laws::{BookVersion, JsonFault, Part, RowList, TextFault, check_book};
+use book_laws::{BookFault, BookVersion, JsonFault, Part, RowList, TextFault, check_book};
 use issuer_rows::Book;
 use serde_json::Value;
-use std::alloc::Global;
+use std::alloc::{AllocError, Global};
 use std::thread::Threads;
 
 const KEYS_OF_ONE: [&str; 5] = ["budgets", "cards", "days", "originals", "version"];
@@ -107,14 +108,25 @@ fn book_of_text(alloc: Global, bytes: &[u8]) -> Result<Book, TextFault>
     }
 }
 
-/// The same, quickly where the text is as books are written.
-fn book_of_bytes<R: Threads>(rt: &R, alloc: Global, bytes: &[u8]) -> Result<Book, TextFault>
-    ensures { GivesOrMemory (λ book. book) result (reading bytes.now) }
+// The book, if nothing is wrong with it.
+fn sound_or_fault(book: Book, check: Result<(), BookFault>) -> Result<Book, JsonFault>
+    requires sound { IsOk check ↔ IsSound book }
+    requires fault { IfErr check (IsFirstFault book) }
+    ensures { IsAnswer (Ok book) result }
 {
-    match read_written(rt, alloc, bytes)? {
-        Some(book) => Ok(book),
-        None => book_of_text(alloc, bytes),
+    match check {
+        Ok(()) => Ok(book),
+        Err(fault) => Err(JsonFault::Invalid(fault)),
     }
+}
+
+// The sound book that a text is, in whatever form it is written.
+fn read_any(alloc: Global, bytes: &[u8]) -> Result<Book, JsonFault>
+    ensures { IsAnswer (reading bytes.now) result }
+{
+    let book = book_of_text(alloc, bytes)?;
+    let check = check_book(&book);
+    sound_or_fault(book, check)
 }
 
 /// The book that a text is: JSON of version 1, 2 or 3, with a sound book in it. A book of version 1 or 2 is migrated first:
@@ -135,9 +147,9 @@ fn book_of_bytes<R: Threads>(rt: &R, alloc: Global, bytes: &[u8]) -> Result<Book
 pub fn read_book<R: Threads>(rt: &R, alloc: Global, bytes: &[u8]) -> Result<Book, JsonFault>
     ensures { IsAnswer (reading bytes.now) result }
 {
-    let book = book_of_bytes(rt, alloc, bytes)?;
-    match check_book(&book) {
-        Ok(()) => Ok(book),
-        Err(fault) => Err(JsonFault::Invalid(fault)),
+    match read_written(rt, alloc, bytes) {
+        Ok(Some((book, check))) => sound_or_fault(book, check),
+        Ok(None) => read_any(alloc, bytes),
+        Err(AllocError) => Err(JsonFault::OutOfMemory),
     }
 }

@@ -1,12 +1,12 @@
 use crate::row::Row;
 use book_entries::{WrittenText, row_of};
 use book_laws::RowList;
-use issuer_rows::Book;
 use json::{Reader, Scratch};
 use std::alloc::{AllocError, Global};
+use std::mem;
 
 // About how many bytes the entry of a row takes at least: room for so many rows is made at once.
-const BYTES_OF_A_ROW: usize = 60;
+pub(crate) const BYTES_OF_A_ROW: usize = 60;
 
 /// Some entries of a list in a book's text, and their rows.
 #[derive(Drop)]
@@ -32,23 +32,9 @@ impl<'a> Share<'a> {
         self.rows = read_rows(alloc, scratch, self.list, self.entries);
     }
 
-    /// How many rows were read.
-    pub(crate) fn len(&self) -> usize {
-        match &self.rows {
-            Ok(Some(rows)) => rows.len(),
-            _ => 0,
-        }
-    }
-
-    /// Writes the rows to the book. Returns whether they were read.
-    pub(crate) fn put_into(self, book: &mut Book) -> Result<bool, AllocError> {
-        let Some(rows) = self.rows? else {
-            return Ok(false);
-        };
-        for row in rows.iter() {
-            book.put_copy(&row.key, &row.val)?;
-        }
-        Ok(true)
+    /// The rows that were read, which are handed over.
+    pub(crate) fn take_rows(&mut self) -> Result<Option<Vec<Row>>, AllocError> {
+        mem::replace(&mut self.rows, Ok(None))
     }
 }
 

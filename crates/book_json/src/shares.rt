@@ -1,7 +1,9 @@
 //! A book's text in shares, which several threads read.
 
+use crate::row::Row;
 use crate::share::Share;
 use book_laws::RowList;
+use issuer_rows::Book;
 use json::Scratch;
 use memchr::memmem;
 use rayon::current_num_threads;
@@ -9,7 +11,10 @@ use std::alloc::{AllocError, Global};
 use std::thread::{Threads, join_mut};
 
 // How many bytes a share of a list has at least, if the list has as many.
-const SHARE: usize = 1 << 16;
+pub(crate) const SHARE: usize = 1 << 16;
+
+// How many shares are read at a time.
+const ROUND: usize = 32;
 
 // What stands before the entries of the first list.
 const START: &str = r#"{"accounts":["#;
@@ -107,16 +112,78 @@ fn cut_share<'a>(entries: &'a [u8], between: &[u8]) -> Option<(&'a [u8], &'a [u8
     Some((share, rest.strip_prefix(b",")?))
 }
 
-/// Reads the shares of a text of this length: a large one in as many threads as there are processors, each of which has about a
-/// share to read at least.
-pub(crate) fn read_shares<R: Threads>(rt: &R, alloc: Global, len: usize, shares: &mut [Share<'_>]) {
-    let most = len / SHARE;
-    let threads = if most < 2 {
-        1
-    } else {
-        current_num_threads(rt).min(most)
+/// Puts the rows of all shares into the book. While those of some are put, others are read, in as many threads as there are processors.
+/// Returns whether all were as they are written.
+pub(crate) fn put_shares<R: Threads>(
+    rt: &R,
+    alloc: Global,
+    shares: &mut [Share<'_>],
+    book: &mut Book,
+) -> Result<bool, AllocError> {
+    let threads = current_num_threads(rt);
+    let mut is_whole = true;
+    for round in 0..=shares.len().div_ceil(ROUND) {
+        let end = round.saturating_mul(ROUND).min(shares.len());
+        let start = end.min(round.saturating_sub(1).saturating_mul(ROUND));
+        let (front, back) = shares.split_at_mut(end);
+        let (_, read) = front.split_at_mut(start);
+        let (next, _) = back.split_at_mut(back.len().min(ROUND));
+        is_whole = is_whole && put_and_read(rt, alloc, threads, read, next, book)?;
+    }
+    Ok(is_whole)
+}
+
+// Puts the rows of some shares into the book while the next are read. Returns whether those were as they are written.
+fn put_and_read<R: Threads>(
+    rt: &R,
+    alloc: Global,
+    threads: usize,
+    read: &mut [Share<'_>],
+    next: &mut [Share<'_>],
+    book: &mut Book,
+) -> Result<bool, AllocError> {
+    let Some(rows) = take_rows(alloc, read)? else {
+        return Ok(false);
     };
-    read_all(rt, alloc, shares.len().div_ceil(threads), shares);
+    if rows.is_empty() || next.is_empty() {
+        read_shares(rt, alloc, threads, next);
+        put_rows(&rows, book)?;
+    } else {
+        let (put, ()) = join_mut(
+            rt,
+            &mut || put_rows(&rows, book),
+            &mut || read_shares(rt, alloc, threads.saturating_sub(1), next),
+        );
+        put?;
+    }
+    Ok(true)
+}
+
+// The rows of these shares, if all were read.
+fn take_rows(alloc: Global, shares: &mut [Share<'_>]) -> Result<Option<Vec<Vec<Row>>>, AllocError> {
+    let mut all = Vec::new(alloc);
+    for share in shares.iter_mut() {
+        let Some(rows) = share.take_rows()? else {
+            return Ok(None);
+        };
+        all.push(rows)?;
+    }
+    Ok(Some(all))
+}
+
+// Puts rows into the book, one after another.
+fn put_rows(all: &[Vec<Row>], book: &mut Book) -> Result<(), AllocError> {
+    for rows in all {
+        for row in rows {
+            book.put_copy(&row.key, &row.val)?;
+        }
+    }
+    Ok(())
+}
+
+// Reads the shares in so many threads at most.
+fn read_shares<R: Threads>(rt: &R, alloc: Global, threads: usize, shares: &mut [Share<'_>]) {
+    read_all(rt, alloc, shares.len().div_ceil(threads.max(1)), shares);
 }
 
 // Reads each share: so many in a thread of their own, and the rest from this one on.

@@ -1,22 +1,23 @@
 //! A book from its text in the form in which books are written.
 
-ghost use Rattle.std.specs.Prelude.{◌≡◌, Ok, IfOk, IfSome};
+ghost use Rattle.std.specs.Prelude.{◌≡◌, ◌↔◌, Ok, IsOk, IfOk, IfErr, IfSome, IsTrue};
+ghost use Rattle.book_laws.specs.CheckBook.{IsFirstFault, IsSound};
 ghost use Rattle.book_laws.specs.Reading.{reading};
 
-use crate::share::Share;
-use crate::shares::{read_shares, shares_of};
+use crate::share::BYTES_OF_A_ROW;
+use crate::shares::{SHARE, put_shares, shares_of};
+use book_laws::{BookFault, check_book};
 use book_writer::is_text_of;
 use issuer_rows::Book;
+use memchr::memchr_iter;
 use std::alloc::{AllocError, Global};
-use std::thread::Threads;
+use std::thread::{Threads, join};
 
-// How many rows were read in all.
-fn count(shares: &[Share<'_>]) -> usize {
-    let mut rows: usize = 0;
-    for share in shares {
-        rows = rows.saturating_add(share.len());
-    }
-    rows
+// About how many rows a text has: each begins a brace.
+fn rows_in(bytes: &[u8]) -> usize {
+    memchr_iter(b'{', bytes)
+        .count()
+        .min(bytes.len() / BYTES_OF_A_ROW)
 }
 
 // The book of a text's lists, if they are all found.
@@ -28,32 +29,65 @@ fn book_of_lists<R: Threads>(
     let Some(mut shares) = shares_of(alloc, bytes)? else {
         return Ok(None);
     };
-    read_shares(rt, alloc, bytes.len(), shares.as_mut_slice());
     let mut book = Book::new(alloc);
-    book.reserve(count(&shares))?;
-    for share in shares {
-        if !share.put_into(&mut book)? {
-            return Ok(None);
-        }
-    }
-    Ok(Some(book))
+    book.reserve(rows_in(bytes))?;
+    let is_read = put_shares(rt, alloc, &mut shares, &mut book)?;
+    Ok(is_read.then_some(book))
 }
 
-/// The book whose text this is, where it is as books are written: version 3, without spaces, the keys of each object and the
-/// rows of each list in their order. It is read in one pass, a large one by several threads, without a value of JSON; that it
-/// was read right is seen by making its text again, piece by piece. `None` says nothing of the text. Or memory ran out.
+// What is wrong with a book, and whether bytes are its text, which is made again piece by piece. With a large one each is found in a thread of
+// its own.
+fn look_through<R: Threads>(
+    rt: &R,
+    alloc: Global,
+    book: &Book,
+    bytes: &[u8],
+) -> (Result<(), BookFault>, Result<bool, AllocError>)
+    ensures sound { IsOk result.0 ↔ IsSound book.now }
+    ensures fault { IfErr result.0 (IsFirstFault book.now) }
+    ensures same { IfOk result.1 (λ same. IsTrue same → reading bytes.now ≡ Ok book.now) }
+{
+    if bytes.len() < SHARE {
+        return (check_book(book), is_written(alloc, book, bytes));
+    }
+    join(
+        rt,
+        || -> Result<(), BookFault>
+            ensures sound { IsOk result ↔ IsSound book.entry.now }
+            ensures fault { IfErr result (IsFirstFault book.entry.now) }
+        { check_book(book) },
+        || -> Result<bool, AllocError>
+            ensures { IfOk result (λ same. IsTrue same → reading bytes.entry.now ≡ Ok book.entry.now) }
+        { is_written(alloc, book, bytes) },
+    )
+}
+
+// Whether bytes are the text of a book, and so are read as it.
+fn is_written(alloc: Global, book: &Book, bytes: &[u8]) -> Result<bool, AllocError>
+    ensures { IfOk result (λ same. IsTrue same → reading bytes.now ≡ Ok book.now) }
+{
+    let is_same = is_text_of(alloc, book, bytes)?;
+    Ok(is_same)
+}
+
+/// The book whose text this is, and what is wrong with it first, where it is as books are written: version 3, without spaces, the keys of each
+/// object and the rows of each list in their order. It is read in one pass, a large one by several threads, without a value of JSON; that it
+/// was read right is seen by making its text again. `None` says nothing of the text. Or memory ran out.
 pub(crate) fn read_written<R: Threads>(
     rt: &R,
     alloc: Global,
     bytes: &[u8],
-) -> Result<Option<Book>, AllocError>
-    ensures { IfOk result (λ found. IfSome found (λ book. reading bytes.now ≡ Ok book)) }
+) -> Result<Option<(Book, Result<(), BookFault>)>, AllocError>
+    ensures read { IfOk result (λ found. IfSome found (λ checked. reading bytes.now ≡ Ok checked.0)) }
+    ensures sound { IfOk result (λ found. IfSome found (λ checked. IsOk checked.1 ↔ IsSound checked.0)) }
+    ensures fault { IfOk result (λ found. IfSome found (λ checked. IfErr checked.1 (IsFirstFault checked.0))) }
 {
     let Some(book) = book_of_lists(rt, alloc, bytes)? else {
         return Ok(None);
     };
-    if is_text_of(alloc, &book, bytes)? {
-        Ok(Some(book))
+    let (check, is_same) = look_through(rt, alloc, &book, bytes);
+    if is_same? {
+        Ok(Some((book, check)))
     } else {
         Ok(None)
     }

@@ -82,7 +82,7 @@ pub fn has_right_number(key: &RowKey) -> bool
 pub fn has_account(book: &Book, id: &AccountId) -> bool
     ensures { result ≡ has_account book.now id.now }
 {
-    matches!(&book.get(&RowKey::Account(*id)), Some(RowVal::Account(_)))
+    matches!(book.row(&RowKey::Account(*id)), Some(RowVal::Account(_)))
 }
 
 /// Whether the account that paid for an original has a row.

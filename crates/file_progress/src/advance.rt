@@ -1,5 +1,6 @@
 use crate::estimate::Estimate;
 use std::fmt;
+use std::num::NonZeroU64;
 
 /// How far a file is read. Its text is what a person is told, as `read 120 of 400 MiB, 30 %, in 3 s, 40 MiB/s, 7 s left`, or where that isn't
 /// known, `read 120 MiB in 3 s`.
@@ -22,10 +23,9 @@ impl Advance {
         ensures { result ≡ estimate_of self.now }
     {
         let whole = self.whole?;
-        if self.read == 0 || self.seconds == 0 {
-            return None;
-        }
-        Some(Estimate::new(self.read, self.seconds, whole))
+        let read = NonZeroU64::new(self.read)?;
+        let seconds = NonZeroU64::new(self.seconds)?;
+        Some(Estimate::new(read, seconds, whole))
     }
 }
 

@@ -1,3 +1,5 @@
+use std::num::NonZeroU64;
+
 /// What follows for a whole file from how far it is read. All numbers are rounded down.
 #[derive(Clone, Copy)]
 pub struct Estimate {
@@ -12,19 +14,18 @@ pub struct Estimate {
 }
 
 impl Estimate {
-    ghost use Rattle.std.specs.Prelude.{◌≡◌, ◌≤◌, ◌<◌};
+    ghost use Rattle.std.specs.Prelude.{◌≡◌, ◌≤◌};
+    ghost use Rattle.std.specs.Int.NonZero.{non_zero_u64_get};
     ghost use Rattle.file_progress.specs.Advancing.{estimated, left_of, percent_of};
 
     /// Of so many bytes that are read in so many seconds, of a file that has as many as the third number says.
-    pub fn new(read: u64, seconds: u64, whole: u64) -> Estimate
-        requires read { 0 < read }
-        requires seconds { 0 < seconds }
-        ensures { result ≡ estimated read seconds whole }
+    pub fn new(read: NonZeroU64, seconds: NonZeroU64, whole: u64) -> Estimate
+        ensures { result ≡ estimated (non_zero_u64_get read) (non_zero_u64_get seconds) whole }
     {
         Estimate {
             whole,
-            percent: Estimate::percent_of(read, whole),
-            rate: read / seconds,
+            percent: Estimate::percent_of(read.get(), whole),
+            rate: read.get() / seconds.get(),
             left: Estimate::left_of(read, seconds, whole),
         }
     }
@@ -41,11 +42,10 @@ impl Estimate {
     }
 
     // In how many seconds the rest is read.
-    fn left_of(read: u64, seconds: u64, whole: u64) -> u128
-        requires { 0 < read }
-        ensures { result ≡ left_of read seconds whole }
+    fn left_of(read: NonZeroU64, seconds: NonZeroU64, whole: u64) -> u128
+        ensures { result ≡ left_of (non_zero_u64_get read) (non_zero_u64_get seconds) whole }
     {
-        let rest = whole.saturating_sub(read);
-        u128::from(rest) * u128::from(seconds) / u128::from(read)
+        let rest = whole.saturating_sub(read.get());
+        u128::from(rest) * u128::from(seconds.get()) / u128::from(read.get())
     }
 }

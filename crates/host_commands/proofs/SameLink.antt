@@ -1,5 +1,5 @@
 -- What serving a link that is read ahead comes to is what serving the link comes to.
-use Rattle.std.proofs.Common.{◌≡◌, ℕ, List, length, drop, Result, Ok, Err, OnOk, IfErr, sym, ap, subst}
+use Rattle.std.proofs.Common.{◌≡◌, ℕ, List, Result, Ok, Err, OnOk, IfErr, subst}
 use Rattle.issuer_rows.specs.declared.frame.Frame.{Frame}
 use Rattle.link_frames.specs.Incoming.{frames_of}
 use Rattle.link_frames.specs.Link.{AreFrames}

@@ -1,20 +1,20 @@
 -- Serving several links on a log that was opened.
-use Rattle.std.proofs.Common.{◌≡◌, ℕ, List, ◌++◌, IsTrue, subst, sym}
+use Rattle.std.proofs.Common.{ℕ, List, IsTrue, subst, sym}
 use Rattle.std.proofs.Math.Logic.{∥∥₁_map}
-use Rattle.issuer_rows.specs.Fold.{Rows, rows_after}
+use Rattle.issuer_rows.specs.Fold.{rows_after}
 use Rattle.host_serving.specs.Entering.{book_of}
 use Rattle.host_serving.specs.declared.host.Host.{Host}
 use Rattle.host_opening.specs.Opening.{book_digest, HoldsEntries}
-use Rattle.host_links.specs.Merged.{LinkMerged, MergesAll}
-use Rattle.host_links.specs.declared.behind.Behind.{Behind}
+use Rattle.host_links.specs.Merged.{MergesAll}
+use Rattle.host_links.specs.declared.links_outcome.LinksOutcome.{LinksOutcome}
 use Rattle.host_links.specs.declared.seat.Seat.{Seat}
 use Rattle.host_links.proofs.Merging.{merged_for}
 use Rattle.host_commands.specs.Together.{AreAnswered, OpensOn}
 
 pub answered_together : {G N I O : Type 0} (is_known : G → Type 0) (synced unsynced : G → List ℕ) (comes : I → Type 0) (remaining : I → List ℕ) (puts : O → Type 0) (written : O → List ℕ)
-    (text log : List ℕ) (host : Host G) (behind : Behind G N) (old new : List (Seat I O)) → OpensOn is_known synced unsynced text log host
-    → MergesAll is_known synced unsynced comes remaining puts written host behind old new → IsTrue behind.has_all → AreAnswered comes remaining puts written text log old new
-answered_together is_known synced unsynced comes remaining puts written text log host behind old new on merges has =
+    (text log : List ℕ) (host : Host G) (outcome : LinksOutcome G N) (old new : List (Seat I O)) → OpensOn is_known synced unsynced text log host
+    → MergesAll is_known synced unsynced comes remaining puts written host outcome old new → IsTrue outcome.has_all → AreAnswered comes remaining puts written text log old new
+answered_together is_known synced unsynced comes remaining puts written text log host outcome old new on merges has =
     let again = on.opened.again on.known in
     record {
       opening = on.opened.book;

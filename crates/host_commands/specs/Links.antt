@@ -9,7 +9,7 @@ use Rattle.host_commands.specs.declared.settings.Settings.{Settings}
 
 -- what options say: how many frames in one turn at most and after how many bodies it is told how it goes, each if it is said; and the two
 -- names of each link, in order
-pub record Heard : Type 0 where
+pub record LinkOptions : Type 0 where
   pub max_batch : Option ℕ
   pub stats : Option ℕ
   pub links : List (List ℕ × List ℕ)
@@ -18,8 +18,8 @@ pub record Heard : Type 0 where
 abbrev pub names_of : List LinkNames → List (List ℕ × List ℕ)
 names_of links = map (λ link. (link.input.now, link.output.now)) links
 
-abbrev pub heard : Choices → Heard
-heard choices = record { max_batch = choices.max_batch; stats = choices.stats; links = names_of choices.links.items }
+abbrev pub options_of : Choices → LinkOptions
+options_of choices = record { max_batch = choices.max_batch; stats = choices.stats; links = names_of choices.links.items }
 
 -- whether a name is one of these links'
 abbrev pub is_named : List ℕ → List (List ℕ × List ℕ) → Bool
@@ -33,7 +33,7 @@ AddsLink links input output = (length links < 64) × IsFalse (bytes_eq input out
 -- Where options said so much before, these words, which are options in any order, say so much in all: `--max-batch M` and `--stats N` once at
 -- most, and `--link IN OUT` for each link.
 abbrev mutual
-  pub SayMore : Heard → List (List ℕ) → Heard → Type 0
+  pub SayMore : LinkOptions → List (List ℕ) → LinkOptions → Type 0
   SayMore before [] after = after ≡ before
   SayMore before (option ∷ []) after = ⊥
   SayMore before (option ∷ first ∷ words) after =
@@ -43,13 +43,13 @@ abbrev mutual
       (IsNumberTo (2 ^ 64 - 1) first × (before.stats ≡ None) × SayMore (record { max_batch = before.max_batch; stats = Some (number_of first); links = before.links }) words after)
       (MatchBool (bytes_eq option (codes "--link")) (SayLink before first words after) ⊥))
 
-  pub SayLink : Heard → List ℕ → List (List ℕ) → Heard → Type 0
+  pub SayLink : LinkOptions → List ℕ → List (List ℕ) → LinkOptions → Type 0
   SayLink before input [] after = ⊥
   SayLink before input (output ∷ words) after =
       AddsLink before.links input output × SayMore (record { max_batch = before.max_batch; stats = before.stats; links = before.links ++ (input, output) ∷ [] }) words after
 
 -- what is said where nothing is
-abbrev pub nothing : Heard
+abbrev pub nothing : LinkOptions
 nothing = record { max_batch = None; stats = None; links = [] }
 
 -- as many frames in one turn as an entry has room for, where that isn't said
@@ -60,7 +60,7 @@ most_of (Some most) = most
 -- Words of which the second is `serve` ask to serve these links, on the book of the file that the third names, with the log in the file that
 -- the fourth names, where options behind these say them.
 pub record AskLinks (words : List (List ℕ)) (book log : List ℕ) (settings : Settings) (links : List (List ℕ × List ℕ)) : Type 0 where
-  pub said : Heard
+  pub said : LinkOptions
   pub command : IsCommand (codes "serve") words
   pub book_name : slice_get words 2 ≡ Some book
   pub log_name : slice_get words 3 ≡ Some log

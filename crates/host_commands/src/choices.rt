@@ -16,11 +16,11 @@ pub struct Choices<'a> {
 
 impl Choices<'_> {
     ghost use Rattle.std.specs.Prelude.{◌≡◌, [], None};
-    ghost use Rattle.host_commands.specs.Links.{heard};
+    ghost use Rattle.host_commands.specs.Links.{options_of};
 
     /// Nothing is said.
     pub(crate) fn none<'a>(alloc: Global) -> Choices<'a>
-        ensures { heard result ≡ record { max_batch = None; stats = None; links = [] } }
+        ensures { options_of result ≡ record { max_batch = None; stats = None; links = [] } }
     {
         Choices {
             max_batch: None,

@@ -2,7 +2,7 @@
 
 ghost use Rattle.std.specs.Prelude.{◌≡◌, ◌≢◌, ◌^◌, ◌-◌, ◌++◌, ◌∷◌, [], Bool, true, false, Ok, IfOk, IfSome, IfNone, IsFalse, IsTrue, None, Some, codes, drop, length, map, slice_get, string_bytes};
 ghost use Rattle.app_words.specs.Words.{IsCommand};
-ghost use Rattle.host_commands.specs.Links.{AddsLink, AskLinks, Heard, NoneAsks, SayMore, heard, is_named, names_of};
+ghost use Rattle.host_commands.specs.Links.{AddsLink, AskLinks, LinkOptions, NoneAsks, SayMore, options_of, is_named, names_of};
 ghost use Rattle.host_commands.specs.Settings.{IsNumberTo, number_of};
 
 use crate::asked_links::AskedLinks;
@@ -28,9 +28,9 @@ fn is_named(name: &str, links: &[LinkNames<'_>]) -> bool
 }
 
 // How many frames are served in one turn, as this word says. Returns whether it does, and it wasn't said before.
-fn hear_max_batch(word: &str, said: &mut Choices<'_>) -> bool
+fn read_max_batch(word: &str, said: &mut Choices<'_>) -> bool
     ensures yes { IsTrue result → IsNumberTo 65536 word.now × (said.old.max_batch ≡ None)
-        × (heard said.new ≡ record { max_batch = Some (number_of word.now); stats = said.old.stats; links = names_of said.old.links.items }) }
+        × (options_of said.new ≡ record { max_batch = Some (number_of word.now); stats = said.old.stats; links = names_of said.old.links.items }) }
     ensures no { ¬ IsTrue result → ¬ (IsNumberTo 65536 word.now × (said.old.max_batch ≡ None)) }
 {
     if said.max_batch.is_some() {
@@ -41,9 +41,9 @@ fn hear_max_batch(word: &str, said: &mut Choices<'_>) -> bool
 }
 
 // The same of how it goes.
-fn hear_stats(word: &str, said: &mut Choices<'_>) -> bool
+fn read_stats(word: &str, said: &mut Choices<'_>) -> bool
     ensures yes { IsTrue result → IsNumberTo (2 ^ 64 - 1) word.now × (said.old.stats ≡ None)
-        × (heard said.new ≡ record { max_batch = said.old.max_batch; stats = Some (number_of word.now); links = names_of said.old.links.items }) }
+        × (options_of said.new ≡ record { max_batch = said.old.max_batch; stats = Some (number_of word.now); links = names_of said.old.links.items }) }
     ensures no { ¬ IsTrue result → ¬ (IsNumberTo (2 ^ 64 - 1) word.now × (said.old.stats ≡ None)) }
 {
     if said.stats.is_some() {
@@ -54,13 +54,13 @@ fn hear_stats(word: &str, said: &mut Choices<'_>) -> bool
 }
 
 // Adds a link with these names. Returns whether they may be a link's.
-fn hear_link<'a>(
+fn read_link<'a>(
     input: &'a str,
     output: &'a str,
     said: &mut Choices<'a>,
 ) -> Result<bool, AllocError>
     ensures yes { result ≡ Ok true → AddsLink (names_of said.old.links.items) input.now output.now
-        × (heard said.new ≡ record { max_batch = said.old.max_batch; stats = said.old.stats; links = names_of said.old.links.items ++ (input.now, output.now) ∷ [] }) }
+        × (options_of said.new ≡ record { max_batch = said.old.max_batch; stats = said.old.stats; links = names_of said.old.links.items ++ (input.now, output.now) ∷ [] }) }
     ensures no { result ≡ Ok false → ¬ AddsLink (names_of said.old.links.items) input.now output.now }
 {
     if said.links.len() >= MOST_LINKS
@@ -75,9 +75,9 @@ fn hear_link<'a>(
 }
 
 // What these words, which are options, say more. Returns whether they are options.
-fn hear<'a>(words: &'a [String], said: &mut Choices<'a>) -> Result<bool, AllocError>
-    ensures yes { result ≡ Ok true → SayMore (heard said.old) (map string_bytes words.now) (heard said.new) }
-    ensures no { result ≡ Ok false → (after : Heard) → ¬ SayMore (heard said.old) (map string_bytes words.now) after }
+fn read_options<'a>(words: &'a [String], said: &mut Choices<'a>) -> Result<bool, AllocError>
+    ensures yes { result ≡ Ok true → SayMore (options_of said.old) (map string_bytes words.now) (options_of said.new) }
+    ensures no { result ≡ Ok false → (after : LinkOptions) → ¬ SayMore (options_of said.old) (map string_bytes words.now) after }
 {
     let Some((option, behind)) = words.split_first() else {
         return Ok(true);
@@ -88,15 +88,15 @@ fn hear<'a>(words: &'a [String], said: &mut Choices<'a>) -> Result<bool, AllocEr
     let option = option.as_str();
     let first = first.as_str();
     if option == "--max-batch" {
-        return if hear_max_batch(first, said) {
-            hear(rest, said)
+        return if read_max_batch(first, said) {
+            read_options(rest, said)
         } else {
             Ok(false)
         };
     }
     if option == "--stats" {
-        return if hear_stats(first, said) {
-            hear(rest, said)
+        return if read_stats(first, said) {
+            read_options(rest, said)
         } else {
             Ok(false)
         };
@@ -107,10 +107,10 @@ fn hear<'a>(words: &'a [String], said: &mut Choices<'a>) -> Result<bool, AllocEr
     let Some((second, rest)) = rest.split_first() else {
         return Ok(false);
     };
-    if !hear_link(first, second.as_str(), said)? {
+    if !read_link(first, second.as_str(), said)? {
         return Ok(false);
     }
-    hear(rest, said)
+    read_options(rest, said)
 }
 
 /// The links that the program's words, of which the first is its name, ask to be served, and how: none where no option names one. `None`
@@ -127,7 +127,7 @@ pub fn links_asked<'a>(
     }
     let (names, behind) = words.split_at(4);
     let mut said = Choices::none(alloc);
-    if !hear(behind, &mut said)? {
+    if !read_options(behind, &mut said)? {
         return Ok(None);
     }
     Ok(Some(AskedLinks {

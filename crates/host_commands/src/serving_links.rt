@@ -1,6 +1,6 @@
 //! Several links at one live host.
 
-ghost use Rattle.std.specs.Prelude.{◌≡◌, ℕ, List, All, IfOk, IsFalse, None};
+ghost use Rattle.std.specs.Prelude.{◌≡◌, ◌≤◌, ℕ, List, All, IfOk, IsFalse, None};
 ghost use Rattle.host_commands.specs.Together.{AreAnswered, OpensOn};
 
 use crate::link_names::LinkNames;
@@ -44,6 +44,7 @@ pub fn serve_links<
 ) -> u8
 where
     L::Log: Send,
+    ensures status { result ≤ 1 }
     // With status 0 no link had a fault, and all that came on each was served and answered.
     ensures served { (text bytes : List ℕ) → F.holds files.now book.now text → L.holds logs.now log.now bytes → result ≡ 0
         → AreAnswered I.is_known I.remaining O.is_known O.written text bytes seats.old seats.new × All (λ seat. seat.fault ≡ None) seats.new }
@@ -57,7 +58,7 @@ where
         }
     };
     teller.opened(opened.entries, opened.torn);
-    let mut behind = serve_at(
+    let mut outcome = serve_at(
         rt,
         alloc,
         opened.host,
@@ -66,11 +67,11 @@ where
         &Shipped,
         settings.max_batch,
     );
-    if !behind.has_all {
-        behind.watch.link_stopped(0, &HostFault::OutOfMemory);
+    if !outcome.has_all {
+        outcome.watch.link_stopped(0, &HostFault::OutOfMemory);
         return 1;
     }
-    if behind.fault.is_some() || has_fault(seats) {
+    if outcome.fault.is_some() || has_fault(seats) {
         return 1;
     }
     0

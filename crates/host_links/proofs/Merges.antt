@@ -1,6 +1,5 @@
 -- Turns, and turns behind them.
 use Rattle.std.proofs.Common.{◌≡◌, ◌≢◌, ◌⊎◌, ◌∙◌, inl, inr, ℕ, zero, suc, ◌+◌, ◌==◌, Bool, true, false, if◌then◌else◌, List, [], ◌∷◌, ◌++◌, Option, Some, None, IfSome, slice_get, slice_set, replicate, ap, refl, sym, subst, arith, append_assoc}
-use Rattle.std.specs.List.{AllByRecursion}
 use Rattle.std.proofs.lemmas.List.{append-nil}
 use Rattle.std.proofs.lemmas.List.Concat.{flat_map-append}
 use Rattle.std.proofs.lemmas.Bool.Decides.{nat_tests}
@@ -10,7 +9,6 @@ use Rattle.issuer_rows.specs.declared.frame.Frame.{Frame}
 use Rattle.issuer_fold.proofs.FoldLaws.{rows_after-append}
 use Rattle.log_file.specs.declared.log_writer.LogWriter.{LogWriter}
 use Rattle.host_serving.specs.Entering.{Grows, book_of}
-use Rattle.host_serving.specs.Serving.{LogAfter}
 use Rattle.host_serving.specs.Tally.{counted}
 use Rattle.host_serving.specs.Turn.{entry_of}
 use Rattle.host_serving.specs.declared.host.Host.{Host}
@@ -20,7 +18,7 @@ use Rattle.host_serving.specs.declared.tally.Tally.{Tally}
 use Rattle.host_serving.proofs.Takes.{each_more}
 use Rattle.host_serving.proofs.Servings.{grows_none, grows_more, tallies_more}
 use Rattle.host_serving.proofs.Watches.{log_more}
-use Rattle.host_links.specs.Kept.{AreCounts, IsAfter, IsBehind, IsKept, LogStands}
+use Rattle.host_links.specs.Kept.{AreCounts, IsBehind, IsKept, LogStands}
 use Rattle.host_links.specs.Turning.{Turns, StopsTurning}
 use Rattle.host_links.specs.Turns.{IsTurnOfLink, turns_of, came_on, given_to, answer_to_turn, messages_of, entries_of}
 use Rattle.host_links.specs.declared.link_turn.LinkTurn.{LinkTurn}

@@ -1,5 +1,5 @@
 -- From what each link knows to what it is by the history of all.
-use Rattle.std.proofs.Common.{◌≡◌, ◌⊎◌, ◌<◌, ◌+◌, ◌∙◌, ◌∷◌, length, slice_index_or, arith, inl, inr, refl, ℕ, zero, suc, List, [], ◌++◌, Option, Some, None, IfSome, slice_get, ap, sym, subst}
+use Rattle.std.proofs.Common.{◌≡◌, ◌⊎◌, ◌<◌, ◌+◌, ◌∙◌, ◌∷◌, length, slice_index_or, arith, inl, inr, refl, ℕ, zero, suc, List, [], ◌++◌, Option, IfSome, ap, sym, subst}
 use mathlib.Core.List.{IsPrefix}
 use Rattle.issuer_rows.specs.Fold.{Rows}
 use Rattle.link_frames.specs.Replies.{AppendsPart}
@@ -8,7 +8,7 @@ use Rattle.logbook.specs.Pages.{Book}
 use Rattle.host_links.specs.Kept.{AreCounts}
 use Rattle.host_links.specs.Merged.{LinkMerged, HasAllTurns, HasSeenAll, IsOfBook}
 use Rattle.host_links.specs.Seats.{SeatServed}
-use Rattle.host_links.specs.Turns.{came_on, given_to, turns_of}
+use Rattle.host_links.specs.Turns.{turns_of}
 use Rattle.host_links.specs.declared.link_turn.LinkTurn.{LinkTurn}
 use Rattle.host_links.specs.declared.seat.Seat.{Seat}
 use Rattle.host_links.specs.declared.seat.SeenTurns.{SeenTurns}

@@ -1,12 +1,12 @@
 -- What a turn comes to, as an entry of the history.
-use Rattle.std.proofs.Common.{◌≡◌, ◌≢◌, ◌∙◌, ℕ, List, [], ◌∷◌, ◌++◌, length, Result, Ok, Err, ap, refl, sym, subst}
+use Rattle.std.proofs.Common.{◌≡◌, ◌≢◌, ◌∙◌, ℕ, List, [], ◌∷◌, ◌++◌, length, Err, ap, refl, sym, subst}
 use Rattle.iso8583.specs.declared.message.Message.{Message}
 use Rattle.iso8583.specs.declared.codec_fault.CodecFault.{CodecFault}
 use Rattle.iso_laws.specs.Reading.{reading}
 use Rattle.iso_laws.specs.Types.{taken_in}
 use Rattle.iso_laws.proofs.Messages.{message_are, message_taken, messages_apart}
 use Rattle.iso_laws.proofs.Whole.{reading_again}
-use Rattle.issuer_rows.specs.Fold.{Rows, rows_after, replies_to}
+use Rattle.issuer_rows.specs.Fold.{rows_after, replies_to}
 use Rattle.issuer_rows.specs.declared.frame.Frame.{Frame}
 use Rattle.issuer_rows.specs.declared.frame.Frame.TheVariants.{Good, Bad}
 use Rattle.issuer_fold.proofs.FoldLaws.{length-replies_to}
@@ -19,7 +19,6 @@ use Rattle.host_serving.specs.Serving.{LogAfter}
 use Rattle.host_serving.specs.Tally.{counted}
 use Rattle.host_serving.specs.Turn.{HasTaken, IsTurn, entry_of}
 use Rattle.host_serving.specs.declared.host.Host.{Host}
-use Rattle.host_serving.specs.declared.tally.Tally.{Tally}
 use Rattle.host_serving.specs.declared.turn.Turn.{Turn}
 use Rattle.host_serving.proofs.Takes.{as_many}
 use Rattle.host_serving.specs.declared.host_fault.HostFault.{HostFault}

@@ -7,7 +7,7 @@ use Rattle.host_serving.specs.Entering.{book_of}
 use Rattle.host_serving.specs.declared.host.Host.{Host}
 use Rattle.host_links.specs.Kept.{IsBehind}
 use Rattle.host_links.specs.Lines.{LinkServed, LinkStopped}
-use Rattle.host_links.specs.declared.behind.Behind.{Behind}
+use Rattle.host_links.specs.declared.links_outcome.LinksOutcome.{LinksOutcome}
 use Rattle.host_links.specs.declared.link_turn.LinkTurn.{LinkTurn}
 use Rattle.host_links.specs.declared.seat.Seat.{Seat}
 use Rattle.host_links.specs.declared.seat.SeenTurns.{SeenTurns}
@@ -36,8 +36,8 @@ module _ {I O : Type 0} (is_known : I → Type 0) (remaining : I → List ℕ) (
 -- There is one list of turns, each of one link: the log has their entries in that order, and the book is the one after their messages; and of
 -- each link what came on it are its turns, and what it was given are the answers to them, each on the book after all turns before it.
 pub record MergesAll {G N I O : Type 0} (is_known : G → Type 0) (synced unsynced : G → List ℕ) (comes : I → Type 0) (remaining : I → List ℕ) (puts : O → Type 0) (written : O → List ℕ)
-    (host : Host G) (behind : Behind G N) (old new : List (Seat I O)) : Type 0 where
+    (host : Host G) (outcome : LinksOutcome G N) (old new : List (Seat I O)) : Type 0 where
   pub turns : List LinkTurn
-  pub stands : ∥ IsBehind is_known synced unsynced host behind.host behind.fault turns ∥₁
-  pub each : IsTrue behind.has_all → (link : ℕ) (other : Seat I O) → link < length old
+  pub stands : ∥ IsBehind is_known synced unsynced host outcome.host outcome.fault turns ∥₁
+  pub each : IsTrue outcome.has_all → (link : ℕ) (other : Seat I O) → link < length old
       → LinkMerged comes remaining puts written link (book_of host) turns (slice_index_or old link other) (slice_index_or new link other)

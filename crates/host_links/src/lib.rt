@@ -1,7 +1,6 @@
 //! A live host that several links share: each link is served by a thread of its own, and takes its turns at the host one after another.
 #![tactic(auto)]
 
-mod behind;
 mod buffers;
 mod ends;
 mod history;
@@ -9,6 +8,7 @@ mod laws;
 mod line;
 mod link_turn;
 mod links;
+mod links_outcome;
 mod naming;
 mod seat;
 mod serving;
@@ -16,7 +16,6 @@ mod shared_host;
 mod turning;
 mod watch_links;
 
-pub use behind::Behind;
 pub use buffers::LinkBuffers;
 pub use ends::{LinkSink, LinkSource};
 pub use history::{Came, Front, History, Opened, Trace};
@@ -24,6 +23,7 @@ pub use laws::{turns_go_on, turns_of_others_change_nothing};
 pub use line::Line;
 pub use link_turn::LinkTurn;
 pub use links::serve_links;
+pub use links_outcome::LinksOutcome;
 pub use naming::{Before, Naming};
 pub use seat::{Seat, SeenTurns};
 pub use serving::serve_line;

@@ -8,10 +8,10 @@ ghost use Rattle.host_links.specs.Merged.{LinkMerged, MergesAll};
 ghost use Rattle.host_links.specs.Seats.{SeatServed};
 ghost use Rattle.host_links.specs.Turns.{turns_of};
 
-use crate::behind::Behind;
 use crate::ends::{LinkSink, LinkSource};
 use crate::history::{Front, History, Opened};
 use crate::line::Line;
+use crate::links_outcome::LinksOutcome;
 use crate::naming::Before;
 use crate::seat::{Seat, SeenTurns};
 use crate::serving::serve_line;
@@ -251,7 +251,7 @@ fn serve_named<
     seats: &mut [Seat<I, O>],
     decision: &F,
     most: MaxBatch,
-) -> Behind<G, N>
+) -> LinksOutcome<G, N>
     requires history { opened.seen.book ≡ J.book }
     requires book { book_of host ≡ J.opening }
     requires tally { host.decider.tally ≡ J.tally }
@@ -263,7 +263,7 @@ fn serve_named<
     let shared = SharedHost::new(host, watch, none.again(), counts);
     let (behind, has_all) = serve_shared(rt, alloc, shared, &history, &none, seats, decision, most);
     let (host, watch, fault) = behind.into_parts();
-    Behind {
+    LinksOutcome {
         host,
         watch,
         fault,
@@ -290,13 +290,13 @@ pub fn serve_links<
     seats: &mut [Seat<I, O>],
     decision: &F,
     most: MaxBatch,
-) -> Behind<G, N>
+) -> LinksOutcome<G, N>
     ensures { MergesAll G.is_known G.synced G.unsynced I.is_known I.remaining O.is_known O.written host result seats.old seats.new }
 {
     let Ok(counts) = vec![in alloc; 0; seats.len()] else {
         let mut watch = watch;
         watch.link_stopped(0, &HostFault::OutOfMemory);
-        return Behind {
+        return LinksOutcome {
             host,
             watch,
             fault: Some(HostFault::OutOfMemory),

@@ -3,7 +3,7 @@
 use crate::hosts::{CopiedLogs, words_of};
 use file_devices::{FailingSink, FailingSource};
 use host_commands::{AskedLinks, LinkNames, Settings, links_asked, serve_links};
-use host_links::{Behind, Seat, serve_links as serve_at};
+use host_links::{LinksOutcome, Seat, serve_links as serve_at};
 use host_serving::{HostFault, MaxBatch, Unwatched};
 use issuer_rows::Book;
 use issuer_rules::Shipped;
@@ -43,7 +43,7 @@ fn served<R: Threads + Wait + Sync>(
     alloc: Global,
     book: &Book,
     seats: &mut [Seat<FailingSource<'_>, FailingSink>],
-) -> Option<Behind<MemoryLog, Unwatched>> {
+) -> Option<LinksOutcome<MemoryLog, Unwatched>> {
     let opened = open(rt, alloc, book, Vec::new(alloc)).ok()?;
     let most = MaxBatch::whole_entry();
     Some(serve_at(rt, alloc, opened.host, Unwatched, seats, &Shipped, most))
@@ -57,13 +57,13 @@ fn three_links_are_answered_each_on_its_own(rt: HostRuntime) -> Result<(), Fail>
         seat(rt.alloc(), ECHO, 1000),
         seat(rt.alloc(), b"", 1000),
     ]?;
-    let behind = served(&rt, rt.alloc(), &book, &mut seats).expect(&rt, "a host");
-    assert!(rt; behind.has_all && behind.fault.is_none());
+    let outcome = served(&rt, rt.alloc(), &book, &mut seats).expect(&rt, "a host");
+    assert!(rt; outcome.has_all && outcome.fault.is_none());
     assert!(rt; came_to(&seats[0], REPLIES, None));
     assert!(rt; came_to(&seats[1], ECHO_REPLY, None));
     assert!(rt; came_to(&seats[2], b"", None));
-    assert!(rt; has_row(behind.host.decider().book(), "account A 9900 978"));
-    assert!(rt; behind.host.decider().tally().bodies == 3);
+    assert!(rt; has_row(outcome.host.decider().book(), "account A 9900 978"));
+    assert!(rt; outcome.host.decider().tally().bodies == 3);
     Ok(())
 }
 
@@ -81,12 +81,12 @@ fn two_links_of_one_card_are_answered_in_the_order_of_the_log(rt: HostRuntime) -
         seat(rt.alloc(), FIRST, 1000),
         seat(rt.alloc(), SECOND, 1000),
     ]?;
-    let behind = served(&rt, rt.alloc(), &book, &mut seats).expect(&rt, "a host");
+    let outcome = served(&rt, rt.alloc(), &book, &mut seats).expect(&rt, "a host");
     let in_order = came_to(&seats[0], FIRST_REPLY, None) && came_to(&seats[1], SECOND_REPLY, None);
     let turned = came_to(&seats[0], FIRST_LATE, None) && came_to(&seats[1], SECOND_EARLY, None);
     assert!(rt; in_order || turned);
-    assert!(rt; has_row(behind.host.decider().book(), "account A 9800 978"));
-    let log = copy_of(rt.alloc(), behind.host.log().file().synced()).expect(&rt, "a copy");
+    assert!(rt; has_row(outcome.host.decider().book(), "account A 9800 978"));
+    let log = copy_of(rt.alloc(), outcome.host.log().file().synced()).expect(&rt, "a copy");
     let (_, replies) = serve_link(&rt, rt.alloc(), &book, log, REPEAT).expect(&rt, "a host");
     assert!(rt; replies.as_slice() == seats[0].sink().taken());
     Ok(())
@@ -100,8 +100,8 @@ fn a_fault_of_one_link_ends_that_link_alone(rt: HostRuntime) -> Result<(), Fail>
         seat(rt.alloc(), ECHO, 1000),
         seat(rt.alloc(), ECHO, 0),
     ]?;
-    let behind = served(&rt, rt.alloc(), &book, &mut seats).expect(&rt, "a host");
-    assert!(rt; behind.has_all && behind.fault.is_none());
+    let outcome = served(&rt, rt.alloc(), &book, &mut seats).expect(&rt, "a host");
+    assert!(rt; outcome.has_all && outcome.fault.is_none());
     assert!(rt;
         came_to(
             &seats[0],
@@ -111,7 +111,7 @@ fn a_fault_of_one_link_ends_that_link_alone(rt: HostRuntime) -> Result<(), Fail>
     );
     assert!(rt; came_to(&seats[1], ECHO_REPLY, None));
     assert!(rt; came_to(&seats[2], b"", Some(HostFault::Link(LinkFault::Unwritable))));
-    assert!(rt; has_row(behind.host.decider().book(), "account A 9900 978"));
+    assert!(rt; has_row(outcome.host.decider().book(), "account A 9900 978"));
     Ok(())
 }
 

@@ -1,4 +1,4 @@
-use Rattle.std.proofs.Common.{rules, inr}
+use Rattle.std.proofs.Common.{inr}
 use Rattle.app_reasons.proofs.explaining.told_of_shown.Goals as goal
 
 pub returns-in-Some : goal.returns-in-Some

@@ -1,8 +1,7 @@
-use Rattle.std.proofs.Common.{rules, ◌≡◌, List, ap, sym, ◌∙◌}
+use Rattle.std.proofs.Common.{rules, ap, sym, ◌∙◌}
 use Rattle.std.proofs.lemmas.Result.{err_from_is_err_and}
-use Rattle.link_frames.specs.Reader.{ahead, kept}
+use Rattle.link_frames.specs.Reader.{kept}
 use Rattle.host_links.specs.Turns.{turns_of}
-use Rattle.host_links.specs.declared.link_turn.LinkTurn.{LinkTurn}
 use Rattle.host_links.proofs.LineLaws.{none_served, served_on, stopped_on, stopped_at, ended}
 use Rattle.host_links.proofs.serving.serve_line.Goals as goal
 

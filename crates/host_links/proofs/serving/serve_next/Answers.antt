@@ -1,4 +1,4 @@
-use Rattle.std.proofs.Common.{refl, ap, subst, List, ℕ}
+use Rattle.std.proofs.Common.{refl, subst, List, ℕ}
 use Rattle.std.proofs.lemmas.Result.{err_from_is_err_and}
 use Rattle.link_frames.specs.Reader.{ahead}
 use Rattle.link_frames.specs.Replies.{AppendsPart}

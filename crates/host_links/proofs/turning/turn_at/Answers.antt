@@ -1,4 +1,4 @@
-use Rattle.std.proofs.Common.{◌≤◌, length, refl, arith, ap, ◌∙◌}
+use Rattle.std.proofs.Common.{length, refl, arith, ap, ◌∙◌}
 use Rattle.host_links.proofs.Turnings.{stops_all, turned}
 use Rattle.host_links.proofs.turning.turn_at.Goals as goal
 

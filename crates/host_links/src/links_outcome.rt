@@ -2,7 +2,7 @@ use host_serving::{Host, HostFault};
 
 /// What serving links at one host came to.
 #[derive(Drop)]
-pub struct Behind<G, N> {
+pub struct LinksOutcome<G, N> {
     /// The host behind all turns: its log has the entries of them.
     pub host: Host<G>,
     /// Whoever was told.
