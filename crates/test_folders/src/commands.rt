@@ -27,7 +27,9 @@ fn told<R: Threads + Wait + Sync>(
     line: &str,
 ) -> Option<(u8, Vec<u8>, Vec<u8>)> {
     let words = words_of(alloc, line)?;
-    let asked = parts_asked(&words)?;
+    let Some(asked) = parts_asked(&words) else {
+        return None;
+    };
     let (mut out, mut err) = (Vec::new(alloc), Vec::new(alloc));
     let status = answer_parts(rt, alloc, files, &asked, &mut out, &mut err);
     Some((status, out, err))

@@ -56,7 +56,9 @@ fn said_of<R: Threads + Wait + Sync>(
     for word in line.split(' ') {
         words.push(String::from_str(alloc, word).ok()?).ok()?;
     }
-    let asked = parts_asked(&words)?;
+    let Some(asked) = parts_asked(&words) else {
+        return None;
+    };
     let mut files = MemoryFiles::new(alloc);
     let (mut out, mut err) = (Vec::new(alloc), Vec::new(alloc));
     let status = answer_parts(rt, alloc, &mut files, &asked, &mut out, &mut err);
