@@ -13,19 +13,19 @@ use Rattle.app_jobs.specs.declared.job_fault.JobFault.{JobFault}
 use Rattle.app_jobs.specs.declared.job_fault.JobFault.TheVariants as job
 use Rattle.parts_files.specs.Texts.{decided_text}
 use Rattle.app_parts.specs.Answers.{HaveAnswers, IsNoAnswer, IsPartAnswer}
-use Rattle.app_parts.specs.Faults.{IsFaultOfPart}
-use Rattle.app_parts.specs.Joining.{Answer, AreAnswersFrom, IsAnswerOf}
-use Rattle.app_parts.specs.Names.{part_name}
-use Rattle.app_parts.specs.Opening.{IsPartFileFault}
-use Rattle.app_parts.specs.Reading.{IsAnswerBytesFault}
-use Rattle.app_parts.specs.Texts.{IsHeld}
+use Rattle.app_parts_folder.specs.Faults.{IsFaultOfPart}
+use Rattle.app_parts_folder.specs.Joining.{Answer, AreAnswersFrom, IsAnswerOf}
+use Rattle.app_parts_folder.specs.Names.{part_name}
+use Rattle.app_parts_folder.specs.Opening.{IsPartFileFault}
+use Rattle.app_parts_folder.specs.Reading.{IsAnswerBytesFault}
+use Rattle.app_parts_folder.specs.Texts.{IsHeld}
 use Rattle.app_parts.specs.declared.answers.Answers.{Answers}
 use Rattle.app_parts.specs.declared.answers.PartAnswer.{PartAnswer}
-use Rattle.app_parts.specs.declared.part_fault.PartFault.TheVariants as part
-use Rattle.app_parts.specs.declared.part_file.PartFile.{PartFile}
-use Rattle.app_parts.specs.declared.part_file.PartFile.TheVariants.{Replies, NewBook, Decided}
-use Rattle.app_parts.specs.declared.parts_fault.PartsFault.{PartsFault}
-use Rattle.app_parts.specs.declared.parts_fault.PartsFault.TheVariants as fault
+use Rattle.app_parts_folder.specs.declared.part_fault.PartFault.TheVariants as part
+use Rattle.app_parts_folder.specs.declared.part_file.PartFile.{PartFile}
+use Rattle.app_parts_folder.specs.declared.part_file.PartFile.TheVariants.{Replies, NewBook, Decided}
+use Rattle.app_parts_folder.specs.declared.parts_fault.PartsFault.{PartsFault}
+use Rattle.app_parts_folder.specs.declared.parts_fault.PartsFault.TheVariants as fault
 
 -- ---- why a part has no answer
 

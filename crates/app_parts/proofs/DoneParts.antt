@@ -8,19 +8,19 @@ use Rattle.issuer_rows.specs.declared.frame.Frame.{Frame}
 use Rattle.parts_books.specs.PartBooks.{each_part}
 use Rattle.parts_files.specs.Texts.{plan_of, plan_text}
 use Rattle.parts_files.specs.declared.part_digests.PartDigests.{PartDigests}
-use Rattle.app_parts.proofs.NamesApart.{all_of_decided, all_of_folder, decided_distinct, folder_distinct, none_such, outside_none}
-use Rattle.app_parts.specs.Apart.{IsOutside}
-use Rattle.app_parts.specs.Deciding.{IsDecidedText, made_texts}
-use Rattle.app_parts.specs.Joining.{IsPartDecided, decided_texts}
-use Rattle.app_parts.specs.Names.{IsOfDecided, IsOfFolder, part_name}
-use Rattle.app_parts.specs.Opening.{IsOpenPlan}
-use Rattle.app_parts.specs.Parting.{AreReadBack, IsCut, IsParted, IsPlanned, Names, Parting, count_of_part, folder_texts}
-use Rattle.app_parts.specs.Planning.{bodies_in}
-use Rattle.app_parts.specs.Texts.{AreDistinct, AreHeld, IsHeld, IsNoneOf, Text}
-use Rattle.app_parts.specs.declared.batch_in_parts.BatchInParts.{BatchInParts}
-use Rattle.app_parts.specs.declared.part_count.PartCount.{PartCount}
-use Rattle.app_parts.specs.declared.part_file.PartFile.TheVariants.{Book, Batch}
-use Rattle.app_parts.specs.declared.plan_opening.OpenPlan.{OpenPlan}
+use Rattle.app_parts_folder.proofs.NamesApart.{all_of_decided, all_of_folder, decided_distinct, folder_distinct, none_such, outside_none}
+use Rattle.app_parts_folder.specs.Apart.{IsOutside}
+use Rattle.app_parts_folder.specs.Deciding.{IsDecidedText, made_texts}
+use Rattle.app_parts_folder.specs.Joining.{IsPartDecided, decided_texts}
+use Rattle.app_parts_folder.specs.Names.{IsOfDecided, IsOfFolder, part_name}
+use Rattle.app_parts_folder.specs.Opening.{IsOpenPlan}
+use Rattle.app_parts_folder.specs.Parting.{AreReadBack, IsCut, IsParted, IsPlanned, Names, Parting, count_of_part, folder_texts}
+use Rattle.app_parts_folder.specs.Planning.{bodies_in}
+use Rattle.app_parts_folder.specs.Texts.{AreDistinct, AreHeld, IsHeld, IsNoneOf, Text}
+use Rattle.app_parts_folder.specs.declared.batch_in_parts.BatchInParts.{BatchInParts}
+use Rattle.app_parts_folder.specs.declared.part_count.PartCount.{PartCount}
+use Rattle.app_parts_folder.specs.declared.part_file.PartFile.TheVariants.{Book, Batch}
+use Rattle.app_parts_folder.specs.declared.plan_opening.OpenPlan.{OpenPlan}
 
 -- ---- a part is decided
 

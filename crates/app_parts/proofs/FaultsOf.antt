@@ -12,20 +12,20 @@ use Rattle.app_jobs.specs.declared.job_fault.JobFault.TheVariants as job
 use Rattle.parts_files.proofs.Fronts.{same_plan}
 use Rattle.parts_files.specs.Texts.{Plan, plan_of, plan_text}
 use Rattle.parts_files.specs.declared.part_digests.PartDigests.{PartDigests}
-use Rattle.app_parts.proofs.NamesApart.{all_of_decided, all_of_folder, put_fault}
-use Rattle.app_parts.specs.Apart.{IsOneFileFault}
-use Rattle.app_parts.specs.Deciding.{IsDecidedFaultOf, made_texts}
-use Rattle.app_parts.specs.Faults.{HasPlan, IsDecidingFault, IsOfOtherBatch, IsOfOtherBook, IsPartingFault}
-use Rattle.app_parts.specs.Names.{IsOfDecided, IsOfFolder, part_name}
-use Rattle.app_parts.specs.Opening.{IsOpenPlan, IsPlanFault, IsPlannedFileFault}
-use Rattle.app_parts.specs.Parting.{Names, Parting, folder_texts}
-use Rattle.app_parts.specs.Planning.{IsBatchFaultOf}
-use Rattle.app_parts.specs.Texts.{IsHeld, IsPutFault, IsReadingFault, Text}
-use Rattle.app_parts.specs.declared.part_fault.PartFault.TheVariants as part
-use Rattle.app_parts.specs.declared.part_file.PartFile.TheVariants.{Book, Batch}
-use Rattle.app_parts.specs.declared.parts_fault.PartsFault.{PartsFault}
-use Rattle.app_parts.specs.declared.parts_fault.PartsFault.TheVariants as fault
-use Rattle.app_parts.specs.declared.plan_opening.OpenPlan.{OpenPlan}
+use Rattle.app_parts_folder.proofs.NamesApart.{all_of_decided, all_of_folder, put_fault}
+use Rattle.app_parts_folder.specs.Apart.{IsOneFileFault}
+use Rattle.app_parts_folder.specs.Deciding.{IsDecidedFaultOf, made_texts}
+use Rattle.app_parts_folder.specs.Faults.{HasPlan, IsDecidingFault, IsOfOtherBatch, IsOfOtherBook, IsPartingFault}
+use Rattle.app_parts_folder.specs.Names.{IsOfDecided, IsOfFolder, part_name}
+use Rattle.app_parts_folder.specs.Opening.{IsOpenPlan, IsPlanFault, IsPlannedFileFault}
+use Rattle.app_parts_folder.specs.Parting.{Names, Parting, folder_texts}
+use Rattle.app_parts_folder.specs.Planning.{IsBatchFaultOf}
+use Rattle.app_parts_folder.specs.Texts.{IsHeld, IsPutFault, IsReadingFault, Text}
+use Rattle.app_parts_folder.specs.declared.part_fault.PartFault.TheVariants as part
+use Rattle.app_parts_folder.specs.declared.part_file.PartFile.TheVariants.{Book, Batch}
+use Rattle.app_parts_folder.specs.declared.parts_fault.PartsFault.{PartsFault}
+use Rattle.app_parts_folder.specs.declared.parts_fault.PartsFault.TheVariants as fault
+use Rattle.app_parts_folder.specs.declared.plan_opening.OpenPlan.{OpenPlan}
 
 -- ---- what was read
 

@@ -17,19 +17,19 @@ use Rattle.app_jobs.specs.declared.job_fault.JobFault.TheVariants.{OutOfMemory}
 use Rattle.parts_books.specs.PartBooks.{AreInArrivalOrder, joined_books}
 use Rattle.parts_files.proofs.Fronts.{same_plan}
 use Rattle.parts_files.specs.Texts.{Plan, decided_head, decided_text, plan_of, plan_text}
-use Rattle.app_parts.proofs.NamesApart.{put_fault}
+use Rattle.app_parts_folder.proofs.NamesApart.{put_fault}
 use Rattle.app_parts.specs.Answers.{HaveAnswers, IsNoAnswer, IsNoOrder, IsPartFault, IsRest, IsRestFault}
-use Rattle.app_parts.specs.Apart.{IsPairFault}
-use Rattle.app_parts.specs.Faults.{HasNoOrder, HasPlan, IsAnsweringFault, IsJoiningFault, IsOfJoined}
-use Rattle.app_parts.specs.Joining.{Answer, AreAnswersFrom, IsJoined, Names, joined_texts}
-use Rattle.app_parts.specs.Opening.{IsNoMemory, IsOpenPlan, IsPlanFault}
-use Rattle.app_parts.specs.Texts.{AreDistinct, AreHeld, IsPutFault, IsReadingFault, Text}
+use Rattle.app_parts_folder.specs.Apart.{IsPairFault}
+use Rattle.app_parts_folder.specs.Faults.{HasNoOrder, HasPlan, IsAnsweringFault, IsJoiningFault, IsOfJoined}
+use Rattle.app_parts_folder.specs.Joining.{Answer, AreAnswersFrom, IsJoined, Names, joined_texts}
+use Rattle.app_parts_folder.specs.Opening.{IsNoMemory, IsOpenPlan, IsPlanFault}
+use Rattle.app_parts_folder.specs.Texts.{AreDistinct, AreHeld, IsPutFault, IsReadingFault, Text}
 use Rattle.app_parts.specs.declared.answers.Answers.{Answers}
-use Rattle.app_parts.specs.declared.part_fault.PartFault.{PartFault}
-use Rattle.app_parts.specs.declared.part_fault.PartFault.TheVariants as why
-use Rattle.app_parts.specs.declared.parts_fault.PartsFault.{PartsFault}
-use Rattle.app_parts.specs.declared.parts_fault.PartsFault.TheVariants as fault
-use Rattle.app_parts.specs.declared.plan_opening.OpenPlan.{OpenPlan}
+use Rattle.app_parts_folder.specs.declared.part_fault.PartFault.{PartFault}
+use Rattle.app_parts_folder.specs.declared.part_fault.PartFault.TheVariants as why
+use Rattle.app_parts_folder.specs.declared.parts_fault.PartsFault.{PartsFault}
+use Rattle.app_parts_folder.specs.declared.parts_fault.PartsFault.TheVariants as fault
+use Rattle.app_parts_folder.specs.declared.plan_opening.OpenPlan.{OpenPlan}
 
 -- ---- bytes have one meaning
 

@@ -1,9 +1,5 @@
-pub mod PutTexts
-pub mod NamesApart
 pub mod FaultsOf
 pub mod DoneParts
-pub mod OwnBodies
-pub mod Parts
 pub mod Answered
 pub mod Joined
 pub mod OneRun

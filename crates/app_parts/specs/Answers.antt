@@ -9,18 +9,18 @@ use Rattle.issuer_rows.specs.declared.reply_body.ReplyBody.{ReplyBody}
 use Rattle.app_jobs.specs.Faults.{IsBookFault}
 use Rattle.parts_books.specs.PartBooks.{AreInArrivalOrder}
 use Rattle.parts_files.specs.Texts.{decided_head, decided_text}
-use Rattle.app_parts.specs.Faults.{HasNoFile, IsFaultOfPart}
-use Rattle.app_parts.specs.Joining.{Answer, AreAnswersFrom, IsAnswerOf}
-use Rattle.app_parts.specs.Names.{part_name, rest_name}
-use Rattle.app_parts.specs.Opening.{IsNoMemory}
-use Rattle.app_parts.specs.Texts.{IsHeld}
+use Rattle.app_parts_folder.specs.Faults.{HasNoFile, IsFaultOfPart}
+use Rattle.app_parts_folder.specs.Joining.{Answer, AreAnswersFrom, IsAnswerOf}
+use Rattle.app_parts_folder.specs.Names.{part_name, rest_name}
+use Rattle.app_parts_folder.specs.Opening.{IsNoMemory}
+use Rattle.app_parts_folder.specs.Texts.{IsHeld}
 use Rattle.app_parts.specs.declared.answers.Answers.{Answers}
 use Rattle.app_parts.specs.declared.answers.PartAnswer.{PartAnswer}
-use Rattle.app_parts.specs.declared.part_fault.PartFault.{PartFault}
-use Rattle.app_parts.specs.declared.part_fault.PartFault.TheVariants as why
-use Rattle.app_parts.specs.declared.part_file.PartFile.TheVariants.{Replies, NewBook, Decided}
-use Rattle.app_parts.specs.declared.parts_fault.PartsFault.{PartsFault}
-use Rattle.app_parts.specs.declared.parts_fault.PartsFault.TheVariants as fault
+use Rattle.app_parts_folder.specs.declared.part_fault.PartFault.{PartFault}
+use Rattle.app_parts_folder.specs.declared.part_fault.PartFault.TheVariants as why
+use Rattle.app_parts_folder.specs.declared.part_file.PartFile.TheVariants.{Replies, NewBook, Decided}
+use Rattle.app_parts_folder.specs.declared.parts_fault.PartsFault.{PartsFault}
+use Rattle.app_parts_folder.specs.declared.parts_fault.PartsFault.TheVariants as fault
 
 -- the rest of the folder, which has this digest
 pub record IsRest (known : Type 0) (holds : Holding) (folder digest : List ℕ) (rest : Rows) : Type 0 where

@@ -1,16 +1,4 @@
-pub mod Names
-pub mod Texts
-pub mod Writing
-pub mod Parting
-pub mod Planning
-pub mod Making
-pub mod Opening
-pub mod Apart
-pub mod Deciding
 pub mod Answers
-pub mod Reading
 pub mod Asked
 pub mod Told
-pub mod Joining
-pub mod Faults
 pub mod Run

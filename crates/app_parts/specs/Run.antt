@@ -9,10 +9,10 @@ use Rattle.issuer_rows.specs.Fold.{Rows, replies_to, rows_after}
 use Rattle.issuer_rows.specs.declared.reply_body.ReplyBody.{ReplyBody}
 use Rattle.parts_books.specs.PartBooks.{joined_books, part_replies, part_rows_after}
 use Rattle.parts_files.specs.Texts.{plan_text}
-use Rattle.app_parts.specs.Joining.{IsJoined, Names}
-use Rattle.app_parts.specs.Names.{part_name, plan_name, rest_name}
-use Rattle.app_parts.specs.Parting.{AreReadBack, IsPlanned, Parting, parted, plan_of_parting, rest_of}
-use Rattle.app_parts.specs.declared.part_file.PartFile.TheVariants.{NewBook, Replies}
+use Rattle.app_parts_folder.specs.Joining.{IsJoined, Names}
+use Rattle.app_parts_folder.specs.Names.{part_name, plan_name, rest_name}
+use Rattle.app_parts_folder.specs.Parting.{AreReadBack, IsPlanned, Parting, parted, plan_of_parting, rest_of}
+use Rattle.app_parts_folder.specs.declared.part_file.PartFile.TheVariants.{NewBook, Replies}
 
 -- The files of the folder hold the plan and the rest that `part` writes, and of each part the replies and the new book of deciding its
 -- messages one after another on its book, which whatever decides so writes; and all of these are read again.

@@ -3,16 +3,16 @@ use Rattle.std.specs.Prelude.{◌≡◌, ◌≤◌, ◌⊎◌, ℕ, suc, List, [
 use Rattle.std.specs.Io.KnownBytes.{Appends}
 use Rattle.file_devices.specs.Failing.{Failing}
 use Rattle.file_devices.specs.Holding.{AreAsTheyWere, Holding}
-use Rattle.app_parts.specs.Faults.{IsDecidingFault, IsJoiningFault, IsPartingFault, status_of}
-use Rattle.app_parts.specs.Joining as joining
-use Rattle.app_parts.specs.Joining.{IsJoined, IsPartDecided}
-use Rattle.app_parts.specs.Names.{IsOfDecided, IsOfFolder}
-use Rattle.app_parts.specs.Parting as parting
-use Rattle.app_parts.specs.Parting.{IsParted}
+use Rattle.app_parts_folder.specs.Faults.{IsDecidingFault, IsJoiningFault, IsPartingFault, status_of}
+use Rattle.app_parts_folder.specs.Joining as joining
+use Rattle.app_parts_folder.specs.Joining.{IsJoined, IsPartDecided}
+use Rattle.app_parts_folder.specs.Names.{IsOfDecided, IsOfFolder}
+use Rattle.app_parts_folder.specs.Parting as parting
+use Rattle.app_parts_folder.specs.Parting.{IsParted}
 use Rattle.app_parts.specs.declared.asking.PartsAsked.{PartsAsked}
 use Rattle.app_parts.specs.declared.asking.PartsAsked.TheVariants.{Part, Decide, Join, Help, Wrong}
-use Rattle.app_parts.specs.declared.part_count.PartCount.{PartCount}
-use Rattle.app_parts.specs.declared.parts_fault.PartsFault.{PartsFault}
+use Rattle.app_parts_folder.specs.declared.part_count.PartCount.{PartCount}
+use Rattle.app_parts_folder.specs.declared.parts_fault.PartsFault.{PartsFault}
 
 -- the line of a part: its number, its messages and its rows
 abbrev pub count_line : ℕ → PartCount → List ℕ

@@ -3,8 +3,7 @@ ghost use Rattle.app_parts.specs.Asked.{IsAskedBy, IsMost, IsNumber, number_of};
 ghost use Rattle.app_words.specs.Words.{IsCommand};
 
 use crate::help::{DECIDE_HELP, DECIDE_USAGE, JOIN_HELP, JOIN_USAGE, PART_HELP, PART_USAGE};
-use crate::join_names::JoinNames;
-use crate::part_names::PartNames;
+use app_parts_folder::{JoinNames, PartNames};
 use app_words::{asks_help, is_command};
 use parts_files::MostParts;
 

@@ -2,22 +2,18 @@ ghost use Rattle.std.specs.Prelude.{◌≡◌, ◌≤◌, ℕ, List, IfOk, IfErr
 ghost use Rattle.sha2.specs.Sha256.{sha256};
 ghost use Rattle.book_laws.specs.Reading.{IsAnswer, reading};
 ghost use Rattle.file_devices.specs.Holding.{AreAsTheyWere, IsAsItWas};
-ghost use Rattle.app_parts.specs.Deciding.{IsDecidedText, IsDecidedFaultOf, made_texts};
-ghost use Rattle.app_parts.specs.Faults.{IsDecidingFault};
-ghost use Rattle.app_parts.specs.Joining.{IsPartDecided};
-ghost use Rattle.app_parts.specs.Names.{IsOfDecided};
-ghost use Rattle.app_parts.specs.Texts.{texts_of};
-ghost use Rattle.app_parts.specs.declared.parts_fault.PartsFault.TheVariants as PartsFault;
+ghost use Rattle.app_parts_folder.specs.Deciding.{IsDecidedText, IsDecidedFaultOf, made_texts};
+ghost use Rattle.app_parts_folder.specs.Faults.{IsDecidingFault};
+ghost use Rattle.app_parts_folder.specs.Joining.{IsPartDecided};
+ghost use Rattle.app_parts_folder.specs.Names.{IsOfDecided};
+ghost use Rattle.app_parts_folder.specs.Texts.{texts_of};
+ghost use Rattle.app_parts_folder.specs.declared.parts_fault.PartsFault.TheVariants as PartsFault;
 
-use crate::named_text::NamedText;
-use crate::names::part_name;
-use crate::part_fault::PartFault;
-use crate::part_file::PartFile;
-use crate::parts_fault::PartsFault;
-use crate::plan_opening::{OpenPlan, open_plan, open_planned};
-use crate::putting::put_texts;
-use crate::reading::digest_of;
 use app_jobs::JobFault;
+use app_parts_folder::{
+    NamedText, OpenPlan, PartFault, PartFile, PartsFault, digest_of, open_plan, open_planned,
+    part_name, put_texts,
+};
 use book_json::read_book;
 use book_text::write_book;
 use file_batch::{BodyCount, decide_in_order};

@@ -5,21 +5,16 @@ ghost use Rattle.file_batch_laws.specs.Replies.{AreReplyBodies};
 ghost use Rattle.file_devices.specs.Holding.{AreAsTheyWere, IsAsItWas};
 ghost use Rattle.parts_books.specs.PartBooks.{AreInArrivalOrder};
 ghost use Rattle.app_parts.specs.Answers.{IsNoOrder, IsRest, IsRestFault};
-ghost use Rattle.app_parts.specs.Faults.{IsJoiningFault};
-ghost use Rattle.app_parts.specs.Joining.{IsJoined, joined_texts, names_of};
-ghost use Rattle.app_parts.specs.Texts.{texts_of};
+ghost use Rattle.app_parts_folder.specs.Faults.{IsJoiningFault};
+ghost use Rattle.app_parts_folder.specs.Joining.{IsJoined, joined_texts, names_of};
+ghost use Rattle.app_parts_folder.specs.Texts.{texts_of};
 
 use crate::answers::open_answers;
-use crate::apart::check_joined;
-use crate::bodies::replies_text;
-use crate::join_names::JoinNames;
-use crate::named_text::NamedText;
-use crate::names::rest_name;
-use crate::parts_fault::PartsFault;
-use crate::plan_opening::open_plan;
-use crate::putting::put_texts;
-use crate::reading::{digest_of, read_text};
 use app_jobs::JobFault;
+use app_parts_folder::{
+    JoinNames, NamedText, PartsFault, check_joined, digest_of, open_plan, put_texts, read_text,
+    replies_text, rest_name,
+};
 use book_json::read_book;
 use book_text::write_book;
 use file_devices::Files;

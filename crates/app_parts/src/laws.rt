@@ -1,7 +1,7 @@
 //! What the files of parts come to.
 
-ghost use Rattle.app_parts.specs.Joining.{Names};
-ghost use Rattle.app_parts.specs.Parting.{Parting};
+ghost use Rattle.app_parts_folder.specs.Joining.{Names};
+ghost use Rattle.app_parts_folder.specs.Parting.{Parting};
 ghost use Rattle.app_parts.specs.Run.{JoinsOneRun};
 
 use file_devices::Files;

@@ -2,20 +2,15 @@ ghost use Rattle.std.specs.Prelude.{◌≡◌, ℕ, List, IfOk, IfErr, OnErr, On
 ghost use Rattle.book_laws.specs.Reading.{IsAnswer, reading};
 ghost use Rattle.file_devices.specs.Holding.{AreAsTheyWere, IsAsItWas};
 ghost use Rattle.app_jobs.specs.Faults.{IsBookFault};
-ghost use Rattle.app_parts.specs.Faults.{IsPartingFault};
-ghost use Rattle.app_parts.specs.Names.{IsOfFolder};
-ghost use Rattle.app_parts.specs.Parting.{IsParted, names_of};
-ghost use Rattle.app_parts.specs.Texts.{IsHeld};
+ghost use Rattle.app_parts_folder.specs.Faults.{IsPartingFault};
+ghost use Rattle.app_parts_folder.specs.Names.{IsOfFolder};
+ghost use Rattle.app_parts_folder.specs.Parting.{IsParted, names_of};
+ghost use Rattle.app_parts_folder.specs.Texts.{IsHeld};
 
-use crate::apart::check_outside;
-use crate::making::make_folder;
-use crate::part_count::PartCount;
-use crate::part_names::PartNames;
-use crate::parts_fault::PartsFault;
-use crate::planning::plan_batch;
-use crate::putting::put_texts;
-use crate::reading::read_text;
 use app_jobs::JobFault;
+use app_parts_folder::{
+    PartCount, PartNames, PartsFault, check_outside, make_folder, plan_batch, put_texts, read_text,
+};
 use book_json::read_book;
 use file_devices::Files;
 use issuer_rows::Book;

@@ -1,18 +1,15 @@
 ghost use Rattle.std.specs.Prelude.{◌≡◌, ◌+◌, ◌++◌, ◌^◌, ◌<◌, ℕ, List, IfOk, OnOk, length, string_bytes};
 ghost use Rattle.std.specs.Io.KnownBytes.{Appends};
-ghost use Rattle.app_parts.specs.Faults.{status_of};
+ghost use Rattle.app_parts_folder.specs.Faults.{status_of};
 ghost use Rattle.app_parts.specs.Told.{IsAnswered, IsWritten, count_line, count_lines, done_line};
 ghost use Rattle.app_parts.specs.declared.asking.PartsAsked.TheVariants as asked;
 ghost use Rattle.file_devices.specs.Holding.{IsAsItWas};
 
 use crate::asking::PartsAsked;
 use crate::deciding::decide_part;
-use crate::join_names::JoinNames;
 use crate::joining::join_parts;
-use crate::part_count::PartCount;
-use crate::part_names::PartNames;
 use crate::parting::part_files;
-use crate::parts_fault::PartsFault;
+use app_parts_folder::{JoinNames, PartCount, PartNames, PartsFault};
 use app_words::{put, status_of};
 use file_devices::Files;
 use parts_files::MostParts;

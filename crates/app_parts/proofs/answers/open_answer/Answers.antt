@@ -1,6 +1,6 @@
 use Rattle.std.proofs.Common.{inr}
 use Rattle.std.proofs.lemmas.Result.{err_from_is_err_and}
-use Rattle.app_parts.specs.declared.part_file.PartFile.TheVariants.{Decided}
+use Rattle.app_parts_folder.specs.declared.part_file.PartFile.TheVariants.{Decided}
 use Rattle.app_parts.proofs.Answered.{answer_of, unopened, unread}
 use Rattle.app_parts.proofs.answers.open_answer.Goals as goal
 

@@ -1,6 +1,6 @@
 use Rattle.std.proofs.Common.{◌≡◌, List, length}
 use Rattle.app_parts.specs.Answers.{HaveAnswers}
-use Rattle.app_parts.specs.Joining.{Answer}
+use Rattle.app_parts_folder.specs.Joining.{Answer}
 use Rattle.app_parts.proofs.answers.open_answers.Given as goal
 
 -- the answers of the parts before this one are opened

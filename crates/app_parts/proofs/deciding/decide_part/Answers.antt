@@ -2,8 +2,8 @@ use Rattle.std.proofs.Common.{ℕ, List, subst}
 use Rattle.std.proofs.lemmas.Result.{err_from_is_err_and}
 use Rattle.app_parts.proofs.DoneParts.{part_decided}
 use Rattle.app_parts.proofs.FaultsOf.{batch_fault, book_fault, bytes_fault, decided_put_fault}
-use Rattle.app_parts.specs.Deciding.{IsDecidedFaultOf, IsDecidedText}
-use Rattle.app_parts.specs.Texts.{texts_of}
+use Rattle.app_parts_folder.specs.Deciding.{IsDecidedFaultOf, IsDecidedText}
+use Rattle.app_parts_folder.specs.Texts.{texts_of}
 use Rattle.app_parts.proofs.deciding.decide_part.Goals as goal
 
 pub returns-in_err-book-clause-fault : goal.returns-in_err-book-clause-fault

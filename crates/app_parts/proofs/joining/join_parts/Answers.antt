@@ -1,7 +1,7 @@
 use Rattle.std.proofs.Common.{arith, ◌∙◌}
 use Rattle.std.proofs.lemmas.Result.{err_from_is_err_and}
-use Rattle.app_parts.specs.Joining.{names_of}
-use Rattle.app_parts.specs.Texts.{texts_of}
+use Rattle.app_parts_folder.specs.Joining.{names_of}
+use Rattle.app_parts_folder.specs.Texts.{texts_of}
 use Rattle.app_parts.proofs.Joined.{AreOpened, both_written, joined, no_order, no_rest, not_put}
 use Rattle.app_parts.proofs.joining.join_parts.Goals as goal
 

@@ -2,9 +2,9 @@ use Rattle.std.proofs.Common.{◌≡◌, ◌≤◌, ℕ, List, inl, inr, subst, 
 use Rattle.std.proofs.lemmas.Result.{err_from_is_err_and}
 use Rattle.app_parts.proofs.DoneParts.{as_many, few_parts, not_of_folder, not_outside, parted_folder}
 use Rattle.app_parts.proofs.FaultsOf.{batch_is_outside, book_is_outside, held_batch, parted_put_fault, unread_batch}
-use Rattle.app_parts.specs.Parting.{IsCut, folder_texts, names_of}
-use Rattle.app_parts.specs.Planning.{IsBatchFaultOf, bodies_in, parting_of}
-use Rattle.app_parts.specs.Texts.{texts_of}
+use Rattle.app_parts_folder.specs.Parting.{IsCut, folder_texts, names_of}
+use Rattle.app_parts_folder.specs.Planning.{IsBatchFaultOf, bodies_in, parting_of}
+use Rattle.app_parts_folder.specs.Texts.{texts_of}
 use Rattle.app_parts.proofs.parting.part_files.Goals as goal
 
 pub returns-in_err-check_outside-clause-fault : goal.returns-in_err-check_outside-clause-fault

@@ -1,7 +1,7 @@
 use Rattle.std.proofs.Common.{inl, List, OnOk, subst}
 use Rattle.std.specs.Io.KnownBytes.{Appends}
 use Rattle.app_parts.specs.Told.{count_lines}
-use Rattle.app_parts.specs.declared.part_count.PartCount.{PartCount}
+use Rattle.app_parts_folder.specs.declared.part_count.PartCount.{PartCount}
 use Rattle.app_parts.proofs.Said.{said_or_not}
 use Rattle.app_parts.proofs.telling.answer_part.Goals as goal
 

@@ -1,7 +1,0 @@
-use Rattle.app_parts.specs.Making.{AreMade}
-use Rattle.app_parts.specs.Planning.{parting_of}
-use Rattle.app_parts.proofs.making.make_parts.Given as goal
-
--- the parts before this one are made
-abbrev pub invariant-loop-part : goal.invariant-loop-part
-invariant-loop-part l = AreMade l.folder (parting_of l.book l.batch) l.part l.made

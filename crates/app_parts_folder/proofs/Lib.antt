@@ -1,0 +1,4 @@
+pub mod PutTexts
+pub mod NamesApart
+pub mod OwnBodies
+pub mod Parts

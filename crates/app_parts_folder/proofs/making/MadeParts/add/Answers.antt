@@ -1,0 +1,26 @@
+use Rattle.std.proofs.Common.{◌++◌, ◌∷◌, [], ap, sym, ◌∙◌}
+use Rattle.sha2.specs.Sha256.{sha256}
+use Rattle.app_parts_folder.specs.Names.{part_name}
+use Rattle.app_parts_folder.specs.Parting.{count_of_part, digests_of_part}
+use Rattle.app_parts_folder.specs.Planning.{parting_of}
+use Rattle.app_parts_folder.specs.declared.part_file.PartFile.TheVariants.{Book, Batch}
+use Rattle.app_parts_folder.proofs.Parts.{back_more, each_more, texts_more}
+use Rattle.app_parts_folder.proofs.making.MadeParts.add.Goals as goal
+
+pub returns : goal.returns
+returns c =
+    let p = parting_of c.args.book.now c.args.batch.now in
+    let folder = c.args.folder.now in
+    let part = c.args.part in
+    let made = c.requires.made in
+    let one = c.in_ok-one.ensures in
+    let of_book = c.digest_of-of_book.ensures ∙ ap sha256 (c.deref.ensures.value ∙ one.book) in
+    let of_batch = c.digest_of-of_batch.ensures ∙ ap sha256 (c.deref-2.ensures.value ∙ one.batch) in
+    record {
+      texts = c.in_ok-push_part.ensures
+          ∙ (λ i. made.texts i ++ record { name = part_name folder part Book; text = one.book i } ∷ record { name = part_name folder part Batch; text = one.batch i } ∷ [])
+          ∙ sym (texts_more folder p part);
+      digests = c.in_ok-push.ensures.items ∙ (λ i. made.digests i ++ record { book = of_book i; batch = of_batch i } ∷ []) ∙ sym (each_more (digests_of_part p) part);
+      counts = c.in_ok-push-2.ensures.items ∙ (λ i. made.counts i ++ one.count i ∷ []) ∙ sym (each_more (count_of_part p) part);
+      back = back_more p part made.back one.back;
+    }

@@ -1,0 +1,12 @@
+pub mod Names
+pub mod Texts
+pub mod Writing
+pub mod Parting
+pub mod Planning
+pub mod Making
+pub mod Opening
+pub mod Apart
+pub mod Deciding
+pub mod Reading
+pub mod Joining
+pub mod Faults
