@@ -1,5 +1,5 @@
 -- What the program does for its words.
-use Rattle.std.specs.Prelude.{◌≡◌, ◌≢◌, ◌⊎◌, ℕ, Bool, true, false, List, [], ◌∷◌, ◌++◌, length, Option, Some, None, IfSome, codes, option_map, string_bytes}
+use Rattle.std.specs.Prelude.{◌≡◌, ◌≢◌, ◌⊎◌, ℕ, Bool, true, false, List, [], ◌∷◌, ◌++◌, length, MatchResult, Option, Result, Some, None, IfSome, codes, option_map, string_bytes}
 use Rattle.std.specs.Global.{Vec}
 use Rattle.app_runs.specs.Answers.{IsAnswerInDigits}
 use Rattle.app_runs.specs.SampleBook.{sample_rows}
@@ -15,7 +15,7 @@ use Rattle.app_jobs.specs.AuditedBlocks.{AreBlocksAudited}
 use Rattle.app_jobs.specs.DecidedBlocks.{AreBlocksDecided, AreBlocksKept}
 use Rattle.app_jobs.specs.BlockFaults.{IsBlockAuditingFault, IsBlocksFault}
 use Rattle.file_devices.specs.Failing.{Failing}
-use Rattle.file_devices.specs.Holding.{AreAsTheyWere, IsThere}
+use Rattle.file_devices.specs.Holding.{AreAsTheyWere, IsAsItWas, IsThere}
 use Rattle.app_commands.specs.Apart.{AreApart, HasOneFile, names_apart}
 use Rattle.app_jobs.specs.Audited.{IsAudited}
 use Rattle.app_jobs.specs.Decided.{Holding, IsDecided}
@@ -178,6 +178,14 @@ abbrev pub IsTold : Holding → Asked → Fault → List ℕ → Type 0
 IsTold holds what (Job fault) line = IsToldOfJob holds what fault line
 IsTold holds what (Halted fault kept) line = IsToldOfJob holds what fault line
 IsTold holds what _ line = ⊥
+
+-- what is asked for is done, or by a fault it isn't
+abbrev pub IsDoneOrFault : Type 0 → Holding → Holding → Failing → Asked → Result Report Fault → Type 0
+IsDoneOrFault known old new devices what result = MatchResult result (IsDoneAs known old new what) (IsFaultIn known old new devices what)
+
+-- each file that isn't written for it is as it was
+abbrev pub SparesOthers : Holding → Holding → Asked → Type 0
+SparesOthers old new what = (other : List ℕ) → Spares what other → IsAsItWas old new other
 
 -- what is asked for has this fault, and what is told is told of what the files hold now
 abbrev pub IsRefusalIn : Type 0 → Holding → Holding → Failing → Asked → Refusal → Type 0

@@ -1,11 +1,10 @@
-ghost use Rattle.std.specs.Prelude.{◌≡◌, IfSome, MatchResult, OnOk, ℕ, List, None, Some, map, string_bytes};
+ghost use Rattle.std.specs.Prelude.{◌≡◌, IfSome, MatchResult, OnOk, None, Some, map, string_bytes};
 ghost use Rattle.app_arguments.specs.Asked.{asked_of, audit, audit_blocks, blocks, names_of, pack, pack_blocks, run, run_with_journal, serial, show};
-ghost use Rattle.file_devices.specs.Holding.{IsAsItWas};
 ghost use Rattle.app_jobs.specs.Deciding.{DecidesFiles};
 ghost use Rattle.app_commands.specs.Apart.{AreApart, names_apart};
 ghost use Rattle.app_commands.specs.Claims.{claims_for};
 ghost use Rattle.file_devices.specs.Claims.{AreOn};
-ghost use Rattle.app_commands.specs.Answered.{IsDoneAs, IsFaultIn, IsRefusalIn, IsTold, Spares};
+ghost use Rattle.app_commands.specs.Answered.{IsDoneAs, IsDoneOrFault, IsRefusalIn, IsTold, SparesOthers};
 
 use crate::apart::check_names;
 use crate::claims::claim_files;
@@ -37,7 +36,7 @@ pub(crate) fn done<R: Clock + Threads + Wait + Sync, F: Files>(
     ensures done { MatchResult result
         (IsDoneAs (F.is_known files.old) (F.holds files.old) (F.holds files.new) (asked_of command.now))
         (IsRefusalIn (F.is_known files.old) (F.holds files.old) (F.holds files.new) (F.failing files.old) (asked_of command.now)) }
-    ensures others { (other : List ℕ) → Spares (asked_of command.now) other → IsAsItWas (F.holds files.old) (F.holds files.new) other }
+    ensures others { SparesOthers (F.holds files.old) (F.holds files.new) (asked_of command.now) }
 {
     check_names(alloc, files, command)?;
     let claims = match claim_files(alloc, files, command) {
@@ -71,10 +70,8 @@ fn act_on<R: Clock + Threads + Wait + Sync, F: Files>(
     claims: &[F::Claim],
 ) -> Result<Report, Fault>
     requires claimed { AreOn F.is_alone_on F.is_to_read (claims_for (asked_of command.now)) claims.now }
-    ensures done { MatchResult result
-        (IsDoneAs (F.is_known files.old) (F.holds files.old) (F.holds files.new) (asked_of command.now))
-        (IsFaultIn (F.is_known files.old) (F.holds files.old) (F.holds files.new) (F.failing files.old) (asked_of command.now)) }
-    ensures others { (other : List ℕ) → Spares (asked_of command.now) other → IsAsItWas (F.holds files.old) (F.holds files.new) other }
+    ensures done { IsDoneOrFault (F.is_known files.old) (F.holds files.old) (F.holds files.new) (F.failing files.old) (asked_of command.now) result }
+    ensures others { SparesOthers (F.holds files.old) (F.holds files.new) (asked_of command.now) }
 {
     let _ = claims;
     match command {
@@ -129,10 +126,8 @@ fn serial<R: Threads + Wait + Sync, F: Files>(
     names: &BatchNames,
     strictness: Strictness,
 ) -> Result<Report, Fault>
-    ensures done { MatchResult result
-        (IsDoneAs (F.is_known files.old) (F.holds files.old) (F.holds files.new) (serial (names_of names.now) strictness))
-        (IsFaultIn (F.is_known files.old) (F.holds files.old) (F.holds files.new) (F.failing files.old) (serial (names_of names.now) strictness)) }
-    ensures others { (other : List ℕ) → Spares (serial (names_of names.now) strictness) other → IsAsItWas (F.holds files.old) (F.holds files.new) other }
+    ensures done { IsDoneOrFault (F.is_known files.old) (F.holds files.old) (F.holds files.new) (F.failing files.old) (serial (names_of names.now) strictness) result }
+    ensures others { SparesOthers (F.holds files.old) (F.holds files.new) (serial (names_of names.now) strictness) }
 {
     let count = serial_batch(rt, alloc, files, names, strictness)?;
     Ok(Report::Decided(count))
@@ -148,10 +143,8 @@ fn run<R: Clock + Threads + Wait + Sync, F: Files>(
     engine: EngineChoice,
     strictness: Strictness,
 ) -> Result<Report, Fault>
-    ensures done { MatchResult result
-        (IsDoneAs (F.is_known files.old) (F.holds files.old) (F.holds files.new) (run (names_of names.now) workers engine strictness))
-        (IsFaultIn (F.is_known files.old) (F.holds files.old) (F.holds files.new) (F.failing files.old) (run (names_of names.now) workers engine strictness)) }
-    ensures others { (other : List ℕ) → Spares (run (names_of names.now) workers engine strictness) other → IsAsItWas (F.holds files.old) (F.holds files.new) other }
+    ensures done { IsDoneOrFault (F.is_known files.old) (F.holds files.old) (F.holds files.new) (F.failing files.old) (run (names_of names.now) workers engine strictness) result }
+    ensures others { SparesOthers (F.holds files.old) (F.holds files.new) (run (names_of names.now) workers engine strictness) }
 {
     let count = decided(rt, alloc, files, names, workers, engine, strictness)?;
     Ok(Report::Decided(count))
@@ -187,10 +180,8 @@ fn run_with_journal<R: Clock + Threads + Wait + Sync, F: Files>(
     journal: &str,
     strictness: Strictness,
 ) -> Result<Report, Fault>
-    ensures done { MatchResult result
-        (IsDoneAs (F.is_known files.old) (F.holds files.old) (F.holds files.new) (run_with_journal (names_of names.now) workers journal.now strictness))
-        (IsFaultIn (F.is_known files.old) (F.holds files.old) (F.holds files.new) (F.failing files.old) (run_with_journal (names_of names.now) workers journal.now strictness)) }
-    ensures others { (other : List ℕ) → Spares (run_with_journal (names_of names.now) workers journal.now strictness) other → IsAsItWas (F.holds files.old) (F.holds files.new) other }
+    ensures done { IsDoneOrFault (F.is_known files.old) (F.holds files.old) (F.holds files.new) (F.failing files.old) (run_with_journal (names_of names.now) workers journal.now strictness) result }
+    ensures others { SparesOthers (F.holds files.old) (F.holds files.new) (run_with_journal (names_of names.now) workers journal.now strictness) }
 {
     let count = run_batch_with_journal(rt, alloc, files, names, workers, journal, strictness)?;
     Ok(Report::Decided(count))
@@ -206,10 +197,8 @@ fn blocks<R: Clock + Threads + Wait + Sync, F: Files>(
     engine: EngineChoice,
     strictness: Strictness,
 ) -> Result<Report, Fault>
-    ensures done { MatchResult result
-        (IsDoneAs (F.is_known files.old) (F.holds files.old) (F.holds files.new) (blocks (names_of names.now) workers engine strictness))
-        (IsFaultIn (F.is_known files.old) (F.holds files.old) (F.holds files.new) (F.failing files.old) (blocks (names_of names.now) workers engine strictness)) }
-    ensures others { (other : List ℕ) → Spares (blocks (names_of names.now) workers engine strictness) other → IsAsItWas (F.holds files.old) (F.holds files.new) other }
+    ensures done { IsDoneOrFault (F.is_known files.old) (F.holds files.old) (F.holds files.new) (F.failing files.old) (blocks (names_of names.now) workers engine strictness) result }
+    ensures others { SparesOthers (F.holds files.old) (F.holds files.new) (blocks (names_of names.now) workers engine strictness) }
 {
     let _ = (workers, engine);
     let count = run_blocks(rt, alloc, files, names, strictness)?;
@@ -223,9 +212,7 @@ fn audited<R: Threads, F: Files>(
     files: &F,
     names: &BatchNames,
 ) -> Result<Report, Fault>
-    ensures { MatchResult result
-        (IsDoneAs (F.is_known files.now) (F.holds files.now) (F.holds files.now) (audit (names_of names.now) None))
-        (IsFaultIn (F.is_known files.now) (F.holds files.now) (F.holds files.now) (F.failing files.now) (audit (names_of names.now) None)) }
+    ensures { IsDoneOrFault (F.is_known files.now) (F.holds files.now) (F.holds files.now) (F.failing files.now) (audit (names_of names.now) None) result }
 {
     let found = audit_batch(rt, alloc, files, names)?;
     let text = audit_text(alloc, &found)?;
@@ -240,9 +227,7 @@ fn audited_with_journal<R: Threads, F: Files>(
     names: &BatchNames,
     journal: &str,
 ) -> Result<Report, Fault>
-    ensures { MatchResult result
-        (IsDoneAs (F.is_known files.now) (F.holds files.now) (F.holds files.now) (audit (names_of names.now) (Some journal.now)))
-        (IsFaultIn (F.is_known files.now) (F.holds files.now) (F.holds files.now) (F.failing files.now) (audit (names_of names.now) (Some journal.now))) }
+    ensures { IsDoneOrFault (F.is_known files.now) (F.holds files.now) (F.holds files.now) (F.failing files.now) (audit (names_of names.now) (Some journal.now)) result }
 {
     let found = audit_batch_with_journal(rt, alloc, files, names, journal)?;
     let text = audit_text(alloc, &found)?;
@@ -256,9 +241,7 @@ fn audited_blocks<R: Threads, F: Files>(
     files: &F,
     names: &BatchNames,
 ) -> Result<Report, Fault>
-    ensures { MatchResult result
-        (IsDoneAs (F.is_known files.now) (F.holds files.now) (F.holds files.now) (audit_blocks (names_of names.now)))
-        (IsFaultIn (F.is_known files.now) (F.holds files.now) (F.holds files.now) (F.failing files.now) (audit_blocks (names_of names.now))) }
+    ensures { IsDoneOrFault (F.is_known files.now) (F.holds files.now) (F.holds files.now) (F.failing files.now) (audit_blocks (names_of names.now)) result }
 {
     let found = audit_block_files(rt, alloc, files, names)?;
     let text = block_audit_text(alloc, &found)?;
@@ -267,9 +250,7 @@ fn audited_blocks<R: Threads, F: Files>(
 
 // A file is shown.
 fn show<F: Files>(alloc: Global, files: &F, file: &str) -> Result<Report, Fault>
-    ensures { MatchResult result
-        (IsDoneAs (F.is_known files.now) (F.holds files.now) (F.holds files.now) (show file.now))
-        (IsFaultIn (F.is_known files.now) (F.holds files.now) (F.holds files.now) (F.failing files.now) (show file.now)) }
+    ensures { IsDoneOrFault (F.is_known files.now) (F.holds files.now) (F.holds files.now) (F.failing files.now) (show file.now) result }
 {
     let text = show_file(alloc, files, file)?;
     Ok(Report::Lines(text))
@@ -282,10 +263,8 @@ fn packed<F: Files>(
     texts: &[String],
     batch: &str,
 ) -> Result<Report, Fault>
-    ensures done { MatchResult result
-        (IsDoneAs (F.is_known files.old) (F.holds files.old) (F.holds files.new) (pack (map string_bytes texts.now) batch.now))
-        (IsFaultIn (F.is_known files.old) (F.holds files.old) (F.holds files.new) (F.failing files.old) (pack (map string_bytes texts.now) batch.now)) }
-    ensures others { (other : List ℕ) → Spares (pack (map string_bytes texts.now) batch.now) other → IsAsItWas (F.holds files.old) (F.holds files.new) other }
+    ensures done { IsDoneOrFault (F.is_known files.old) (F.holds files.old) (F.holds files.new) (F.failing files.old) (pack (map string_bytes texts.now) batch.now) result }
+    ensures others { SparesOthers (F.holds files.old) (F.holds files.new) (pack (map string_bytes texts.now) batch.now) }
 {
     let count = pack_batch(alloc, files, texts, batch)?;
     Ok(Report::Packed(count))
@@ -298,10 +277,8 @@ fn packed_in_blocks<F: Files>(
     texts: &[String],
     name: &str,
 ) -> Result<Report, Fault>
-    ensures done { MatchResult result
-        (IsDoneAs (F.is_known files.old) (F.holds files.old) (F.holds files.new) (pack_blocks (map string_bytes texts.now) name.now))
-        (IsFaultIn (F.is_known files.old) (F.holds files.old) (F.holds files.new) (F.failing files.old) (pack_blocks (map string_bytes texts.now) name.now)) }
-    ensures others { (other : List ℕ) → Spares (pack_blocks (map string_bytes texts.now) name.now) other → IsAsItWas (F.holds files.old) (F.holds files.new) other }
+    ensures done { IsDoneOrFault (F.is_known files.old) (F.holds files.old) (F.holds files.new) (F.failing files.old) (pack_blocks (map string_bytes texts.now) name.now) result }
+    ensures others { SparesOthers (F.holds files.old) (F.holds files.new) (pack_blocks (map string_bytes texts.now) name.now) }
 {
     let bodies = pack_blocks(alloc, files, texts, name)?;
     Ok(Report::PackedBlocks {
