@@ -2,11 +2,12 @@ use crate::row::Row;
 use book_entries::{WrittenText, row_of};
 use book_laws::RowList;
 use json::{Reader, Scratch};
+use memchr::memmem;
 use std::alloc::{AllocError, Global};
 use std::mem;
 
 // About how many bytes the entry of a row takes at least: room for so many rows is made at once.
-pub(crate) const BYTES_OF_A_ROW: usize = 60;
+const BYTES_OF_A_ROW: usize = 60;
 
 /// Some entries of a list in a book's text, and their rows.
 #[derive(Drop)]
@@ -30,6 +31,15 @@ impl<'a> Share<'a> {
     /// Reads the rows.
     pub(crate) fn read(&mut self, alloc: Global, scratch: &mut Scratch) {
         self.rows = read_rows(alloc, scratch, self.list, self.entries);
+    }
+
+    /// About how many rows the entries have, by the first one.
+    pub(crate) fn about(&self) -> usize {
+        let first = match memmem::find(self.entries, b"},{") {
+            Some(place) => place,
+            None => self.entries.len(),
+        };
+        (self.entries.len() / first.max(BYTES_OF_A_ROW)).saturating_add(1)
     }
 
     /// The rows that were read, which are handed over.

@@ -13,8 +13,11 @@ use std::thread::{Threads, join_mut};
 // How many bytes a share of a list has at least, if the list has as many.
 pub(crate) const SHARE: usize = 1 << 16;
 
-// How many shares are read at a time.
-const ROUND: usize = 32;
+// How many shares are read at a time at least: threads are begun anew for them, and a new thread begins late.
+const ROUND: usize = 256;
+
+// In how many rounds a larger text is read.
+const ROUNDS: usize = 8;
 
 // What stands before the entries of the first list.
 const START: &str = r#"{"accounts":["#;
@@ -121,13 +124,14 @@ pub(crate) fn put_shares<R: Threads>(
     book: &mut Book,
 ) -> Result<bool, AllocError> {
     let threads = current_num_threads(rt);
+    let each = ROUND.max(shares.len() / ROUNDS);
     let mut is_whole = true;
-    for round in 0..=shares.len().div_ceil(ROUND) {
-        let end = round.saturating_mul(ROUND).min(shares.len());
-        let start = end.min(round.saturating_sub(1).saturating_mul(ROUND));
+    for round in 0..=shares.len().div_ceil(each) {
+        let end = round.saturating_mul(each).min(shares.len());
+        let start = end.min(round.saturating_sub(1).saturating_mul(each));
         let (front, back) = shares.split_at_mut(end);
         let (_, read) = front.split_at_mut(start);
-        let (next, _) = back.split_at_mut(back.len().min(ROUND));
+        let (next, _) = back.split_at_mut(back.len().min(each));
         is_whole = is_whole && put_and_read(rt, alloc, threads, read, next, book)?;
     }
     Ok(is_whole)

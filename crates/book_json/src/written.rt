@@ -4,20 +4,21 @@ ghost use Rattle.std.specs.Prelude.{◌≡◌, ◌↔◌, Ok, IsOk, IfOk, IfErr,
 ghost use Rattle.book_laws.specs.CheckBook.{IsFirstFault, IsSound};
 ghost use Rattle.book_laws.specs.Reading.{reading};
 
-use crate::share::BYTES_OF_A_ROW;
+use crate::share::Share;
 use crate::shares::{SHARE, put_shares, shares_of};
 use book_laws::{BookFault, check_book};
 use book_writer::is_text_of;
 use issuer_rows::Book;
-use memchr::memchr_iter;
 use std::alloc::{AllocError, Global};
 use std::thread::{Threads, join};
 
-// About how many rows a text has: each begins a brace.
-fn rows_in(bytes: &[u8]) -> usize {
-    memchr_iter(b'{', bytes)
-        .count()
-        .min(bytes.len() / BYTES_OF_A_ROW)
+// About how many rows there are: some more than each share's first one tells.
+fn rows_in(shares: &[Share<'_>]) -> usize {
+    let mut rows: usize = 0;
+    for share in shares {
+        rows = rows.saturating_add(share.about());
+    }
+    rows.saturating_add(rows / 16)
 }
 
 // The book of a text's lists, if they are all found.
@@ -30,7 +31,7 @@ fn book_of_lists<R: Threads>(
         return Ok(None);
     };
     let mut book = Book::new(alloc);
-    book.reserve(rows_in(bytes))?;
+    book.reserve(rows_in(&shares))?;
     let is_read = put_shares(rt, alloc, &mut shares, &mut book)?;
     Ok(is_read.then_some(book))
 }
