@@ -33,7 +33,7 @@ use std::thread::Threads;
 pub fn decide_batch<
     R: Threads + Wait + Sync,
     F: Files,
-    E: Fn(&Book, &[Frame]) -> Result<RunOutcome, AllocError>,
+    E: Fn(Book, &[Frame]) -> Result<RunOutcome, AllocError>,
 >(
     rt: &R,
     alloc: Global,
@@ -43,11 +43,11 @@ pub fn decide_batch<
     decide: &E,
 ) -> Result<BodyCount, JobFault>
     // It may be called with a batch, and what it returns is the fold.
-    requires decider { IsDecider E.pre E.post (λ rows. rows.now) (λ frames. frames.now) decide.now }
+    requires decider { IsDecider E.pre E.post (λ rows. rows) (λ frames. frames.now) decide.now }
     ensures decides { DecidesFiles F.is_known F.holds F.failing strictness files.old files.new (names_of names.now) result }
 {
     let book = open_book(rt, alloc, files, names.book.as_str())?;
-    let answer = answer_batch(rt, alloc, files, names, &book, decide)?;
+    let answer = answer_batch(rt, alloc, files, names, book, decide)?;
     admit(strictness, answer.count)?;
     put_answer(alloc, files, names, answer.replies, answer.new_book)?;
     Ok(answer.count)
@@ -57,18 +57,18 @@ pub fn decide_batch<
 fn answer_batch<
     R: Threads + Wait + Sync,
     F: Files,
-    E: Fn(&Book, &[Frame]) -> Result<RunOutcome, AllocError>,
+    E: Fn(Book, &[Frame]) -> Result<RunOutcome, AllocError>,
 >(
     rt: &R,
     alloc: Global,
     files: &F,
     names: &BatchNames,
-    book: &Book,
+    book: Book,
     decide: &E,
 ) -> Result<WrittenAnswer<F::Output>, JobFault>
-    requires decider { IsDecider E.pre E.post (λ rows. rows.now) (λ frames. frames.now) decide.now }
+    requires decider { IsDecider E.pre E.post (λ rows. rows) (λ frames. frames.now) decide.now }
     ensures answered { IfOk result (λ answer. IsAnswered F.Output.is_known F.Output.written (F.is_known files.now) (F.holds files.now)
-        (string_bytes names.now.batch) book.now answer.count answer.replies answer.new_book) }
+        (string_bytes names.now.batch) book answer.count answer.replies answer.new_book) }
     ensures fault { IfErr result (IsAnsweringFault (F.holds files.now) (F.failing files.now) (names_of names.now)
         (MayNotBePut (F.failing files.now) (string_bytes names.now.new_book))) }
 {
@@ -88,19 +88,19 @@ fn answer_batch<
 }
 
 // Decides the batch on a book, and writes the replies.
-fn reply_to_batch<F: Files, E: Fn(&Book, &[Frame]) -> Result<RunOutcome, AllocError>>(
+fn reply_to_batch<F: Files, E: Fn(Book, &[Frame]) -> Result<RunOutcome, AllocError>>(
     alloc: Global,
     files: &F,
     names: &BatchNames,
-    book: &Book,
+    book: Book,
     decide: &E,
 ) -> Result<(Processed, F::Output), JobFault>
-    requires decider { IsDecider E.pre E.post (λ rows. rows.now) (λ frames. frames.now) decide.now }
+    requires decider { IsDecider E.pre E.post (λ rows. rows) (λ frames. frames.now) decide.now }
     ensures there { IfOk result (λ answer. F.is_known files.now → IsThere (F.holds files.now) (string_bytes names.now.batch)) }
     ensures bodies { IfOk result (λ answer. AreReplyBodies answer.0.outcome.replies.items) }
-    ensures ok { IfOk result (λ answer. (frames : List Frame) × IsFold book.now frames answer.0.outcome × (answer.0.count ≡ count_of frames)
+    ensures ok { IfOk result (λ answer. (frames : List Frame) × IsFold book frames answer.0.outcome × (answer.0.count ≡ count_of frames)
         × ((bytes : List ℕ) → F.holds files.now (string_bytes names.now.batch) bytes → IsBatchOf bytes frames)
-        × (F.is_known files.now → F.Output.is_known answer.1 × (F.Output.written answer.1 ≡ replies_text (replies_to book.now frames)))) }
+        × (F.is_known files.now → F.Output.is_known answer.1 × (F.Output.written answer.1 ≡ replies_text (replies_to book frames)))) }
     ensures fault { IfErr result (IsReplyingFault (F.holds files.now) (F.failing files.now) (names_of names.now)) }
 {
     let mut batch = files.open(names.batch.as_str())?;

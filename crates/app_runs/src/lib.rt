@@ -1,8 +1,11 @@
-//! Batches decided by an engine, and block files on the book itself, from the files' bytes to their bytes.
+//! Batches and blocks decided by an engine, from the files' bytes to their bytes.
 #![tactic(auto)]
 
 mod answers;
+mod by_engine;
+mod deciding;
 mod hexadecimal;
+mod noting;
 mod running;
 mod running_blocks;
 mod sample;
@@ -10,8 +13,9 @@ mod traced_answer;
 mod tracing;
 
 pub use answers::answer_on;
+pub use deciding::decide_by;
 pub use hexadecimal::decide_one;
-pub use running::{decide_by, run_batch};
-pub use running_blocks::run_blocks;
+pub use running::run_batch;
+pub use running_blocks::{run_blocks, serial_blocks};
 pub use sample::sample_book;
 pub use tracing::run_batch_with_journal;

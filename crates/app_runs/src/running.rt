@@ -3,16 +3,13 @@ ghost use Rattle.file_batch.specs.Processing.{AnswersFold};
 ghost use Rattle.file_devices.specs.BatchNames.{names_of};
 ghost use Rattle.app_jobs.specs.Deciding.{DecidesFiles};
 
+use crate::deciding::decide_by;
 use app_jobs::{JobFault, decide_batch};
-use engine_locked::run;
-use engine_parts::run_parts;
-use engine_split::run_split;
-use engine_workers::{Engine, NoHook, Workers};
+use engine_workers::{Engine, Workers};
 use file_batch::{BodyCount, Strictness};
 use file_devices::{BatchNames, Files};
 use issuer_fold::RunOutcome;
 use issuer_rows::{Book, Frame};
-use issuer_rules::Shipped;
 use std::alloc::{AllocError, Global};
 use std::sync::Wait;
 use std::thread::Threads;
@@ -32,28 +29,9 @@ pub fn run_batch<R: Clock + Threads + Wait + Sync, F: Files>(
 ) -> Result<BodyCount, JobFault>
     ensures decides { DecidesFiles F.is_known F.holds F.failing strictness files.old files.new (names_of names.now) result }
 {
-    let decide = |book: &Book, frames: &[Frame]| -> Result<RunOutcome, AllocError>
+    let decide = |book: Book, frames: &[Frame]| -> Result<RunOutcome, AllocError>
         requires { length frames.now ≤ 65536 }
-        ensures { AnswersFold book.entry.now frames.entry.now result }
+        ensures { AnswersFold book.entry frames.entry.now result }
     { decide_by(rt, alloc, book, frames, workers, engine) };
     decide_batch(rt, alloc, files, names, strictness, &decide)
-}
-
-/// Decides a batch of at most 65,536 bodies on a book by so many workers of an engine. It fails only where memory runs out.
-pub fn decide_by<R: Clock + Threads + Wait + Sync>(
-    rt: &R,
-    alloc: Global,
-    book: &Book,
-    frames: &[Frame],
-    workers: Workers,
-    engine: Engine,
-) -> Result<RunOutcome, AllocError>
-    requires { length frames.now ≤ 65536 }
-    ensures { AnswersFold book.now frames.now result }
-{
-    match engine {
-        Engine::Locked => run(rt, alloc, book, frames, workers, &Shipped, &NoHook),
-        Engine::Split => run_split(rt, alloc, book, frames, workers, &Shipped, &NoHook),
-        Engine::Parts => run_parts(rt, alloc, book, frames, workers, &Shipped),
-    }
 }

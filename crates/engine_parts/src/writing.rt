@@ -23,7 +23,7 @@ pub(crate) fn put_all(
 }
 
 /// Writes the rows of the other book over those of this one. It fails only where memory runs out, and some are written then.
-pub(crate) fn put_book(book: &mut Book, written: &Book) -> Result<(), AllocError>
+pub fn put_book(book: &mut Book, written: &Book) -> Result<(), AllocError>
     ensures { OnOk result (book.new ≡ joined book.old written.now) }
 {
     for (key, val) in written.rows() {
@@ -32,8 +32,8 @@ pub(crate) fn put_book(book: &mut Book, written: &Book) -> Result<(), AllocError
     Ok(())
 }
 
-// A row of the book where it stands. Each is of its key's kind, so that none is looked up.
-fn row_of<'a>(written: &'a Book, key: &RowKey, val: &'a RowVal) -> &'a RowVal
+/// A row of the book where it stands. Each is of its key's kind, so that none is looked up.
+pub fn row_of<'a>(written: &'a Book, key: &RowKey, val: &'a RowVal) -> &'a RowVal
     requires { map.get written.now key.now ≡ Some val.now }
     ensures same { result.now ≡ val.now }
     ensures kind { IsOfKind key.now result.now }

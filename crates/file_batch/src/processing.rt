@@ -22,22 +22,22 @@ use issuer_rows::{Book, Frame};
 use std::alloc::{AllocError, Global};
 
 // Decides the frames on the book and writes the reply file.
-fn answer<W: Sink, E: Fn(&Book, &[Frame]) -> Result<RunOutcome, AllocError>>(
+fn answer<W: Sink, E: Fn(Book, &[Frame]) -> Result<RunOutcome, AllocError>>(
     alloc: Global,
-    book: &Book,
+    book: Book,
     frames: &[Frame],
     sink: &mut W,
     decide: &E,
 ) -> Result<Processed, BatchFault>
     requires count { length frames.now ≤ 65536 }
-    requires decider { IsDecider E.pre E.post (λ rows. rows.now) (λ frames. frames.now) decide.now }
+    requires decider { IsDecider E.pre E.post (λ rows. rows) (λ frames. frames.now) decide.now }
     ensures device { UsesDevice W.is_known W.has_failed W.may_fail sink.old sink.new result }
     ensures ok { IfOk result (λ done. W.is_known sink.old → W.written sink.new ≡ W.written sink.old ++ replies_text done.outcome.replies.items) }
-    ensures answered { IfOk result (λ done. E.post decide.now book.entry frames.entry (Ok done.outcome)) }
+    ensures answered { IfOk result (λ done. E.post decide.now book frames.entry (Ok done.outcome)) }
     ensures counted { IfOk result (λ done. done.count ≡ count_of frames.now) }
     ensures bodies { IfOk result (λ done. AreReplyBodies done.outcome.replies.items) }
     ensures fault { IfErr result (λ e. ¬ IsTrue (is_of_bytes e)) }
-    ensures begun { OnErr result ((sink.new ≡ sink.old) ⊎ ((outcome : _) × E.post decide.now book.entry frames.entry (Ok outcome)
+    ensures begun { OnErr result ((sink.new ≡ sink.old) ⊎ ((outcome : _) × E.post decide.now book frames.entry (Ok outcome)
         × (W.is_known sink.old → AppendsPart (W.written sink.old) (W.written sink.new) (replies_text outcome.replies.items)))) }
 {
     let outcome = decide(book, frames)?;
@@ -48,31 +48,31 @@ fn answer<W: Sink, E: Fn(&Book, &[Frame]) -> Result<RunOutcome, AllocError>>(
     })
 }
 
-/// Reads a batch file, decides it on the book and writes the reply file. All of the batch is read and decided before the first byte is
+/// Reads a batch file, decides it on the book, which `decide` takes over, and writes the reply file. All of the batch is read and decided before the first byte is
 /// written: a fault until then leaves the sink as it was, a fault while writing leaves a beginning of the text in it. `decide` has to
 /// return the fold. `Device` is the fault exactly where a call of the source or of the sink failed.
-pub fn process<R: Source, W: Sink, E: Fn(&Book, &[Frame]) -> Result<RunOutcome, AllocError>>(
+pub fn process<R: Source, W: Sink, E: Fn(Book, &[Frame]) -> Result<RunOutcome, AllocError>>(
     alloc: Global,
-    book: &Book,
+    book: Book,
     source: &mut R,
     sink: &mut W,
     decide: &E,
 ) -> Result<Processed, BatchFault>
     // It may be called with a batch, and what it returns is the fold.
-    requires decider { IsDecider E.pre E.post (λ rows. rows.now) (λ frames. frames.now) decide.now }
+    requires decider { IsDecider E.pre E.post (λ rows. rows) (λ frames. frames.now) decide.now }
     ensures devices { UsesDevices R.is_known R.has_failed R.may_fail W.is_known W.has_failed W.may_fail source.old source.new sink.old sink.new result }
-    ensures ok { IfOk result (λ done. (frames : List Frame) × IsFold book.now frames done.outcome × (done.count ≡ count_of frames)
+    ensures ok { IfOk result (λ done. (frames : List Frame) × IsFold book frames done.outcome × (done.count ≡ count_of frames)
         × (R.is_known source.old → IsBatchOf (R.remaining source.old) frames)
-        × (W.is_known sink.old → W.written sink.new ≡ W.written sink.old ++ replies_text (replies_to book.now frames))) }
+        × (W.is_known sink.old → W.written sink.new ≡ W.written sink.old ++ replies_text (replies_to book frames))) }
     // What is returned is what `decide` returned for the batch, how many threads took part too.
-    ensures answered { IfOk result (λ done. (frames : _) × E.post decide.now book.entry frames (Ok done.outcome)
+    ensures answered { IfOk result (λ done. (frames : _) × E.post decide.now book frames (Ok done.outcome)
         × (R.is_known source.old → IsBatchOf (R.remaining source.old) frames.now)) }
     // A file of the replies is read again as these replies, and as no others.
     ensures bodies { IfOk result (λ done. AreReplyBodies done.outcome.replies.items) }
     ensures end { OnOk result (R.is_known source.old → R.remaining source.new ≡ []) }
     ensures fault { IfErr result (λ e. IsTrue (is_of_bytes e) → R.is_known source.old → bodies_of batch_magic (R.remaining source.old) ≡ Err e) }
     // Nothing is written unless the source was a batch that was decided, and then a beginning of its text is written.
-    ensures begun { IfErr result (λ e. (sink.new ≡ sink.old) ⊎ ((frames : _) × (outcome : _) × E.post decide.now book.entry frames (Ok outcome)
+    ensures begun { IfErr result (λ e. (sink.new ≡ sink.old) ⊎ ((frames : _) × (outcome : _) × E.post decide.now book frames (Ok outcome)
         × (R.is_known source.old → IsBatchOf (R.remaining source.old) frames.now)
         × (W.is_known sink.old → AppendsPart (W.written sink.old) (W.written sink.new) (replies_text outcome.replies.items)))) }
     ensures untouched { IfErr result (λ e. IsTrue (is_of_bytes e) → sink.new ≡ sink.old) }

@@ -88,7 +88,7 @@ impl KeptBlocks {
                 Ok(())
             }
             Err(fault) => {
-                decided.before.give_back(&mut self.book);
+                decided.formers.give_back(&mut self.book);
                 Err(fault)
             }
         }

@@ -1,6 +1,5 @@
 use crate::decide_block::DecideBlock;
-use crate::decided_block::DecidedBlock;
-use issuer_in_place::decide_in_place;
+use issuer_in_place::{InPlace, decide_in_place};
 use issuer_rows::{Book, Frame};
 use issuer_view::Decide;
 use std::alloc::{AllocError, Global};
@@ -20,8 +19,7 @@ impl<'a, F: Decide> OneByOne<'a, F> {
 }
 
 impl<F: Decide> DecideBlock for OneByOne<'_, F> {
-    fn decide(&self, book: &mut Book, frames: &[Frame]) -> Result<DecidedBlock, AllocError> {
-        let decided = decide_in_place(self.alloc, book, frames, self.decision)?;
-        Ok(DecidedBlock::in_place(decided))
+    fn decide(&self, book: &mut Book, frames: &[Frame]) -> Result<InPlace, AllocError> {
+        decide_in_place(self.alloc, book, frames, self.decision)
     }
 }

@@ -1,4 +1,5 @@
 pub mod Arrival
+pub mod Enough
 pub mod Going
 pub mod Listed
 pub mod Places

@@ -83,7 +83,7 @@ fewer_needs book rows part (Frame.Good (Message.Reversal v)) k (inr (inr h)) =
 fewer_needs book rows part (Frame.Bad fault) k h = absurd h
 
 -- a row that the part doesn't need stays as it is in its book
-guest_stays : (rows : Rows) (ms : Parted) (p : ℕ) (k : RowKey) → (IsOfPart rows ms p k → ⊥) → finite.get (part_rows_after rows ms p) k ≡ finite.get (part_rows rows ms p) k
+pub guest_stays : (rows : Rows) (ms : Parted) (p : ℕ) (k : RowKey) → (IsOfPart rows ms p k → ⊥) → finite.get (part_rows_after rows ms p) k ≡ finite.get (part_rows rows ms p) k
 guest_stays rows ms p k none =
     others_stay (part_rows rows ms p) ms p k (λ own. none (own.0, own.1, own.2, fewer_needs (part_rows rows ms p) rows (has_part rows ms p).others own.0.1 k own.3))
 
@@ -167,7 +167,7 @@ still_written rows (w ∷ ws) k there =
       | inr apart ↦ λ none. there (sym (get-other rows w.0 w.1 k apart) ∙ none)
     ])
 
-still_there : (rows : Rows) (frames : List Frame) (k : RowKey) → finite.get rows k ≢ None → finite.get (rows_after rows frames) k ≢ None
+pub still_there : (rows : Rows) (frames : List Frame) (k : RowKey) → finite.get rows k ≢ None → finite.get (rows_after rows frames) k ≢ None
 still_there rows [] k there = there
 still_there rows (f ∷ frames) k there = still_there (rows_after_one rows f) frames k (still_written rows (writes_of rows f) k there)
 
@@ -271,7 +271,7 @@ whole_book rows ms count apart below =
 
 -- ---- all replies
 
-as_many : (rows : Rows) (frames : List Frame) → length (replies_to rows frames) ≡ length frames
+pub as_many : (rows : Rows) (frames : List Frame) → length (replies_to rows frames) ≡ length frames
 as_many rows [] = refl
 as_many rows (f ∷ frames) = ap suc (as_many (rows_after_one rows f) frames)
 

@@ -5,10 +5,12 @@ use Rattle.std.specs.List.{AllByRecursion}
 use Rattle.iso8583.specs.declared.account_id.AccountId.{AccountId}
 use Rattle.issuer_rows.specs.Book.{IsWithin}
 use Rattle.issuer_rows.specs.Fold.{Rows, replies_to, rows_after}
+use Rattle.issuer_rows.specs.declared.frame.Frame.{Frame}
 use Rattle.issuer_rows.specs.declared.row_key.RowKey.{RowKey}
 use Rattle.issuer_laws.specs.Parts.{Parted, bodies, IsOfPart, AreApart}
 use Rattle.book_laws.specs.CheckBook.{IsSound}
-use Rattle.parts_books.specs.PartBooks.{part_rows, rest_rows, part_replies, part_rows_after, each_part, joined_books, AreInArrivalOrder}
+use Rattle.engine_parts.specs.TwoBooks.{joined}
+use Rattle.parts_books.specs.PartBooks.{rows_for, part_rows, rest_rows, part_replies, part_rows_after, each_part, joined_books, AreInArrivalOrder}
 
 -- Parts 0 to count - 1, each decided alone on its book, are put together: their replies in the order of arrival are those of the whole
 -- batch, and the rest with the books behind the parts is the book behind the whole batch.
@@ -41,3 +43,9 @@ LeavesPartsSound rows ms = IsSound rows → ((p : ℕ) → IsSound (part_rows ro
 -- replies of parts are put in the order of arrival in one way
 abbrev pub IsOneOrder : {A : Type 0} → List ℕ → List (List A) → List A → List A → Type 0
 IsOneOrder parts lists one other = AreInArrivalOrder parts lists one → AreInArrivalOrder parts lists other → one ≡ other
+
+-- Messages are decided on the rows for them as on the whole book: their replies are the same, and the rows behind them, written over the
+-- book, are the book behind them.
+pub record AreEnough (rows : Rows) (frames : List Frame) : Type 0 where
+  pub replies : replies_to (rows_for rows frames) frames ≡ replies_to rows frames
+  pub book : joined rows (rows_after (rows_for rows frames) frames) ≡ rows_after rows frames

@@ -11,8 +11,9 @@ mod part_book_laws;
 
 pub use joining_books::join_books;
 pub use joining_replies::join_replies;
-pub use making_parts::{part_book, part_books};
+pub use making_parts::{book_for, part_book, part_books};
 pub use making_rest::rest_book;
 pub use part_book_laws::{
     each_book_is_sound, each_row_has_its_place, parts_make_the_whole, replies_have_one_order,
+    rows_are_enough,
 };

@@ -65,8 +65,9 @@ pub(crate) fn messages_of(
     Ok(own)
 }
 
-// The rows of the book for these messages.
-fn book_for(alloc: Global, book: &Book, frames: &[Frame]) -> Result<Book, AllocError>
+/// The rows of the book that these messages may need, and the accounts of these. Its cost is that of the messages, whatever the book has. It
+/// fails only where memory runs out.
+pub fn book_for(alloc: Global, book: &Book, frames: &[Frame]) -> Result<Book, AllocError>
     ensures { IfOk result (λ own. own ≡ rows_for book.now frames.now) }
 {
     let mut own = Book::new(alloc);

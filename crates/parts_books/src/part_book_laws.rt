@@ -1,8 +1,9 @@
 ghost use Rattle.std.specs.Prelude.{ℕ, List};
 ghost use Rattle.issuer_laws.specs.Parts.{Parted};
 ghost use Rattle.issuer_rows.specs.Fold.{Rows};
+ghost use Rattle.issuer_rows.specs.declared.frame.Frame.{Frame};
 ghost use Rattle.issuer_rows.specs.declared.reply_body.ReplyBody.{ReplyBody};
-ghost use Rattle.parts_books.specs.Together.{HaveTheRows, IsOneOrder, LeavesPartsSound, MakeTheWhole};
+ghost use Rattle.parts_books.specs.Together.{AreEnough, HaveTheRows, IsOneOrder, LeavesPartsSound, MakeTheWhole};
 
 /// A batch in parts that share no row: decided apart, each part on its book, by whatever decides one message after another, the parts'
 /// replies in the order of arrival are those of the whole batch, and the rest with the books behind the parts is the book behind it.
@@ -24,4 +25,10 @@ pub fn each_book_is_sound()
 /// The replies of parts are put in the order of arrival in one way.
 pub fn replies_have_one_order()
     ensures { (parts : List ℕ) (lists : List (List ReplyBody)) (one other : List ReplyBody) → IsOneOrder parts lists one other }
+{}
+
+/// Whatever decides one message after another comes to the same on the rows for the messages as on the whole book, and these rows, written
+/// over the book, are the book behind them.
+pub fn rows_are_enough()
+    ensures { (rows : Rows) (frames : List Frame) → AreEnough rows frames }
 {}

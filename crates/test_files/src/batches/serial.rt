@@ -23,11 +23,11 @@ pub(crate) enum Way {
 
 pub(crate) const WAYS: [Way; 2] = [Way::Whole, Way::InOrder];
 
-fn decide_serially(alloc: Global, book: &Book, frames: &[Frame]) -> Result<RunOutcome, AllocError>
+fn decide_serially(alloc: Global, book: Book, frames: &[Frame]) -> Result<RunOutcome, AllocError>
     requires { length frames.now ≤ 65536 }
-    ensures { AnswersFold book.now frames.now result }
+    ensures { AnswersFold book frames.now result }
 {
-    let prefix = decide_all(alloc, Prefix::new(alloc, book.copy()?), frames)?;
+    let prefix = decide_all(alloc, Prefix::new(alloc, book), frames)?;
     Ok(RunOutcome {
         replies: prefix.replies,
         book: prefix.book,
@@ -57,11 +57,11 @@ fn process_whole<R: Source, W: Sink>(
     source: &mut R,
     sink: &mut W,
 ) -> Result<Book, BatchFault> {
-    let decide = |book: &Book, frames: &[Frame]| -> Result<RunOutcome, AllocError>
+    let decide = |book: Book, frames: &[Frame]| -> Result<RunOutcome, AllocError>
         requires { length frames.now ≤ 65536 }
-        ensures { AnswersFold book.entry.now frames.entry.now result }
+        ensures { AnswersFold book.entry frames.entry.now result }
     { decide_serially(alloc, book, frames) };
-    match process(alloc, book, source, sink, &decide) {
+    match process(alloc, book.copy()?, source, sink, &decide) {
         Ok(done) => Ok(done.outcome.book),
         Err(fault) => Err(fault),
     }

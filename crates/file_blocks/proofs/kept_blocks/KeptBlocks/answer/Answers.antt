@@ -30,10 +30,10 @@ pub returns-in-Ok-clause-bodies : goal.returns-in-Ok-clause-bodies
 returns-in-Ok-clause-bodies g c = rw (c.deref.ensures.value, c.in_ok-decided.ensures.ok.replies) at c.in-Ok.ensures.bodies
 
 pub give_back-requires : goal.give_back-requires
-give_back-requires g c = c.in_ok-decided.ensures.ok.can
+give_back-requires g c = c.in_ok-decided.ensures.ok.back.there
 
 pub returns-in-Err-clause-kept : goal.returns-in-Err-clause-kept
-returns-in-Err-clause-kept g c = rw (c.give_back.ensures, c.in_ok-decided.ensures.ok.back) refl
+returns-in-Err-clause-kept g c = rw (c.give_back.ensures, c.in_ok-decided.ensures.ok.back.same) refl
 
 pub returns-in-Err-clause-err : goal.returns-in-Err-clause-err
 returns-in-Err-clause-err g c = rw (c.deref.ensures.value, c.in_ok-decided.ensures.ok.replies) at c.in-Err.ensures.err
