@@ -57,6 +57,30 @@ is replies REPLIES
 is after AFTER
 is book BOOK
 
+# A book of more rows than a batch may need is the same behind each engine.
+put book DAY_BOOK
+put batch BATCH
+0 switch serial book batch replies after
+> decided 1
+put answers
+put later
+0 switch run book batch answers later --engine locked
+> decided 1
+is answers replies
+is later after
+put answers
+put later
+0 switch run book batch answers later --engine split
+> decided 1
+is answers replies
+is later after
+put answers
+put later
+0 switch run book batch answers later --engine parts
+> decided 1
+is answers replies
+is later after
+
 # Each reply repeats its message, an advice's and a reversal's too.
 put book BOOK
 put batch 'I83B 000100000002 0065 '1120 7230010102808000 '164111110000000005000000 '000000000100 '0110120000000002260110120000 '10006123456000TERM0001978 0082 '1420 7230010100808100 '164111110000000005000000 '000000000100 '0110120000000003260110120000 '40006123456TERM0001978 '30112000000226011012000006123456
