@@ -6,7 +6,7 @@ ghost use Rattle.book_laws.specs.Reading.{reading};
 
 use crate::share::Share;
 use crate::shares::{SHARE, put_shares, shares_of};
-use book_laws::{BookFault, check_book};
+use book_laws::{BookFault, check_book, check_book_by};
 use book_writer::is_text_of;
 use issuer_rows::Book;
 use std::alloc::{AllocError, Global};
@@ -36,7 +36,7 @@ fn book_of_lists<R: Threads>(
     Ok(is_read.then_some(book))
 }
 
-// What is wrong with a book, and whether bytes are its text, which is made again piece by piece. With a large one each is found in a thread of
+// What is wrong with a book, and whether bytes are its text, which is made again piece by piece. With a large one that is found in a thread of
 // its own.
 fn look_through<R: Threads>(
     rt: &R,
@@ -51,16 +51,17 @@ fn look_through<R: Threads>(
     if bytes.len() < SHARE {
         return (check_book(book), is_written(alloc, book, bytes));
     }
-    join(
+    let (is_same, check) = join(
         rt,
-        || -> Result<(), BookFault>
-            ensures sound { IsOk result ↔ IsSound book.entry.now }
-            ensures fault { IfErr result (IsFirstFault book.entry.now) }
-        { check_book(book) },
         || -> Result<bool, AllocError>
             ensures { IfOk result (λ same. IsTrue same → reading bytes.entry.now ≡ Ok book.entry.now) }
         { is_written(alloc, book, bytes) },
-    )
+        || -> Result<(), BookFault>
+            ensures sound { IsOk result ↔ IsSound book.entry.now }
+            ensures fault { IfErr result (IsFirstFault book.entry.now) }
+        { check_book_by(rt, book) },
+    );
+    (check, is_same)
 }
 
 // Whether bytes are the text of a book, and so are read as it.

@@ -10,14 +10,15 @@ use Rattle.iso8583.specs.declared.account_id.AccountId.{AccountId}
 use Rattle.iso8583.specs.declared.identity.Identity.{Identity}
 use Rattle.iso8583.specs.declared.pan_prefix.PanPrefix.{PanPrefix}
 use Rattle.issuer_rows.proofs.KeyLaws.{key_cmp_antisymmetric, text_eq_decides}
-use Rattle.issuer_rows.specs.Backing.{kept_in, stay_if, stays, is_account, is_from_account, is_from_budget, budget_paid, account_paid, backing_of_account, backing_of_prefix}
+use Rattle.book_laws.proofs.ListedRows.{listed_found}
+use Rattle.issuer_rows.specs.Backing.{kept_in, stay_if, stays, is_account, is_from_account, is_from_budget, budget_paid, account_paid, available_in, left_in, backing_of_account, backing_of_prefix}
 use Rattle.issuer_rows.specs.CardAccounts.{is_same_account}
 use Rattle.book_laws.specs.CheckBook.{is_among, has_account, has_payer, is_backed, has_paying_account, have_paying_accounts, IsRowInRange, AreRowsInRange, AreBackingsInRange}
 use Rattle.issuer_rows.specs.Facts.{prefix_of}
 use Rattle.issuer_rows.specs.Fold.{Rows}
 use Rattle.issuer_rows.specs.Kept.{KeptOriginal, stay_of, payment_of_outcome}
 use Rattle.issuer_rows.specs.RowKey.{key_cmp, text_eq}
-use Rattle.issuer_rows.specs.Typed.{account_in}
+use Rattle.issuer_rows.specs.Typed.{account_in, budget_in}
 use Rattle.book_laws.specs.declared.paid_from.PaidFrom.{PaidFrom}
 use Rattle.book_laws.specs.declared.paid_from.PaidFrom.TheVariants.{Anything}
 use Rattle.issuer_rows.specs.declared.payer.Payer.{Payer}
@@ -103,7 +104,7 @@ account_in_range : (rows : Rows) (id : AccountId) → IsTrue (have_paying_accoun
 account_in_range rows id payers h =
     elim (map.get rows (key.Account id)) as (λ o. map.get rows (key.Account id) ≡ o → backing_of_account rows id ≤ 10 ^ 15) [
       | None ↦ λ absent. rw (absent, no_stays rows id (map.entries rows) absent payers) (lit≤ tt)
-      | Some v ↦ λ found. found_in (IsRowInRange rows) rows (key.Account id) v h found
+      | Some v ↦ λ found. rw found (found_in (IsRowInRange rows) rows (key.Account id) v h found)
     ] refl
 
 -- nothing stays paid of an original from the budget of this prefix, or all that stays so is in range
@@ -146,24 +147,24 @@ prefix_in_range rows prefix h =
         | inl nothing ↦ rw (absent, nothing) (lit≤ tt)
         | inr bounded ↦ rw absent (omega (arith, bounded))
       ]
-      | Some v ↦ λ found. found_in (IsRowInRange rows) rows (key.Budget prefix) v h found
+      | Some v ↦ λ found. rw found (found_in (IsRowInRange rows) rows (key.Budget prefix) v h found)
     ] refl
 
 stays_in_range : (rows : Rows) (o : Option KeptOriginal) → ((prefix : PanPrefix) → backing_of_prefix rows prefix ≤ 10 ^ 15) → IfSome o (λ k. IsTrue (budget_paid (payment_of_outcome k.outcome)) → stays (is_from_budget (prefix_of k.card)) rows ≤ 10 ^ 15)
 stays_in_range rows None h = tt
 stays_in_range rows (Some k) h = λ _. omega (arith, h (prefix_of k.card))
 
-row_in_range : (rows : Rows) (k : RowKey) (v : RowVal) → AreBackingsInRange rows → IsRowInRange rows k v
-row_in_range rows (key.Card pan) v h = tt
-row_in_range rows (key.Velocity pan day) v h = tt
-row_in_range rows (key.Budget prefix) v h = h.1 prefix
-row_in_range rows (key.Original identity) v h = stays_in_range rows (kept_in (key.Original identity) v) h.1
-row_in_range rows (key.Account id) v h = h.0 id
+row_in_range : (rows : Rows) (k : RowKey) (v : RowVal) → AreBackingsInRange rows → map.get rows k ≡ Some v → IsRowInRange rows k v
+row_in_range rows (key.Card pan) v h there = tt
+row_in_range rows (key.Velocity pan day) v h there = tt
+row_in_range rows (key.Budget prefix) v h there = subst (λ (o : Option RowVal). left_in (budget_in o) + stays (is_from_budget prefix) rows ≤ 10 ^ 15) there (h.1 prefix)
+row_in_range rows (key.Original identity) v h there = stays_in_range rows (kept_in (key.Original identity) v) h.1
+row_in_range rows (key.Account id) v h there = subst (λ (o : Option RowVal). available_in (account_in o) + stays (is_from_account id) rows ≤ 10 ^ 15) there (h.0 id)
 
-rows_in_range : (rows : Rows) (es : List (RowKey × RowVal)) → AreBackingsInRange rows → AreRowsInRange rows es
-rows_in_range rows [] h = tt
-rows_in_range rows (row ∷ es) h = (row_in_range rows row.0 row.1 h, rows_in_range rows es h)
+rows_in_range : (rows : Rows) (es : List (RowKey × RowVal)) → AreBackingsInRange rows → AllByRecursion (λ row. map.get rows row.0 ≡ Some row.1) es → AreRowsInRange rows es
+rows_in_range rows [] h there = tt
+rows_in_range rows (row ∷ es) h there = (row_in_range rows row.0 row.1 h there.0, rows_in_range rows es h there.1)
 
 -- all backings are in range exactly where each row is
 pub backings_by_rows : (rows : Rows) → IsTrue (have_paying_accounts rows) → AreRowsInRange rows (map.entries rows) ↔ AreBackingsInRange rows
-backings_by_rows rows payers = (λ h. ((λ id. account_in_range rows id payers h), (λ prefix. prefix_in_range rows prefix h)), λ h. rows_in_range rows (map.entries rows) h)
+backings_by_rows rows payers = (λ h. ((λ id. account_in_range rows id payers h), (λ prefix. prefix_in_range rows prefix h)), λ h. rows_in_range rows (map.entries rows) h (listed_found rows))

@@ -1,16 +1,16 @@
 -- What is wrong with a book that comes from outside.
-use Rattle.std.specs.Prelude.{◌≡◌, ℕ, ◌≤◌, ◌^◌, Bool, true, false, ◌&&◌, not, List, Option, Some, None, IsTrue, IfSome, is_some}
+use Rattle.std.specs.Prelude.{◌≡◌, ℕ, ◌+◌, ◌≤◌, ◌^◌, Bool, true, false, ◌&&◌, not, List, Option, Some, None, IsTrue, IfSome, is_some}
 use Rattle.std.specs.List.{list_all, AllByRecursion}
 use Rattle.std.specs.FinMap as map
 use Rattle.iso8583.specs.Luhn.{passes_luhn}
 use Rattle.iso8583.specs.declared.account_id.AccountId.{AccountId}
 use Rattle.iso8583.specs.declared.pan_prefix.PanPrefix.{PanPrefix}
-use Rattle.issuer_rows.specs.Backing.{kept_in, stays, is_from_account, is_from_budget, budget_paid, backing_of_account, backing_of_prefix}
+use Rattle.issuer_rows.specs.Backing.{kept_in, stays, is_from_account, is_from_budget, budget_paid, available_in, left_in, backing_of_account, backing_of_prefix}
 use Rattle.issuer_rows.specs.CardAccounts.{AccountsOfCard, is_same_account}
 use Rattle.issuer_rows.specs.Facts.{prefix_of}
 use Rattle.issuer_rows.specs.Fold.{Rows}
 use Rattle.issuer_rows.specs.Kept.{KeptOriginal, payment_of_outcome}
-use Rattle.issuer_rows.specs.Typed.{account_in}
+use Rattle.issuer_rows.specs.Typed.{account_in, budget_in}
 use Rattle.book_laws.specs.declared.book_fault.BookFault.{BookFault}
 use Rattle.book_laws.specs.declared.book_fault.BookFault.TheVariants.{CardNumber, OriginalWithoutAccount, OutOfRange, CardWithoutAccount}
 use Rattle.book_laws.specs.declared.paid_from.PaidFrom.{PaidFrom}
@@ -95,6 +95,10 @@ pub record IsSound (rows : Rows) : Type 0 where
   pub backings : AreBackingsInRange rows
   pub accounts : IsTrue (have_accounts rows)
 
+-- nothing is wrong with the book but, maybe, the accounts of its cards
+abbrev pub IsRestSound : Rows → Type 0
+IsRestSound rows = IsTrue (are_numbers_right rows) × IsTrue (have_paying_accounts rows) × AreBackingsInRange rows
+
 -- this is wrong with the book, and no fault of a lower number is there
 abbrev pub IsFirstFault : Rows → BookFault → Type 0
 IsFirstFault rows CardNumber = (are_numbers_right rows ≡ false)
@@ -115,15 +119,15 @@ is_among from.Anything k = true
 is_among (from.Account id) k = is_from_account id k
 is_among (from.Budget prefix) k = is_from_budget prefix k
 
--- What is asked of one row, so that all backings are in range: the backing of an account or a prefix that has a row; and
--- what stays paid from the budget of the prefix of an original that the budget paid, which may have no row.
+-- What is asked of one row, so that all backings are in range: what is in an account's or a budget's row, and what stays paid
+-- from there; and what stays paid from the budget of the prefix of an original that the budget paid, which may have no row.
 abbrev pub IsRowInRange : Rows → RowKey → RowVal → Type 0
 IsRowInRange rows (key.Card pan) row = Unit {0}
 IsRowInRange rows (key.Velocity pan day) row = Unit {0}
-IsRowInRange rows (key.Budget prefix) row = backing_of_prefix rows prefix ≤ 10 ^ 15
+IsRowInRange rows (key.Budget prefix) row = left_in (budget_in (Some row)) + stays (is_from_budget prefix) rows ≤ 10 ^ 15
 IsRowInRange rows (key.Original identity) row =
     IfSome (kept_in (key.Original identity) row) (λ k. IsTrue (budget_paid (payment_of_outcome k.outcome)) → stays (is_from_budget (prefix_of k.card)) rows ≤ 10 ^ 15)
-IsRowInRange rows (key.Account id) row = backing_of_account rows id ≤ 10 ^ 15
+IsRowInRange rows (key.Account id) row = available_in (account_in (Some row)) + stays (is_from_account id) rows ≤ 10 ^ 15
 
 -- each of these rows is in range
 abbrev pub AreRowsInRange : Rows → List (RowKey × RowVal) → Type 0

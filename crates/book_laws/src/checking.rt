@@ -1,8 +1,8 @@
-ghost use Rattle.std.specs.Prelude.{◌≡◌, ◌↔◌, ◌+◌, ◌≤◌, ◌^◌, All, IsTrue, IsOk, IfErr, IfSome};
+ghost use Rattle.std.specs.Prelude.{◌≡◌, ◌↔◌, ◌+◌, ◌≤◌, ◌^◌, ◌&&◌, All, IsTrue, IsOk, IfErr, IfSome, Some};
 ghost use Rattle.std.specs.Option.{SomeIff};
 ghost use Rattle.std.specs.FinMap as map;
 ghost use Rattle.issuer_rows.specs.Backing.{stays, available_in, left_in};
-ghost use Rattle.book_laws.specs.CheckBook.{has_right_number, has_account, has_payer, has_paying_account, has_second, are_accounts, has_accounts, are_numbers_right, have_paying_accounts, have_accounts, AreBackingsInRange, IsSound, IsFirstFault, is_among, IsRowInRange, AreRowsInRange};
+ghost use Rattle.book_laws.specs.CheckBook.{has_right_number, has_account, has_payer, has_paying_account, has_second, are_accounts, has_accounts, are_numbers_right, have_paying_accounts, have_accounts, AreBackingsInRange, IsSound, IsRestSound, IsFirstFault, is_among, IsRowInRange, AreRowsInRange};
 ghost use Rattle.issuer_rows.specs.Typed.{account_in, budget_in};
 ghost use Rattle.book_laws.specs.declared.paid_from.PaidFrom.TheVariants.{Anything};
 
@@ -10,6 +10,10 @@ use crate::book_fault::BookFault;
 use crate::paid_from::{PaidFrom, is_paid_by_budget};
 use iso8583::{AccountId, luhn};
 use issuer_rows::{Balance, Book, CardAccounts, Payer, RowKey, RowVal};
+use std::thread::{Threads, join};
+
+// So many rows at least are looked through by two threads: to start one takes some 50 microseconds.
+const MANY: usize = 1 << 16;
 
 /// What is wrong with a book that comes from outside: of the faults that are there, the one with the lowest number.
 /// It takes no memory.
@@ -17,19 +21,65 @@ pub fn check_book(book: &Book) -> Result<(), BookFault>
     ensures sound { IsOk result ↔ IsSound book.now }
     ensures fault { IfErr result (IsFirstFault book.now) }
 {
-    if !are_numbers_right(book) {
-        return Err(BookFault::CardNumber);
+    check_rest(book)?;
+    if !have_accounts(book) {
+        return Err(BookFault::CardWithoutAccount);
     }
-    if !have_paying_accounts(book) {
+    Ok(())
+}
+
+/// The same. A large book's cards are asked for their accounts in a thread of its own.
+pub fn check_book_by<R: Threads>(rt: &R, book: &Book) -> Result<(), BookFault>
+    ensures sound { IsOk result ↔ IsSound book.now }
+    ensures fault { IfErr result (IsFirstFault book.now) }
+{
+    if book.len() < MANY {
+        return check_book(book);
+    }
+    let (are_there, rest) = join(
+        rt,
+        || -> bool
+            ensures { result ≡ have_accounts book.entry.now }
+        { have_accounts(book) },
+        || -> Result<(), BookFault>
+            ensures sound { IsOk result ↔ IsRestSound book.entry.now }
+            ensures fault { IfErr result (IsFirstFault book.entry.now) }
+        { check_rest(book) },
+    );
+    rest?;
+    if !are_there {
+        return Err(BookFault::CardWithoutAccount);
+    }
+    Ok(())
+}
+
+// What is wrong with a book first, but for the accounts of its cards.
+fn check_rest(book: &Book) -> Result<(), BookFault>
+    ensures sound { IsOk result ↔ IsRestSound book.now }
+    ensures fault { IfErr result (IsFirstFault book.now) }
+{
+    if !are_rows_right(book) {
+        if !are_numbers_right(book) {
+            return Err(BookFault::CardNumber);
+        }
         return Err(BookFault::OriginalWithoutAccount);
     }
     if !are_backings_in_range(book) {
         return Err(BookFault::OutOfRange);
     }
-    if !have_accounts(book) {
-        return Err(BookFault::CardWithoutAccount);
-    }
     Ok(())
+}
+
+// Whether each card's number passes the Luhn test, and each original that was paid from an account finds the account's row.
+fn are_rows_right(book: &Book) -> bool
+    ensures { result ≡ (are_numbers_right book.now && have_paying_accounts book.now) }
+{
+    for (key, val) in book.rows() {
+        if !has_right_number(key) || !has_paying_account(book, val) {
+            return false;
+        }
+    }
+    true
 }
 
 // Whether each card's number passes the Luhn test.
@@ -38,18 +88,6 @@ fn are_numbers_right(book: &Book) -> bool
 {
     for (key, _) in book.rows() {
         if !has_right_number(key) {
-            return false;
-        }
-    }
-    true
-}
-
-// Whether each original that was paid from an account finds the account's row.
-fn have_paying_accounts(book: &Book) -> bool
-    ensures { result ≡ have_paying_accounts book.now }
-{
-    for (_, val) in book.rows() {
-        if !has_paying_account(book, val) {
             return false;
         }
     }
@@ -155,10 +193,10 @@ fn is_row_in_range(book: &Book, all: &Option<Balance>, key: &RowKey, val: &RowVa
 {
     match (key, val) {
         (RowKey::Account(id), _) => {
-            is_backing_in_range(book, all, available(book, key), &PaidFrom::Account(*id))
+            is_backing_in_range(book, all, available(val), &PaidFrom::Account(*id))
         }
         (RowKey::Budget(prefix), _) => {
-            is_backing_in_range(book, all, left(book, key), &PaidFrom::Budget(*prefix))
+            is_backing_in_range(book, all, left(val), &PaidFrom::Budget(*prefix))
         }
         (RowKey::Original(_), RowVal::Kept(kept)) if is_paid_by_budget(kept) => {
             let prefix = kept.card().prefix();
@@ -198,22 +236,22 @@ fn with_stays(book: &Book, balance: Balance, paid: &PaidFrom) -> Option<Balance>
     Balance::new(sum)
 }
 
-// What is available of an account: nothing where it has no row.
-fn available(book: &Book, key: &RowKey) -> Balance
-    ensures { result ≡ available_in (account_in (map.get book.now key.now)) }
+// What is available in an account's row: nothing in another one.
+fn available(val: &RowVal) -> Balance
+    ensures { result ≡ available_in (account_in (Some val.now)) }
 {
-    match &book.get(key) {
-        Some(RowVal::Account(row)) => row.available,
+    match val {
+        RowVal::Account(row) => row.available,
         _ => Balance::ZERO,
     }
 }
 
-// What is left of a budget: nothing where it has no row.
-fn left(book: &Book, key: &RowKey) -> Balance
-    ensures { result ≡ left_in (budget_in (map.get book.now key.now)) }
+// What is left in a budget's row: nothing in another one.
+fn left(val: &RowVal) -> Balance
+    ensures { result ≡ left_in (budget_in (Some val.now)) }
 {
-    match &book.get(key) {
-        Some(RowVal::Budget(row)) => row.left,
+    match val {
+        RowVal::Budget(row) => row.left,
         _ => Balance::ZERO,
     }
 }

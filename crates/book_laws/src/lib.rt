@@ -15,7 +15,9 @@ mod text_fault;
 
 pub use book_fault::BookFault;
 pub use book_version::BookVersion;
-pub use checking::{check_book, has_account, has_accounts, has_paying_account, has_right_number};
+pub use checking::{
+    check_book, check_book_by, has_account, has_accounts, has_paying_account, has_right_number,
+};
 pub use json_fault::JsonFault;
 pub use old_card::{OldCard, own_account};
 pub use original_entry::OriginalEntry;
