@@ -67,11 +67,12 @@ where
         &Shipped,
         settings.max_batch,
     );
-    if !outcome.has_all {
-        outcome.watch.link_stopped(0, &HostFault::OutOfMemory);
+    // Each of these was told when it was met.
+    if outcome.fault.is_some() || has_fault(seats) {
         return 1;
     }
-    if outcome.fault.is_some() || has_fault(seats) {
+    if !outcome.has_all {
+        outcome.watch.link_stopped(0, &HostFault::OutOfMemory);
         return 1;
     }
     0
