@@ -51,14 +51,6 @@ fn serve_seats<
     if threads == 0 {
         return;
     }
-    let server = LinkServer {
-        rt,
-        alloc,
-        shared,
-        history,
-        decision,
-        most,
-    };
     thread::for_each_mut(
         rt,
         seats,
@@ -66,7 +58,17 @@ fn serve_seats<
         &|link, seat| -> ()
             requires { none.now ≡ [] }
             ensures { SeatServed I.is_known I.remaining O.is_known O.written J.book link J.opening seat.entry.now seat.exit.now }
-        { server.serve_seat(none, link, seat) },
+        {
+            let server = LinkServer {
+                rt,
+                alloc,
+                shared,
+                history,
+                decision,
+                most,
+            };
+            server.serve_seat(none, link, seat)
+        },
     );
 }
 
