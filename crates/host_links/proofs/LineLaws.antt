@@ -1,10 +1,11 @@
 -- One link's turns, one after another.
-use Rattle.std.proofs.Common.{◌≡◌, ◌∙◌, ℕ, List, [], ◌++◌, ap, refl, sym, subst, append_assoc, Result, Ok, Err, OnErr}
+use Rattle.std.proofs.Common.{◌≡◌, ◌∙◌, ℕ, List, [], ◌++◌, ap, refl, sym, subst, append_assoc, Result, Ok, Err, OnErr, OnOk}
 use Rattle.std.proofs.lemmas.List.{append-nil}
 use Rattle.issuer_rows.specs.Fold.{Rows}
 use Rattle.link_frames.specs.Replies.{AppendsPart}
-use Rattle.host_links.specs.Lines.{LinkServed, LinkStopped, TakesTurn}
-use Rattle.host_links.specs.Turns.{came_on, given_to}
+use Rattle.host_serving.specs.declared.host_fault.HostFault.{HostFault}
+use Rattle.host_links.specs.Lines.{LinkServed, LinkStopped, ServesLink, TakesTurn}
+use Rattle.host_links.specs.Turns.{came_on, given_to, turns_of}
 use Rattle.host_links.specs.declared.link_turn.LinkTurn.{LinkTurn}
 
 -- no turn was taken, and nothing written
@@ -74,7 +75,7 @@ ended link opening before after reads reads' bytes left puts had mid has r s sam
 }
 
 -- nothing was served
-pub none_stopped : (link : ℕ) (opening : Rows) (turns : List LinkTurn) (reads : Type 0) (bytes : List ℕ) (puts : Type 0) (had has : List ℕ) → turns ≡ [] → (puts → has ≡ had)
+none_stopped : (link : ℕ) (opening : Rows) (turns : List LinkTurn) (reads : Type 0) (bytes : List ℕ) (puts : Type 0) (had has : List ℕ) → turns ≡ [] → (puts → has ≡ had)
     → LinkStopped link opening turns reads bytes puts had has
 none_stopped link opening turns reads bytes puts had has none same = record {
   left = bytes;
@@ -83,7 +84,14 @@ none_stopped link opening turns reads bytes puts had has none same = record {
 }
 
 -- the same link, where it was opened before
-pub opened_stopped : (link : ℕ) (opening : Rows) (turns : List LinkTurn) (reads reads' : Type 0) (bytes bytes' : List ℕ) (puts puts' : Type 0) (had had' has : List ℕ) → (reads → reads') → (reads → bytes' ≡ bytes)
+opened_served : (link : ℕ) (opening : Rows) (turns : List LinkTurn) (reads reads' : Type 0) (bytes bytes' left : List ℕ) (puts puts' : Type 0) (had had' has : List ℕ) → (reads → reads') → (reads → bytes' ≡ bytes)
+    → (puts → puts') → (puts → had' ≡ had) → LinkServed link opening turns reads' bytes' left puts' had' has → LinkServed link opening turns reads bytes left puts had has
+opened_served link opening turns reads reads' bytes bytes' left puts puts' had had' has r read p put s = record {
+  came = λ known. sym (read known) ∙ s.came (r known);
+  given = λ known. s.given (p known) ∙ ap (λ (x : List ℕ). x ++ given_to link opening turns) (put known);
+}
+
+opened_stopped : (link : ℕ) (opening : Rows) (turns : List LinkTurn) (reads reads' : Type 0) (bytes bytes' : List ℕ) (puts puts' : Type 0) (had had' has : List ℕ) → (reads → reads') → (reads → bytes' ≡ bytes)
     → (puts → puts') → (puts → had' ≡ had) → LinkStopped link opening turns reads' bytes' puts' had' has → LinkStopped link opening turns reads bytes puts had has
 opened_stopped link opening turns reads reads' bytes bytes' puts puts' had had' has r read p put s = record {
   left = s.left;
@@ -91,10 +99,35 @@ opened_stopped link opening turns reads reads' bytes bytes' puts puts' had had' 
   given = λ known. subst (λ (x : List ℕ). AppendsPart x has (given_to link opening turns)) (put known) (s.given (p known));
 }
 
--- what follows holds of a fault, too
-pub on_err : {X E P Q : Type 0} (result : Result X E) → (P → Q) → OnErr result P → OnErr result Q
+-- what follows holds of a result, too
+on_ok : {X E P Q : Type 0} (result : Result X E) → (P → Q) → OnOk result P → OnOk result Q
+on_ok (Ok x) f p = f p
+on_ok (Err e) f p = tt
+
+on_err : {X E P Q : Type 0} (result : Result X E) → (P → Q) → OnErr result P → OnErr result Q
 on_err (Ok x) f p = tt
 on_err (Err e) f p = f p
+
+module _ {I O : Type 0} (is_known : I → Type 0) (remaining : I → List ℕ) (puts : O → Type 0) (written : O → List ℕ) where
+  -- nothing was served, and a fault met
+  pub none_serves : (link : ℕ) (opening : Rows) (turns : List LinkTurn) (own : ℕ) (source : I) (old new : O) (fault : HostFault) → turns ≡ [] → own ≡ 0 → (puts old → puts new)
+      → (puts old → written new ≡ written old) → ServesLink is_known remaining puts written link opening turns own source old new (Err fault)
+  none_serves link opening turns own source old new fault unseen uncounted put same = record {
+    count = ap (turns_of link) unseen ∙ sym uncounted;
+    sink = put;
+    ok = tt;
+    stopped = none_stopped link opening turns _ _ _ _ _ unseen same;
+  }
+
+  pub opened_serves : (link : ℕ) (opening : Rows) (turns : List LinkTurn) (own : ℕ) (source source' : I) (old old' new : O) (result : Result (Unit {0}) HostFault) → (is_known source → is_known source')
+      → (is_known source → remaining source' ≡ remaining source) → (puts old → puts old') → (puts old → written old' ≡ written old)
+      → ServesLink is_known remaining puts written link opening turns own source' old' new result → ServesLink is_known remaining puts written link opening turns own source old new result
+  opened_serves link opening turns own source source' old old' new result r read p put s = record {
+    count = s.count;
+    sink = λ known. s.sink (p known);
+    ok = on_ok result (opened_served link opening turns _ _ _ _ _ _ _ _ _ _ r read p put) s.ok;
+    stopped = on_err result (opened_stopped link opening turns _ _ _ _ _ _ _ _ _ r read p put) s.stopped;
+  }
 
 -- closing the sink leaves what was written
 pub closed_served : (link : ℕ) (opening : Rows) (turns : List LinkTurn) (reads : Type 0) (bytes left : List ℕ) (puts : Type 0) (had mid has : List ℕ) → (puts → has ≡ mid)

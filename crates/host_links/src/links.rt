@@ -1,165 +1,26 @@
 //! Links that share a host, each served by a thread of its own.
 
-ghost use Rattle.std.specs.Prelude.{◌≡◌, ℕ, [], ◌<◌, IsTrue, OnErr, OnOk, Some, length, replicate, slice_index_or};
+ghost use Rattle.std.specs.Prelude.{◌≡◌, ℕ, [], ◌<◌, IsTrue, Some, length, replicate, slice_index_or};
 ghost use Rattle.host_serving.specs.Entering.{book_of};
-ghost use Rattle.host_links.specs.Fresh.{IsFresh};
-ghost use Rattle.host_links.specs.Lines.{LinkServed, LinkStopped};
 ghost use Rattle.host_links.specs.Merged.{LinkMerged, MergesAll};
 ghost use Rattle.host_links.specs.Seats.{SeatServed};
-ghost use Rattle.host_links.specs.Turns.{turns_of};
 
 use crate::ends::{LinkSink, LinkSource};
 use crate::history::{Front, History, Opened};
-use crate::line::Line;
+use crate::link_server::LinkServer;
 use crate::links_outcome::LinksOutcome;
 use crate::naming::Before;
-use crate::seat::{Seat, SeenTurns};
-use crate::serving::serve_line;
+use crate::seat::Seat;
 use crate::shared_host::SharedHost;
 use crate::watch_links::WatchLinks;
 use host_serving::{Host, HostFault, MaxBatch};
 use issuer_view::Decide;
-use link_frames::LinkFault;
 use log_devices::GrowingFile;
 use std::alloc::Global;
 use std::marker::Brand;
 use std::sync::{Mutex, Wait};
 use std::thread;
 use std::thread::Threads;
-
-// Opens a link, the source first, and serves it.
-fn serve_ends<
-    R: Wait,
-    G: GrowingFile + Drop,
-    N: WatchLinks + Drop,
-    J: Before<G>,
-    I: LinkSource,
-    O: LinkSink,
-    F: Decide,
->(
-    rt: &R,
-    alloc: Global,
-    shared: &Mutex<SharedHost<G, N, J>>,
-    history: &History<J>,
-    link: usize,
-    line: &mut Line<J>,
-    source: &mut I,
-    sink: &mut O,
-    decision: &F,
-    most: MaxBatch,
-) -> Result<(), HostFault>
-    requires fresh { IsFresh line.old }
-    ensures count { turns_of link line.new.front ≡ line.new.count }
-    ensures sink { O.is_known sink.old → O.is_known sink.new }
-    ensures ok { OnOk result (LinkServed link J.opening line.new.front (I.is_known source.old) (I.remaining source.old) []
-        (O.is_known sink.old) (O.written sink.old) (O.written sink.new)) }
-    ensures stopped { OnErr result (LinkStopped link J.opening line.new.front (I.is_known source.old) (I.remaining source.old)
-        (O.is_known sink.old) (O.written sink.old) (O.written sink.new)) }
-{
-    if source.open().is_err() {
-        return Err(HostFault::Link(LinkFault::Unreadable));
-    }
-    if sink.open().is_err() {
-        return Err(HostFault::Link(LinkFault::Unwritable));
-    }
-    serve_line(
-        rt, alloc, shared, history, link, line, source, sink, decision, most,
-    )
-}
-
-// Serves one link, closes it, and keeps what it came to. A fault is told at once.
-fn serve_seat<
-    R: Wait,
-    G: GrowingFile + Drop,
-    N: WatchLinks + Drop,
-    J: Before<G>,
-    I: LinkSource,
-    O: LinkSink,
-    F: Decide,
->(
-    rt: &R,
-    alloc: Global,
-    shared: &Mutex<SharedHost<G, N, J>>,
-    history: &History<J>,
-    none: &Front<J>,
-    link: usize,
-    seat: &mut Seat<I, O>,
-    decision: &F,
-    most: MaxBatch,
-)
-    requires { none.now ≡ [] }
-    ensures { SeatServed I.is_known I.remaining O.is_known O.written J.book link J.opening seat.old seat.new }
-{
-    let (seen, served) = serve_fresh(
-        rt,
-        alloc,
-        shared,
-        history,
-        none,
-        link,
-        &mut seat.source,
-        &mut seat.sink,
-        decision,
-        most,
-    );
-    seat.seen = Some(seen);
-    seat.sink.close();
-    seat.source.close();
-    match served {
-        Ok(()) => seat.fault = None,
-        Err(fault) => {
-            seat.fault = Some(fault);
-            shared.lock(rt).tell_stopped(link, &fault);
-        }
-    }
-}
-
-// Serves one link with memory of its own, and returns what it has seen, and what serving came to.
-fn serve_fresh<
-    R: Wait,
-    G: GrowingFile + Drop,
-    N: WatchLinks + Drop,
-    J: Before<G>,
-    I: LinkSource,
-    O: LinkSink,
-    F: Decide,
->(
-    rt: &R,
-    alloc: Global,
-    shared: &Mutex<SharedHost<G, N, J>>,
-    history: &History<J>,
-    none: &Front<J>,
-    link: usize,
-    source: &mut I,
-    sink: &mut O,
-    decision: &F,
-    most: MaxBatch,
-) -> (SeenTurns, Result<(), HostFault>)
-    requires { none.now ≡ [] }
-    ensures book { result.0.trace.seen.book ≡ J.book }
-    ensures count { turns_of link result.0.trace.seen.log ≡ result.0.count }
-    ensures sink { O.is_known sink.old → O.is_known sink.new }
-    ensures ok { OnOk result.1 (LinkServed link J.opening result.0.trace.seen.log (I.is_known source.old) (I.remaining source.old) []
-        (O.is_known sink.old) (O.written sink.old) (O.written sink.new)) }
-    ensures stopped { OnErr result.1 (LinkStopped link J.opening result.0.trace.seen.log (I.is_known source.old) (I.remaining source.old)
-        (O.is_known sink.old) (O.written sink.old) (O.written sink.new)) }
-{
-    let Ok(mut line) = Line::new(alloc, none) else {
-        let seen = SeenTurns {
-            trace: none.trace(),
-            count: 0,
-        };
-        return (seen, Err(HostFault::OutOfMemory));
-    };
-    let served = serve_ends(
-        rt, alloc, shared, history, link, &mut line, source, sink, decision, most,
-    );
-    let seen = SeenTurns {
-        trace: line.front.trace(),
-        count: line.count,
-    };
-    (seen, served)
-}
 
 /// Serves links at the host that they share, each in a thread of its own, until all have ended. A fault of one link ends that link alone; one
 /// of the log or of memory in a turn ends each at its next turn. The links have the numbers from 0 on. Where no thread can be made, they are
@@ -197,7 +58,17 @@ fn serve_seats<
         &|link, seat| -> ()
             requires { none.now ≡ [] }
             ensures { SeatServed I.is_known I.remaining O.is_known O.written J.book link J.opening seat.entry.now seat.exit.now }
-        { serve_seat(rt, alloc, shared, history, none, link, seat, decision, most) },
+        {
+            let server = LinkServer {
+                rt,
+                alloc,
+                shared,
+                history,
+                decision,
+                most,
+            };
+            server.serve_seat(none, link, seat)
+        },
     );
 }
 

@@ -3,7 +3,7 @@ use Rattle.std.proofs.lemmas.Result.{err_from_is_err_and}
 use Rattle.link_frames.specs.Reader.{ahead}
 use Rattle.link_frames.specs.Replies.{AppendsPart}
 use Rattle.host_links.proofs.LineLaws.{stays}
-use Rattle.host_links.proofs.serving.serve_next.Goals as goal
+use Rattle.host_links.proofs.link_server.LinkServer.serve_next.Goals as goal
 
 pub returns-in_err-count-clause-err : goal.returns-in_err-count-clause-err
 returns-in_err-count-clause-err g c =

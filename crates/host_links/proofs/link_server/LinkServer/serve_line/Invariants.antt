@@ -2,7 +2,7 @@ use Rattle.std.proofs.Common.{◌≡◌}
 use Rattle.link_frames.specs.Reader.{ahead}
 use Rattle.host_links.specs.Lines.{LinkServed}
 use Rattle.host_links.specs.Turns.{turns_of}
-use Rattle.host_links.proofs.serving.serve_line.Given as goal
+use Rattle.host_links.proofs.link_server.LinkServer.serve_line.Given as goal
 
 -- what came so far was served
 abbrev pub invariant-loop : goal.invariant-loop
