@@ -45,9 +45,9 @@ pub enum Command {
     Blocks {
         /// The names of their files.
         names: BatchNames,
-        /// How many workers the engine has that is named.
+        /// How many workers may decide. One does.
         workers: Workers,
-        /// The engine that decides.
+        /// How they would share their work.
         engine: EngineChoice,
         /// Whether bodies that are no message are answered.
         strictness: Strictness,

@@ -48,10 +48,10 @@ pub fn decide_by<R: Clock + Threads + Wait + Sync>(
     })
 }
 
-/// Decides a batch of at most 65,536 bodies on the rows of a book that they may need: the outcome's book has these alone, as they are behind
-/// the bodies. It fails only where memory runs out.
+// Decides a batch of at most 65,536 bodies on the rows of a book that they may need: the outcome's book has these alone, as they are behind
+// the bodies. It fails only where memory runs out.
 #[tactic(auto, using(parts_books::proofs::Enough::are_enough))]
-pub(crate) fn decide_needed<R: Clock + Threads + Wait + Sync>(
+fn decide_needed<R: Clock + Threads + Wait + Sync>(
     rt: &R,
     alloc: Global,
     book: &Book,

@@ -1,11 +1,9 @@
-//! Batches and blocks decided by an engine, from the files' bytes to their bytes.
+//! Batches decided by an engine, and block files on the book itself, from the files' bytes to their bytes.
 #![tactic(auto)]
 
 mod answers;
-mod by_engine;
 mod deciding;
 mod hexadecimal;
-mod noting;
 mod running;
 mod running_blocks;
 mod sample;
@@ -16,6 +14,6 @@ pub use answers::answer_on;
 pub use deciding::decide_by;
 pub use hexadecimal::decide_one;
 pub use running::run_batch;
-pub use running_blocks::{run_blocks, serial_blocks};
+pub use running_blocks::run_blocks;
 pub use sample::sample_book;
 pub use tracing::run_batch_with_journal;

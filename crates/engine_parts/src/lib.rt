@@ -12,4 +12,4 @@ mod running;
 mod writing;
 
 pub use running::{run_apart, run_parts};
-pub use writing::{put_book, row_of};
+pub use writing::put_book;

@@ -32,8 +32,8 @@ pub fn put_book(book: &mut Book, written: &Book) -> Result<(), AllocError>
     Ok(())
 }
 
-/// A row of the book where it stands. Each is of its key's kind, so that none is looked up.
-pub fn row_of<'a>(written: &'a Book, key: &RowKey, val: &'a RowVal) -> &'a RowVal
+// A row of the book where it stands. Each is of its key's kind, so that none is looked up.
+fn row_of<'a>(written: &'a Book, key: &RowKey, val: &'a RowVal) -> &'a RowVal
     requires { map.get written.now key.now ≡ Some val.now }
     ensures same { result.now ≡ val.now }
     ensures kind { IsOfKind key.now result.now }

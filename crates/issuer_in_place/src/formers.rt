@@ -37,9 +37,8 @@ impl Formers {
         }
     }
 
-    /// Writes a copy of a row, which may stand at these places, and notes what it was. It fails only where memory runs out, and nothing is
-    /// changed then.
-    pub fn put(
+    /// Writes a copy of a row, and notes what it was. It fails only where memory runs out, and nothing is changed then.
+    fn put(
         &mut self,
         book: &mut Book,
         key: &RowKey,

@@ -14,7 +14,7 @@ is after AFTER_BOTH
 0 switch audit-blocks book file replies after
 > same
 
-# Two blocks are decided, as no engine is named one message after another, and an audit finds them the same.
+# Two blocks are decided by one worker, and an audit finds them the same.
 put book BOOK
 put file TWO_BLOCKS
 0 switch blocks --workers=1 book file replies after
