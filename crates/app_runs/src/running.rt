@@ -31,7 +31,7 @@ pub fn run_batch<R: Clock + Threads + Wait + Sync, F: Files>(
 {
     let decide = |book: Book, frames: &[Frame]| -> Result<RunOutcome, AllocError>
         requires { length frames.now ≤ 65536 }
-        ensures { AnswersFold book.entry frames.entry.now result }
+        ensures { AnswersFold book frames.entry.now result }
     { decide_by(rt, alloc, book, frames, workers, engine) };
     decide_batch(rt, alloc, files, names, strictness, &decide)
 }

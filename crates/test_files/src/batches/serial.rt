@@ -59,7 +59,7 @@ fn process_whole<R: Source, W: Sink>(
 ) -> Result<Book, BatchFault> {
     let decide = |book: Book, frames: &[Frame]| -> Result<RunOutcome, AllocError>
         requires { length frames.now ≤ 65536 }
-        ensures { AnswersFold book.entry frames.entry.now result }
+        ensures { AnswersFold book frames.entry.now result }
     { decide_serially(alloc, book, frames) };
     match process(alloc, book.copy()?, source, sink, &decide) {
         Ok(done) => Ok(done.outcome.book),
