@@ -206,7 +206,7 @@ fn blocks<R: Clock + Threads + Wait + Sync, F: Files>(
 }
 
 // A batch is compared with what deciding it comes to.
-fn audited<R: Threads, F: Files>(
+fn audited<R: Threads + Wait + Sync, F: Files>(
     rt: &R,
     alloc: Global,
     files: &F,
@@ -220,7 +220,7 @@ fn audited<R: Threads, F: Files>(
 }
 
 // A batch is compared with what a journal plays to.
-fn audited_with_journal<R: Threads, F: Files>(
+fn audited_with_journal<R: Threads + Wait + Sync, F: Files>(
     rt: &R,
     alloc: Global,
     files: &F,
@@ -235,7 +235,7 @@ fn audited_with_journal<R: Threads, F: Files>(
 }
 
 // Blocks are compared with what deciding them comes to.
-fn audited_blocks<R: Threads, F: Files>(
+fn audited_blocks<R: Threads + Wait + Sync, F: Files>(
     rt: &R,
     alloc: Global,
     files: &F,

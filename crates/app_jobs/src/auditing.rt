@@ -13,11 +13,12 @@ use app_audit::{Audit, audit, audit_journal};
 use file_devices::{BatchNames, Files};
 use issuer_rows::{Book, Frame, ReplyBody};
 use std::alloc::Global;
+use std::sync::Wait;
 use std::thread::Threads;
 
 /// Whether the files of replies and of the new book hold what deciding the batch on the book comes to; else what differs first. It fails
 /// with the first fault of book, batch, replies and new book, in this order; where a call on a file fails; or where memory runs out.
-pub fn audit_batch<R: Threads, F: Files>(
+pub fn audit_batch<R: Threads + Wait + Sync, F: Files>(
     rt: &R,
     alloc: Global,
     files: &F,
@@ -44,7 +45,7 @@ fn audit_run(alloc: Global, run: &AuditedRun) -> Result<Audit, JobFault>
 /// Whether the files of replies and of the new book hold what the journal plays to, which stands in a file of its own; else what differs
 /// first. The journal is read last. It fails as [`audit_batch`] does, and behind that with the first wrong line of the journal, or where
 /// a decision asks for a row that wasn't logged.
-pub fn audit_batch_with_journal<R: Threads, F: Files>(
+pub fn audit_batch_with_journal<R: Threads + Wait + Sync, F: Files>(
     rt: &R,
     alloc: Global,
     files: &F,
@@ -81,7 +82,7 @@ struct AuditedRun {
 }
 
 // What the files of these names hold. They are read in the order book, batch, replies, new book.
-fn open_run<R: Threads, F: Files>(
+fn open_run<R: Threads + Wait + Sync, F: Files>(
     rt: &R,
     alloc: Global,
     files: &F,
@@ -105,7 +106,7 @@ fn open_run<R: Threads, F: Files>(
 }
 
 // The book, and the messages of the batch that was decided on it.
-fn open_decided<R: Threads, F: Files>(
+fn open_decided<R: Threads + Wait + Sync, F: Files>(
     rt: &R,
     alloc: Global,
     files: &F,
@@ -121,7 +122,7 @@ fn open_decided<R: Threads, F: Files>(
 }
 
 // The replies, and the book after them.
-fn open_answers<R: Threads, F: Files>(
+fn open_answers<R: Threads + Wait + Sync, F: Files>(
     rt: &R,
     alloc: Global,
     files: &F,

@@ -15,12 +15,13 @@ use file_blocks::{read_block_replies, read_blocks};
 use file_devices::{BatchNames, Files};
 use issuer_rows::{Book, Frame, ReplyBody};
 use std::alloc::Global;
+use std::sync::Wait;
 use std::thread::Threads;
 
 /// Whether the files of replies and of the new book hold what deciding the blocks of a block file on the book comes to; else what differs
 /// first. It fails with the first fault of book, block file, replies and new book, in this order; where a call on a file fails; or where
 /// memory runs out.
-pub fn audit_block_files<R: Threads, F: Files>(
+pub fn audit_block_files<R: Threads + Wait + Sync, F: Files>(
     rt: &R,
     alloc: Global,
     files: &F,
@@ -37,7 +38,7 @@ pub fn audit_block_files<R: Threads, F: Files>(
 }
 
 // Whether the files of replies and of the new book hold what deciding these blocks on this book comes to. They are read in this order.
-fn audit_answers<R: Threads, F: Files>(
+fn audit_answers<R: Threads + Wait + Sync, F: Files>(
     rt: &R,
     alloc: Global,
     files: &F,

@@ -13,11 +13,12 @@ use file_batch::{BatchFault, read_batch, read_replies};
 use file_devices::{Files, read_file};
 use issuer_rows::{Book, Frame, ReplyBody};
 use std::alloc::Global;
+use std::sync::Wait;
 use std::thread::Threads;
 use stm_journal_text::{Entry, read_journal};
 
 /// The book of the file of this name. It fails with the first fault of the book, where a call on the file fails, or where memory runs out.
-pub fn open_book<R: Threads, F: Files>(
+pub fn open_book<R: Threads + Wait + Sync, F: Files>(
     rt: &R,
     alloc: Global,
     files: &F,

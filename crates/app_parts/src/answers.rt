@@ -18,6 +18,7 @@ use file_devices::Files;
 use issuer_rows::{Book, ReplyBody};
 use parts_files::{behind_decided_head, decided_text};
 use std::alloc::Global;
+use std::sync::Wait;
 use std::thread::Threads;
 
 /// What parts come to, in their order.
@@ -37,7 +38,7 @@ struct PartAnswer {
 }
 
 /// Opens what each of so many parts of the plan of this digest comes to.
-pub(crate) fn open_answers<R: Threads, F: Files>(
+pub(crate) fn open_answers<R: Threads + Wait + Sync, F: Files>(
     rt: &R,
     alloc: Global,
     files: &F,
@@ -60,7 +61,7 @@ pub(crate) fn open_answers<R: Threads, F: Files>(
 }
 
 // Opens what a part comes to.
-fn open_answer<R: Threads, F: Files>(
+fn open_answer<R: Threads + Wait + Sync, F: Files>(
     rt: &R,
     alloc: Global,
     files: &F,
@@ -103,7 +104,7 @@ fn check_decided(
 }
 
 // The replies and the book of these bytes.
-fn read_answer<R: Threads>(
+fn read_answer<R: Threads + Wait + Sync>(
     rt: &R,
     alloc: Global,
     replies: &[u8],

@@ -21,12 +21,13 @@ use file_devices::Files;
 use issuer_rows::{Book, ReplyBody};
 use parts_books::{join_books, join_replies};
 use std::alloc::{AllocError, Global};
+use std::sync::Wait;
 use std::thread::Threads;
 
 /// Puts the parts of a folder together, and the replies to the whole batch in the order of arrival and the book behind it in place: both, or
 /// after a fault none. A folder is refused where a part isn't decided, or by another plan, or another file is there than the plan or the
 /// part's last file names. Returns how many replies there are.
-pub fn join_parts<R: Threads, F: Files>(
+pub fn join_parts<R: Threads + Wait + Sync, F: Files>(
     rt: &R,
     alloc: Global,
     files: &mut F,
@@ -51,7 +52,7 @@ pub fn join_parts<R: Threads, F: Files>(
 }
 
 // Opens the rest's book, which is to have this digest.
-fn open_rest<R: Threads, F: Files>(
+fn open_rest<R: Threads + Wait + Sync, F: Files>(
     rt: &R,
     alloc: Global,
     files: &F,

@@ -16,12 +16,13 @@ use file_devices::Files;
 use issuer_rows::Book;
 use parts_files::MostParts;
 use std::alloc::Global;
+use std::sync::Wait;
 use std::thread::Threads;
 
 /// Puts a batch in at most so many parts on a book, no two of which may need the same row, and puts a book and a batch of each, the rest of
 /// the book and the plan into the folder: all files, or after a fault none. Book and batch stay as they are. Returns how much each part
 /// has.
-pub fn part_files<R: Threads, F: Files>(
+pub fn part_files<R: Threads + Wait + Sync, F: Files>(
     rt: &R,
     alloc: Global,
     files: &mut F,
@@ -48,7 +49,7 @@ pub fn part_files<R: Threads, F: Files>(
 }
 
 // The book of the file of this name.
-fn open_held<R: Threads, F: Files>(
+fn open_held<R: Threads + Wait + Sync, F: Files>(
     rt: &R,
     alloc: Global,
     files: &F,

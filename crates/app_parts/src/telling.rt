@@ -47,7 +47,7 @@ pub fn answer_parts<R: Threads + Wait + Sync, F: Files, O: Write, E: Write>(
 }
 
 // Puts a batch in parts.
-fn answer_part<R: Threads, F: Files, O: Write, E: Write>(
+fn answer_part<R: Threads + Wait + Sync, F: Files, O: Write, E: Write>(
     rt: &R,
     alloc: Global,
     files: &mut F,
@@ -85,7 +85,7 @@ fn answer_decide<R: Threads + Wait + Sync, F: Files, O: Write, E: Write>(
 }
 
 // Puts parts together.
-fn answer_join<R: Threads, F: Files, O: Write, E: Write>(
+fn answer_join<R: Threads + Wait + Sync, F: Files, O: Write, E: Write>(
     rt: &R,
     alloc: Global,
     files: &mut F,

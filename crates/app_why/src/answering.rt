@@ -6,12 +6,13 @@ use app_jobs::{open_batch, open_book};
 use file_devices::Files;
 use issuer_reasons::{Explanation, explain_at};
 use std::alloc::Global;
+use std::sync::Wait;
 use std::thread::Threads;
 
 /// Why the message at this place of a batch was answered so, on the book of the first file, with the batch in the second. The files are
 /// read alone. It fails with the first fault of book and batch; where the batch has no such message; where a call on a file fails; or
 /// where memory runs out.
-pub fn why_of<R: Threads, F: Files>(
+pub fn why_of<R: Threads + Wait + Sync, F: Files>(
     rt: &R,
     alloc: Global,
     files: &F,

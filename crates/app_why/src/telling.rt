@@ -19,11 +19,12 @@ use reason_json::why_line;
 use reason_text::lines_of;
 use std::alloc::{AllocError, Global};
 use std::io::Write;
+use std::sync::Wait;
 use std::thread::Threads;
 
 /// Does what is asked of `why` over these files, which are read alone, and returns the exit status: 0 done, 1 fault, 2 words that are no
 /// command, or no such message. What is asked for goes to `out`, a fault to `err`; what that doesn't take is dropped.
-pub fn answer_why<R: Threads, F: Files, O: Write, E: Write>(
+pub fn answer_why<R: Threads + Wait + Sync, F: Files, O: Write, E: Write>(
     rt: &R,
     alloc: Global,
     files: &F,
@@ -78,7 +79,7 @@ fn text_of(
 }
 
 // What is said of the message at this place of a batch.
-fn text_of_files<R: Threads, F: Files>(
+fn text_of_files<R: Threads + Wait + Sync, F: Files>(
     rt: &R,
     alloc: Global,
     files: &F,

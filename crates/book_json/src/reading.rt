@@ -13,6 +13,7 @@ use book_laws::{BookFault, BookVersion, JsonFault, Part, RowList, TextFault, che
 use issuer_rows::Book;
 use serde_json::Value;
 use std::alloc::{AllocError, Global};
+use std::sync::Wait;
 use std::thread::Threads;
 
 const KEYS_OF_ONE: [&str; 5] = ["budgets", "cards", "days", "originals", "version"];
@@ -144,7 +145,11 @@ fn read_any(alloc: Global, bytes: &[u8]) -> Result<Book, JsonFault>
 /// - `check_book` finds a fault (`Invalid`).
 ///
 /// Or memory ran out (`OutOfMemory`).
-pub fn read_book<R: Threads>(rt: &R, alloc: Global, bytes: &[u8]) -> Result<Book, JsonFault>
+pub fn read_book<R: Threads + Wait + Sync>(
+    rt: &R,
+    alloc: Global,
+    bytes: &[u8],
+) -> Result<Book, JsonFault>
     ensures { IsAnswer (reading bytes.now) result }
 {
     match read_written(rt, alloc, bytes) {

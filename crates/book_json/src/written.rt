@@ -10,6 +10,7 @@ use book_laws::{BookFault, check_book, check_book_by};
 use book_writer::is_text_of;
 use issuer_rows::Book;
 use std::alloc::{AllocError, Global};
+use std::sync::Wait;
 use std::thread::{Threads, join};
 
 // About how many rows there are: some more than each share's first one tells.
@@ -38,7 +39,7 @@ fn book_of_lists<R: Threads>(
 
 // What is wrong with a book, and whether bytes are its text, which is made again piece by piece. With a large one that is found in a thread of
 // its own.
-fn look_through<R: Threads>(
+fn look_through<R: Threads + Wait + Sync>(
     rt: &R,
     alloc: Global,
     book: &Book,
@@ -49,13 +50,13 @@ fn look_through<R: Threads>(
     ensures same { IfOk result.1 (λ same. IsTrue same → reading bytes.now ≡ Ok book.now) }
 {
     if bytes.len() < SHARE {
-        return (check_book(book), is_written(alloc, book, bytes));
+        return (check_book(book), is_written(rt, alloc, book, bytes));
     }
     let (is_same, check) = join(
         rt,
         || -> Result<bool, AllocError>
             ensures { IfOk result (λ same. IsTrue same → reading bytes.entry.now ≡ Ok book.entry.now) }
-        { is_written(alloc, book, bytes) },
+        { is_written(rt, alloc, book, bytes) },
         || -> Result<(), BookFault>
             ensures sound { IsOk result ↔ IsSound book.entry.now }
             ensures fault { IfErr result (IsFirstFault book.entry.now) }
@@ -65,17 +66,22 @@ fn look_through<R: Threads>(
 }
 
 // Whether bytes are the text of a book, and so are read as it.
-fn is_written(alloc: Global, book: &Book, bytes: &[u8]) -> Result<bool, AllocError>
+fn is_written<R: Threads + Wait + Sync>(
+    rt: &R,
+    alloc: Global,
+    book: &Book,
+    bytes: &[u8],
+) -> Result<bool, AllocError>
     ensures { IfOk result (λ same. IsTrue same → reading bytes.now ≡ Ok book.now) }
 {
-    let is_same = is_text_of(alloc, book, bytes)?;
+    let is_same = is_text_of(rt, alloc, book, bytes)?;
     Ok(is_same)
 }
 
 /// The book whose text this is, and what is wrong with it first, where it is as books are written: version 3, without spaces, the keys of each
 /// object and the rows of each list in their order. It is read in one pass, a large one by several threads, without a value of JSON; that it
 /// was read right is seen by making its text again. `None` says nothing of the text. Or memory ran out.
-pub(crate) fn read_written<R: Threads>(
+pub(crate) fn read_written<R: Threads + Wait + Sync>(
     rt: &R,
     alloc: Global,
     bytes: &[u8],

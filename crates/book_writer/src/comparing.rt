@@ -1,25 +1,91 @@
 //! Whether bytes are the text of a book.
 
 ghost use Rattle.std.specs.Prelude.{◌≡◌, ◌≢◌, ◌↔◌, ◌++◌, ℕ, List, Ok, IfOk, OnOk, IsTrue, MatchOption};
+ghost use Rattle.std.specs.FinMap as map;
 ghost use Rattle.book_laws.specs.Reading.{reading};
 ghost use Rattle.book_laws.specs.Text.{book_text};
+ghost use Rattle.book_text.specs.Back.{IsReadAsBook};
+ghost use Rattle.issuer_rows.specs.Fold.{Rows};
 
-use crate::text_left::TextLeft;
-use book_text::ListedRow;
+use crate::book_writer::BookWriter;
+use crate::of_rows::OfRows;
+use crate::sorting::Sorting;
 use file_devices::Pieces;
 use issuer_rows::Book;
 use std::alloc::{AllocError, Global};
+use std::marker::Brand;
+use std::sync::Wait;
+use std::thread::{Threads, join_mut};
 
 /// Whether these bytes are the text of a book, as [`write_book`](book_text::write_book) makes it. The text is made piece by piece, so
-/// that no memory is needed for a second one. It fails only where memory runs out.
-pub fn is_text_of(alloc: Global, book: &Book, bytes: &[u8]) -> Result<bool, AllocError>
+/// that no memory is needed for a second one; where it is long, by several threads. It fails only where memory runs out.
+pub fn is_text_of<R: Threads + Wait + Sync>(
+    rt: &R,
+    alloc: Global,
+    book: &Book,
+    bytes: &[u8],
+) -> Result<bool, AllocError>
     ensures same { IfOk result (λ same. IsTrue same ↔ (bytes.now ≡ book_text book.now)) }
     // That text is read again as the book.
     ensures back { OnOk result (reading (book_text book.now) ≡ Ok book.now) }
 {
-    let sorted = book.sorted_rows(alloc)?;
-    let rows = ListedRow::all(alloc, &sorted)?;
-    let mut text = TextLeft::new(alloc, &rows);
+    is_text_of_rows::<Brand, R>(rt, alloc, book, bytes)
+}
+
+// The same, where the rows of the book are those of the types.
+fn is_text_of_rows<B: OfRows + Send + Sync, R: Threads + Wait + Sync>(
+    rt: &R,
+    alloc: Global,
+    book: &Book,
+    bytes: &[u8],
+) -> Result<bool, AllocError>
+    requires { map.entries book.now ≡ B.rows }
+    ensures same { IfOk result (λ same. IsTrue same ↔ (bytes.now ≡ book_text book.now)) }
+    ensures back { OnOk result (reading (book_text book.now) ≡ Ok book.now) }
+{
+    let sorting: Sorting<'_, B> = Sorting::new(alloc, book);
+    let writer = BookWriter::new(&sorting)?;
+    is_made_with_help(rt, bytes, &writer)
+}
+
+// Whether these bytes are the text of a writer's rows. Other threads help to make it, where there are many.
+fn is_made_with_help<B: OfRows + Send + Sync, R: Threads + Wait + Sync>(
+    rt: &R,
+    bytes: &[u8],
+    writer: &BookWriter<'_, '_, B>,
+) -> Result<bool, AllocError>
+    ensures same { IfOk result (λ same. (book : Rows) → B.rows ≡ map.entries book → IsTrue same ↔ (bytes.now ≡ book_text book)) }
+    ensures back { OnOk result (IsReadAsBook B.rows) }
+{
+    let helpers = writer.helpers(rt);
+    if helpers == 0 {
+        return is_made_by(rt, bytes, writer);
+    }
+    let (_, is_same) = join_mut(
+        rt,
+        &mut || writer.help_in(rt, helpers),
+        &mut || -> Result<bool, AllocError>
+            ensures same { IfOk result (λ same. (book : Rows) → B.rows ≡ map.entries book → IsTrue same ↔ (bytes.entry.now ≡ book_text book)) }
+            ensures back { OnOk result (IsReadAsBook B.rows) }
+        {
+            let is_same = is_made_by(rt, bytes, writer);
+            writer.close();
+            is_same
+        },
+    );
+    is_same
+}
+
+// The same in this thread.
+fn is_made_by<B: OfRows, R: Wait>(
+    rt: &R,
+    bytes: &[u8],
+    writer: &BookWriter<'_, '_, B>,
+) -> Result<bool, AllocError>
+    ensures same { IfOk result (λ same. (book : Rows) → B.rows ≡ map.entries book → IsTrue same ↔ (bytes.now ≡ book_text book)) }
+    ensures back { OnOk result (IsReadAsBook B.rows) }
+{
+    let mut text = writer.pieces(rt)?;
     is_made_of(&mut text, bytes)
 }
 

@@ -5,7 +5,6 @@ use book_laws::RowList;
 use book_text::{
     ListedRow, begin_object, emptied, last_piece, list_behind, open_list, piece_between, skipped_if,
 };
-use file_devices::Pieces;
 use json::Writer;
 use std::alloc::{AllocError, Global};
 
@@ -150,39 +149,10 @@ impl<'a> TextLeft<'a> {
         }
     }
 
-    // Writes the entries of the next rows of the list, or what stands behind its last one.
-    fn go_on_alone(&mut self, list: RowList) -> Result<(), AllocError>
-        requires { self.old.place ≡ place.In list }
-        ensures rest { OnOk result (rest_of self.old ≡ piece_of self.new ++ rest_of self.new) }
-        ensures fewer { OnOk result (pieces_left self.new < pieces_left self.old) }
+    /// The piece that was made last.
+    pub(crate) fn piece(&self) -> &[u8]
+        ensures { result.now ≡ piece_of self.now }
     {
-        if self.at >= self.rows.len() {
-            return self.leave(list);
-        }
-        let span = self.next_rows(list);
-        self.write(span)
-    }
-}
-
-impl Pieces for TextLeft<'_> {
-    ghost use Rattle.book_writer.specs.Rest.{rest_of, piece_of, pieces_left};
-
-    ghost rest = { λ left. rest_of left };
-
-    ghost made = { λ left. piece_of left };
-
-    ghost left = { λ left. pieces_left left };
-
-    fn make_next(&mut self) -> Result<bool, AllocError> {
-        match self.place {
-            TextPlace::Start => self.start()?,
-            TextPlace::In(list) => self.go_on_alone(list)?,
-            TextPlace::End => return Ok(false),
-        }
-        Ok(true)
-    }
-
-    fn piece(&self) -> &[u8] {
         self.text.get(self.skipped..).unwrap_or(&[])
     }
 }

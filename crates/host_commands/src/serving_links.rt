@@ -79,7 +79,7 @@ where
 }
 
 // Opens the host on these files.
-fn open_on<R: Threads, F: Files, L: Logs>(
+fn open_on<R: Threads + Wait + Sync, F: Files, L: Logs>(
     rt: &R,
     alloc: Global,
     files: &F,

@@ -15,12 +15,13 @@ use issuer_view::Decide;
 use log_devices::{GrowingFile, LogInput};
 use log_file::{Begun, LogReader, LogWriter};
 use std::alloc::Global;
+use std::sync::Wait;
 use std::thread::Threads;
 
 /// Opens a live host: reads the book of this name, and decides again the messages that the log holds, one after another, by any local
 /// decision. A torn tail of the log is cut; in an empty file a log is begun. The first fault is told: of the book's file, of the book, then
 /// of the log.
-pub fn open_host<R: Threads, F: Files, G: GrowingFile + Drop, D: Decide>(
+pub fn open_host<R: Threads + Wait + Sync, F: Files, G: GrowingFile + Drop, D: Decide>(
     rt: &R,
     alloc: Global,
     files: &F,

@@ -14,11 +14,12 @@ use log_locked::LockedLogs;
 use std::alloc::Global;
 use std::io;
 use std::io::Write;
+use std::sync::Wait;
 use std::thread::Threads;
 
 /// Audits what is kept of a log, as [`audit_log_files`] does, and returns the exit status: 0 where nothing differs, 3 where something does,
 /// which is printed on `out`; 1 a fault, which is a line on `err`, or where `out` doesn't take all. What `err` doesn't take is dropped.
-pub fn audit_log<R: Threads, F: Files, L: LockedLogs, O: Write, E: Write>(
+pub fn audit_log<R: Threads + Wait + Sync, F: Files, L: LockedLogs, O: Write, E: Write>(
     rt: &R,
     alloc: Global,
     files: &F,
@@ -46,7 +47,7 @@ pub fn audit_log<R: Threads, F: Files, L: LockedLogs, O: Write, E: Write>(
 }
 
 // What the audit finds, and its text.
-fn found<R: Threads, F: Files, L: LockedLogs>(
+fn found<R: Threads + Wait + Sync, F: Files, L: LockedLogs>(
     rt: &R,
     alloc: Global,
     files: &F,

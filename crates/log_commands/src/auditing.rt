@@ -22,12 +22,13 @@ use issuer_rows::{Book, Frame, ReplyBody};
 use log_locked::{LockedInput, LockedLog, LockedLogs};
 use log_replay::{measure_log, read_log_blocks};
 use std::alloc::Global;
+use std::sync::Wait;
 use std::thread::Threads;
 
 /// Whether the files of replies and of the new book hold what deciding the messages of a log on its opening book comes to; else what differs
 /// first. It fails with the first fault of book, log, replies and new book, in this order; where a file is in use, or a call on one fails;
 /// or where memory runs out.
-pub fn audit_log_files<R: Threads, F: Files, L: LockedLogs>(
+pub fn audit_log_files<R: Threads + Wait + Sync, F: Files, L: LockedLogs>(
     rt: &R,
     alloc: Global,
     files: &F,

@@ -180,7 +180,7 @@ fn replay_words<R: Threads + Wait + Sync, F: Files, O: Write, E: Write>(
 }
 
 // Does what is asked of a log whose replies and new book are audited.
-fn audit_log_words<R: Threads, F: Files, O: Write, E: Write>(
+fn audit_log_words<R: Threads + Wait + Sync, F: Files, O: Write, E: Write>(
     rt: &R,
     host: HostRuntime,
     files: &F,

@@ -40,7 +40,7 @@ impl Logs for CopiedLogs {
 }
 
 // Whether a host serves the first link, and one that is opened on its log answers the second one so.
-fn goes_on<R: Threads>(
+fn goes_on<R: Threads + Wait + Sync>(
     rt: &R,
     alloc: Global,
     book: &Book,
@@ -67,7 +67,7 @@ fn a_host_goes_on_where_its_log_ends(rt: HostRuntime) -> Result<(), Fail> {
 }
 
 // The log of a host that served the link of three bodies, one of which is no message.
-fn log_of_three<R: Threads>(rt: &R, alloc: Global, book: &Book) -> Option<Vec<u8>> {
+fn log_of_three<R: Threads + Wait + Sync>(rt: &R, alloc: Global, book: &Book) -> Option<Vec<u8>> {
     let (log, replies) = serve_link(rt, alloc, book, Vec::new(alloc), LINK)?;
     if replies.as_slice() == REPLIES {
         Some(log)
@@ -99,7 +99,7 @@ fn a_torn_tail_is_cut(rt: HostRuntime) -> Result<(), Fail> {
 }
 
 // The fault of a log that has one byte changed.
-fn fault_with<R: Threads>(
+fn fault_with<R: Threads + Wait + Sync>(
     rt: &R,
     alloc: Global,
     book: &Book,

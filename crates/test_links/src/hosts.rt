@@ -6,6 +6,7 @@ use issuer_rows::Book;
 use issuer_rules::Shipped;
 use log_devices::MemoryLog;
 use std::alloc::Global;
+use std::sync::Wait;
 use std::thread::Threads;
 
 /// A copy of these bytes.
@@ -23,7 +24,7 @@ pub fn files(alloc: Global, book: &Book) -> Option<MemoryFiles> {
 }
 
 /// A host on this book, with a log in these bytes.
-pub fn open<R: Threads>(
+pub fn open<R: Threads + Wait + Sync>(
     rt: &R,
     alloc: Global,
     book: &Book,
@@ -37,7 +38,7 @@ pub fn open<R: Threads>(
 }
 
 /// What a crash keeps of the log of a host that goes on with this one and serves a link, and what it wrote.
-pub fn serve_link<R: Threads>(
+pub fn serve_link<R: Threads + Wait + Sync>(
     rt: &R,
     alloc: Global,
     book: &Book,

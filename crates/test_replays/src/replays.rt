@@ -76,7 +76,12 @@ const REPLIES: &[u8] =
 const NO_REPLIES: &[u8] = b"I83T\x00\x01\x00\x00\x00\x00";
 
 // The log of a host that served these links, one after another, each started again on it.
-fn log_of<R: Threads>(rt: &R, alloc: Global, book: &Book, links: &[&[u8]]) -> Option<Vec<u8>> {
+fn log_of<R: Threads + Wait + Sync>(
+    rt: &R,
+    alloc: Global,
+    book: &Book,
+    links: &[&[u8]],
+) -> Option<Vec<u8>> {
     let mut log = Vec::new(alloc);
     for link in links {
         (log, _) = serve_link(rt, alloc, book, log, link)?;
@@ -303,7 +308,7 @@ fn a_log_that_is_not_there_is_not_made(rt: HostRuntime) -> Result<(), Fail> {
 }
 
 // Whether an audit of this log, with these files, returns this status and prints this, on its two outputs.
-fn is_audited<R: Threads>(
+fn is_audited<R: Threads + Wait + Sync>(
     rt: &R,
     alloc: Global,
     files: &MemoryFiles,

@@ -4,6 +4,7 @@ use app_why::{Form, WhyAsked, answer_why, why_asked};
 use file_devices::MemoryFiles;
 use std::alloc::Global;
 use std::process::Abort;
+use std::sync::Wait;
 use std::thread::Threads;
 
 // A book without rows.
@@ -79,7 +80,11 @@ fn files(alloc: Global) -> Option<MemoryFiles> {
 }
 
 // What the command comes to: its status, and what it said.
-fn said<R: Threads>(rt: &R, alloc: Global, asked: &WhyAsked<'_>) -> Option<(u8, Vec<u8>, Vec<u8>)> {
+fn said<R: Threads + Wait + Sync>(
+    rt: &R,
+    alloc: Global,
+    asked: &WhyAsked<'_>,
+) -> Option<(u8, Vec<u8>, Vec<u8>)> {
     let files = files(alloc)?;
     let (mut out, mut err) = (Vec::new(alloc), Vec::new(alloc));
     let status = answer_why(rt, alloc, &files, asked, &mut out, &mut err);
@@ -105,7 +110,11 @@ fn answers_the_commands(rt: HostRuntime) {
 }
 
 // What a line of words comes to, if it asks for `why`.
-fn said_of<R: Threads>(rt: &R, alloc: Global, line: &str) -> Option<(u8, Vec<u8>, Vec<u8>)> {
+fn said_of<R: Threads + Wait + Sync>(
+    rt: &R,
+    alloc: Global,
+    line: &str,
+) -> Option<(u8, Vec<u8>, Vec<u8>)> {
     let mut words = Vec::new(alloc);
     for word in line.split(' ') {
         words.push(String::from_str(alloc, word).ok()?).ok()?;

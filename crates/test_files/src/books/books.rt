@@ -5,6 +5,7 @@ use crate::books::texts::{ACCOUNT, AHEAD, BUDGET, DAY};
 use book_json::{read_book, write_book};
 use issuer_rows::Book;
 use std::alloc::Global;
+use std::sync::Wait;
 use std::test::Fail;
 use std::thread::Threads;
 use test_fixtures::with_rows;
@@ -71,7 +72,7 @@ const VERSION_2: &str =
     r#"{"ahead":[{"acquirer":"123456","kind":"request","pan":"4111110000000005","reversal":{"acquirer":"123456","stamp":"260110120000","trace":"000002"},"stamp":"260110120000","trace":"000001"}],"budgets":[{"cap":400,"left":500,"mode":"stand-in","prefix":"411111"}],"cards":[{"approvals":0,"available":10000,"currency":"978","day_amount":20000,"day_count":3,"expiry":"2812","pan":"4111110000000005","status":"active"},{"approvals":0,"available":500,"currency":"978","day_amount":20000,"day_count":3,"expiry":"2812","pan":"4111110000000013","status":"active"}],"days":[{"count":1,"day":"260110","pan":"4111110000000005","sum":6000}],"originals":[{"acquirer":"123456","action":"000","amount":6000,"approval":"000001","kind":"request","paid":"card","pan":"4111110000000005","processing":"000000","reversed":null,"stamp":"260110120000","stay":6000,"trace":"000003"}],"version":2}"#;
 
 // Whether the text is read as the book.
-fn is_read_as<R: Threads>(rt: &R, alloc: Global, text: &str, book: &Book) -> bool {
+fn is_read_as<R: Threads + Wait + Sync>(rt: &R, alloc: Global, text: &str, book: &Book) -> bool {
     match read_book(rt, alloc, text.as_bytes()) {
         Ok(read) => read.is_same(book),
         Err(_) => false,

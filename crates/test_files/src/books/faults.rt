@@ -4,6 +4,7 @@ use crate::books::texts::{ACCOUNT, AHEAD, BUDGET, CARD, DAY, ORIGINAL};
 use book_json::{JsonFault, Part, read_book};
 use book_laws::BookFault;
 use std::alloc::Global;
+use std::sync::Wait;
 use std::thread::Threads;
 
 // A book, a text in it, what stands in its place, and the fault.
@@ -192,7 +193,7 @@ const CHANGES: &[(&str, &str, &str, JsonFault)] = &[
 ];
 
 // Why the book with this change is none.
-fn fault_of<R: Threads>(
+fn fault_of<R: Threads + Wait + Sync>(
     rt: &R,
     alloc: Global,
     book: &str,

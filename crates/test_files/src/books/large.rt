@@ -3,6 +3,7 @@
 use book_json::{read_book, write_book};
 use issuer_rows::Book;
 use std::alloc::Global;
+use std::sync::Wait;
 use std::test::Fail;
 use std::thread::Threads;
 use test_fixtures::{FIRST_BOOK, is_put, with_rows};
@@ -21,7 +22,7 @@ fn large_book(alloc: Global, end: &str) -> Result<Book, Fail> {
 }
 
 // Whether the book is written and read again as it is.
-fn is_read_again<R: Threads>(rt: &R, alloc: Global, book: &Book) -> bool {
+fn is_read_again<R: Threads + Wait + Sync>(rt: &R, alloc: Global, book: &Book) -> bool {
     let Ok(text) = write_book(alloc, book) else {
         return false;
     };

@@ -3,6 +3,7 @@
 use book_json::{JsonFault, Part, read_book};
 use book_laws::BookFault;
 use std::alloc::{AllocError, Global};
+use std::sync::Wait;
 use std::thread::Threads;
 
 // Texts, and why they are no book.
@@ -148,7 +149,7 @@ const TEXTS: &[(&[u8], Option<JsonFault>)] = &[
     ),
 ];
 
-fn fault_of<R: Threads>(rt: &R, alloc: Global, text: &[u8]) -> Option<JsonFault> {
+fn fault_of<R: Threads + Wait + Sync>(rt: &R, alloc: Global, text: &[u8]) -> Option<JsonFault> {
     read_book(rt, alloc, text).err()
 }
 
@@ -167,7 +168,12 @@ fn brackets(alloc: Global, count: usize) -> Result<String, AllocError> {
 }
 
 // Whether so many brackets are a fault.
-fn is_fault_of_depth<R: Threads>(rt: &R, alloc: Global, count: usize, fault: JsonFault) -> bool {
+fn is_fault_of_depth<R: Threads + Wait + Sync>(
+    rt: &R,
+    alloc: Global,
+    count: usize,
+    fault: JsonFault,
+) -> bool {
     match brackets(alloc, count) {
         Ok(text) => fault_of(rt, alloc, text.as_bytes()) == Some(fault),
         Err(_) => false,
