@@ -23,7 +23,7 @@ use issuer_rules::Shipped;
 use std::alloc::Global;
 use std::marker::Brand;
 use std::sync::Wait;
-use std::thread::{Threads, join_mut};
+use std::thread::Threads;
 
 /// Decides a batch one message after another, files to files. Messages are decided while the next ones are read, and the new book's rows
 /// are sorted while the replies are written. Returns how many bodies the batch has. Its faults are those of
@@ -124,26 +124,16 @@ fn write_helped<B: OfRows + Send + Sync, R: Threads + Wait + Sync, W: Sink>(
     ensures back { OnOk result (IsReadAsBook B.rows) }
     ensures fault { IfErr result (λ fault. IsWritingFault (W.may_fail replies.old) ⊥ fault ⊎ IsPuttingFault (W.may_fail new_book.old) fault) }
 {
-    let helpers = writer.helpers(rt);
-    if helpers == 0 {
-        return write_in_turn(rt, text, replies, new_book, writer);
-    }
-    let (_, written) = join_mut(
+    writer.with_help(
         rt,
-        &mut || writer.help_in(rt, helpers),
         &mut || -> Result<(), JobFault>
             ensures replies { OnOk result (W.is_known replies.entry.now → W.is_known replies.exit.now × (W.written replies.exit.now ≡ W.written replies.entry.now ++ text.entry.now)) }
             ensures book { OnOk result ((book : Rows) → B.rows ≡ map.entries book → W.is_known new_book.entry.now
                 → W.is_known new_book.exit.now × (W.written new_book.exit.now ≡ W.written new_book.entry.now ++ book_text book)) }
             ensures back { OnOk result (IsReadAsBook B.rows) }
             ensures fault { IfErr result (λ fault. IsWritingFault (W.may_fail replies.entry.now) ⊥ fault ⊎ IsPuttingFault (W.may_fail new_book.entry.now) fault) }
-        {
-            let written = write_in_turn(rt, text, replies, new_book, writer);
-            writer.close();
-            written
-        },
-    );
-    written
+        { write_in_turn(rt, text, replies, new_book, writer) },
+    )
 }
 
 // The same in this thread.

@@ -14,7 +14,7 @@ use issuer_rows::Book;
 use std::alloc::Global;
 use std::marker::Brand;
 use std::sync::Wait;
-use std::thread::{Threads, join_mut};
+use std::thread::Threads;
 
 /// Writes the text of a book to a file that can be put in the place of this name. It fails where that can't be made or written, or
 /// memory runs out.
@@ -63,25 +63,15 @@ fn write_helped<B: OfRows + Send + Sync, R: Threads + Wait + Sync, W: Sink>(
     ensures back { OnOk result (IsReadAsBook B.rows) }
     ensures fault { IfErr result (IsPuttingFault (W.may_fail sink.old)) }
 {
-    let helpers = writer.helpers(rt);
-    if helpers == 0 {
-        return write_rows(rt, sink, writer);
-    }
-    let (_, written) = join_mut(
+    writer.with_help(
         rt,
-        &mut || writer.help_in(rt, helpers),
         &mut || -> Result<(), JobFault>
             ensures written { OnOk result ((book : Rows) → B.rows ≡ map.entries book → W.is_known sink.entry.now
                 → W.is_known sink.exit.now × (W.written sink.exit.now ≡ W.written sink.entry.now ++ book_text book)) }
             ensures back { OnOk result (IsReadAsBook B.rows) }
             ensures fault { IfErr result (IsPuttingFault (W.may_fail sink.entry.now)) }
-        {
-            let written = write_rows(rt, sink, writer);
-            writer.close();
-            written
-        },
-    );
-    written
+        { write_rows(rt, sink, writer) },
+    )
 }
 
 /// Writes the text of a writer's rows, in this thread.

@@ -7,7 +7,7 @@ use rayon::current_num_threads;
 use std::alloc::AllocError;
 use std::sync::{OnceLock, Wait};
 use std::thread;
-use std::thread::Threads;
+use std::thread::{Threads, join_mut};
 
 // Of fewer rows no thread but the one that takes the pieces makes text.
 const MANY: usize = 2048;
@@ -55,14 +55,6 @@ impl<'s, 'a, B: OfRows> BookWriter<'s, 'a, B> {
         }
     }
 
-    /// How many threads are to help the one that takes the pieces: none where the rows are few.
-    pub fn helpers<R: Threads>(&self, rt: &R) -> usize {
-        if self.sorting.len() < MANY {
-            return 0;
-        }
-        current_num_threads(rt) - 1
-    }
-
     /// The text of the book that has these rows. No piece is made yet. It fails only where memory runs out.
     pub fn pieces<'d, R: Wait>(&'d self, rt: &'d R) -> Result<BookPieces<'d, R, B>, AllocError>
         ensures rest { IfOk result (λ pieces. (book : Rows) → B.rows ≡ map.entries book → rest_of pieces.left ≡ book_text book) }
@@ -75,15 +67,39 @@ impl<'s, 'a, B: OfRows> BookWriter<'s, 'a, B> {
         }
     }
 
-    /// Ends the help of other threads.
-    pub fn close(&self) {
+    // Ends the help of other threads.
+    fn close(&self) {
         self.sheets.close();
     }
 }
 
 impl<B: OfRows + Send + Sync> BookWriter<'_, '_, B> {
-    /// Helps whoever takes the pieces, in so many threads, this one among them, until the writer is closed.
-    pub fn help_in<R: Threads + Wait + Sync>(&self, rt: &R, threads: usize) {
+    /// Does what takes the pieces. Where the rows are many, other threads help to make them meanwhile.
+    pub fn with_help<R: Threads + Wait + Sync, T, F: FnMut() -> T>(&self, rt: &R, work: &mut F) -> T
+        requires { F.pre work.old }
+        ensures { F.step work.old result work.new }
+    {
+        let helpers = current_num_threads(rt) - 1;
+        if self.sorting.len() < MANY || helpers == 0 {
+            return work();
+        }
+        let (_, done) = join_mut(
+            rt,
+            &mut || self.help_in(rt, helpers),
+            &mut || -> T
+                requires { F.pre work.now }
+                ensures { F.step work.entry.now result work.exit.now }
+            {
+                let done = work();
+                self.close();
+                done
+            },
+        );
+        done
+    }
+
+    // Helps whoever takes the pieces, in so many threads, this one among them, until the writer is closed.
+    fn help_in<R: Threads + Wait + Sync>(&self, rt: &R, threads: usize) {
         thread::scope(thread::scope_env(), rt, move |scope| {
             for _ in 1..threads {
                 let _ = scope.spawn(move || self.help(rt));

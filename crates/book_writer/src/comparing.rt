@@ -15,7 +15,7 @@ use issuer_rows::Book;
 use std::alloc::{AllocError, Global};
 use std::marker::Brand;
 use std::sync::Wait;
-use std::thread::{Threads, join_mut};
+use std::thread::Threads;
 
 /// Whether these bytes are the text of a book, as [`write_book`](book_text::write_book) makes it. The text is made piece by piece, so
 /// that no memory is needed for a second one; where it is long, by several threads. It fails only where memory runs out.
@@ -57,23 +57,13 @@ fn is_made_with_help<B: OfRows + Send + Sync, R: Threads + Wait + Sync>(
     ensures same { IfOk result (λ same. (book : Rows) → B.rows ≡ map.entries book → IsTrue same ↔ (bytes.now ≡ book_text book)) }
     ensures back { OnOk result (IsReadAsBook B.rows) }
 {
-    let helpers = writer.helpers(rt);
-    if helpers == 0 {
-        return is_made_by(rt, bytes, writer);
-    }
-    let (_, is_same) = join_mut(
+    writer.with_help(
         rt,
-        &mut || writer.help_in(rt, helpers),
         &mut || -> Result<bool, AllocError>
             ensures same { IfOk result (λ same. (book : Rows) → B.rows ≡ map.entries book → IsTrue same ↔ (bytes.entry.now ≡ book_text book)) }
             ensures back { OnOk result (IsReadAsBook B.rows) }
-        {
-            let is_same = is_made_by(rt, bytes, writer);
-            writer.close();
-            is_same
-        },
-    );
-    is_same
+        { is_made_by(rt, bytes, writer) },
+    )
 }
 
 // The same in this thread.

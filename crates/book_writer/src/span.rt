@@ -15,6 +15,51 @@ const LISTS: [RowList; 6] = [
     RowList::Originals,
 ];
 
+// The place of the row's list among the lists. Most rows stand in the list of the one before.
+fn list_of(row: &ListedRow<'_>, before: usize) -> usize {
+    match LISTS.get(before) {
+        Some(list) if row.is_in(*list) => before,
+        _ => LISTS.iter().position(|list| row.is_in(*list)).unwrap_or(0),
+    }
+}
+
+// The spans of a list, and how many entries stand behind the last one.
+#[derive(Drop)]
+struct ListCut {
+    list: RowList,
+    spans: Vec<Span>,
+    at: usize,
+    entries: usize,
+}
+
+impl ListCut {
+    fn new(alloc: Global, list: RowList) -> ListCut {
+        ListCut {
+            list,
+            spans: Vec::new(alloc),
+            at: 0,
+            entries: 0,
+        }
+    }
+
+    // Takes an entry, the row at this place. Where a sheet has no room for it, a span ends before it.
+    fn add_entry(&mut self, place: usize) -> Result<(), AllocError> {
+        if self.entries == ENTRIES {
+            self.end(place)?;
+            self.entries = 0;
+        }
+        self.entries = self.entries.saturating_add(1);
+        Ok(())
+    }
+
+    // Ends a span before the row at this place.
+    fn end(&mut self, place: usize) -> Result<(), AllocError> {
+        self.spans.push(Span::new(self.list, self.at, place))?;
+        self.at = place;
+        Ok(())
+    }
+}
+
 /// Rows from one place up to another, of which those in a list stand on one sheet.
 #[derive(Clone, Copy)]
 pub(crate) struct Span {
@@ -30,32 +75,25 @@ impl Span {
     ghost use Rattle.book_text.specs.Left.{rows_listed};
     ghost use Rattle.book_writer.specs.Sheets.{IsTextOf};
 
-    /// All rows for each list in turn, cut so that no sheet has too many entries.
+    /// All rows for each list in turn, cut so that no sheet has too many entries. The rows are gone through once.
     pub(crate) fn all(alloc: Global, rows: &[ListedRow<'_>]) -> Result<Vec<Span>, AllocError> {
-        let mut spans = Vec::new(alloc);
+        let mut cuts = Vec::new(alloc);
         for list in LISTS {
-            Span::add(&mut spans, rows, list)?;
+            cuts.push(ListCut::new(alloc, list))?;
+        }
+        let mut current = 0;
+        for (place, row) in rows.iter().enumerate() {
+            current = list_of(row, current);
+            if let Some(cut) = cuts.get_mut(current) {
+                cut.add_entry(place)?;
+            }
+        }
+        let mut spans = Vec::new(alloc);
+        for mut cut in cuts {
+            cut.end(rows.len())?;
+            spans.append(&mut cut.spans)?;
         }
         Ok(spans)
-    }
-
-    // Appends the spans of a list to the others.
-    fn add(spans: &mut Vec<Span>, rows: &[ListedRow<'_>], list: RowList) -> Result<(), AllocError> {
-        let mut at = 0;
-        let mut entries = 0;
-        for (place, row) in rows.iter().enumerate() {
-            if !row.is_in(list) {
-                continue;
-            }
-            if entries == ENTRIES {
-                spans.push(Span::new(list, at, place))?;
-                at = place;
-                entries = 0;
-            }
-            entries = entries.saturating_add(1);
-        }
-        spans.push(Span::new(list, at, rows.len()))?;
-        Ok(())
     }
 
     // These rows of a list. Before those that aren't the first ones an entry stands.
