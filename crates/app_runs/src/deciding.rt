@@ -35,7 +35,7 @@ pub fn decide_by<R: Clock + Threads + Wait + Sync>(
     ensures { AnswersFold book frames.now result }
 {
     if book.len() <= frames.len().saturating_mul(FEW_ROWS) {
-        return decide_beside(rt, alloc, &book, frames, workers, engine);
+        return decide_by_engine(rt, alloc, &book, frames, workers, engine);
     }
     let mut whole = book;
     let outcome = decide_needed(rt, alloc, &whole, frames, workers, engine)?;
@@ -64,11 +64,11 @@ fn decide_needed<R: Clock + Threads + Wait + Sync>(
     ensures book { IfOk result (λ outcome. joined book.now outcome.book ≡ rows_after book.now frames.now) }
 {
     let needed = book_for(alloc, book, frames)?;
-    decide_beside(rt, alloc, &needed, frames, workers, engine)
+    decide_by_engine(rt, alloc, &needed, frames, workers, engine)
 }
 
 // Decides a batch by an engine, which leaves the book as it is and makes the one behind the bodies.
-fn decide_beside<R: Clock + Threads + Wait + Sync>(
+fn decide_by_engine<R: Clock + Threads + Wait + Sync>(
     rt: &R,
     alloc: Global,
     book: &Book,

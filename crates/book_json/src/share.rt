@@ -34,7 +34,7 @@ impl<'a> Share<'a> {
     }
 
     /// About how many rows the entries have, by the first one.
-    pub(crate) fn about(&self) -> usize {
+    pub(crate) fn estimated_rows(&self) -> usize {
         let first = match memmem::find(self.entries, b"},{") {
             Some(place) => place,
             None => self.entries.len(),

@@ -17,7 +17,7 @@ use std::thread::{Threads, join};
 fn rows_in(shares: &[Share<'_>]) -> usize {
     let mut rows: usize = 0;
     for share in shares {
-        rows = rows.saturating_add(share.about());
+        rows = rows.saturating_add(share.estimated_rows());
     }
     rows.saturating_add(rows / 16)
 }

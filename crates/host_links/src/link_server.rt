@@ -9,9 +9,9 @@ ghost use Rattle.host_links.specs.Turns.{came_on, given_to, turns_of};
 
 use crate::ends::{LinkSink, LinkSource};
 use crate::history::{Front, History};
-use crate::line::Line;
 use crate::naming::Before;
 use crate::seat::{Seat, SeenTurns};
+use crate::served_link::ServedLink;
 use crate::shared_host::SharedHost;
 use crate::watch_links::WatchLinks;
 use file_devices::{Sink, Source};
@@ -85,7 +85,7 @@ where
         ensures serves { ServesLink I.is_known I.remaining O.is_known O.written link J.opening result.0.trace.seen.log result.0.count
             source.old sink.old sink.new result.1 }
     {
-        let Ok(mut line) = Line::new(self.alloc, none) else {
+        let Ok(mut line) = ServedLink::new(self.alloc, none) else {
             let seen = SeenTurns {
                 trace: none.trace(),
                 count: 0,
@@ -104,7 +104,7 @@ where
     fn serve_ends<I: LinkSource, O: LinkSink>(
         &self,
         link: usize,
-        line: &mut Line<J>,
+        line: &mut ServedLink<J>,
         source: &mut I,
         sink: &mut O,
     ) -> Result<(), HostFault>
@@ -126,7 +126,7 @@ where
     fn serve_line<I: Source, O: Sink>(
         &self,
         link: usize,
-        line: &mut Line<J>,
+        line: &mut ServedLink<J>,
         source: &mut I,
         sink: &mut O,
     ) -> Result<(), HostFault>
@@ -148,7 +148,7 @@ where
     fn serve_next<I: Source, O: Sink>(
         &self,
         link: usize,
-        line: &mut Line<J>,
+        line: &mut ServedLink<J>,
         source: &mut I,
         sink: &mut O,
     ) -> Result<bool, HostFault>
@@ -176,7 +176,7 @@ where
     }
 
     // Waits for the host, and has what came served.
-    fn serve_locked(&self, link: usize, line: &mut Line<J>) -> Result<(), HostFault>
+    fn serve_locked(&self, link: usize, line: &mut ServedLink<J>) -> Result<(), HostFault>
         requires came { HasTaken (given line.old.reader) [] line.old.buffers.turn }
         requires count { turns_of link line.old.front ≡ line.old.count }
         ensures reader { line.new.reader ≡ line.old.reader }

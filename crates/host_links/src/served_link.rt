@@ -6,7 +6,7 @@ use std::alloc::{AllocError, Global};
 
 /// What a thread has that serves one of several links: its reader and its memory, and what it has seen of the history.
 #[derive(Drop)]
-pub struct Line<J: Naming> {
+pub(crate) struct ServedLink<J: Naming> {
     pub(crate) reader: LinkReader,
     pub(crate) buffers: LinkBuffers,
     pub(crate) front: Front<J>,
@@ -14,16 +14,16 @@ pub struct Line<J: Naming> {
     pub(crate) count: u64,
 }
 
-impl<J: Naming> Line<J> {
+impl<J: Naming> ServedLink<J> {
     ghost use Rattle.std.specs.Prelude.{◌≡◌, IfOk, []};
     ghost use Rattle.host_links.specs.Fresh.{IsFresh};
 
     /// Nothing has come on it yet. Memory can run out.
-    pub fn new(alloc: Global, front: &Front<J>) -> Result<Line<J>, AllocError>
+    pub(crate) fn new(alloc: Global, front: &Front<J>) -> Result<ServedLink<J>, AllocError>
         requires { front.now ≡ [] }
         ensures { IfOk result (λ line. IsFresh line) }
     {
-        Ok(Line {
+        Ok(ServedLink {
             reader: LinkReader::new(alloc)?,
             buffers: LinkBuffers::new(alloc),
             front: front.again(),
