@@ -1,10 +1,8 @@
 -- Parts that are decided or made, by the steps of these.
-use Rattle.std.proofs.Common.{◌≡◌, ◌≤◌, ℕ, suc, List, [], ◌∷◌, Vec, Global, Ok, Some, length, map, slice_get, refl, sym, ap, subst, ◌∙◌, arith}
+use Rattle.std.proofs.Common.{◌≡◌, ◌≤◌, ℕ, List, Ok, Some, slice_get, sym, subst, ◌∙◌, arith}
 use Rattle.sha2.specs.Sha256.{sha256}
 use Rattle.book_laws.specs.Reading.{IsAnswer, reading}
-use Rattle.file_batch_laws.specs.Frames.{AreFramesOf}
 use Rattle.file_devices.specs.Holding.{Holding}
-use Rattle.issuer_rows.specs.declared.frame.Frame.{Frame}
 use Rattle.parts_books.specs.PartBooks.{each_part}
 use Rattle.parts_files.specs.Texts.{plan_of, plan_text}
 use Rattle.parts_files.specs.declared.part_digests.PartDigests.{PartDigests}
@@ -15,9 +13,7 @@ use Rattle.app_parts_folder.specs.Joining.{IsPartDecided, decided_texts}
 use Rattle.app_parts_folder.specs.Names.{IsOfDecided, IsOfFolder, part_name}
 use Rattle.app_parts_folder.specs.Opening.{IsOpenPlan}
 use Rattle.app_parts_folder.specs.Parting.{AreReadBack, IsCut, IsParted, IsPlanned, Names, Parting, count_of_part, folder_texts}
-use Rattle.app_parts_folder.specs.Planning.{bodies_in}
 use Rattle.app_parts_folder.specs.Texts.{AreDistinct, AreHeld, IsHeld, IsNoneOf, Text}
-use Rattle.app_parts_folder.specs.declared.batch_in_parts.BatchInParts.{BatchInParts}
 use Rattle.app_parts_folder.specs.declared.part_count.PartCount.{PartCount}
 use Rattle.app_parts_folder.specs.declared.part_file.PartFile.TheVariants.{Book, Batch}
 use Rattle.app_parts_folder.specs.declared.plan_opening.OpenPlan.{OpenPlan}
@@ -72,20 +68,6 @@ not_of_part folder number plan replies new_book other texts are not =
 
 pub few_parts : (p : Parting) (most count : ℕ) → count ≡ most → count ≤ 64 → IsPlanned p most → p.count ≤ 64
 few_parts p most count is few planned = omega (arith, planned.few, is, few)
-
-frames_of_bodies : (bodies : List (List ℕ)) (frames : List Frame) → AreFramesOf bodies frames → length bodies ≡ length frames
-frames_of_bodies [] [] are = refl
-frames_of_bodies [] (frame ∷ frames) are = absurd are
-frames_of_bodies (body ∷ bodies) [] are = absurd are
-frames_of_bodies (body ∷ bodies) (frame ∷ frames) are = ap suc (frames_of_bodies bodies frames are.1)
-
-many : (bodies : List (Vec ℕ Global)) → length (map (λ (body : Vec ℕ Global). body.items) bodies) ≡ length bodies
-many [] = refl
-many (body ∷ bodies) = ap suc (many bodies)
-
--- a batch has as many bodies as frames
-pub as_many : (bytes : List ℕ) (batch : BatchInParts) → IsCut bytes (bodies_in batch) batch.frames.items → length batch.bodies.items ≡ length batch.frames.items
-as_many bytes batch cut = sym (many batch.bodies.items) ∙ frames_of_bodies (bodies_in batch) batch.frames.items cut.1
 
 pub folder_held : (known : Type 0) (new : Holding) (folder : List ℕ) (p : Parting) (texts : List Text) → p.count ≤ 64 → texts ≡ folder_texts folder p
     → (known → AreDistinct texts → AreHeld new texts) → known → AreHeld new (folder_texts folder p)

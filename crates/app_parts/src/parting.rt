@@ -42,8 +42,8 @@ pub fn part_files<R: Threads + Wait + Sync, F: Files>(
     check_outside(alloc, files, names.folder, count, names.batch, "BATCH")?;
     let book = open_held(rt, alloc, files, names.book)?;
     let batch = read_text(alloc, files, names.batch)?;
-    let planned = plan_batch(alloc, &book, &batch, most)?;
-    let (texts, counts) = make_folder(alloc, names.folder, &book, &planned, most)?;
+    let planned = plan_batch(alloc, book, &batch, most)?;
+    let (texts, counts) = make_folder(alloc, names.folder, &planned)?;
     put_texts(alloc, files, &texts)?;
     Ok(counts)
 }

@@ -2,3 +2,4 @@ pub mod PutTexts
 pub mod NamesApart
 pub mod OwnBodies
 pub mod Parts
+pub mod InParts

@@ -2,6 +2,7 @@ pub mod Names
 pub mod Texts
 pub mod Writing
 pub mod Parting
+pub mod BatchInParts
 pub mod Planning
 pub mod Making
 pub mod Opening

@@ -8,8 +8,7 @@ ghost use Rattle.parts_books.specs.PartBooks.{each_part, rest_rows};
 ghost use Rattle.app_parts_folder.specs.Making.{AreMade, IsMade};
 ghost use Rattle.parts_files.specs.Texts.{plan_text};
 ghost use Rattle.app_parts_folder.specs.Names.{part_name, plan_name, rest_name};
-ghost use Rattle.app_parts_folder.specs.Parting.{AreReadBack, IsPlanned, count_of_part, folder_texts};
-ghost use Rattle.app_parts_folder.specs.Planning.{parting_of};
+ghost use Rattle.app_parts_folder.specs.Parting.{AreReadBack, count_of_part, folder_texts};
 ghost use Rattle.app_parts_folder.specs.Texts.{texts_of};
 ghost use Rattle.app_parts_folder.specs.declared.part_file.PartFile.TheVariants as PartFile;
 
@@ -23,7 +22,7 @@ use crate::reading::digest_of;
 use book_text::write_book;
 use issuer_rows::{Book, Frame};
 use parts_books::{part_book, rest_book};
-use parts_files::{MostParts, PartDigests, PlanFile, plan_text};
+use parts_files::{PartDigests, PlanFile, plan_text};
 use std::alloc::{AllocError, Global};
 
 // What is made of some parts.
@@ -42,30 +41,23 @@ struct OnePart {
     count: PartCount,
 }
 
-/// All files of the folder of a batch in at most so many parts, and how much each part has. It fails only where memory runs out.
+/// All files of the folder of a batch in parts, and how much each part has. It fails only where memory runs out.
 pub fn make_folder(
     alloc: Global,
     folder: &str,
-    book: &Book,
     batch: &BatchInParts,
-    most: MostParts,
 ) -> Result<(Vec<NamedText>, Vec<PartCount>), AllocError>
-    requires planned { IsPlanned (parting_of book.now batch.now) most }
-    requires few { length batch.now.frames.items ≤ 65536 }
-    requires each { length batch.now.bodies.items ≡ length batch.now.frames.items }
-    ensures texts { IfOk result (λ made. texts_of made.0.items ≡ folder_texts folder.now (parting_of book.now batch.now)) }
-    ensures counts { IfOk result (λ made. made.1.items ≡ each_part (count_of_part (parting_of book.now batch.now)) batch.now.plan.count) }
-    ensures back { OnOk result (AreReadBack (parting_of book.now batch.now)) }
+    ensures texts { IfOk result (λ made. texts_of made.0.items ≡ folder_texts folder.now batch.now) }
+    ensures counts { IfOk result (λ made. made.1.items ≡ each_part (count_of_part batch.now) batch.now.count) }
+    ensures back { OnOk result (AreReadBack batch.now) }
 {
-    // A file of the plan can have so many.
-    let _most = most.count();
-    let made = make_parts(alloc, folder, book, batch)?;
+    let made = make_parts(alloc, folder, batch)?;
     let MadeParts {
         texts,
         digests,
         counts,
     } = made;
-    let rest = rest_text(alloc, book, &batch.frames)?;
+    let rest = rest_text(alloc, &batch.book, &batch.frames)?;
     let plan = plan_bytes(alloc, &rest, digests, batch.plan.parts())?;
     let texts = with_rest(alloc, folder, texts, rest, plan)?;
     Ok((texts, counts))
@@ -132,15 +124,8 @@ fn plan_bytes(
 }
 
 // The texts of each part's files.
-fn make_parts(
-    alloc: Global,
-    folder: &str,
-    book: &Book,
-    batch: &BatchInParts,
-) -> Result<MadeParts, AllocError>
-    requires plan { length batch.now.plan.parts ≡ length batch.now.frames.items }
-    requires each { length batch.now.bodies.items ≡ length batch.now.frames.items }
-    ensures { IfOk result (AreMade folder.now (parting_of book.now batch.now) batch.now.plan.count) }
+fn make_parts(alloc: Global, folder: &str, batch: &BatchInParts) -> Result<MadeParts, AllocError>
+    ensures { IfOk result (AreMade folder.now batch.now batch.now.count) }
 {
     let mut made = MadeParts {
         texts: Vec::new(alloc),
@@ -148,7 +133,7 @@ fn make_parts(
         counts: Vec::new(alloc),
     };
     for part in 0..batch.plan.count() {
-        made.add(alloc, folder, book, batch, part)?;
+        made.add(alloc, folder, batch, part)?;
     }
     Ok(made)
 }
@@ -159,16 +144,13 @@ impl MadeParts {
         &mut self,
         alloc: Global,
         folder: &str,
-        book: &Book,
         batch: &BatchInParts,
         part: u32,
     ) -> Result<(), AllocError>
-        requires plan { length batch.now.plan.parts ≡ length batch.now.frames.items }
-        requires each { length batch.now.bodies.items ≡ length batch.now.frames.items }
-        requires made { AreMade folder.now (parting_of book.now batch.now) part self.old }
-        ensures { OnOk result (AreMade folder.now (parting_of book.now batch.now) (part + 1) self.new) }
+        requires made { AreMade folder.now batch.now part self.old }
+        ensures { OnOk result (AreMade folder.now batch.now (part + 1) self.new) }
     {
-        let one = make_part(alloc, book, batch, part)?;
+        let one = make_part(alloc, batch, part)?;
         let of_book = digest_of(&one.book);
         let of_batch = digest_of(&one.batch);
         let digests = PartDigests {
@@ -202,18 +184,11 @@ fn push_part(
 }
 
 // What is told of a part.
-fn make_part(
-    alloc: Global,
-    book: &Book,
-    batch: &BatchInParts,
-    part: u32,
-) -> Result<OnePart, AllocError>
-    requires plan { length batch.now.plan.parts ≡ length batch.now.frames.items }
-    requires each { length batch.now.bodies.items ≡ length batch.now.frames.items }
-    ensures { IfOk result (IsMade (parting_of book.now batch.now) part) }
+fn make_part(alloc: Global, batch: &BatchInParts, part: u32) -> Result<OnePart, AllocError>
+    ensures { IfOk result (IsMade batch.now part) }
 {
     let parts = batch.plan.parts();
-    let own = part_book(alloc, book, &batch.frames, parts, part)?;
+    let own = part_book(alloc, &batch.book, &batch.frames, parts, part)?;
     let bodies = bodies_of_part(alloc, parts, &batch.bodies, part)?;
     let count = PartCount {
         messages: bodies.len(),

@@ -1,8 +1,9 @@
-ghost use Rattle.std.specs.Prelude.{◌≡◌, ◌≤◌, IfErr, IfOk, Ok, length, map};
+ghost use Rattle.std.specs.Prelude.{◌≡◌, ◌≤◌, IfErr, IfOk, Ok, length};
+ghost use Rattle.file_batch.specs.Bodies.{bytes_of};
 ghost use Rattle.file_batch_laws.specs.Frames.{IsBatchOf};
 ghost use Rattle.file_batch_laws.specs.Reading.{batch_magic, bodies_of};
 ghost use Rattle.app_parts_folder.specs.Parting.{IsCut, IsPlanned};
-ghost use Rattle.app_parts_folder.specs.Planning.{bodies_in, parting_of, IsBatchFaultOf};
+ghost use Rattle.app_parts_folder.specs.Planning.{IsBatchFaultOf};
 
 use crate::batch_in_parts::BatchInParts;
 use app_jobs::JobFault;
@@ -16,21 +17,22 @@ use std::alloc::Global;
 /// Puts the batch of these bytes in at most so many parts, on this book.
 pub fn plan_batch(
     alloc: Global,
-    book: &Book,
+    book: Book,
     batch: &[u8],
     most: MostParts,
 ) -> Result<BatchInParts, JobFault>
-    ensures cut { IfOk result (λ own. IsCut batch.now (bodies_in own) own.frames.items) }
-    ensures few { IfOk result (λ own. length own.frames.items ≤ 65536) }
-    ensures planned { IfOk result (λ own. IsPlanned (parting_of book.now own) most) }
+    ensures rows { IfOk result (λ own. own.rows ≡ book) }
+    ensures cut { IfOk result (λ own. IsCut batch.now own.bodies own.frames) }
+    ensures planned { IfOk result (λ own. IsPlanned own most) }
     ensures fault { IfErr result (IsBatchFaultOf batch.now) }
 {
     let frames = frames_of(alloc, batch)?;
     let bodies = bodies_of(alloc, batch)?;
-    let plan = plan_parts(alloc, book, &frames, most.count())?;
+    let plan = plan_parts(alloc, &book, &frames, most.count())?;
     // What these say holds of every plan.
     let (_count, _parts) = (plan.count(), plan.parts());
     Ok(BatchInParts {
+        book,
         bodies,
         frames,
         plan,
@@ -52,7 +54,7 @@ fn frames_of(alloc: Global, batch: &[u8]) -> Result<Vec<Frame>, JobFault>
 
 // Its bodies. Of a batch whose messages were read it fails only where memory runs out.
 fn bodies_of(alloc: Global, batch: &[u8]) -> Result<Vec<Vec<u8>>, JobFault>
-    ensures bodies { IfOk result (λ bodies. bodies_of batch_magic batch.now ≡ Ok (map (λ body. body.items) bodies.items)) }
+    ensures bodies { IfOk result (λ bodies. bodies_of batch_magic batch.now ≡ Ok (bytes_of bodies.items)) }
     ensures fault { IfErr result (IsBatchFaultOf batch.now) }
 {
     match bodies_of_batch(alloc, batch) {

@@ -1,9 +1,9 @@
 use Rattle.std.proofs.Common.{◌≡◌, ◌≤◌, ℕ, List, inl, inr, subst, arith}
 use Rattle.std.proofs.lemmas.Result.{err_from_is_err_and}
-use Rattle.app_parts.proofs.DoneParts.{as_many, few_parts, not_of_folder, not_outside, parted_folder}
+use Rattle.app_parts.proofs.DoneParts.{few_parts, not_of_folder, not_outside, parted_folder}
 use Rattle.app_parts.proofs.FaultsOf.{batch_is_outside, book_is_outside, held_batch, parted_put_fault, unread_batch}
 use Rattle.app_parts_folder.specs.Parting.{IsCut, folder_texts, names_of}
-use Rattle.app_parts_folder.specs.Planning.{IsBatchFaultOf, bodies_in, parting_of}
+use Rattle.app_parts_folder.specs.Planning.{IsBatchFaultOf}
 use Rattle.app_parts_folder.specs.Texts.{texts_of}
 use Rattle.app_parts.proofs.parting.part_files.Goals as goal
 
@@ -36,43 +36,41 @@ returns-in_err-planned-clause-fault g c =
     rw (p.1, p.2) (inr (inl (held_batch (g.F.Files.is_known c.args.files.now) (g.F.Files.holds c.args.files.now) (g.F.Files.failing c.args.files.now) c.args.names.now.batch.now
     c.in_ok-batch.batch.items why c.in_ok-batch.ensures.held (subst (λ (bytes : List ℕ). IsBatchFaultOf bytes why) c.deref.ensures.value c.in_err-planned.ensures.fault))))
 
-pub make_folder-requires-clause-each : goal.make_folder-requires-clause-each
-make_folder-requires-clause-each g c = as_many c.deref.result.now c.in_ok-planned.planned c.in_ok-planned.ensures.cut
-
 pub returns-in_err-put_texts-clause-fault : goal.returns-in_err-put_texts-clause-fault
 returns-in_err-put_texts-clause-fault g c =
     let p = err_from_is_err_and c.from_residual-in_err-put_texts.result c.from_residual-in_err-put_texts.ensures.1 in
-    let parting = parting_of c.in_ok-book.book c.in_ok-planned.planned in
+    let parting = c.in_ok-planned.planned in
     rw (p.1, p.2) (parted_put_fault (g.F.Files.is_known c.args.files.now) (g.F.Files.holds c.args.files.now) (g.F.Files.failing c.args.files.now) (names_of c.args.names.now) parting
     (texts_of c.deref-2.result.now) c.in_err-put_texts.field-0.0 (few_parts parting c.args.most c.count-count.result c.count-count.ensures.value c.count-count.ensures.high c.in_ok-planned.ensures.planned)
     (rw c.deref-2.ensures.value c.in_ok-texts.ensures.texts) c.in_err-put_texts.ensures.fault)
 
 pub returns-in_err-put_texts-clause-others : goal.returns-in_err-put_texts-clause-others
 returns-in_err-put_texts-clause-others g c = λ other not.
-    let parting = parting_of c.in_ok-book.book c.in_ok-planned.planned in
+    let parting = c.in_ok-planned.planned in
     c.in_err-put_texts.ensures.others other
     (not_of_folder c.args.names.now.folder.now parting other (texts_of c.deref-2.result.now) (few_parts parting c.args.most c.count-count.result c.count-count.ensures.value c.count-count.ensures.high c.in_ok-planned.ensures.planned)
     (rw c.deref-2.ensures.value c.in_ok-texts.ensures.texts) not)
 
 pub returns-clause-others : goal.returns-clause-others
 returns-clause-others g c = λ other not.
-    let parting = parting_of c.in_ok-book.book c.in_ok-planned.planned in
+    let parting = c.in_ok-planned.planned in
     c.in_ok-put_texts.ensures.others other
     (not_of_folder c.args.names.now.folder.now parting other (texts_of c.deref-2.result.now) (few_parts parting c.args.most c.count-count.result c.count-count.ensures.value c.count-count.ensures.high c.in_ok-planned.ensures.planned)
     (rw c.deref-2.ensures.value c.in_ok-texts.ensures.texts) not)
 
 pub returns-clause-parted : goal.returns-clause-parted
 returns-clause-parted g c =
-    let planned = c.in_ok-planned.planned in
+    let parting = c.in_ok-planned.planned in
+    let planned = c.in_ok-planned.ensures in
     parted_folder (g.F.Files.is_known c.args.files.now) (g.F.Files.holds c.args.files.now) (g.F.Files.holds c.put_texts.new.files) (names_of c.args.names.now) c.args.most c.in_ok-texts.counts.items
-    (parting_of c.in_ok-book.book planned) c.in_ok-book.ensures.book.0 c.in_ok-batch.batch.items (texts_of c.deref-2.result.now) (omega (arith, c.count-count.ensures.value, c.count-count.ensures.high))
-    c.in_ok-book.ensures.book.1 c.in_ok-book.ensures.book.2 c.in_ok-batch.ensures.held
-    (subst (λ (bytes : List ℕ). IsCut bytes (bodies_in planned) planned.frames.items) c.deref.ensures.value c.in_ok-planned.ensures.cut) c.in_ok-planned.ensures.planned
+    parting c.in_ok-book.ensures.book.0 c.in_ok-batch.batch.items (texts_of c.deref-2.result.now) (omega (arith, c.count-count.ensures.value, c.count-count.ensures.high))
+    c.in_ok-book.ensures.book.1 (rw planned.rows c.in_ok-book.ensures.book.2) c.in_ok-batch.ensures.held
+    (subst (λ (bytes : List ℕ). IsCut bytes parting.bodies parting.frames) c.deref.ensures.value planned.cut) planned.planned
     c.in_ok-texts.ensures.counts c.in_ok-texts.ensures.back (rw c.deref-2.ensures.value c.in_ok-texts.ensures.texts) c.in_ok-put_texts.ensures.held
 
 pub returns-clause-inputs : goal.returns-clause-inputs
 returns-clause-inputs g c = λ known.
-    let parting = parting_of c.in_ok-book.book c.in_ok-planned.planned in
+    let parting = c.in_ok-planned.planned in
     let folder = c.args.names.now.folder.now in
     let texts = texts_of c.deref-2.result.now in
     let count = c.count-count.result in

@@ -2,14 +2,13 @@ use Rattle.std.proofs.Common.{◌++◌, ◌∷◌, [], ap, sym, ◌∙◌}
 use Rattle.sha2.specs.Sha256.{sha256}
 use Rattle.app_parts_folder.specs.Names.{part_name}
 use Rattle.app_parts_folder.specs.Parting.{count_of_part, digests_of_part}
-use Rattle.app_parts_folder.specs.Planning.{parting_of}
 use Rattle.app_parts_folder.specs.declared.part_file.PartFile.TheVariants.{Book, Batch}
 use Rattle.app_parts_folder.proofs.Parts.{back_more, each_more, texts_more}
 use Rattle.app_parts_folder.proofs.making.MadeParts.add.Goals as goal
 
 pub returns : goal.returns
 returns c =
-    let p = parting_of c.args.book.now c.args.batch.now in
+    let p = c.args.batch.now in
     let folder = c.args.folder.now in
     let part = c.args.part in
     let made = c.requires.made in
