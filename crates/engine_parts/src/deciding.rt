@@ -52,36 +52,41 @@ impl DecidedPart {
         let mut reads = ReadSet::new(alloc);
         let mut writes = WriteSet::new(alloc);
         for frame in own {
-            (reads, writes) = self.decide_next(
-                opening, frame, decision, &mut hints, reads, writes,
+            self.decide_next(
+                opening,
+                frame,
+                decision,
+                &mut hints,
+                &mut reads,
+                &mut writes,
             )?;
         }
         Ok(())
     }
 
-    // Decides the next message by any local decision. It goes over the memory of two sets, which are handed back with the rows that were
-    // read and written. It fails only where memory runs out.
+    // Decides the next message by any local decision, over the memory of two sets. It fails only where memory runs out.
     fn decide_next<F: Decide>(
         &mut self,
         opening: &Book,
         frame: &Frame,
         decision: &F,
         hints: &mut CardHints,
-        reads: ReadSet,
-        writes: WriteSet,
-    ) -> Result<(ReadSet, WriteSet), AllocError>
+        reads: &mut ReadSet,
+        writes: &mut WriteSet,
+    ) -> Result<(), AllocError>
         ensures rows { OnOk result (self.new.rows ≡ overlay self.old.rows (writes_of (joined opening.now self.old.rows) frame.now)) }
         ensures replies { OnOk result (self.new.replies.items ≡ self.old.replies.items ++ reply_of (joined opening.now self.old.rows) frame.now ∷ []) }
     {
         let (seen, own) = hints.places_of(frame);
         let rows = PartRows::new(opening, &self.rows, seen, own);
-        let mut recorder = Recorder::over(rows, reads, writes);
+        let mut recorder = Recorder::over(rows, reads.take(), writes.take());
         let decided = decision.decide(frame, &mut recorder);
-        let (source, reads, writes) = recorder.into_parts();
-        let (seen, mut own) = source.into_places();
-        self.append(opening, frame, &decided, &reads, &writes, &mut own)?;
+        let rows;
+        (rows, *reads, *writes) = recorder.into_parts();
+        let (seen, mut own) = rows.into_places();
+        self.append(opening, frame, &decided, reads, writes, &mut own)?;
         hints.note(frame, &seen, &own);
-        Ok((reads, writes))
+        Ok(())
     }
 
     // One more message, as it was decided by the rows that the part sees. What was read is for the clauses alone.

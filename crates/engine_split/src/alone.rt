@@ -59,10 +59,10 @@ fn decide_first<R: Clock, F: Decide, G: Hook>(
         }
         let index = ledger.count();
         hook.before_decide(index, 0);
-        let Ok(sets) = ledger.decide_next(decision, reads, writes) else {
+        let decided = ledger.decide_next(decision, &mut reads, &mut writes);
+        if decided.is_err() {
             break;
-        };
-        (reads, writes) = sets;
+        }
         hook.after_record(index, 0);
         watch.note(clock);
     }

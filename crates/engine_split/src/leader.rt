@@ -6,7 +6,6 @@ use crate::run_brand::RunBrand;
 use crate::worker_state::WorkerState;
 use issuer_view::{Decide, ReadSet, WriteSet};
 use std::alloc::{AllocError, Global};
-use std::mem;
 
 /// What the first worker has alone: its place, the ledger, and two sets, over whose memory it decides on the ledger's book.
 #[derive(Drop)]
@@ -38,17 +37,11 @@ impl<'a, B: RunBrand> Leader<'a, B> {
     }
 
     // Decides the next message on the ledger's book, and commits it.
-    pub(crate) fn decide_next<F: Decide>(
-        &mut self,
-        alloc: Global,
-        decision: &F,
-    ) -> Result<(), AllocError>
+    pub(crate) fn decide_next<F: Decide>(&mut self, decision: &F) -> Result<(), AllocError>
         requires { self.old.ledger.published.ledger.count < length self.old.ledger.published.ledger.frames }
     {
-        let reads = mem::replace(&mut self.reads, ReadSet::new(alloc));
-        let writes = mem::replace(&mut self.writes, WriteSet::new(alloc));
-        (self.reads, self.writes) = self.ledger.decide_next(decision, reads, writes)?;
-        Ok(())
+        self.ledger
+            .decide_next(decision, &mut self.reads, &mut self.writes)
     }
 
     // The rows that the last such message read and wrote.

@@ -49,9 +49,9 @@ impl<'a, B: RunBrand> LeaderLedger<'a, B> {
     pub(crate) fn decide_next<F: Decide>(
         &mut self,
         decision: &F,
-        reads: ReadSet,
-        writes: WriteSet,
-    ) -> Result<(ReadSet, WriteSet), AllocError>
+        reads: &mut ReadSet,
+        writes: &mut WriteSet,
+    ) -> Result<(), AllocError>
         requires { self.old.published.ledger.count < length self.old.published.ledger.frames }
         ensures committed { OnOk result (self.new.published ≡ advanced self.old.published) }
         ensures otherwise { OnErr result (self.new.published ≡ self.old.published) }

@@ -76,7 +76,7 @@ impl<B: RunBrand, R: Wait, F: Decide, G: Hook> SplitWorker<'_, B, R, F, G> {
     fn decide_next(&self, leader: &mut Leader<'_, B>, version: Version) -> Result<(), Exit>
         requires { leader.old.ledger.published.ledger.count < length leader.old.ledger.published.ledger.frames }
     {
-        leader.decide_next(self.alloc, self.decision)?;
+        leader.decide_next(self.decision)?;
         let is_overtaken = self.settle(leader, version)?;
         let Version { index, incarnation } = version;
         self.hook.after_record(index, incarnation);

@@ -12,28 +12,29 @@ use std::alloc::{AllocError, Global};
 const AHEAD: usize = 16;
 
 impl Prefix {
-    /// Decides one more body, whose rows may stand at these places, by any local decision. It goes over the memory of two sets, which are
-    /// handed back with the rows that were read and written. It fails only where memory runs out, and nothing is changed then.
+    /// Decides one more body, whose rows may stand at these places, by any local decision. What it read and wrote is left in the two sets,
+    /// whose memory it uses: what they held is gone. It fails only where memory runs out, and the prefix is the same then.
     pub fn decide_one<F: Decide>(
         &mut self,
         frame: &Frame,
         decision: &F,
         places: Places,
-        reads: ReadSet,
-        writes: WriteSet,
-    ) -> Result<(ReadSet, WriteSet), AllocError>
+        reads: &mut ReadSet,
+        writes: &mut WriteSet,
+    ) -> Result<(), AllocError>
         requires room { self.old.count + 1 < 2 ^ 32 }
         ensures count { OnOk result (self.new.count ≡ self.old.count + 1) }
         ensures book { OnOk result (self.new.book ≡ rows_after_one self.old.book frame.now) }
         ensures replies { OnOk result (self.new.replies.items ≡ self.old.replies.items ++ reply_of self.old.book frame.now ∷ []) }
         ensures kept { OnErr result ((self.new.count ≡ self.old.count) × (self.new.book ≡ self.old.book) × (self.new.replies.items ≡ self.old.replies.items)) }
     {
-        let mut recorder = Recorder::over(PlainRows::near(&self.book, places), reads, writes);
+        let rows = PlainRows::near(&self.book, places);
+        let mut recorder = Recorder::over(rows, reads.take(), writes.take());
         let decided = decision.decide(frame, &mut recorder);
-        let (source, reads, writes) = recorder.into_parts();
-        let mut places = source.into_places();
-        self.append(frame, &decided, &reads, &writes, &mut places)?;
-        Ok((reads, writes))
+        let rows;
+        (rows, *reads, *writes) = recorder.into_parts();
+        let mut places = rows.into_places();
+        self.append(frame, &decided, reads, writes, &mut places)
     }
 
     /// Decides these bodies too, one after another, by any local decision. It fails only where memory runs out, and the prefix is then
@@ -61,7 +62,7 @@ impl Prefix {
                 self.look_ahead(frames.get(index..).unwrap_or(&[]), &mut ahead);
             }
             let places = ahead[index % AHEAD];
-            (reads, writes) = self.decide_one(frame, decision, places, reads, writes)?;
+            self.decide_one(frame, decision, places, &mut reads, &mut writes)?;
             index = index.wrapping_add(1);
         }
         Ok(())

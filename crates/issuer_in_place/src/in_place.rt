@@ -76,33 +76,34 @@ impl InPlace {
                 cards.look_ahead(book, frames.get(index..).unwrap_or(&[]), &mut ahead);
             }
             let mut places = ahead[index % AHEAD];
-            (reads, writes) = self.decide_one(book, frame, decision, &mut places, reads, writes)?;
+            self.decide_one(book, frame, decision, &mut places, &mut reads, &mut writes)?;
             cards.note(frame, &places);
             index = index.wrapping_add(1);
         }
         Ok(())
     }
 
-    // Decides one more body, whose rows may stand at these places, over the memory of two sets, which are handed back.
+    // Decides one more body, whose rows may stand at these places, over the memory of two sets.
     fn decide_one<F: Decide>(
         &mut self,
         book: &mut Book,
         frame: &Frame,
         decision: &F,
         places: &mut Places,
-        reads: ReadSet,
-        writes: WriteSet,
-    ) -> Result<(ReadSet, WriteSet), AllocError>
+        reads: &mut ReadSet,
+        writes: &mut WriteSet,
+    ) -> Result<(), AllocError>
         ensures book { OnOk result (book.new ≡ rows_after_one book.old frame.now) }
         ensures replies { OnOk result (self.new.replies.items ≡ self.old.replies.items ++ reply_of book.old frame.now ∷ []) }
         ensures back { (earlier : Rows) → LeadsBack book.old self.old.formers earlier → LeadsBack book.new self.new.formers earlier }
     {
-        let mut recorder = Recorder::over(PlainRows::near(book, *places), reads, writes);
+        let rows = PlainRows::near(book, *places);
+        let mut recorder = Recorder::over(rows, reads.take(), writes.take());
         let decided = decision.decide(frame, &mut recorder);
-        let (source, reads, writes) = recorder.into_parts();
-        *places = source.into_places();
-        self.append(book, frame, &decided, &reads, &writes, places)?;
-        Ok((reads, writes))
+        let rows;
+        (rows, *reads, *writes) = recorder.into_parts();
+        *places = rows.into_places();
+        self.append(book, frame, &decided, reads, writes, places)
     }
 
     // One more body, as it was decided by rows that are those of the book. The body, and what was read, are for the clauses alone.

@@ -1,4 +1,4 @@
-ghost use Rattle.std.specs.Prelude.{◌≡◌, IfOk, length};
+ghost use Rattle.std.specs.Prelude.{◌≡◌, ◌≤◌, IfOk, IsPermutation, length};
 ghost use Rattle.std.specs.FinMap as map;
 ghost use Rattle.std.specs.List.{IsDistinct};
 ghost use Rattle.std.specs.Map.{keys_of};
@@ -39,7 +39,7 @@ impl<'a> SortedRows<'a> {
         ensures { IfOk result (λ sorted. sorted ≡ map.entries (map.from_entries {R = key_cmp} rows.entry)) }
     {
         let mut sorted: Vec<(&'a RowKey, &'a RowVal)> = rows.collect(alloc)?;
-        sorted.sort_by_cached_key(rank)?;
+        arrange(alloc, &mut sorted)?;
         sorted.sort_by(by_key)?;
         Ok(SortedRows { rows: sorted })
     }
@@ -57,6 +57,27 @@ impl<'a> SortedRows<'a> {
     {
         BookRows::new(&self.rows)
     }
+}
+
+// Arranges the rows behind those that stand in order already, so that few of them are left to be moved by the sort by keys. A book that
+// was read stands in order; rows that came since are behind it.
+fn arrange(alloc: Global, rows: &mut Vec<(&RowKey, &RowVal)>) -> Result<(), AllocError>
+    ensures { IsPermutation rows.old.items rows.new.items }
+{
+    let sorted = count_in_order(rows);
+    rows[sorted..].sort_by_cached_key(alloc, rank)
+}
+
+// How many of the first rows stand in the order of their keys.
+fn count_in_order(rows: &[(&RowKey, &RowVal)]) -> usize
+    ensures { result ≤ length rows.now }
+{
+    for index in 1..rows.len() {
+        if by_key(&rows[index - 1], &rows[index]).is_gt() {
+            return index;
+        }
+    }
+    rows.len()
 }
 
 // A number that mostly rises with the key, and always where its texts are digits and no longer than what is ranked. Of rows that are

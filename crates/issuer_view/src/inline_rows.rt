@@ -168,7 +168,7 @@ fn write_over(rows: &mut [(RowKey, RowVal)], place: usize, key: &RowKey, row: &R
     there.1.copy_from(row);
 }
 
-// Asks the source for a row, and writes the answer over the row at a place.
+// Asks the source for a row, and writes the answer over the row at a place, behind it its key: one that was just made is slow to copy.
 #[inline(always)]
 fn read_at<S: RowSource>(
     rows: &mut [(RowKey, Option<RowVal>)],
@@ -187,8 +187,9 @@ fn read_at<S: RowSource>(
     ensures same { S.book source.new ≡ S.book source.old }
 {
     let there = &mut rows[place];
+    let read = source.read_into(key, &mut there.1);
     there.0 = *key;
-    source.read_into(&there.0, &mut there.1)
+    read
 }
 
 /// Where a row stands, if it is in the list.

@@ -11,6 +11,7 @@ use crate::stop::Stop;
 use issuer_rows::{RowKey, RowVal};
 use std::alloc::Global;
 use std::marker::Model;
+use std::mem;
 
 /// The rows that a decision read, each once, in the order of reading: the value, or that the row was absent
 /// (Block-STM: read set).
@@ -51,6 +52,15 @@ impl ReadSet {
     {
         self.few.clear();
         self.more.clear();
+    }
+
+    /// The set with its memory; one of no rows is left.
+    pub fn take(&mut self) -> ReadSet
+        ensures taken { result ≡ self.old }
+        ensures left { self.new ≡ [] }
+    {
+        let alloc = self.few.allocator();
+        mem::replace(self, ReadSet::new(alloc))
     }
 
     /// How many rows were read.

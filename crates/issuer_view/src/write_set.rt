@@ -7,6 +7,7 @@ use crate::spilled_rows::SpilledRows;
 use issuer_rows::{RowKey, RowVal};
 use std::alloc::{AllocError, Global};
 use std::marker::Model;
+use std::mem;
 
 /// The rows that a decision writes, each once, in the order of first touch (Block-STM: write set).
 #[derive(Drop)]
@@ -46,6 +47,15 @@ impl WriteSet {
     {
         self.few.clear();
         self.more.clear();
+    }
+
+    /// The set with its memory; one of no rows is left.
+    pub fn take(&mut self) -> WriteSet
+        ensures taken { result ≡ self.old }
+        ensures left { self.new ≡ [] }
+    {
+        let alloc = self.few.allocator();
+        mem::replace(self, WriteSet::new(alloc))
     }
 
     /// How many rows are written.

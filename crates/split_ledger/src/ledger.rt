@@ -102,14 +102,14 @@ impl<'a> Ledger<'a> {
     }
 
     /// Decides the next message on the ledger's own book, and commits it: nothing is to be compared, since no other worker has the book.
-    /// It goes over the memory of two sets, which are handed back with the rows that were read and written. It fails only where memory
-    /// runs out, and nothing is changed then.
+    /// What it read and wrote is left in the two sets, whose memory it uses. It fails only where memory runs out, and the ledger is the
+    /// same then.
     pub fn decide_next<F: Decide>(
         &mut self,
         decision: &F,
-        reads: ReadSet,
-        writes: WriteSet,
-    ) -> Result<(ReadSet, WriteSet), AllocError>
+        reads: &mut ReadSet,
+        writes: &mut WriteSet,
+    ) -> Result<(), AllocError>
         requires { self.old.count < length self.old.frames }
         ensures committed { OnOk result (self.new ≡ further self.old) }
         ensures otherwise { OnErr result (self.new ≡ self.old) }

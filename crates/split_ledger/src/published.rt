@@ -61,9 +61,9 @@ impl<'a> Published<'a> {
     pub fn decide_next<F: Decide>(
         &mut self,
         decision: &F,
-        reads: ReadSet,
-        writes: WriteSet,
-    ) -> Result<(ReadSet, WriteSet), AllocError>
+        reads: &mut ReadSet,
+        writes: &mut WriteSet,
+    ) -> Result<(), AllocError>
         requires { self.old.ledger.count < length self.old.ledger.frames }
         ensures committed { OnOk result (self.new ≡ advanced self.old) }
         ensures otherwise { OnErr result (self.new ≡ self.old) }

@@ -1,5 +1,7 @@
-use Rattle.std.proofs.Common.{◌≡◌, ◌+◌, take, set, None, Option, OnOk, IfSome, sym, ap, subst}
+use Rattle.std.proofs.Common.{◌≡◌, ℕ, ◌+◌, ◌<◌, length, take, set, None, Option, OnOk, IfSome, sym, ap, subst}
 use Rattle.std.specs.FinMap as map
+use Rattle.issuer_rows.specs.Agreement.{Reads}
+use Rattle.issuer_rows.specs.declared.row_key.RowKey.{RowKey}
 use Rattle.issuer_view.specs.Words.{IsOfKind, RowVal, Rows, latest}
 use Rattle.issuer_view.specs.Recording.{answer_of}
 use Rattle.issuer_view.proofs.ListLaws.{on_ok}
@@ -7,18 +9,18 @@ use Rattle.issuer_view.proofs.LogLaws.{latest_set}
 use Rattle.issuer_view.proofs.inline_rows.read_at.Goals as goal
 
 -- what was read last is what the source wrote
-written : (g : _) (c : goal.After-read_into g) → c.read_into.new.row ≡ latest (take (c.args.place + 1) (set c.args.rows.now c.args.place (c.args.key.now, c.read_into.new.row)))
-written g c = sym (latest_set None c.args.rows.now c.args.place (c.args.key.now, c.read_into.new.row) c.requires)
+written : (rows : Reads) (place : ℕ) (key : RowKey) (row : Option RowVal) → place < length rows → row ≡ latest (take (place + 1) (set rows place (key, row)))
+written rows place key row within = sym (latest_set None rows place (key, row) within)
 
 pub returns-clause-ok : goal.returns-clause-ok
-returns-clause-ok g c = on_ok c.read_into.result (ap (λ (row : Option RowVal). set c.args.rows.now c.args.place (c.args.key.now, row)) (written g c))
+returns-clause-ok g c = on_ok c.read_into-read.result (ap (λ (row : Option RowVal). set c.args.rows.now c.args.place (c.args.key.now, row)) (written c.args.rows.now c.args.place c.args.key.now c.read_into-read.new.row c.requires))
 
 pub returns-clause-answers : goal.returns-clause-answers
-returns-clause-answers g c = subst (λ (row : Option RowVal). g.S.RowSource.answers c.args.source.now c.args.key.now (answer_of c.read_into.result row) c.read_into.new.self) (written g c) c.read_into.ensures.answers
+returns-clause-answers g c = subst (λ (row : Option RowVal). g.S.RowSource.answers c.args.source.now c.args.key.now (answer_of c.read_into-read.result row) c.read_into-read.new.self) (written c.args.rows.now c.args.place c.args.key.now c.read_into-read.new.row c.requires) c.read_into-read.ensures.answers
 
 pub returns-clause-kind : goal.returns-clause-kind
-returns-clause-kind g c = subst (λ (row : Option RowVal). OnOk c.read_into.result (IfSome row (IsOfKind c.args.key.now))) (written g c) c.read_into.ensures.kind
+returns-clause-kind g c = subst (λ (row : Option RowVal). OnOk c.read_into-read.result (IfSome row (IsOfKind c.args.key.now))) (written c.args.rows.now c.args.place c.args.key.now c.read_into-read.new.row c.requires) c.read_into-read.ensures.kind
 
 pub returns-clause-known : goal.returns-clause-known
 returns-clause-known g c =
-    subst (λ (row : Option RowVal). OnOk c.read_into.result (IfSome (g.S.RowSource.book c.args.source.now) (λ (rows : Rows). row ≡ map.get rows c.args.key.now))) (written g c) c.read_into.ensures.known
+    subst (λ (row : Option RowVal). OnOk c.read_into-read.result (IfSome (g.S.RowSource.book c.args.source.now) (λ (rows : Rows). row ≡ map.get rows c.args.key.now))) (written c.args.rows.now c.args.place c.args.key.now c.read_into-read.new.row c.requires) c.read_into-read.ensures.known

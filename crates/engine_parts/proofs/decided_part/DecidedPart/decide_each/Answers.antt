@@ -19,7 +19,7 @@ loop-frame-preserved g c =
     let next = left_in_turn own i frame c.loop-frame-test.true c.frame-item.is in
     let step = goes_on opening own was.replies.items was.rows frame (drop (i + 1) own)
     (subst (λ (left : List Frame). AreDecidedTo opening own was.replies.items was.rows left) next c.loop-frame.invariant) in
-    rw (c.in_ok-reads.ensures.replies, c.in_ok-reads.ensures.rows) step
+    rw (c.in_ok-decide_next.ensures.replies, c.in_ok-decide_next.ensures.rows) step
 
 pub returns : goal.returns
 returns g c =

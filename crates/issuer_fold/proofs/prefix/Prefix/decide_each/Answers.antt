@@ -12,7 +12,7 @@ loop-frame-preserved g c =
     let frame = c.frame-item.result in
     let opening = c.args.self.now.book in
     let so_far = c.loop-frame.invariant in
-    let decided = c.in_ok-reads.ensures in
+    let decided = c.in_ok-decide_one.ensures in
     record {
       count = omega (arith, decided.count, so_far.count);
       book = decided.book ∙ ap (λ (rows : Rows). rows_after_one rows frame) so_far.book
@@ -21,10 +21,10 @@ loop-frame-preserved g c =
           (ap (λ replies. c.args.self.now.replies.items ++ replies) (replies_of_one_more opening frames i frame c.loop-frame-test.true c.frame-item.is));
     }
 
-pub returns-in_err-reads-clause-kept : goal.returns-in_err-reads-clause-kept
-returns-in_err-reads-clause-kept g c =
+pub returns-in_err-decide_one-clause-kept : goal.returns-in_err-decide_one-clause-kept
+returns-in_err-decide_one-clause-kept g c =
     let so_far = c.loop-frame.invariant in
-    let kept = c.in_err-reads.ensures.kept in
+    let kept = c.in_err-decide_one.ensures.kept in
     let begun : AreDecided c.args.self.now c.decide_one.new.self c.args.frames.now c.loop-frame.frame-index = record {
       within = omega (arith, c.loop-frame-test.true);
       count = kept.0 ∙ so_far.count;

@@ -18,7 +18,7 @@ loop-frame-preserved g c =
     let frame = c.frame-item.result in
     let opening = c.args.book.now in
     let so_far = c.loop-frame.invariant in
-    let decided = c.in_ok-reads.ensures in
+    let decided = c.in_ok-decide_one.ensures in
     record {
       book = decided.book ∙ ap (λ (rows : Rows). rows_after_one rows frame) so_far.book
           ∙ rows_of_one_more opening frames i frame c.loop-frame-test.true c.frame-item.is;
@@ -26,8 +26,8 @@ loop-frame-preserved g c =
       back = decided.back opening so_far.back;
     }
 
-pub returns-in_err-reads-clause-back : goal.returns-in_err-reads-clause-back
-returns-in_err-reads-clause-back g c = c.in_err-reads.ensures.back c.args.book.now c.loop-frame.invariant.back
+pub returns-in_err-decide_one-clause-back : goal.returns-in_err-decide_one-clause-back
+returns-in_err-decide_one-clause-back g c = c.in_err-decide_one.ensures.back c.args.book.now c.loop-frame.invariant.back
 
 pub returns-in_err-reserve-clause-back : goal.returns-in_err-reserve-clause-back
 returns-in_err-reserve-clause-back g c = leads_back_at_once c.reserve.new.self c.args.book.now c.args.self.now.formers c.reserve.ensures c.requires.formers

@@ -22,6 +22,6 @@ pub returns : goal.returns
 returns c =
     let collected : map deref_pair c.in_ok-sorted.sorted.items ≡ c.args.rows = map_from_collect {E = ℕ} (Ok c.in_ok-sorted.sorted) c.in_ok-sorted.ensures.ran (YieldsList-from_rest c.args.rows refl) in
     let moves : IsPermutation c.args.rows (map deref_pair c.sort_by.new.self.items)
-    = subst (λ (rows : List (RowKey × RowVal)). IsPermutation rows (map deref_pair c.sort_by.new.self.items)) collected (IsPermutation-map deref_pair _ _ (IsPermutation-trans _ _ _ c.sort_by_cached_key.ensures.permutation c.sort_by.ensures.permutation)) in
+    = subst (λ (rows : List (RowKey × RowVal)). IsPermutation rows (map deref_pair c.sort_by.new.self.items)) collected (IsPermutation-map deref_pair _ _ (IsPermutation-trans _ c.arrange.new.rows.items _ c.arrange.ensures c.sort_by.ensures.permutation)) in
     let sorted = c.in_ok-sort_by.ensures.sorted _ (ranks_by key_cmp_total (λ (row : Bor RowKey × Bor RowVal). row.0.now)) (answers_always _ _ _ (λ f a r f' k. ap is_lt k.met)) in
     entries_sorted c.args.rows (map deref_pair c.sort_by.new.self.items) c.requires moves (sorted_map deref_pair (λ e f. is_lt (key_cmp e.0 f.0)) c.sort_by.new.self.items sorted)
