@@ -17,7 +17,7 @@ pub(crate) const SHARE: usize = 1 << 16;
 const ROUND: usize = 256;
 
 // In how many rounds a larger text is read.
-const ROUNDS: usize = 8;
+const ROUNDS: usize = 16;
 
 // What stands before the entries of the first list.
 const START: &str = r#"{"accounts":["#;

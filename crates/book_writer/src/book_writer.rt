@@ -74,7 +74,7 @@ impl<'s, 'a, B: OfRows> BookWriter<'s, 'a, B> {
 }
 
 impl<B: OfRows + Send + Sync> BookWriter<'_, '_, B> {
-    /// Does what takes the pieces. Where the rows are many, other threads help to make them meanwhile.
+    /// Calls `work`, which takes the pieces. Where the rows are many, other threads make pieces ahead of it meanwhile.
     pub fn with_help<R: Threads + Wait + Sync, T, F: FnMut() -> T>(&self, rt: &R, work: &mut F) -> T
         requires { F.pre work.old }
         ensures { F.step work.old result work.new }

@@ -3,3 +3,4 @@ pub mod Again
 pub mod Once
 pub mod ReadBack
 pub mod ReadBackBlocks
+pub mod FrameLaws

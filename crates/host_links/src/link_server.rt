@@ -85,17 +85,17 @@ where
         ensures serves { ServesLink I.is_known I.remaining O.is_known O.written link J.opening result.0.trace.seen.log result.0.count
             source.old sink.old sink.new result.1 }
     {
-        let Ok(mut line) = ServedLink::new(self.alloc, none) else {
+        let Ok(mut state) = ServedLink::new(self.alloc, none) else {
             let seen = SeenTurns {
                 trace: none.trace(),
                 count: 0,
             };
             return (seen, Err(HostFault::OutOfMemory));
         };
-        let served = self.serve_ends(link, &mut line, source, sink);
+        let served = self.serve_ends(link, &mut state, source, sink);
         let seen = SeenTurns {
-            trace: line.front.trace(),
-            count: line.count,
+            trace: state.front.trace(),
+            count: state.count,
         };
         (seen, served)
     }
@@ -104,12 +104,12 @@ where
     fn serve_ends<I: LinkSource, O: LinkSink>(
         &self,
         link: usize,
-        line: &mut ServedLink<J>,
+        state: &mut ServedLink<J>,
         source: &mut I,
         sink: &mut O,
     ) -> Result<(), HostFault>
-        requires { IsFresh line.old }
-        ensures { ServesLink I.is_known I.remaining O.is_known O.written link J.opening line.new.front line.new.count
+        requires { IsFresh state.old }
+        ensures { ServesLink I.is_known I.remaining O.is_known O.written link J.opening state.new.front state.new.count
             source.old sink.old sink.new result }
     {
         if source.open().is_err() {
@@ -118,24 +118,24 @@ where
         if sink.open().is_err() {
             return Err(HostFault::Link(LinkFault::Unwritable));
         }
-        self.serve_line(link, line, source, sink)
+        self.serve_turns(link, state, source, sink)
     }
 
     // Serves a link until it ends, or to the first fault. What has come when the link has its turn becomes one entry of the log, and its
     // answers are written once the host is another's: a link whose replies nobody takes holds up no other.
-    fn serve_line<I: Source, O: Sink>(
+    fn serve_turns<I: Source, O: Sink>(
         &self,
         link: usize,
-        line: &mut ServedLink<J>,
+        state: &mut ServedLink<J>,
         source: &mut I,
         sink: &mut O,
     ) -> Result<(), HostFault>
-        requires { IsFresh line.old }
-        ensures { ServesLink I.is_known I.remaining O.is_known O.written link J.opening line.new.front line.new.count
+        requires { IsFresh state.old }
+        ensures { ServesLink I.is_known I.remaining O.is_known O.written link J.opening state.new.front state.new.count
             source.old sink.old sink.new result }
     {
         for _ in 0..u64::MAX {
-            if !self.serve_next(link, line, source, sink)? {
+            if !self.serve_next(link, state, source, sink)? {
                 return Ok(());
             }
         }
@@ -148,56 +148,56 @@ where
     fn serve_next<I: Source, O: Sink>(
         &self,
         link: usize,
-        line: &mut ServedLink<J>,
+        state: &mut ServedLink<J>,
         source: &mut I,
         sink: &mut O,
     ) -> Result<bool, HostFault>
-        requires count { turns_of link line.old.front ≡ line.old.count }
+        requires count { turns_of link state.old.front ≡ state.old.count }
         ensures source { I.is_known source.old → I.is_known source.new }
         ensures sink { O.is_known sink.old → O.is_known sink.new }
-        ensures count { turns_of link line.new.front ≡ line.new.count }
-        ensures next { result ≡ Ok true → TakesTurn link J.opening line.old.front line.new.front
-            (I.is_known source.old) (ahead line.old.reader (I.remaining source.old)) (ahead line.new.reader (I.remaining source.new))
+        ensures count { turns_of link state.new.front ≡ state.new.count }
+        ensures next { result ≡ Ok true → TakesTurn link J.opening state.old.front state.new.front
+            (I.is_known source.old) (ahead state.old.reader (I.remaining source.old)) (ahead state.new.reader (I.remaining source.new))
             (λ replies. O.is_known sink.old → O.written sink.new ≡ O.written sink.old ++ replies) }
-        ensures end { result ≡ Ok false → (line.new.front ≡ line.old.front) × (sink.new ≡ sink.old)
-            × (I.is_known source.old → ahead line.old.reader (I.remaining source.old) ≡ []) }
-        ensures err { OnErr result ((rest : List ℕ) × TakesTurn link J.opening line.old.front line.new.front
-            (I.is_known source.old) (ahead line.old.reader (I.remaining source.old)) rest
+        ensures end { result ≡ Ok false → (state.new.front ≡ state.old.front) × (sink.new ≡ sink.old)
+            × (I.is_known source.old → ahead state.old.reader (I.remaining source.old) ≡ []) }
+        ensures err { OnErr result ((rest : List ℕ) × TakesTurn link J.opening state.old.front state.new.front
+            (I.is_known source.old) (ahead state.old.reader (I.remaining source.old)) rest
             (λ replies. O.is_known sink.old → AppendsPart (O.written sink.old) (O.written sink.new) replies)) }
     {
-        let count = line.reader.next(source, self.most.count())?;
+        let count = state.reader.next(source, self.most.count())?;
         if count == 0 {
             return Ok(false);
         }
-        take_turn(&mut line.buffers.turn, line.reader.frames(), count)?;
-        self.serve_locked(link, line)?;
-        put_all(sink, &line.buffers.replies)?;
+        take_turn(&mut state.buffers.turn, state.reader.frames(), count)?;
+        self.serve_locked(link, state)?;
+        put_all(sink, &state.buffers.replies)?;
         Ok(true)
     }
 
     // Waits for the host, and has what came served.
-    fn serve_locked(&self, link: usize, line: &mut ServedLink<J>) -> Result<(), HostFault>
-        requires came { HasTaken (given line.old.reader) [] line.old.buffers.turn }
-        requires count { turns_of link line.old.front ≡ line.old.count }
-        ensures reader { line.new.reader ≡ line.old.reader }
-        ensures came { OnOk result (came_on link line.new.front ≡ came_on link line.old.front ++ given line.old.reader) }
-        ensures given { OnOk result (given_to link J.opening line.new.front ≡ given_to link J.opening line.old.front ++ line.new.buffers.replies.items) }
-        ensures count { turns_of link line.new.front ≡ line.new.count }
-        ensures err { OnErr result (line.new.front ≡ line.old.front) }
+    fn serve_locked(&self, link: usize, state: &mut ServedLink<J>) -> Result<(), HostFault>
+        requires came { HasTaken (given state.old.reader) [] state.old.buffers.turn }
+        requires count { turns_of link state.old.front ≡ state.old.count }
+        ensures reader { state.new.reader ≡ state.old.reader }
+        ensures came { OnOk result (came_on link state.new.front ≡ came_on link state.old.front ++ given state.old.reader) }
+        ensures given { OnOk result (given_to link J.opening state.new.front ≡ given_to link J.opening state.old.front ++ state.new.buffers.replies.items) }
+        ensures count { turns_of link state.new.front ≡ state.new.count }
+        ensures err { OnErr result (state.new.front ≡ state.old.front) }
     {
         let turned = self.shared.lock(self.rt).serve_turn(
             self.alloc,
             self.history,
             link,
-            line.reader.frames(),
-            &mut line.buffers,
-            &mut line.front,
-            line.count,
+            state.reader.frames(),
+            &mut state.buffers,
+            &mut state.front,
+            state.count,
             self.decision,
         );
         match turned {
             Ok(count) => {
-                line.count = count;
+                state.count = count;
                 Ok(())
             }
             Err(fault) => Err(fault),

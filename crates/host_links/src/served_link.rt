@@ -21,7 +21,7 @@ impl<J: Naming> ServedLink<J> {
     /// Nothing has come on it yet. Memory can run out.
     pub(crate) fn new(alloc: Global, front: &Front<J>) -> Result<ServedLink<J>, AllocError>
         requires { front.now ≡ [] }
-        ensures { IfOk result (λ line. IsFresh line) }
+        ensures { IfOk result (λ state. IsFresh state) }
     {
         Ok(ServedLink {
             reader: LinkReader::new(alloc)?,

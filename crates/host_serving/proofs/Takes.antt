@@ -14,6 +14,7 @@ use Rattle.link_frames.specs.Link.{AreFrames, AreSoMany, HasFrame}
 use Rattle.link_frames.specs.declared.front.Front.{Front}
 use Rattle.link_frames.specs.declared.front.Front.TheVariants.{Frame, Part, Wrong}
 use Rattle.link_frames.proofs.Fronts.{not_none}
+pub use Rattle.file_batch_laws.proofs.FrameLaws.{as_many}
 
 abbrev Read : Type 0
 Read = Result (List (List ℕ) × List ℕ) BatchFault
@@ -91,13 +92,6 @@ both_are [] more [] others here there = there
 both_are [] more (x ∷ frames) others here there = absurd here
 both_are (b ∷ bodies) more [] others here there = absurd here
 both_are (b ∷ bodies) more (x ∷ frames) others here there = (here.0, both_are bodies more frames others here.1 there)
-
--- as many frames as bodies
-pub as_many : (bodies : List (List ℕ)) (frames : List Message) → AreFramesOf bodies frames → length frames ≡ length bodies
-as_many [] [] are = refl
-as_many [] (x ∷ frames) are = absurd are
-as_many (b ∷ bodies) [] are = absurd are
-as_many (b ∷ bodies) (x ∷ frames) are = ap suc (as_many bodies frames are.1)
 
 -- the bodies that were taken out of what was given
 pub given_came : (bytes given left : List ℕ) (bodies : List (List ℕ)) → bytes ≡ given ++ left → AreFrames given bodies [] → AreFrames bytes bodies left

@@ -1,20 +1,12 @@
 -- Messages that are gathered one after another.
-use Rattle.std.proofs.Common.{◌≡◌, ℕ, suc, ◌<◌, ◌≤◌, List, [], ◌∷◌, ◌++◌, length, refl, ap, sym, subst, ◌∙◌, append_assoc, arith}
+use Rattle.std.proofs.Common.{◌≡◌, ◌<◌, ◌≤◌, List, [], ◌∷◌, ◌++◌, length, ap, sym, subst, ◌∙◌, append_assoc, arith}
 use Rattle.std.proofs.lemmas.List.{append-nil}
 use Rattle.issuer_rows.specs.declared.frame.Frame.{Frame}
 use Rattle.file_batch_laws.specs.Blocks.{all_messages}
-use Rattle.file_batch_laws.specs.Frames.{AreFramesOf}
 use Rattle.log_replay.specs.Blocks.{AreBlocksOf}
 use Rattle.log_replay.specs.Gathering.{Gathers, HasGathered, full_blocks}
 use Rattle.log_replay.specs.declared.gathering.Gathering.{Gathering}
 use Rattle.log_replay.proofs.Cutting.{full_cut, last_cut, one_more_full, one_more_list}
-
--- as many frames as bodies
-pub as_many : (bodies : List (List ℕ)) (frames : List Frame) → AreFramesOf bodies frames → length frames ≡ length bodies
-as_many [] [] are = refl
-as_many [] (x ∷ frames) are = absurd are
-as_many (b ∷ bodies) [] are = absurd are
-as_many (b ∷ bodies) (x ∷ frames) are = ap suc (as_many bodies frames are.1)
 
 -- one message waits more
 pub waits : (old new : Gathering) (frame : Frame) → full_blocks new ≡ full_blocks old → new.block.items ≡ old.block.items ++ frame ∷ [] → length new.block.items < 65536

@@ -3,7 +3,8 @@ use Rattle.std.proofs.lemmas.List.{length-append}
 use Rattle.std.proofs.lemmas.Result.{err_from_is_err_and}
 use Rattle.file_batch_laws.specs.Frames.{AreFramesOf}
 use Rattle.log_replay.specs.Logged.{all_bodies}
-use Rattle.log_replay.proofs.Gathers.{as_many, joined, nothing}
+use Rattle.file_batch_laws.proofs.FrameLaws.{as_many}
+use Rattle.log_replay.proofs.Gathers.{joined, nothing}
 use Rattle.log_replay.proofs.Reading.{bodies_more, both_are, no_more, not_replayed, one_size}
 use Rattle.log_replay.proofs.log_blocks.gather_log.Goals as goal
 

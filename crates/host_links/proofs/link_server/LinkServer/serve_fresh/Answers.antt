@@ -1,5 +1,5 @@
 use Rattle.std.proofs.Common.{◌∙◌, refl}
-use Rattle.host_links.proofs.LineLaws.{none_serves}
+use Rattle.host_links.proofs.ServedLaws.{none_serves}
 use Rattle.host_links.proofs.link_server.LinkServer.serve_fresh.Goals as goal
 
 pub returns-in_default-clause-serves : goal.returns-in_default-clause-serves

@@ -1,5 +1,5 @@
 use Rattle.std.proofs.Common.{refl}
-use Rattle.host_links.proofs.LineLaws.{closed_served, closed_stopped, stopped_at}
+use Rattle.host_links.proofs.ServedLaws.{closed_served, closed_stopped, stopped_at}
 use Rattle.host_links.proofs.link_server.LinkServer.serve_seat.Goals as goal
 
 pub returns-in-Ok : goal.returns-in-Ok
