@@ -5,7 +5,8 @@
 //! It starts `PROGRAM serve BOOK LOG`, sends the frames of the file FRAMES (two bytes of length, then the body) through a pipe, each in a
 //! write of its own, with at most OUTSTANDING of them unanswered, and prints in microseconds the median and the 99th percentile of the
 //! times from before the write to behind the reply. Then it writes as many bytes as an entry of that log had to the file SYNCED and syncs
-//! them, 2,000 times, and prints the median and the 99th percentile of that, too: entries, bytes of one, then the four times.
+//! them, 2,000 times, and prints the median and the 99th percentile of that, too: entries, bytes of one, then the four times. Where the
+//! environment has PRELOAD, the host is started with that library (LD_PRELOAD).
 
 use std::env;
 use std::fs::{self, File};
@@ -27,11 +28,12 @@ fn main() -> io::Result<()> {
     };
     let frames = frames_of(&fs::read(frames)?);
     let outstanding: usize = outstanding.parse().map_err(io::Error::other)?;
-    let mut host = Command::new(program)
-        .args(["serve", book, log])
-        .stdin(Stdio::piped())
-        .stdout(Stdio::piped())
-        .spawn()?;
+    let mut command = Command::new(program);
+    command.args(["serve", book, log]).stdin(Stdio::piped()).stdout(Stdio::piped());
+    if let Some(library) = env::var_os("PRELOAD") {
+        command.env("LD_PRELOAD", library);
+    }
+    let mut host = command.spawn()?;
     let (input, output) = (host.stdin.take(), host.stdout.take());
     let (Some(input), Some(output)) = (input, output) else {
         return Err(io::Error::other("the host has no pipes"));
