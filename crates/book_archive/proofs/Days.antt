@@ -6,6 +6,7 @@ use Rattle.std.specs.FinMap as map
 use Rattle.std.specs.List.{AllByRecursion, filter, sum_by}
 use Rattle.iso8583.specs.declared.pan.Pan.{Pan}
 use Rattle.issuer_rows.proofs.KeyLaws.{text_eq_decides}
+use Rattle.issuer_rows.proofs.ListedRows.{listed_found}
 use Rattle.issuer_rows.specs.Facts.{day_of, is_same_card}
 use Rattle.issuer_rows.specs.Fold.{Rows}
 use Rattle.issuer_rows.specs.Kept.{KeptOriginal}
@@ -22,7 +23,7 @@ use Rattle.book_archive.specs.Archive.{is_before, is_past, is_past_at, new_rows}
 use Rattle.book_archive.specs.Days.{KeepsDaysCovered, KeepsLimits}
 use Rattle.book_archive.proofs.Alike.{not_past_at}
 use Rattle.book_archive.proofs.Sound.{entries_retained, sum_left}
-use Rattle.book_archive.proofs.Splitting.{Row, is_new, get_new, listed_found}
+use Rattle.book_archive.proofs.Splitting.{Row, is_new, get_new}
 
 -- ---- a day before the date
 

@@ -9,6 +9,7 @@ use Rattle.std.specs.List.{AllByRecursion, filter, list_all, list_any, sum_by}
 use Rattle.iso8583.specs.declared.account_id.AccountId.{AccountId}
 use Rattle.iso8583.specs.declared.pan_prefix.PanPrefix.{PanPrefix}
 use Rattle.issuer_rows.proofs.KeyLaws.{key_cmp_total, key_cmp_antisymmetric, text_eq_decides}
+use Rattle.issuer_rows.proofs.ListedRows.{listed_found}
 use Rattle.issuer_rows.specs.Backing.{kept_in, stay_if, stays, available_in, left_in, is_account, account_paid, is_from_account, is_from_budget, backing_of_account, backing_of_prefix}
 use Rattle.issuer_rows.specs.Fold.{Rows}
 use Rattle.issuer_rows.specs.Kept.{KeptOriginal, payment_of_outcome}
@@ -22,7 +23,7 @@ use Rattle.issuer_laws.specs.Rules.{has}
 use Rattle.book_laws.specs.CheckBook.{has_right_number, has_account, has_payer, is_backed, has_paying_account, has_second, has_accounts, are_numbers_right, IsSound}
 use Rattle.book_archive.specs.Archive.{is_past, is_past_at, has_paid, has_paid_before, new_rows, old_rows}
 use Rattle.book_archive.specs.Joining.{LeavesBothSound}
-use Rattle.book_archive.proofs.Splitting.{Row, is_new, is_old, get_retained, get_new, get_old, any_row, listed_found}
+use Rattle.book_archive.proofs.Splitting.{Row, is_new, is_old, get_retained, get_new, get_old, any_row}
 
 -- ---- rows that are left of a book
 

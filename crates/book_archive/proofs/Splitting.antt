@@ -1,23 +1,19 @@
 -- A book that is split row by row.
-use Rattle.std.proofs.Common.{◌≡◌, ℕ, Bool, true, false, ◌&&◌, ◌||◌, not, cond, List, [], ◌∷◌, Option, Some, None, IfSome, IsPermutation, Ordering, Less, Equal, Greater, refl, sym, ap, ◌∙◌, subst}
+use Rattle.std.proofs.Common.{◌≡◌, ℕ, Bool, true, false, ◌&&◌, ◌||◌, not, cond, List, [], ◌∷◌, Option, Some, None, IfSome, IsPermutation, refl, sym, ap, ◌∙◌, subst}
 use Rattle.std.proofs.lemmas.Bool.{false≢true}
 use Rattle.std.proofs.lemmas.List.Sorted.{list_any-IsPermutation}
-use Rattle.std.specs.Cmp.{eq_by_cmp_equiv}
 use Rattle.std.specs.Cmp.Derive.{both_true}
 use Rattle.std.specs.FinMap as map
-use Rattle.std.specs.FinMap.Entries.{below_all, is_sorted}
 use Rattle.std.specs.List.{AllByRecursion, list_any}
-use Rattle.std.specs.Ordering.{is_eq, is_lt}
-use lib.Dec.{T}
 use Rattle.iso8583.specs.declared.account_id.AccountId.{AccountId}
 use Rattle.issuer_rows.proofs.KeyLaws.{both_ways, key_cmp_total, key_cmp_antisymmetric, key_eq_decides, same_test}
+use Rattle.issuer_rows.proofs.ListedRows.{listed_found}
 use Rattle.issuer_rows.specs.Book.{IsWithin}
 use Rattle.issuer_rows.specs.Fold.{Rows}
 use Rattle.issuer_rows.specs.RowKey.{key_cmp, key_eq}
 use Rattle.issuer_rows.specs.declared.row_key.RowKey.{RowKey}
 use Rattle.issuer_rows.specs.declared.row_val.RowVal.{RowVal}
 use Rattle.issuer_laws.proofs.Keys.{get-put, get-other}
-use Rattle.issuer_laws.proofs.Parts.{each_of}
 use Rattle.issuer_laws.specs.Rules.{has}
 use Rattle.book_archive.specs.Archive.{is_past, is_past_at, has_paid, has_paid_before, new_rows, old_rows}
 
@@ -45,39 +41,6 @@ any_found test q v (e ∷ es) found passes =
 
 pub any_row : (test : Row → Bool) (rows : Rows) (q : RowKey) (v : RowVal) → map.get rows q ≡ Some v → test (q, v) ≡ true → list_any test (map.entries rows) ≡ true
 any_row test rows q v at passes = any_found test q v (map.entries rows) (sym (map.get-entries rows q) ∙ at) passes
-
-less : (o : Ordering) → T (is_lt o) → is_eq o ≡ false
-less Less h = refl
-less Equal h = absurd h
-less Greater h = absurd h
-
-first : (a b : Bool) → T (a && b) → T a
-first true b h = tt
-first false b h = h
-
-second : (a b : Bool) → T (a && b) → T b
-second true b h = h
-second false b h = absurd h
-
--- a row below the others is found, and hides none of them
-found_behind : (e : Row) (es fs : List Row) → T (below_all key_cmp e.0 es) → AllByRecursion (λ f. map.find key_cmp f.0 fs ≡ Some f.1) es → AllByRecursion (λ f. map.find key_cmp f.0 (e ∷ fs) ≡ Some f.1) es
-found_behind e [] fs below h = tt
-found_behind e (f ∷ es) fs below h =
-    let apart = (eq_by_cmp_equiv key_cmp_total).symm f.0 e.0 ∙ less (key_cmp e.0 f.0) (first _ _ below) in
-    (ap (λ (b : Bool). cond b (Some e.1) (map.find key_cmp f.0 fs)) apart ∙ h.0, found_behind e es fs (second _ _ below) h.1)
-
-found_each : (es : List Row) → T (is_sorted key_cmp es) → AllByRecursion (λ e. map.find key_cmp e.0 es ≡ Some e.1) es
-found_each [] h = tt
-found_each (e ∷ es) h = (
-  ap (λ (b : Bool). cond b (Some e.1) (map.find key_cmp e.0 es)) (same_test e.0 e.0 ∙ (key_eq_decides e.0 e.0).1 refl),
-  found_behind e es es (first (below_all key_cmp e.0 es) (is_sorted key_cmp es) h) (found_each es (second (below_all key_cmp e.0 es) (is_sorted key_cmp es) h)),
-)
-
--- each row of a book is found in it
-pub listed_found : (m : Rows) → AllByRecursion (λ e. map.get m e.0 ≡ Some e.1) (map.entries m)
-listed_found m =
-    each_of (λ e. map.find key_cmp e.0 (map.entries m) ≡ Some e.1) (λ e. map.get m e.0 ≡ Some e.1) (map.entries m) (λ e h. map.get-entries m e.0 ∙ h)
-    (found_each (map.entries m) (map.entries_sorted m))
 
 -- a test of a key's row is that of one of all rows, which are found
 any_at_found : (test : Row → Bool) (rows : Rows) (q : RowKey) (es : List Row) → AllByRecursion (λ e. map.get rows e.0 ≡ Some e.1) es → list_any (λ e. test e && key_eq q e.0) es ≡ true → has (λ v. test (q, v)) (map.get rows q) ≡ true

@@ -10,7 +10,7 @@ use Rattle.iso8583.specs.declared.account_id.AccountId.{AccountId}
 use Rattle.iso8583.specs.declared.identity.Identity.{Identity}
 use Rattle.iso8583.specs.declared.pan_prefix.PanPrefix.{PanPrefix}
 use Rattle.issuer_rows.proofs.KeyLaws.{key_cmp_antisymmetric, text_eq_decides}
-use Rattle.book_laws.proofs.ListedRows.{listed_found}
+use Rattle.issuer_rows.proofs.ListedRows.{listed_found}
 use Rattle.issuer_rows.specs.Backing.{kept_in, stay_if, stays, is_account, is_from_account, is_from_budget, budget_paid, account_paid, available_in, left_in, backing_of_account, backing_of_prefix}
 use Rattle.issuer_rows.specs.CardAccounts.{is_same_account}
 use Rattle.book_laws.specs.CheckBook.{is_among, has_account, has_payer, is_backed, has_paying_account, have_paying_accounts, IsRowInRange, AreRowsInRange, AreBackingsInRange}

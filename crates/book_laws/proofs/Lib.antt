@@ -3,7 +3,6 @@ pub mod BookAgain
 pub mod Characters
 pub mod ListLemmas
 pub mod ListNames
-mod ListedRows
 pub mod OriginalsAgain
 pub mod PlainTexts
 pub mod Readings

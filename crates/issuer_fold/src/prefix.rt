@@ -105,6 +105,8 @@ impl Prefix {
         ensures count { OnOk result (self.new.count ≡ self.old.count + 1) }
         ensures book { OnOk result (self.new.book ≡ rows_after_one self.old.book frame.now) }
         ensures replies { OnOk result (self.new.replies.items ≡ self.old.replies.items ++ reply_of self.old.book frame.now ∷ []) }
+        ensures read { OnOk result (AgreesWithBook (Some self.old.book) reads.now) }
+        ensures local { OnOk result (IsLocal frame.now reads.now writes.now (reply_of self.old.book frame.now)) }
         ensures kept { OnErr result ((self.new.count ≡ self.old.count) × (self.new.book ≡ self.old.book) × (self.new.replies.items ≡ self.old.replies.items)) }
     {
         let _ = reads;

@@ -1,6 +1,8 @@
-ghost use Rattle.std.specs.Prelude.{◌≡◌, ◌+◌, ◌<◌, ◌≤◌, ◌^◌, ◌∷◌, [], ◌++◌, ℕ, drop, length, IfOk, OnOk, OnErr};
+ghost use Rattle.std.specs.Prelude.{◌≡◌, ◌+◌, ◌<◌, ◌≤◌, ◌^◌, ◌∷◌, [], ◌++◌, ℕ, Some, drop, length, IfOk, OnOk, OnErr};
 ghost use Rattle.issuer_fold.specs.Begun.{AreDecided};
+ghost use Rattle.issuer_rows.specs.Agreement.{IsLocal};
 ghost use Rattle.issuer_rows.specs.Fold.{rows_after, replies_to, rows_after_one, reply_of};
+ghost use Rattle.issuer_view.specs.Words.{AgreesWithBook};
 
 use crate::plain_rows::PlainRows;
 use crate::prefix::Prefix;
@@ -26,6 +28,8 @@ impl Prefix {
         ensures count { OnOk result (self.new.count ≡ self.old.count + 1) }
         ensures book { OnOk result (self.new.book ≡ rows_after_one self.old.book frame.now) }
         ensures replies { OnOk result (self.new.replies.items ≡ self.old.replies.items ++ reply_of self.old.book frame.now ∷ []) }
+        ensures read { OnOk result (AgreesWithBook (Some self.old.book) reads.new) }
+        ensures local { OnOk result (IsLocal frame.now reads.new writes.new (reply_of self.old.book frame.now)) }
         ensures kept { OnErr result ((self.new.count ≡ self.old.count) × (self.new.book ≡ self.old.book) × (self.new.replies.items ≡ self.old.replies.items)) }
     {
         let rows = PlainRows::near(&self.book, places);

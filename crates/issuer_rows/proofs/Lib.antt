@@ -1,4 +1,5 @@
 pub mod BookLaws
 pub mod ExpiryLaws
 pub mod KeyLaws
+pub mod ListedRows
 pub mod PutsOnce

@@ -2,8 +2,9 @@ use Rattle.std.proofs.Common.{◌≡◌, sym, subst, List, Some}
 use Rattle.std.proofs.ByRecursion.{all_shuffled}
 use Rattle.std.specs.FinMap as map
 use Rattle.std.specs.List.{AllByRecursion}
+use Rattle.issuer_rows.proofs.ListedRows.{listed_found}
 use Rattle.issuer_view.specs.Words.{RowKey, RowVal, overlay}
-use Rattle.engine_parts.proofs.JoinLaws.{joined_shuffled, listed_found}
+use Rattle.engine_parts.proofs.JoinLaws.{joined_shuffled}
 use Rattle.engine_parts.specs.TwoBooks.{joined}
 use Rattle.engine_parts.proofs.writing.put_book.Goals as goal
 

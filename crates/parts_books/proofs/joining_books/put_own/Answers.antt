@@ -2,7 +2,7 @@ use Rattle.std.proofs.Common.{◌≡◌, List, ◌∷◌, Some, sym, subst}
 use Rattle.std.proofs.ByRecursion.{all_shuffled}
 use Rattle.std.specs.FinMap as map
 use Rattle.std.specs.List.{AllByRecursion}
-use Rattle.book_archive.proofs.Splitting.{listed_found}
+use Rattle.issuer_rows.proofs.ListedRows.{listed_found}
 use Rattle.engine_parts.specs.TwoBooks.{joined}
 use Rattle.parts_books.specs.PartBooks.{own_rows}
 use Rattle.parts_books.proofs.Going.{Row, IsGoing, all_gone, goes_on, is_own, own_begins}
