@@ -47,7 +47,7 @@ pub enum Command {
         names: BatchNames,
         /// How many workers may decide. One does.
         workers: Workers,
-        /// How they would share their work.
+        /// How they share their work.
         engine: EngineChoice,
         /// Whether bodies that are no message are answered.
         strictness: Strictness,

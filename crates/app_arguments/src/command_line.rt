@@ -135,8 +135,8 @@ fn blocks_line<'a>(alloc: Global) -> Result<Command<'a>, AllocError>
     let shared = with_engine(
         alloc,
         files,
-        "How many threads may decide: 1 to 64; one does, since each block is decided on the book itself",
-        "How they would share their work: split, parts or locked",
+        "How many threads the engine has that is named: 1 to 64",
+        "How threads share what a block has to be decided: split, parts or locked, as of run, each started anew for each block. Without it what is fastest for the tables: one thread decides, on the book itself",
     )?;
     shared.arg(strict_flag(alloc))
 }

@@ -1,6 +1,6 @@
 ghost use Rattle.std.specs.Prelude.{◌≡◌, IfSome, MatchResult, OnOk, None, Some, map, string_bytes};
 ghost use Rattle.app_arguments.specs.Asked.{asked_of, audit, audit_blocks, blocks, names_of, pack, pack_blocks, run, run_with_journal, serial, show};
-ghost use Rattle.app_jobs.specs.Deciding.{DecidesFiles};
+ghost use Rattle.app_jobs.specs.Deciding.{DecidesBlockFiles, DecidesFiles};
 ghost use Rattle.app_commands.specs.Apart.{AreApart, names_apart};
 ghost use Rattle.app_commands.specs.Claims.{claims_for};
 ghost use Rattle.file_devices.specs.Claims.{AreOn};
@@ -13,7 +13,10 @@ use crate::refusal::Refusal;
 use crate::report::Report;
 use app_arguments::{Command, EngineChoice};
 use app_audit::{audit_text, block_audit_text};
-use app_jobs::{JobFault, audit_batch, audit_batch_with_journal, audit_block_files, serial_batch};
+use app_jobs::{
+    BlockCount, Halt, JobFault, audit_batch, audit_batch_with_journal, audit_block_files,
+    serial_batch, serial_blocks,
+};
 use app_reasons::words_of;
 use app_runs::{decide_one, run_batch, run_batch_with_journal, run_blocks};
 use app_texts::{pack_batch, pack_blocks, show_file};
@@ -187,7 +190,8 @@ fn run_with_journal<R: Clock + Threads + Wait + Sync, F: Files>(
     Ok(Report::Decided(count))
 }
 
-// Blocks are decided, one after another, on the book itself. So many workers of this engine would change nothing in what comes of it.
+// Blocks are decided, one after another, each by so many workers of the engine that is named; where none is, one message after another on the
+// book itself, which is the fastest.
 fn blocks<R: Clock + Threads + Wait + Sync, F: Files>(
     rt: &R,
     alloc: Global,
@@ -200,9 +204,28 @@ fn blocks<R: Clock + Threads + Wait + Sync, F: Files>(
     ensures done { IsDoneOrFault (F.is_known files.old) (F.holds files.old) (F.holds files.new) (F.failing files.old) (blocks (names_of names.now) workers engine strictness) result }
     ensures others { SparesOthers (F.holds files.old) (F.holds files.new) (blocks (names_of names.now) workers engine strictness) }
 {
-    let _ = (workers, engine);
-    let count = run_blocks(rt, alloc, files, names, strictness)?;
+    let count = decided_blocks(rt, alloc, files, names, workers, engine, strictness)?;
     Ok(Report::DecidedBlocks(count))
+}
+
+// Decides blocks by the engine that is named, or else one message after another. Returns how many blocks and bodies there are.
+fn decided_blocks<R: Clock + Threads + Wait + Sync, F: Files>(
+    rt: &R,
+    alloc: Global,
+    files: &mut F,
+    names: &BatchNames,
+    workers: Workers,
+    engine: EngineChoice,
+    strictness: Strictness,
+) -> Result<BlockCount, Halt>
+    ensures decides { DecidesBlockFiles F.is_known F.holds F.failing strictness files.old files.new (names_of names.now) result }
+{
+    match engine {
+        EngineChoice::NotNamed => serial_blocks(rt, alloc, files, names, strictness),
+        EngineChoice::Named(engine) => {
+            run_blocks(rt, alloc, files, names, workers, engine, strictness)
+        }
+    }
 }
 
 // A batch is compared with what deciding it comes to.

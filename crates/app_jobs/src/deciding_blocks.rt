@@ -1,6 +1,7 @@
 ghost use Rattle.std.specs.Prelude.{◌≡◌, ◌≢◌, ℕ, List, Some, None, Ok, IfOk, IfErr, OnOk, string_bytes};
 ghost use Rattle.book_laws.specs.Reading.{reading};
 ghost use Rattle.book_laws.specs.Text.{book_text};
+ghost use Rattle.file_blocks.specs.BlockDecider.{IsBlockDecider};
 ghost use Rattle.file_devices.specs.BatchNames.{names_of};
 ghost use Rattle.file_devices.specs.Holding.{AreAsTheyWere, IsAsItWas, IsThere};
 ghost use Rattle.app_jobs.specs.Deciding.{DecidesBlockFiles, PutsAnswer};
@@ -16,28 +17,36 @@ use crate::opening::open_book;
 use crate::placing::put_answer;
 use crate::writing::write_book;
 use file_batch::Strictness;
-use file_blocks::{BlocksOutcome, DecideBlock, Halted, process_blocks};
+use file_blocks::{BlocksOutcome, Halted, process_blocks};
 use file_devices::{BatchNames, Files};
-use issuer_rows::Book;
-use std::alloc::Global;
+use issuer_in_place::InPlace;
+use issuer_rows::{Book, Frame};
+use std::alloc::{AllocError, Global};
 use std::sync::Wait;
 use std::thread::Threads;
 
 /// Decides the blocks of one file on the book of another, each on the book after those before it, and puts the replies and the new book
-/// in place. Where a block can't be read, decided or answered, the blocks before it are kept: the new book is the one after them. After any
-/// other fault all files are as they were; after each, where blocks are refused that have bodies that are no message.
-pub fn decide_blocks<R: Threads + Wait + Sync, F: Files, D: DecideBlock>(
+/// in place. `decide` has to change the book into the one after a block. Where a block can't be read, decided or answered, the blocks
+/// before it are kept: the new book is the one after them. After any other fault all files are as they were; after each, where blocks are
+/// refused that have bodies that are no message.
+pub fn decide_blocks<
+    R: Threads + Wait + Sync,
+    F: Files,
+    E: Fn(&mut Book, &[Frame]) -> Result<InPlace, AllocError>,
+>(
     rt: &R,
     alloc: Global,
     files: &mut F,
     names: &BatchNames,
     strictness: Strictness,
-    decider: &D,
+    decide: &E,
 ) -> Result<BlockCount, Halt>
+    // It may be called with a block, and decides it in place.
+    requires decider { IsBlockDecider E.pre E.post (λ book. book.now) (λ frames. frames.now) decide.now }
     ensures decides { DecidesBlockFiles F.is_known F.holds F.failing strictness files.old files.new (names_of names.now) result }
 {
     let book = open_book(rt, alloc, files, names.book.as_str())?;
-    let (processed, replies) = answer_blocks(alloc, files, names, book, decider)?;
+    let (processed, replies) = answer_blocks(alloc, files, names, book, decide)?;
     match processed {
         Ok(outcome) => {
             admit(strictness, outcome.messages)?;
@@ -55,13 +64,14 @@ pub fn decide_blocks<R: Threads + Wait + Sync, F: Files, D: DecideBlock>(
 }
 
 // Decides the blocks on a book, and writes their replies. Where not all are kept, it returns which are.
-fn answer_blocks<F: Files, D: DecideBlock>(
+fn answer_blocks<F: Files, E: Fn(&mut Book, &[Frame]) -> Result<InPlace, AllocError>>(
     alloc: Global,
     files: &F,
     names: &BatchNames,
     book: Book,
-    decider: &D,
+    decide: &E,
 ) -> Result<(Result<BlocksOutcome, Halted>, F::Output), JobFault>
+    requires decider { IsBlockDecider E.pre E.post (λ book. book.now) (λ frames. frames.now) decide.now }
     ensures there { IfOk result (λ processed. F.is_known files.now → IsThere (F.holds files.now) (string_bytes names.now.batch)) }
     ensures known { IfOk result (λ processed. F.is_known files.now → F.Output.is_known processed.1) }
     ensures ok { IfOk result (λ processed. IfOk processed.0 (λ outcome. AreBlocksAnswered (F.is_known files.now) (F.holds files.now)
@@ -74,7 +84,7 @@ fn answer_blocks<F: Files, D: DecideBlock>(
 {
     let mut blocks = files.open(names.batch.as_str())?;
     let mut replies = files.create(names.replies.as_str())?;
-    let processed = process_blocks(alloc, book, &mut blocks, &mut replies, decider);
+    let processed = process_blocks(alloc, book, &mut blocks, &mut replies, decide);
     Ok((processed, replies))
 }
 

@@ -1,13 +1,15 @@
 ghost use Rattle.std.specs.Prelude.{◌≡◌, ◌≤◌, length, IfOk};
 ghost use Rattle.engine_parts.specs.TwoBooks.{joined};
 ghost use Rattle.file_batch.specs.Processing.{AnswersFold};
+ghost use Rattle.file_blocks.specs.BlockDecider.{DecidesInPlace};
 ghost use Rattle.issuer_rows.specs.Fold.{replies_to, rows_after};
 
 use engine_locked::run;
-use engine_parts::{put_book, run_parts};
+use engine_parts::{put_book, put_book_noted, run_parts};
 use engine_split::run_split;
 use engine_workers::{Engine, NoHook, Workers};
 use issuer_fold::RunOutcome;
+use issuer_in_place::{Formers, InPlace};
 use issuer_rows::{Book, Frame};
 use issuer_rules::Shipped;
 use parts_books::book_for;
@@ -46,6 +48,33 @@ pub fn decide_by<R: Clock + Threads + Wait + Sync>(
         started: outcome.started,
         committed: outcome.committed,
     })
+}
+
+/// Decides a block of at most 65,536 bodies by so many workers of an engine, on the rows of a book that they may need, and writes what
+/// these have become over them. It fails only where memory runs out, and the book is then what it was.
+pub(crate) fn decide_block_by<R: Clock + Threads + Wait + Sync>(
+    rt: &R,
+    alloc: Global,
+    book: &mut Book,
+    frames: &[Frame],
+    workers: Workers,
+    engine: Engine,
+) -> Result<InPlace, AllocError>
+    requires { length frames.now ≤ 65536 }
+    ensures { DecidesInPlace book.old frames.now book.new result }
+{
+    let outcome = decide_needed(rt, alloc, book, frames, workers, engine)?;
+    let mut formers = Formers::new(alloc);
+    match put_book_noted(book, &outcome.book, &mut formers) {
+        Ok(()) => Ok(InPlace {
+            replies: outcome.replies,
+            formers,
+        }),
+        Err(fault) => {
+            formers.give_back(book);
+            Err(fault)
+        }
+    }
 }
 
 // Decides a batch of at most 65,536 bodies on the rows of a book that they may need: the outcome's book has these alone, as they are behind

@@ -1,4 +1,4 @@
-//! Batches decided by an engine, and block files on the book itself, from the files' bytes to their bytes.
+//! Batches and block files decided by an engine, from the files' bytes to their bytes.
 #![tactic(auto)]
 
 mod answers;

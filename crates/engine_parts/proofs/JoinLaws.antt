@@ -62,6 +62,11 @@ joined_shuffled below own es moves =
     (λ none. none_listed own k (all_shuffled (λ e. k ≢ e.0) es (map.entries own) (IsPermutation-sym (map.entries own) es moves) none))
     ∙ sym (get_joined below own k))
 
+-- rows of a book that are listed in any order: to write them over another one gives the two joined, and each is found
+pub to_write : (below own : Rows) (es left : Writes) → IsPermutation (map.entries own) es → left ≡ es → (overlay below left ≡ joined below own) × AllByRecursion (λ e. map.get own e.0 ≡ Some e.1) left
+to_write below own es left moves all =
+    rw all (joined_shuffled below own es moves, all_shuffled (λ e. map.get own e.0 ≡ Some e.1) (map.entries own) es moves (listed_found own))
+
 -- one more row that is written
 joined_insert : (below own : Rows) (k : RowKey) (v : RowVal) → joined below (map.insert own k v) ≡ map.insert (joined below own) k v
 joined_insert below own k v =

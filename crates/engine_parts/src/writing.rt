@@ -1,8 +1,10 @@
 ghost use Rattle.std.specs.Prelude.{◌≡◌, OnOk, Some};
 ghost use Rattle.std.specs.FinMap as map;
 ghost use Rattle.engine_parts.specs.TwoBooks.{joined};
-ghost use Rattle.issuer_view.specs.Words.{IsOfKind, overlay};
+ghost use Rattle.issuer_in_place.specs.Formers.{LeadsBack};
+ghost use Rattle.issuer_view.specs.Words.{IsOfKind, Rows, overlay};
 
+use issuer_in_place::Formers;
 use issuer_rows::{Book, Places, RowKey, RowVal};
 use issuer_view::WriteSet;
 use std::alloc::AllocError;
@@ -28,6 +30,21 @@ pub fn put_book(book: &mut Book, written: &Book) -> Result<(), AllocError>
 {
     for (key, val) in written.rows() {
         book.put_copy(key, row_of(written, key, val))?;
+    }
+    Ok(())
+}
+
+/// The same, where what the rows were is noted. What was noted before leads back all the same, after an error too.
+pub fn put_book_noted(
+    book: &mut Book,
+    written: &Book,
+    formers: &mut Formers,
+) -> Result<(), AllocError>
+    ensures ok { OnOk result (book.new ≡ joined book.old written.now) }
+    ensures back { (earlier : Rows) → LeadsBack book.old formers.old earlier → LeadsBack book.new formers.new earlier }
+{
+    for (key, val) in written.rows() {
+        formers.put(book, key, row_of(written, key, val), &mut Places::new())?;
     }
     Ok(())
 }

@@ -1,2 +1,3 @@
+pub mod BlockDecider
 pub mod Blocks
 pub mod BlockFiles

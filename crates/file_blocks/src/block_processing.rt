@@ -1,14 +1,15 @@
 ghost use Rattle.std.specs.Prelude.{◌≡◌, ◌⊎◌, ◌||◌, [], IfOk, IfErr, IsTrue, OnOk};
 ghost use Rattle.file_batch_laws.specs.BatchFault.{failed_at};
+ghost use Rattle.file_blocks.specs.BlockDecider.{IsBlockDecider};
 ghost use Rattle.file_blocks.specs.Blocks.{AreAllDecided, StopsBefore, StopsInHead, StopsInBlocks};
 
-use crate::decide_block::DecideBlock;
 use crate::kept_blocks::KeptBlocks;
 use file_batch::BodyCount;
 use file_batch_laws::BatchFault;
 use file_devices::{Sink, Source};
-use issuer_rows::Book;
-use std::alloc::Global;
+use issuer_in_place::InPlace;
+use issuer_rows::{Book, Frame};
+use std::alloc::{AllocError, Global};
 
 /// What deciding all blocks of a block file came to.
 #[derive(Drop)]
@@ -32,18 +33,25 @@ pub struct Halted {
     pub fault: BatchFault,
 }
 
-/// Reads a block file, decides each block on the book after those before it, and writes each block's replies before the next is read. The
+/// Reads a block file, decides each block on the book after those before it, and writes each block's replies before the next is read.
+/// `decide` has to change the book into the one after the block, or, where memory runs out, to leave it. The
 /// block file is `I83M`, version 1, the number of blocks, at most 1,000, and for each block its count and its bodies as in a batch; the
 /// replies are `I83T` and the like. A fault while the head is read leaves the sink as it was. One while a block is read or decided leaves
 /// the head and the replies of the kept blocks. One while writing leaves a beginning of the text. A byte after the last block is
 /// `Trailing`, with all blocks kept. `Device` is the fault exactly where a call of the source or of the sink failed.
-pub fn process_blocks<R: Source, W: Sink, D: DecideBlock>(
+pub fn process_blocks<
+    R: Source,
+    W: Sink,
+    E: Fn(&mut Book, &[Frame]) -> Result<InPlace, AllocError>,
+>(
     alloc: Global,
     book: Book,
     source: &mut R,
     sink: &mut W,
-    decider: &D,
+    decide: &E,
 ) -> Result<BlocksOutcome, Halted>
+    // It may be called with a block, and decides it in place.
+    requires decider { IsBlockDecider E.pre E.post (λ book. book.now) (λ frames. frames.now) decide.now }
     ensures none_failed { OnOk result ((R.has_failed source.new || W.has_failed sink.new) ≡ (R.has_failed source.old || W.has_failed sink.old)) }
     ensures failed { IfErr result (λ halted.
         (R.has_failed source.new || W.has_failed sink.new) ≡ failed_at halted.fault (R.has_failed source.old || W.has_failed sink.old)) }
@@ -65,7 +73,7 @@ pub fn process_blocks<R: Source, W: Sink, D: DecideBlock>(
         messages: BodyCount::none(),
         book,
     };
-    let processed = kept.process(alloc, source, sink, decider);
+    let processed = kept.process(alloc, source, sink, decide);
     let KeptBlocks {
         blocks,
         messages,

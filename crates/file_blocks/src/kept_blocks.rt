@@ -6,18 +6,19 @@ ghost use Rattle.file_batch.specs.Device.{UsesDevice, UsesDevices};
 ghost use Rattle.file_batch_laws.specs.Blocks.{block_text, block_at, block_replies_magic};
 ghost use Rattle.file_batch_laws.specs.Files.{head_text};
 ghost use Rattle.file_batch_laws.specs.Replies.{AreReplyBodies};
+ghost use Rattle.file_blocks.specs.BlockDecider.{IsBlockDecider};
 ghost use Rattle.file_blocks.specs.Blocks.{AreDecided, AreAllDecided, BeginsBlock, StopsBehind, StopsBefore, StopsInHead, StopsInBlocks, IsAnswered, HasRoom, IsWithinBlock};
 ghost use Rattle.file_batch.specs.Counting.{count_of, plus};
 ghost use Rattle.file_batch.specs.Writing.{AppendsPart};
 ghost use Rattle.file_batch.specs.Window.{ahead};
 
 use crate::blocks::{read_block, read_block_head, write_block};
-use crate::decide_block::DecideBlock;
 use file_batch::{BodyCount, Window, add_head, put_all};
 use file_batch_laws::BatchFault;
 use file_devices::{Sink, Source};
+use issuer_in_place::InPlace;
 use issuer_rows::{Book, Frame};
-use std::alloc::Global;
+use std::alloc::{AllocError, Global};
 
 /// The blocks whose replies were written whole.
 #[derive(Drop)]
@@ -59,16 +60,17 @@ impl KeptBlocks {
     }
 
     // Decides a block on the book and writes its replies. After a fault what is kept is as it was, the book too.
-    fn answer<W: Sink, D: DecideBlock>(
+    fn answer<W: Sink, E: Fn(&mut Book, &[Frame]) -> Result<InPlace, AllocError>>(
         &mut self,
         alloc: Global,
         frames: &[Frame],
         sink: &mut W,
-        decider: &D,
+        decide: &E,
     ) -> Result<(), BatchFault>
         requires count { length frames.now ≤ 65536 }
         requires blocks { self.old.blocks + 1 < 2 ^ 32 }
         requires room { HasRoom self.old.messages }
+        requires decider { IsBlockDecider E.pre E.post (λ book. book.now) (λ frames. frames.now) decide.now }
         ensures device { UsesDevice W.is_known W.has_failed W.may_fail sink.old sink.new result }
         ensures number { OnOk result (self.new.blocks ≡ self.old.blocks + 1) }
         ensures all { OnOk result (self.new.messages ≡ plus self.old.messages (count_of frames.now)) }
@@ -81,7 +83,7 @@ impl KeptBlocks {
         ensures err { OnErr result ((sink.new ≡ sink.old) ⊎ ((IsTrue (W.has_failed sink.new) × W.may_fail sink.old)
             × (W.is_known sink.old → AppendsPart (W.written sink.old) (W.written sink.new) (block_text (replies_to self.old.book frames.now))))) }
     {
-        let decided = decider.decide(&mut self.book, frames)?;
+        let decided = decide(&mut self.book, frames)?;
         match write_block(alloc, &decided.replies, sink) {
             Ok(()) => {
                 self.keep(frames);
@@ -95,16 +97,17 @@ impl KeptBlocks {
     }
 
     // Reads a block, decides it on the book and writes its replies. After a fault what is kept is as it was.
-    fn step<R: Source, W: Sink, D: DecideBlock>(
+    fn step<R: Source, W: Sink, E: Fn(&mut Book, &[Frame]) -> Result<InPlace, AllocError>>(
         &mut self,
         alloc: Global,
         window: &mut Window,
         source: &mut R,
         sink: &mut W,
-        decider: &D,
+        decide: &E,
     ) -> Result<(), BatchFault>
         requires blocks { self.old.blocks + 1 < 2 ^ 32 }
         requires room { HasRoom self.old.messages }
+        requires decider { IsBlockDecider E.pre E.post (λ book. book.now) (λ frames. frames.now) decide.now }
         ensures devices { UsesDevices R.is_known R.has_failed R.may_fail W.is_known W.has_failed W.may_fail source.old source.new sink.old sink.new result }
         ensures within { OnOk result (IsWithinBlock self.old.messages self.new.messages) }
         ensures ok { OnOk result (IsAnswered self.old self.new (R.is_known source.old)
@@ -116,22 +119,23 @@ impl KeptBlocks {
             (W.is_known sink.old) (W.written sink.old) (W.written sink.new) (IsTrue (W.has_failed sink.new) × W.may_fail sink.old)) }
     {
         let frames = read_block(window, alloc, source)?;
-        self.answer(alloc, &frames, sink, decider)
+        self.answer(alloc, &frames, sink, decide)
     }
 
     // Decides so many blocks, one after another, each on the book after those before it, and writes each one's replies before the next is
     // read.
-    fn decide_blocks<R: Source, W: Sink, D: DecideBlock>(
+    fn decide_blocks<R: Source, W: Sink, E: Fn(&mut Book, &[Frame]) -> Result<InPlace, AllocError>>(
         &mut self,
         alloc: Global,
         window: &mut Window,
         source: &mut R,
         sink: &mut W,
-        decider: &D,
+        decide: &E,
         count: u32,
     ) -> Result<(), BatchFault>
         requires none { (self.old.blocks ≡ 0) × (self.old.messages ≡ count_of []) }
         requires most { count ≤ 1000 }
+        requires decider { IsBlockDecider E.pre E.post (λ book. book.now) (λ frames. frames.now) decide.now }
         ensures devices { UsesDevices R.is_known R.has_failed R.may_fail W.is_known W.has_failed W.may_fail source.old source.new sink.old sink.new result }
         ensures all { OnOk result (self.new.blocks ≡ count) }
         ensures ok { OnOk result (AreDecided self.old.book self.new.book self.new.blocks self.new.messages
@@ -142,20 +146,19 @@ impl KeptBlocks {
             (W.is_known sink.old) (W.written sink.old) (W.written sink.new) e (IsTrue (W.has_failed sink.new) × W.may_fail sink.old)) }
     {
         for _ in 0..count {
-            self.step(alloc, window, source, sink, decider)?;
+            self.step(alloc, window, source, sink, decide)?;
         }
         Ok(())
     }
 
     /// Reads a block file, and decides and answers one block after another. Its own head is written once the input's is read.
-    pub(crate) fn process<R: Source, W: Sink, D: DecideBlock>(
-        &mut self,
-        alloc: Global,
-        source: &mut R,
-        sink: &mut W,
-        decider: &D,
-    ) -> Result<(), BatchFault>
+    pub(crate) fn process<
+        R: Source,
+        W: Sink,
+        E: Fn(&mut Book, &[Frame]) -> Result<InPlace, AllocError>,
+    >(&mut self, alloc: Global, source: &mut R, sink: &mut W, decide: &E) -> Result<(), BatchFault>
         requires none { (self.old.blocks ≡ 0) × (self.old.messages ≡ count_of []) }
+        requires decider { IsBlockDecider E.pre E.post (λ book. book.now) (λ frames. frames.now) decide.now }
         ensures devices { UsesDevices R.is_known R.has_failed R.may_fail W.is_known W.has_failed W.may_fail source.old source.new sink.old sink.new result }
         ensures end { OnOk result (R.is_known source.old → R.remaining source.new ≡ []) }
         ensures ok { OnOk result (AreAllDecided self.old.book self.new.book self.new.blocks self.new.messages
@@ -170,7 +173,7 @@ impl KeptBlocks {
         let mut window = Window::new(alloc)?;
         let count = read_block_head(&mut window, source, b"I83M")?;
         write_head(alloc, count, sink)?;
-        self.decide_blocks(alloc, &mut window, source, sink, decider, count)?;
+        self.decide_blocks(alloc, &mut window, source, sink, decide, count)?;
         window.read_end(source)?;
         Ok(())
     }

@@ -6,12 +6,8 @@ mod block_files;
 mod block_processing;
 mod block_replies;
 mod blocks;
-mod decide_block;
 mod kept_blocks;
-mod one_by_one;
 
 pub use block_files::read_blocks;
 pub use block_processing::{BlocksOutcome, Halted, process_blocks};
 pub use block_replies::read_block_replies;
-pub use decide_block::DecideBlock;
-pub use one_by_one::OneByOne;

@@ -38,7 +38,7 @@ impl Formers {
     }
 
     /// Writes a copy of a row, and notes what it was. It fails only where memory runs out, and nothing is changed then.
-    fn put(
+    pub fn put(
         &mut self,
         book: &mut Book,
         key: &RowKey,

@@ -1,10 +1,11 @@
 -- One more message committed.
-use Rattle.std.proofs.Common.{◌≡◌, ℕ, ◌+◌, ◌<◌, Some, List, [], ◌∷◌, ◌++◌, Result, Ok, Err, OnOk, OnErr, length, take, get_or, slice_get, sym, ap, ◌∙◌, arith}
+use Rattle.std.proofs.Common.{◌≡◌, ℕ, ◌+◌, ◌<◌, Some, List, [], ◌∷◌, ◌++◌, Result, Ok, Err, IfSome, OnOk, OnErr, length, take, get_or, slice_get, sym, ap, subst, ◌∙◌, arith}
 use Rattle.std.proofs.lemmas.List.{take_more}
-use Rattle.std.proofs.lemmas.Option.{slice_get_within, get_or_from_slice_get}
+use Rattle.std.proofs.lemmas.Option.{slice_get_within, slice_get-get_or, get_or_from_slice_get}
 use Rattle.std.specs.FinMap as map
 use Rattle.issuer_fold.proofs.FoldLaws.{rows_after-append, replies_to-append}
-use Rattle.issuer_view.specs.Words.{Executed, Frame, IsTrueExecution, ReplyBody, Rows, overlay}
+use Rattle.issuer_rows.specs.Agreement.{IsLocal}
+use Rattle.issuer_view.specs.Words.{Executed, Frame, IsTrueExecution, Reads, ReplyBody, Rows, Writes, overlay}
 use Rattle.issuer_view.specs.Words.{replies_to, reply_of, rows_after, rows_after_one}
 use Rattle.split_ledger.specs.Progress.{Progress, further, IsNext, IsFold, book_of, replies_of}
 
@@ -59,3 +60,13 @@ pub decided_or_kept : {A E : Type 0} (p : Progress) (any : Frame) (replies after
 decided_or_kept p any replies after book next count (Ok _) h within counted decided replied kept =
     rw (counted, decided, replied) (decided_fold p any replies book h within)
 decided_or_kept p any replies after book next count (Err _) h within counted decided replied kept = rw (kept.0, kept.1, kept.2) h
+
+-- what the sets have that were left behind is what the next message's decision read and wrote
+pub next_local : {A E : Type 0} (p : Progress) (any : Frame) (replies : List ReplyBody) (book : Rows) (reads : Reads) (writes : Writes) (result : Result A E)
+    → IsFold p replies book → p.count < length p.frames
+    → OnOk result (IsLocal (get_or p.frames p.count any) reads writes (reply_of book (get_or p.frames p.count any)))
+    → OnOk result (IfSome (slice_get p.frames p.count) (λ frame. IsLocal frame reads writes (reply_of (book_of p) frame)))
+next_local p any replies book reads writes (Ok _) h within local =
+    let frame = get_or p.frames p.count any in
+    rw (slice_get-get_or p.frames p.count any within) (subst (λ b. IsLocal frame reads writes (reply_of b frame)) h.book_is local)
+next_local p any replies book reads writes (Err _) h within local = tt

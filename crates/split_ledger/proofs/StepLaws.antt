@@ -1,11 +1,11 @@
 -- Each step keeps what holds of the words.
-use Rattle.std.proofs.Common.{◌≡◌, ◌≢◌, ◌⊎◌, ℕ, zero, suc, ◌+◌, ◌<◌, ◌≤◌, List, [], ◌∷◌, ◌++◌, length, set, slice_index, slice_set, max, Bool, true, false, true≢false, refl, sym, ap, ◌∙◌, subst, ⊎_elim, le_refl, le_trans, arith}
-use mathlib.Core.Option.{some, some-ne-none, some-injective}
+use Rattle.std.proofs.Common.{◌≡◌, ◌≢◌, ℕ, ◌≤◌, List, [], ◌∷◌, ◌++◌, set, slice_index, max, true, false, true≢false, refl, sym, ap, ◌∙◌, subst, ⊎_elim, arith}
+use mathlib.Core.Option.{some}
 use lib.ListN.{get_elem?}
-use Rattle.atomic_table.specs.Table.{State, Me, Act, keeps, Allows, Enters, Splits}
+use Rattle.atomic_table.specs.Table.{Me, keeps, Allows, Enters, Splits}
 use Rattle.atomic_table.proofs.Lists.{at_set, at_snoc, set_again}
 use Rattle.split_ledger.specs.declared.seat_view.SeatView.{SeatView}
-use Rattle.split_ledger.specs.CursorRule.{publisher, worker, stepped, IsSeated, IsKeptAt, IsKept, IsDrawn, IsSeen, IsRaised, IsEntered}
+use Rattle.split_ledger.specs.CursorRule.{worker, stepped, IsSeated, IsKept, IsDrawn, IsSeen, IsRaised, IsEntered}
 
 -- what holds of each seat
 abbrev Each : ℕ → ℕ → ℕ → List SeatView → Type 0

@@ -1,4 +1,6 @@
-ghost use Rattle.std.specs.Prelude.{◌≡◌, ◌≢◌, ◌<◌, ◌≤◌, ◌↔◌, [], Ok, IfOk, OnOk, OnErr, IsTrue, length};
+ghost use Rattle.std.specs.Prelude.{◌≡◌, ◌≢◌, ◌<◌, ◌≤◌, ◌↔◌, [], Ok, Some, IfOk, IfSome, OnOk, OnErr, IsTrue, length, slice_get};
+ghost use Rattle.issuer_rows.specs.Agreement.{IsLocal};
+ghost use Rattle.issuer_view.specs.Words.{AgreesWithBook, reply_of};
 ghost use Rattle.split_ledger.specs.Progress.{opened, further, book_of, replies_of, IsNext};
 ghost use Rattle.split_ledger.specs.declared.commit_outcome.CommitOutcome.TheVariants.{Committed, Stale};
 
@@ -112,6 +114,9 @@ impl<'a> Ledger<'a> {
     ) -> Result<(), AllocError>
         requires { self.old.count < length self.old.frames }
         ensures committed { OnOk result (self.new ≡ further self.old) }
+        ensures read { OnOk result (AgreesWithBook (Some (book_of self.old)) reads.new) }
+        ensures local { OnOk result (IfSome (slice_get self.old.frames self.old.count) (λ frame.
+            IsLocal frame reads.new writes.new (reply_of (book_of self.old) frame))) }
         ensures otherwise { OnErr result (self.new ≡ self.old) }
     {
         let frame = &self.frames[self.prefix.count as usize];

@@ -1,9 +1,12 @@
 //! Block files that are decided on a book, one body after another.
 
+ghost use Rattle.file_blocks.specs.BlockDecider.{DecidesInPlace};
+
 use file_batch::BatchFault;
-use file_blocks::{OneByOne, process_blocks};
+use file_blocks::process_blocks;
 use file_devices::{Sink, Source};
-use issuer_rows::Book;
+use issuer_in_place::{InPlace, decide_in_place};
+use issuer_rows::{Book, Frame};
 use issuer_rules::Shipped;
 use std::alloc::{AllocError, Global};
 
@@ -22,8 +25,10 @@ pub(crate) fn decided<R: Source, W: Sink>(
     source: &mut R,
     sink: &mut W,
 ) -> Result<Came, AllocError> {
-    let decider = OneByOne::new(alloc, &Shipped);
-    match process_blocks(alloc, book.copy()?, source, sink, &decider) {
+    let decide = |book: &mut Book, frames: &[Frame]| -> Result<InPlace, AllocError>
+        ensures { DecidesInPlace book.entry.now frames.entry.now book.exit.now result }
+    { decide_in_place(alloc, book, frames, &Shipped) };
+    match process_blocks(alloc, book.copy()?, source, sink, &decide) {
         Ok(outcome) => Ok(Came {
             kept: outcome.blocks,
             book: outcome.book,

@@ -1,4 +1,4 @@
-use Rattle.std.proofs.Common.{◌+◌, ◌%◌, ◌^◌, min, rules, arith}
+use Rattle.std.proofs.Common.{◌+◌, ◌%◌, ◌^◌, rules, arith}
 use Rattle.split_ledger.proofs.StepLaws.{draws_execute}
 use Rattle.split_ledger.proofs.cursors.Cursors.draw_execute.Goals as goal
 

@@ -1,4 +1,4 @@
-use Rattle.std.proofs.Common.{rules, arith}
+use Rattle.std.proofs.Common.{arith}
 use Rattle.split_ledger.proofs.StepLaws.{enters}
 use Rattle.split_ledger.proofs.cursors.Cursors.enter.Goals as goal
 

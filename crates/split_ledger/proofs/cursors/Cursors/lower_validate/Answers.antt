@@ -1,4 +1,4 @@
-use Rattle.std.proofs.Common.{◌+◌, ◌%◌, ◌^◌, min, rules, arith}
+use Rattle.std.proofs.Common.{min, rules, arith}
 use Rattle.split_ledger.proofs.StepLaws.{draws_validate}
 use Rattle.split_ledger.proofs.cursors.Cursors.lower_validate.Goals as goal
 
