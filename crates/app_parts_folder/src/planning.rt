@@ -29,8 +29,6 @@ pub fn plan_batch(
     let frames = frames_of(alloc, batch)?;
     let bodies = bodies_of(alloc, batch)?;
     let plan = plan_parts(alloc, &book, &frames, most.count())?;
-    // What these say holds of every plan.
-    let (_count, _parts) = (plan.count(), plan.parts());
     Ok(BatchInParts {
         book,
         bodies,

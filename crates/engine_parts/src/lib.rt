@@ -12,4 +12,4 @@ mod running;
 mod writing;
 
 pub use running::{run_apart, run_parts};
-pub use writing::put_book;
+pub use writing::{put_book, put_book_noted};

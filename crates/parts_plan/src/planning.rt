@@ -1,5 +1,6 @@
 ghost use Rattle.std.specs.Prelude.{◌≡◌, ◌<◌, ◌≤◌, [], length, map, zip, IfOk};
 ghost use Rattle.issuer_laws.specs.Parts.{AreApart};
+ghost use Rattle.parts_plan.specs.Plan.{IsNumbered};
 ghost use Rattle.parts_plan.specs.Ties.{HaveHeads, part_at};
 
 use crate::packing::pack;
@@ -18,6 +19,7 @@ pub fn plan_parts(
     most: u32,
 ) -> Result<PartsPlan, AllocError>
     requires { 0 < most }
+    ensures numbered { IfOk result IsNumbered }
     ensures most { IfOk result (λ plan. plan.count ≤ most) }
     ensures each { IfOk result (λ plan. length plan.parts ≡ length frames.now) }
     ensures apart { IfOk result (λ plan. AreApart book.now (zip plan.parts frames.now)) }

@@ -265,6 +265,18 @@ put later\n\
 > decided 82, 15 unreadable\n\
 is answers replies\n\
 is later after\n\
+put answers\n\
+put later\n\
+0 switch blocks book blocks answers later --engine parts --workers 4\n\
+> decided 82 in 2 blocks, 15 unreadable\n\
+is answers block-replies\n\
+is later after\n\
+put answers\n\
+put later\n\
+0 switch blocks book blocks answers later\n\
+> decided 82 in 2 blocks, 15 unreadable\n\
+is answers block-replies\n\
+is later after\n\
 ";
 
 #[test]

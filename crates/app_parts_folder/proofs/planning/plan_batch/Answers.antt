@@ -1,27 +1,35 @@
-use Rattle.std.proofs.Common.{◌<◌, length, List, ap, subst, zip, arith, ◌∙◌}
-use Rattle.std.specs.List.{AllByRecursion}
+use Rattle.std.proofs.Common.{◌≡◌, ℕ, ◌≤◌, length, List, ap, subst, zip, arith, ◌∙◌}
+use Rattle.std.specs.Global.{Vec}
 use Rattle.issuer_laws.specs.Parts.{AreApart}
+use Rattle.issuer_rows.specs.Fold.{Rows}
 use Rattle.issuer_rows.specs.declared.frame.Frame.{Frame}
+use Rattle.parts_plan.specs.Plan.{IsNumbered, Planned}
 use Rattle.app_parts_folder.proofs.InParts.{in_parts}
 use Rattle.app_parts_folder.specs.BatchInParts.{parting_of}
 use Rattle.app_parts_folder.specs.Parting.{IsPlanned}
 use Rattle.app_parts_folder.proofs.planning.plan_batch.Goals as goal
 
-is_planned : (c : goal.After-parts-parts) → IsPlanned (parting_of c.args.book c.in_ok-bodies.bodies.items c.in_ok-frames.frames.items c.in_ok-plan.plan) c.args.most
-is_planned c =
-    let plan = c.in_ok-plan.plan in
-    record {
-      some = omega (arith, c.count-count.ensures.count, c.count-count.ensures.some);
-      few = omega (arith, c.in_ok-plan.ensures.most, c.count.ensures.value);
-      each = c.in_ok-plan.ensures.each ∙ ap (length {A = Frame}) c.deref.ensures.value;
-      below = subst (AllByRecursion (λ part. part < plan.count)) c.parts-parts.ensures.parts c.parts-parts.ensures.below;
-      apart = subst (λ (frames : List Frame). AreApart c.args.book (zip plan.parts frames)) c.deref.ensures.value c.in_ok-plan.ensures.apart;
-    }
+-- what a plan says of the frames that it was made of holds of the batch that has them
+is_planned : (book : Rows) (bodies : List (Vec ℕ)) (frames seen : List Frame) (plan : Planned) (most : ℕ) → IsNumbered plan → plan.count ≤ most → length plan.parts ≡ length seen → AreApart book (zip plan.parts seen)
+    → seen ≡ frames → IsPlanned (parting_of book bodies frames plan) most
+is_planned book bodies frames seen plan most numbered few each apart same = record {
+  some = numbered.some;
+  few = few;
+  each = each ∙ ap length same;
+  below = numbered.below;
+  apart = subst (λ fs. AreApart book (zip plan.parts fs)) same apart;
+}
 
 pub invariant_of-result : goal.invariant_of-result
 invariant_of-result c =
-    in_parts c.args.batch.now (parting_of c.args.book c.in_ok-bodies.bodies.items c.in_ok-frames.frames.items c.in_ok-plan.plan) c.args.most (is_planned c)
+    let plan = c.in_ok-plan.ensures in
+    let frames = c.in_ok-frames.frames.items in
+    let bodies = c.in_ok-bodies.bodies.items in
+    let planned = is_planned c.args.book bodies frames _ c.in_ok-plan.plan c.args.most plan.numbered (omega (arith, plan.most, c.count.ensures.value)) plan.each plan.apart c.deref.ensures.value in
+    in_parts c.args.batch.now (parting_of c.args.book bodies frames c.in_ok-plan.plan) c.args.most planned
     (omega (arith, c.count.ensures.value, c.count.ensures.high)) c.in_ok-bodies.ensures.bodies c.in_ok-frames.ensures.frames c.in_ok-frames.ensures.few
 
 pub returns-clause-planned : goal.returns-clause-planned
-returns-clause-planned c = is_planned c
+returns-clause-planned c =
+    let plan = c.in_ok-plan.ensures in
+    is_planned c.args.book c.in_ok-bodies.bodies.items c.in_ok-frames.frames.items _ c.in_ok-plan.plan c.args.most plan.numbered (omega (arith, plan.most, c.count.ensures.value)) plan.each plan.apart c.deref.ensures.value
