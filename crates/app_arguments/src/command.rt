@@ -45,9 +45,9 @@ pub enum Command {
     Blocks {
         /// The names of their files.
         names: BatchNames,
-        /// How many workers may decide. One does.
+        /// How many workers the engine has that is named.
         workers: Workers,
-        /// How they share their work.
+        /// The engine that decides long blocks.
         engine: EngineChoice,
         /// Whether bodies that are no message are answered.
         strictness: Strictness,

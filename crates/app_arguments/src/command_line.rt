@@ -136,7 +136,7 @@ fn blocks_line<'a>(alloc: Global) -> Result<Command<'a>, AllocError>
         alloc,
         files,
         "How many threads the engine has that is named: 1 to 64",
-        "How threads share what a block has to be decided: split, parts or locked, as of run, each started anew for each block. Without it what is fastest for the tables: one thread decides, on the book itself",
+        "How threads share what is to be decided of a block of more than 1,024 messages: split, parts or locked, as of run. Of a shorter one, and of all without it, one thread decides, on the book itself",
     )?;
     shared.arg(strict_flag(alloc))
 }

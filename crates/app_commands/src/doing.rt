@@ -190,8 +190,8 @@ fn run_with_journal<R: Clock + Threads + Wait + Sync, F: Files>(
     Ok(Report::Decided(count))
 }
 
-// Blocks are decided, one after another, each by so many workers of the engine that is named; where none is, one message after another on the
-// book itself, which is the fastest.
+// Blocks are decided, one after another, long ones by so many workers of the engine that is named; where none is, one message after another
+// on the book itself, which is the fastest.
 fn blocks<R: Clock + Threads + Wait + Sync, F: Files>(
     rt: &R,
     alloc: Global,

@@ -9,7 +9,7 @@ use engine_parts::{put_book, put_book_noted, run_parts};
 use engine_split::run_split;
 use engine_workers::{Engine, NoHook, Workers};
 use issuer_fold::RunOutcome;
-use issuer_in_place::{Formers, InPlace};
+use issuer_in_place::{Formers, InPlace, decide_in_place};
 use issuer_rows::{Book, Frame};
 use issuer_rules::Shipped;
 use parts_books::book_for;
@@ -21,6 +21,9 @@ use std::time::Clock;
 // How many rows a book has at most for each body of a batch, so that an engine is given all of it: to copy so few costs less than to look
 // for those that the bodies may need.
 const FEW_ROWS: usize = 8;
+
+// A block of at most so many bodies is decided one after another: an engine's workers, which are started for each block anew, take longer.
+const FEW_BODIES: usize = 1024;
 
 /// Decides a batch of at most 65,536 bodies by so many workers of an engine, on a book that is taken over and given back behind them. Of a
 /// book with many rows the engine sees those that the bodies may need, so that no cost grows with the book. It fails only where memory runs
@@ -50,9 +53,27 @@ pub fn decide_by<R: Clock + Threads + Wait + Sync>(
     })
 }
 
-/// Decides a block of at most 65,536 bodies by so many workers of an engine, on the rows of a book that they may need, and writes what
-/// these have become over them. It fails only where memory runs out, and the book is then what it was.
+/// Decides a block of at most 65,536 bodies on a book itself: one of more than 1,024 by so many workers of an engine. It fails only where
+/// memory runs out, and the book is then what it was.
 pub(crate) fn decide_block_by<R: Clock + Threads + Wait + Sync>(
+    rt: &R,
+    alloc: Global,
+    book: &mut Book,
+    frames: &[Frame],
+    workers: Workers,
+    engine: Engine,
+) -> Result<InPlace, AllocError>
+    requires { length frames.now ≤ 65536 }
+    ensures { DecidesInPlace book.old frames.now book.new result }
+{
+    if frames.len() <= FEW_BODIES {
+        return decide_in_place(alloc, book, frames, &Shipped);
+    }
+    decide_block_together(rt, alloc, book, frames, workers, engine)
+}
+
+// The same by an engine, on the rows of the book that the bodies may need. What these have become is written over them.
+fn decide_block_together<R: Clock + Threads + Wait + Sync>(
     rt: &R,
     alloc: Global,
     book: &mut Book,
