@@ -283,3 +283,40 @@ is later after\n\
 fn the_samples_are_answered_as_they_say_by_each_engine(rt: HostRuntime) {
     play(&rt, rt.alloc(), SAMPLES);
 }
+
+// A block of 1,025 bodies, longer than those that are decided on the book itself: each engine comes to what is decided one after another.
+const LONG_BLOCK: &str = "\
+put book DAY_BOOK\n\
+put text FIRST_HALF\n\
+0 switch pack text half\n\
+> packed 41\n\
+put five half+10 half+10 half+10 half+10 half+10\n\
+put batch 'I83B 000100000401 five five five five five\n\
+0 switch serial book batch replies after\n\
+> decided 1025\n\
+put blocks 'I83M 000100000001 00000401 five five five five five\n\
+put block-replies 'I83T 000100000001 00000401 replies+10\n\
+put answers\n\
+put later\n\
+0 switch blocks book blocks answers later --engine parts --workers 4\n\
+> decided 1025 in 1 blocks\n\
+is answers block-replies\n\
+is later after\n\
+put answers\n\
+put later\n\
+0 switch blocks book blocks answers later --engine split --workers 4\n\
+> decided 1025 in 1 blocks\n\
+is answers block-replies\n\
+is later after\n\
+put answers\n\
+put later\n\
+0 switch blocks book blocks answers later --engine locked --workers 4\n\
+> decided 1025 in 1 blocks\n\
+is answers block-replies\n\
+is later after\n\
+";
+
+#[test]
+fn a_long_block_is_decided_alike_by_each_engine(rt: HostRuntime) {
+    play(&rt, rt.alloc(), LONG_BLOCK);
+}
