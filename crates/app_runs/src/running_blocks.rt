@@ -15,8 +15,9 @@ use std::sync::Wait;
 use std::thread::Threads;
 use std::time::Clock;
 
-/// Decides a block file, block after block, each of more than 1,024 bodies by so many workers of an engine, files to files. Returns how many blocks and bodies were
-/// decided, or why not all, and which blocks are kept. Its faults are those of [`decide_blocks`](app_jobs::decide_blocks).
+/// Decides a block file, block after block, files to files: those of more than 1,024 bodies by so many workers of an engine. Returns how
+/// many blocks and bodies were decided, or why not all, and which blocks are kept. Its faults are those of
+/// [`decide_blocks`](app_jobs::decide_blocks).
 pub fn run_blocks<R: Clock + Threads + Wait + Sync, F: Files>(
     rt: &R,
     alloc: Global,
