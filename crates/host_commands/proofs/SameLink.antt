@@ -3,9 +3,10 @@ use Rattle.std.proofs.Common.{◌≡◌, ℕ, List, Result, Ok, Err, OnOk, IfErr
 use Rattle.issuer_rows.specs.declared.frame.Frame.{Frame}
 use Rattle.link_frames.specs.Incoming.{frames_of}
 use Rattle.link_frames.specs.Link.{AreFrames}
+use Rattle.log_file.specs.declared.log_writer.LogWriter.{LogWriter}
 use Rattle.log_laws.specs.declared.log_fault.LogFault.TheVariants.{NoLog, Version, OtherBook, InUse, Broken, Failed, OutOfMemory as NoMemory}
 use Rattle.host_serving.proofs.Servings.{served_none, stopped_reading}
-use Rattle.host_serving.specs.Serving.{BookAfter, FaultFits, Served, Stopped}
+use Rattle.host_serving.specs.Serving.{BookAfter, CameNext, FaultFits, LogBehind, Served, Stopped}
 use Rattle.host_serving.specs.declared.decider.Decider.{Decider}
 use Rattle.host_serving.specs.declared.host.Host.{Host}
 use Rattle.host_serving.specs.declared.host_fault.HostFault.{HostFault}
@@ -38,6 +39,15 @@ fits_for (Link f) reads others left r fits = λ known. fits (r known)
 fits_for (Log f) reads others left r fits = tt
 fits_for OutOfMemory reads others left r fits = tt
 
+next_for : (reads others : Type 0) (left : List ℕ) (next : List (List ℕ)) → (others → reads) → CameNext reads left next → CameNext others left next
+next_for reads others left next r c = record {
+  incoming = c.incoming;
+  rest = c.rest;
+  came = λ known. c.came (r known);
+  are = c.are;
+  bodies = c.bodies;
+}
+
 -- over the file of a log
 module _ {G : Type 0} (is_known : G → Type 0) (synced unsynced : G → List ℕ) where
   pub served_for : (old new : Host G) (reads others : Type 0) (bytes same left : List ℕ) (puts : Type 0) (had has : List ℕ) → (others → reads) → (others → bytes ≡ same)
@@ -56,6 +66,19 @@ module _ {G : Type 0} (is_known : G → Type 0) (synced unsynced : G → List �
     answered = s.answered;
   }
 
+  -- the same log, where less is known of the link
+  behind_for : (fault : HostFault) (old new : LogWriter G) (entries : List (List (List ℕ))) (reads others : Type 0) (left : List ℕ) → (others → reads)
+      → LogBehind is_known synced unsynced fault old new entries reads left → LogBehind is_known synced unsynced fault old new entries others left
+  behind_for (Link f) old new entries reads others left r log = log
+  behind_for (Log Failed) old new entries reads others left r log = (log.0, next_for reads others left log.0 r log.1, log.2)
+  behind_for (Log NoLog) old new entries reads others left r log = log
+  behind_for (Log Version) old new entries reads others left r log = log
+  behind_for (Log OtherBook) old new entries reads others left r log = log
+  behind_for (Log InUse) old new entries reads others left r log = log
+  behind_for (Log (Broken k)) old new entries reads others left r log = log
+  behind_for (Log NoMemory) old new entries reads others left r log = log
+  behind_for OutOfMemory old new entries reads others left r log = (log.0, next_for reads others left log.0 r log.1, log.2)
+
   pub stopped_for : (fault : HostFault) (old new : Host G) (reads others : Type 0) (bytes same : List ℕ) (puts : Type 0) (had has : List ℕ) → (others → reads) → (others → bytes ≡ same)
       → Stopped is_known synced unsynced fault old new reads bytes puts had has → Stopped is_known synced unsynced fault old new others same puts had has
   stopped_for fault old new reads others bytes same puts had has r is s = record {
@@ -68,7 +91,7 @@ module _ {G : Type 0} (is_known : G → Type 0) (synced unsynced : G → List �
     logged = s.logged;
     each = s.each;
     read = s.read;
-    log = s.log;
+    log = behind_for fault old.log new.log s.entries reads others s.left r s.log;
     after = book_for fault old.decider new.decider s.messages reads others s.left r s.after;
     answered = s.answered;
     fits = fits_for fault reads others s.left r s.fits;

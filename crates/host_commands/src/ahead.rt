@@ -26,7 +26,8 @@ fn tell<E: Write>(teller: &mut Teller<E>, served: &Result<(), HostFault>) {
 }
 
 // Serves the bytes that are read ahead, and tells the fault at once. `None` where no thread reads them.
-fn serve_there<A: Source, G: GrowingFile + Drop, O: Sink, E: Write>(
+fn serve_there<R: Threads + Sync, A: Source, G: GrowingFile + Drop, O: Sink, E: Write>(
+    rt: &R,
     alloc: Global,
     ahead: &mut A,
     signals: &Signals,
@@ -45,7 +46,7 @@ fn serve_there<A: Source, G: GrowingFile + Drop, O: Sink, E: Write>(
     if !signals.wait_for_reader() {
         return None;
     }
-    let served = host.serve_link(alloc, ahead, sink, &Shipped, most, teller);
+    let served = host.serve_link(rt, alloc, ahead, sink, &Shipped, most, teller);
     tell(teller, &served);
     signals.stop();
     Some(served)
@@ -96,7 +97,7 @@ fn serve_together<
             ensures stopped { IfSome result (λ served. IfErr served (λ e. Stopped G.is_known G.synced G.unsynced e host.entry.now host.exit.now
                 (A.is_known ahead.entry.now) (A.remaining ahead.entry.now) (O.is_known sink.entry.now) (O.written sink.entry.now) (O.written sink.exit.now))) }
             ensures unreadable { IfSome result (λ served. served ≡ Err (OfLink Unreadable) → A.may_fail ahead.entry.now) }
-        { serve_there(alloc, ahead, signals, host, sink, most, teller) },
+        { serve_there(rt, alloc, ahead, signals, host, sink, most, teller) },
     );
     (has_read, served)
 }
@@ -149,7 +150,7 @@ fn serve_named<
     if has_read {
         return Err(HostFault::OutOfMemory);
     }
-    let served = host.serve_link(alloc, source, sink, &Shipped, most, teller);
+    let served = host.serve_link(rt, alloc, source, sink, &Shipped, most, teller);
     tell(teller, &served);
     served
 }

@@ -16,7 +16,8 @@ use Rattle.host_serving.specs.declared.host_fault.HostFault.{HostFault}
 use Rattle.host_serving.specs.declared.host_fault.HostFault.TheVariants.{OutOfMemory}
 use Rattle.host_serving.specs.declared.tally.Tally.{Tally}
 use Rattle.host_serving.proofs.Takes.{each_more}
-use Rattle.host_serving.proofs.Servings.{grows_none, grows_more, tallies_more}
+use Rattle.host_serving.proofs.Appendings.{grows_none, grows_more}
+use Rattle.host_serving.proofs.Servings.{tallies_more}
 use Rattle.host_serving.proofs.Watches.{log_more}
 use Rattle.host_links.specs.Kept.{AreCounts, IsBehind, IsKept, LogStands}
 use Rattle.host_links.specs.Turning.{Turns, StopsTurning}
@@ -170,7 +171,7 @@ module _ {G : Type 0} (is_known : G → Type 0) (synced unsynced : G → List �
       → IsKept is_known synced unsynced opening before first old None counts turns → Turns is_known synced unsynced old new turn replies
       → IsKept is_known synced unsynced opening before first new (Some OutOfMemory) counts turns
   kept_unadded opening before first old new counts turns turn replies kept t =
-      kept_stopped opening before first old new OutOfMemory counts turns kept (entry_of turn.bodies, t.log)
+      kept_stopped opening before first old new OutOfMemory counts turns kept (entry_of turn.bodies, ([], inl t.log))
 
 -- what a link knows of a history that it begins, with one turn of its own behind
 pub next_came : (link count : ℕ) (me front all : List LinkTurn) (turn : LinkTurn) → IsPrefix me front → turns_of link me ≡ count → turns_of link front ≡ count → turn.link ≡ link
@@ -226,6 +227,6 @@ kept_behind {G = G} is_known synced unsynced opening before first old new fault 
 pub none_behind : {G : Type 0} (is_known : G → Type 0) (synced unsynced : G → List ℕ) (host : Host G) → IsBehind is_known synced unsynced host host (Some OutOfMemory) []
 none_behind is_known synced unsynced host = record {
   are = tt;
-  log = ([], grows_none is_known synced unsynced host.log);
+  log = ([], ([], inl (grows_none is_known synced unsynced host.log)));
   after = λ none. absurd cc;
 }

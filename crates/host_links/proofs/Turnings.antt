@@ -1,5 +1,5 @@
 -- What a turn comes to, as an entry of the history.
-use Rattle.std.proofs.Common.{◌≡◌, ◌≢◌, ◌∙◌, ℕ, List, [], ◌∷◌, ◌++◌, length, Err, ap, refl, sym, subst}
+use Rattle.std.proofs.Common.{◌≡◌, ◌≢◌, inl, ◌∙◌, ℕ, List, [], ◌∷◌, ◌++◌, length, Err, ap, refl, sym, subst}
 use Rattle.iso8583.specs.declared.message.Message.{Message}
 use Rattle.iso8583.specs.declared.codec_fault.CodecFault.{CodecFault}
 use Rattle.iso_laws.specs.Reading.{reading}
@@ -107,7 +107,7 @@ module _ {G : Type 0} (is_known : G → Type 0) (synced unsynced : G → List �
 
   -- a fault, as one of all links
   pub stops_all : (fault : HostFault) (old new : LogWriter G) (more : List (List (List ℕ))) → LogAfter is_known synced unsynced fault old new more → LogAfter is_known synced unsynced (of_all fault) old new more
-  stops_all (Link fault) old new more after = link_after fault old new more after
+  stops_all (Link fault) old new more after = ([], inl (link_after fault old new more after))
     where
       link_after : (fault : LinkFault) (old new : LogWriter G) (more : List (List (List ℕ))) → LogAfter is_known synced unsynced (Link fault) old new more → Grows is_known synced unsynced old new more
       link_after fault old new more after = after

@@ -21,17 +21,18 @@ use link_frames::{LinkFault, put_all};
 use log_devices::GrowingFile;
 use std::alloc::Global;
 use std::sync::{Mutex, Wait};
+use std::thread::Threads;
 
 /// What a thread has that serves one of several links, and what is the same for each of them: the host that they share, the history of its
 /// turns, the decision, and how many frames are taken in one turn at most.
 #[derive(Drop)]
 pub(crate) struct LinkServer<'a, R, G, N, J, F>
 where
-    R: Wait,
+    R: Threads + Wait + Sync,
     G: GrowingFile + Drop,
     N: WatchLinks + Drop,
     J: Before<G>,
-    F: Decide,
+    F: Decide + Sync,
 {
     pub(crate) rt: &'a R,
     pub(crate) alloc: Global,
@@ -43,11 +44,11 @@ where
 
 impl<R, G, N, J, F> LinkServer<'_, R, G, N, J, F>
 where
-    R: Wait,
+    R: Threads + Wait + Sync,
     G: GrowingFile + Drop,
     N: WatchLinks + Drop,
     J: Before<G>,
-    F: Decide,
+    F: Decide + Sync,
 {
     /// Serves one link, closes it, and keeps what it came to. A fault is told at once.
     pub(crate) fn serve_seat<I: LinkSource, O: LinkSink>(
@@ -186,6 +187,7 @@ where
         ensures err { OnErr result (state.new.front ≡ state.old.front) }
     {
         let turned = self.shared.lock(self.rt).serve_turn(
+            self.rt,
             self.alloc,
             self.history,
             link,

@@ -11,6 +11,7 @@ use issuer_view::Decide;
 use log_devices::GrowingFile;
 use std::alloc::Global;
 use std::marker::PhantomData;
+use std::thread::Threads;
 
 // As many turns fit into a history. No disk can hold so many entries.
 const MOST_TURNS: u64 = 1 << 61;
@@ -124,8 +125,9 @@ impl<G: GrowingFile + Drop, N: WatchLinks + Drop, J: Before<G>> SharedHost<G, N,
     /// Serves what came in a turn of this link, and keeps the answers to it in its buffers, to be written once the host is another's: its
     /// bodies became an entry of the log, which is synced. The link shows which turns it has seen, and how many of them are its own. After a
     /// fault, which is of the log or of memory, no link is served any further.
-    pub fn serve_turn<F: Decide>(
+    pub fn serve_turn<R: Threads + Sync, F: Decide + Sync>(
         &mut self,
+        rt: &R,
         alloc: Global,
         history: &History<J>,
         link: usize,
@@ -150,6 +152,7 @@ impl<G: GrowingFile + Drop, N: WatchLinks + Drop, J: Before<G>> SharedHost<G, N,
             return Err(HostFault::OutOfMemory);
         }
         let turned = turn_at(
+            rt,
             alloc,
             &mut self.host,
             &mut self.watch,

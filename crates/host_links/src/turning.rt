@@ -14,6 +14,7 @@ use log_devices::GrowingFile;
 use log_file::Bodies;
 use std::alloc::Global;
 use std::mem;
+use std::thread::Threads;
 
 /// The messages of the turn that was served last, whose bodies these are.
 pub(crate) fn messages_behind<'a, G: GrowingFile + Drop>(
@@ -40,7 +41,8 @@ fn of_all(fault: HostFault) -> HostFault
 
 /// Serves what came in a turn of this link, and keeps the answers to it. After a fault, which is of the log or of memory, the host is of no
 /// use.
-pub(crate) fn turn_at<G: GrowingFile + Drop, F: Decide, N: Watch>(
+pub(crate) fn turn_at<R: Threads + Sync, G: GrowingFile + Drop, F: Decide + Sync, N: Watch>(
+    rt: &R,
     alloc: Global,
     host: &mut Host<G>,
     watch: &mut N,
@@ -65,7 +67,15 @@ pub(crate) fn turn_at<G: GrowingFile + Drop, F: Decide, N: Watch>(
     let mut replies = mem::replace(&mut buffers.replies, Vec::new(alloc));
     replies.clear();
     let mut sink = IntoWrite::new(replies);
-    match host.enter(alloc, turn, &mut buffers.writer, &mut sink, decision, watch) {
+    match host.enter(
+        rt,
+        alloc,
+        turn,
+        &mut buffers.writer,
+        &mut sink,
+        decision,
+        watch,
+    ) {
         Ok(again) => {
             buffers.turn = again;
             buffers.replies = sink.into_writer();

@@ -1,27 +1,26 @@
 -- Turns that are served one after another, and how it stops.
-use Rattle.std.proofs.Common.{◌≡◌, ◌⊎◌, ◌+◌, ◌<◌, inl, inr, ℕ, length, take, get_or, List, [], ◌∷◌, ◌++◌, refl, sym, ap, subst, ◌∙◌, append_assoc}
-use Rattle.std.specs.List.{flat_map, AllByRecursion}
+use Rattle.std.proofs.Common.{◌≡◌, ◌⊎◌, ◌+◌, ◌<◌, inl, inr, ℕ, length, take, get_or, List, [], ◌∷◌, ◌++◌, Result, refl, sym, ap, subst, ◌∙◌, append_assoc}
+use Rattle.std.specs.List.{AllByRecursion}
 use Rattle.std.proofs.lemmas.List.{append-nil, take_more}
 use Rattle.std.proofs.lemmas.List.Concat.{flat_map-append}
 use Rattle.issuer_rows.specs.Fold.{Rows, rows_after, replies_to}
 use Rattle.issuer_rows.specs.declared.frame.Frame.{Frame}
 use Rattle.issuer_fold.proofs.FoldLaws.{rows_after-append, replies_to-append, length-replies_to}
-use Rattle.file_batch_laws.specs.Frames.{IsFrameOf, AreFramesOf}
+use Rattle.file_batch_laws.specs.Frames.{AreFramesOf}
 use Rattle.link_frames.specs.Link.{AreFrames, HasFault}
 use Rattle.link_frames.specs.declared.link_fault.LinkFault.{LinkFault}
 use Rattle.link_frames.specs.declared.link_fault.LinkFault.TheVariants as link
 use Rattle.link_frames.specs.Incoming.{Incoming, IsIncoming, frames_of, bodies_of, answers_of, requests_behind, merged}
 use Rattle.link_frames.specs.Replies.{AppendsPart}
 use Rattle.link_frames.proofs.InOrder.{answers_more as given_more, bodies_more as decided_more, frames_more as came_more, in_order}
-use Rattle.log_file.specs.Writes.{HasLog, IsCutOff}
 use Rattle.log_file.specs.declared.log_writer.LogWriter.{LogWriter}
-use Rattle.log_laws.specs.Reading.{AreEntries}
+use Rattle.log_file.specs.declared.synced.Synced.{Synced}
 use Rattle.log_laws.specs.declared.log_fault.LogFault.{LogFault}
 use Rattle.log_laws.specs.declared.log_fault.LogFault.TheVariants.{NoLog, Version, OtherBook, InUse, Broken, Failed, OutOfMemory as NoMemory}
 use Rattle.host_serving.specs.Deciding.{Decides, Follows, answers_to}
-use Rattle.host_serving.specs.Entering.{book_of, Grows, BreaksOff, Enters, StopsAnswering, StopsAppending, StopsDeciding, StopsEntering}
+use Rattle.host_serving.specs.Entering.{book_of, Appends, Grows, BreaksOff, MayEnter, Enters, StopsAnswering, StopsBefore, StopsDeciding, StopsEntering}
 use Rattle.host_serving.specs.Entries.{all_bodies, AreMessagesOf, HasBody}
-use Rattle.host_serving.specs.Serving.{BookAfter, AnsweredAfter, FaultFits, StopsReading, LogAfter, Served, Stopped, EntersNext, StopsInEntry}
+use Rattle.host_serving.specs.Serving.{BookAfter, AnsweredAfter, CameNext, FaultFits, StopsReading, LogBehind, Served, Stopped, EntersNext, StopsInEntry}
 use Rattle.host_serving.specs.Tally.{counted, counted_one}
 use Rattle.host_serving.specs.Turn.{IsTurn, entry_of}
 use Rattle.host_serving.specs.declared.decider.Decider.{Decider}
@@ -30,6 +29,7 @@ use Rattle.host_serving.specs.declared.tally.Tally.{Tally}
 use Rattle.host_serving.specs.declared.host_fault.HostFault.{HostFault}
 use Rattle.host_serving.specs.declared.host_fault.HostFault.TheVariants.{Link, Log, OutOfMemory}
 use Rattle.host_serving.specs.declared.turn.Turn.{Turn}
+use Rattle.host_serving.proofs.Appendings.{breaks_more, grows_more, grows_none, may_enter, may_enter_more}
 use Rattle.host_serving.proofs.Takes.{frames_more, both_are, each_more, as_many}
 use Rattle.host_serving.proofs.Turns.{bodies_entered, has_body, some_entry}
 
@@ -108,21 +108,40 @@ replayed entries i bodies old mid new lt at so_far d =
     )
 
 module _ {G : Type 0} (is_known : G → Type 0) (synced unsynced : G → List ℕ) where
-  pub grows_none : (log : LogWriter G) → Grows is_known synced unsynced log log []
-  grows_none log digest had has = subst (λ (entries : Entries). HasLog is_known synced unsynced digest entries log) (sym (append-nil had)) has
-
-  pub grows_more : (old mid new : LogWriter G) (some more : Entries) → Grows is_known synced unsynced old mid some → Grows is_known synced unsynced mid new more → Grows is_known synced unsynced old new (some ++ more)
-  grows_more old mid new some more front back digest had has =
-      subst (λ (entries : Entries). HasLog is_known synced unsynced digest entries new) (append_assoc had some more) (back digest (had ++ some) (front digest had has))
-
   grows_to : (old mid new : LogWriter G) (some : Entries) → Grows is_known synced unsynced old mid some → Grows is_known synced unsynced mid new [] → Grows is_known synced unsynced old new some
-  grows_to old mid new some front back digest had has =
-      subst (λ (entries : Entries). HasLog is_known synced unsynced digest entries new) (append-nil (had ++ some)) (back digest (had ++ some) (front digest had has))
+  grows_to old mid new some front back =
+      subst (λ (entries : Entries). Grows is_known synced unsynced old new entries) (append-nil some) (grows_more is_known synced unsynced old mid new some [] front back)
 
-  breaks : (old mid new : LogWriter G) (some : Entries) (bodies : List (List ℕ)) → Grows is_known synced unsynced old mid some → BreaksOff is_known synced unsynced mid new [] bodies
+  breaks_to : (old mid new : LogWriter G) (some : Entries) (bodies : List (List ℕ)) → Grows is_known synced unsynced old mid some → BreaksOff is_known synced unsynced mid new [] bodies
       → BreaksOff is_known synced unsynced old new some bodies
-  breaks old mid new some bodies front back digest had has =
-      subst (λ (entries : Entries). IsCutOff is_known synced unsynced digest entries bodies new.file) (append-nil (had ++ some)) (back digest (had ++ some) (front digest had has))
+  breaks_to old mid new some bodies front back =
+      subst (λ (entries : Entries). BreaksOff is_known synced unsynced old new entries bodies) (append-nil some) (breaks_more is_known synced unsynced old mid new some [] bodies front back)
+
+  may_enter_to : (old mid new : LogWriter G) (some : Entries) (bodies : List (List ℕ)) → Grows is_known synced unsynced old mid some → MayEnter is_known synced unsynced mid new [] bodies
+      → MayEnter is_known synced unsynced old new some bodies
+  may_enter_to old mid new some bodies front back =
+      subst (λ (entries : Entries). MayEnter is_known synced unsynced old new entries bodies) (append-nil some) (may_enter_more is_known synced unsynced old mid new some [] bodies front back)
+
+  -- no frame comes next
+  none_next : (reads : Type 0) (left : List ℕ) → CameNext reads left []
+  none_next reads left = record {
+    incoming = [];
+    rest = left;
+    came = λ _. (tt, refl);
+    are = tt;
+    bodies = refl;
+  }
+
+  -- the frames of a turn come next
+  came_next : (reads reads' : Type 0) (left rest : List ℕ) (incoming : List Incoming) → (reads → reads') → (reads' → AreFrames left (frames_of incoming) rest)
+      → AllByRecursion IsIncoming incoming → CameNext reads left (bodies_of incoming)
+  came_next reads reads' left rest incoming r came are = record {
+    incoming = incoming;
+    rest = rest;
+    came = λ known. came (r known);
+    are = are;
+    bodies = refl;
+  }
 
   pub served_none : (host : Host G) (reads : Type 0) (bytes : List ℕ) (puts : Type 0) (text : List ℕ) → Served is_known synced unsynced host host reads bytes bytes puts text text
   served_none host reads bytes puts text = record {
@@ -134,7 +153,7 @@ module _ {G : Type 0} (is_known : G → Type 0) (synced unsynced : G → List �
     logged = refl;
     each = tt;
     read = tt;
-    log = grows_none host.log;
+    log = grows_none is_known synced unsynced host.log;
     after = record { book = refl; tally = refl };
     answered = λ _. sym (append-nil text);
   }
@@ -162,7 +181,7 @@ module _ {G : Type 0} (is_known : G → Type 0) (synced unsynced : G → List �
         logged = all ∙ ap (λ (x : List (List ℕ)). x ++ bodies) s.logged ∙ sym (decided_more s.incoming more);
         each = each_more HasBody s.entries (entry_of bodies) s.each (has_body bodies);
         read = subst (λ (x : List (List ℕ)). AreFramesOf x (s.messages ++ others)) (sym all) (both_are (all_bodies s.entries) bodies s.messages others s.read read);
-        log = grows_more old.log mid.log new.log s.entries (entry_of bodies) s.log log;
+        log = grows_more is_known synced unsynced old.log mid.log new.log s.entries (entry_of bodies) s.log log;
         after = follows_more old.decider mid.decider new.decider s.messages others s.after after;
       }
 
@@ -220,47 +239,43 @@ module _ {G : Type 0} (is_known : G → Type 0) (synced unsynced : G → List �
     logged = s.logged;
     each = s.each;
     read = s.read;
-    log = s.log;
+    log = ([], none_next reads left, inl s.log);
     after = tt;
     answered = λ known. s.answered known;
     fits = tt;
   }
 
-  -- the log didn't fail, and memory ran out before a byte was written
-  pub same_log : (old new : LogWriter G) → new.file ≡ old.file → new.digest ≡ old.digest → new.entries ≡ old.entries → Grows is_known synced unsynced old new []
-  same_log old new file digest count book had has = record {
-    are = subst (λ (x : Entries). AreEntries x) (sym (append-nil had)) has.are;
-    known = subst is_known (sym file) has.known;
-    text = rw (append-nil had) (ap synced file ∙ has.text);
-    nothing = ap unsynced file ∙ has.nothing;
-    digest = rw (append-nil had) (digest ∙ has.digest);
-    count = rw (append-nil had) (count ∙ has.count);
-  }
-
+  -- the entry wasn't appended
   pub stops_appending : (fault : LogFault) (incoming : List Incoming) (turn : Turn) (old new : Host G) (puts : Type 0) (before after : List ℕ)
-      → IsTurn incoming turn → Decides turn.bodies old.decider new.decider
-      → ((digest : List ℕ) (had : Entries) → HasLog is_known synced unsynced digest had old.log → IsCutOff is_known synced unsynced digest had turn.bodies new.log.file)
-      → (fault ≡ NoMemory → (new.log.file ≡ old.log.file) × (new.log.digest ≡ old.log.digest) × (new.log.entries ≡ old.log.entries))
-      → (fault ≡ Failed) ⊎ (fault ≡ NoMemory) → after ≡ before → StopsEntering is_known synced unsynced (Log fault) incoming old new puts before after
-  stops_appending fault incoming turn old new puts before after is d cut memory (inl failed) same =
+      → IsTurn incoming turn → Decides turn.bodies old.decider new.decider → (fault ≡ Failed → BreaksOff is_known synced unsynced old.log new.log [] turn.bodies)
+      → (fault ≡ NoMemory → Grows is_known synced unsynced old.log new.log []) → (fault ≡ Failed) ⊎ (fault ≡ NoMemory) → after ≡ before
+      → StopsEntering is_known synced unsynced (Log fault) incoming old new puts before after
+  stops_appending fault incoming turn old new puts before after is d breaks none (inl failed) same =
       subst (λ (f : LogFault). StopsEntering is_known synced unsynced (Log f) incoming old new puts before after) (sym failed) record {
         messages = d.messages;
         read = subst (λ (x : List (List ℕ)). AreFramesOf x d.messages) is.bodies d.read;
-        log = λ digest had has. subst (λ (x : Entries). IsCutOff is_known synced unsynced digest x (bodies_of incoming) new.log.file) (sym (append-nil had))
-            (subst (λ (x : List (List ℕ)). IsCutOff is_known synced unsynced digest had x new.log.file) is.bodies (cut digest had has));
+        log = subst (λ (x : List (List ℕ)). BreaksOff is_known synced unsynced old.log new.log [] x) is.bodies (breaks failed);
         after = d.after;
         unanswered = λ _. same;
       }
-  stops_appending fault incoming turn old new puts before after is d cut memory (inr none) same =
-      subst (λ (f : LogFault). StopsEntering is_known synced unsynced (Log f) incoming old new puts before after) (sym none) record {
-        log = same_log old.log new.log (memory none).0 (memory none).1 (memory none).2;
+  stops_appending fault incoming turn old new puts before after is d breaks none (inr memory) same =
+      subst (λ (f : LogFault). StopsEntering is_known synced unsynced (Log f) incoming old new puts before after) (sym memory) record {
+        log = none memory;
         unanswered = λ _. same;
       }
 
+  -- the messages weren't decided
+  pub stops_deciding : (incoming : List Incoming) (turn : Turn) (old new : Host G) (result : Result Synced LogFault) (puts : Type 0) (before after : List ℕ) → IsTurn incoming turn
+      → Appends is_known synced unsynced old.log new.log turn.bodies result → after ≡ before → StopsDeciding is_known synced unsynced incoming old new puts before after
+  stops_deciding incoming turn old new result puts before after is a same = record {
+    log = subst (λ (x : List (List ℕ)). MayEnter is_known synced unsynced old.log new.log [] x) is.bodies (may_enter is_known synced unsynced old.log new.log turn.bodies result a);
+    unanswered = λ _. same;
+  }
+
   -- it stopped in an entry behind those that were served
   stopped_memory : (fault : HostFault) (old mid new : Host G) (reads : Type 0) (bytes left : List ℕ) (puts puts' : Type 0) (before text after : List ℕ) → (puts → puts')
-      → LogAfter is_known synced unsynced fault old.log new.log ≡ Grows is_known synced unsynced old.log new.log → ((messages : List Frame) → BookAfter fault old.decider messages reads left new.decider) → FaultFits fault reads left
-      → Served is_known synced unsynced old mid reads bytes left puts before text → StopsDeciding is_known synced unsynced mid new puts' text after
+      → ((entries : Entries) → LogBehind is_known synced unsynced fault old.log new.log entries reads left ≡ Grows is_known synced unsynced old.log new.log entries) → ((messages : List Frame) → BookAfter fault old.decider messages reads left new.decider) → FaultFits fault reads left
+      → Served is_known synced unsynced old mid reads bytes left puts before text → StopsBefore is_known synced unsynced mid new puts' text after
       → Stopped is_known synced unsynced fault old new reads bytes puts before after
   stopped_memory fault old mid new reads bytes left puts puts' before text after p is_log is_book fits s stops = record {
     incoming = s.incoming;
@@ -272,7 +287,7 @@ module _ {G : Type 0} (is_known : G → Type 0) (synced unsynced : G → List �
     logged = s.logged;
     each = s.each;
     read = s.read;
-    log = subst (λ (P : Entries → Type 0). P s.entries) (sym is_log) (grows_to old.log mid.log new.log s.entries s.log stops.log);
+    log = subst (λ (x : Type 0). x) (sym (is_log s.entries)) (grows_to old.log mid.log new.log s.entries s.log stops.log);
     after = is_book s.messages;
     answered = λ known. all_answered fault before after (answers_to (book_of old) s.incoming s.messages) (stops.unanswered (p known) ∙ s.answered known);
     fits = fits;
@@ -323,7 +338,11 @@ module _ {G : Type 0} (is_known : G → Type 0) (synced unsynced : G → List �
     logged = s.logged;
     each = s.each;
     read = s.read;
-    log = (bodies_of e.incoming, breaks old.log mid.log new.log s.entries (bodies_of e.incoming) s.log e.stops.log);
+    log = (
+      bodies_of e.incoming,
+      came_next reads reads' left e.left e.incoming r e.came e.are,
+      breaks_to old.log mid.log new.log s.entries (bodies_of e.incoming) s.log e.stops.log,
+    );
     after = (
       e.incoming,
       e.stops.messages,
@@ -336,13 +355,31 @@ module _ {G : Type 0} (is_known : G → Type 0) (synced unsynced : G → List �
     answered = λ known. e.stops.unanswered (p known) ∙ s.answered known;
     fits = tt;
   }
-  stopped_in_entry (Log NoLog) old mid new reads reads' bytes left puts puts' before text after r p s e = stopped_memory (Log NoLog) old mid new reads bytes left puts puts' before text after p refl (λ _. tt) tt s e.stops
-  stopped_in_entry (Log Version) old mid new reads reads' bytes left puts puts' before text after r p s e = stopped_memory (Log Version) old mid new reads bytes left puts puts' before text after p refl (λ _. tt) tt s e.stops
-  stopped_in_entry (Log OtherBook) old mid new reads reads' bytes left puts puts' before text after r p s e = stopped_memory (Log OtherBook) old mid new reads bytes left puts puts' before text after p refl (λ _. tt) tt s e.stops
-  stopped_in_entry (Log InUse) old mid new reads reads' bytes left puts puts' before text after r p s e = stopped_memory (Log InUse) old mid new reads bytes left puts puts' before text after p refl (λ _. tt) tt s e.stops
-  stopped_in_entry (Log (Broken k)) old mid new reads reads' bytes left puts puts' before text after r p s e = stopped_memory (Log (Broken k)) old mid new reads bytes left puts puts' before text after p refl (λ _. tt) tt s e.stops
-  stopped_in_entry (Log NoMemory) old mid new reads reads' bytes left puts puts' before text after r p s e = stopped_memory (Log NoMemory) old mid new reads bytes left puts puts' before text after p refl (λ _. tt) tt s e.stops
-  stopped_in_entry OutOfMemory old mid new reads reads' bytes left puts puts' before text after r p s e = stopped_memory OutOfMemory old mid new reads bytes left puts puts' before text after p refl (λ _. tt) tt s e.stops
+  stopped_in_entry (Log NoLog) old mid new reads reads' bytes left puts puts' before text after r p s e = stopped_memory (Log NoLog) old mid new reads bytes left puts puts' before text after p (λ _. refl) (λ _. tt) tt s e.stops
+  stopped_in_entry (Log Version) old mid new reads reads' bytes left puts puts' before text after r p s e = stopped_memory (Log Version) old mid new reads bytes left puts puts' before text after p (λ _. refl) (λ _. tt) tt s e.stops
+  stopped_in_entry (Log OtherBook) old mid new reads reads' bytes left puts puts' before text after r p s e = stopped_memory (Log OtherBook) old mid new reads bytes left puts puts' before text after p (λ _. refl) (λ _. tt) tt s e.stops
+  stopped_in_entry (Log InUse) old mid new reads reads' bytes left puts puts' before text after r p s e = stopped_memory (Log InUse) old mid new reads bytes left puts puts' before text after p (λ _. refl) (λ _. tt) tt s e.stops
+  stopped_in_entry (Log (Broken k)) old mid new reads reads' bytes left puts puts' before text after r p s e = stopped_memory (Log (Broken k)) old mid new reads bytes left puts puts' before text after p (λ _. refl) (λ _. tt) tt s e.stops
+  stopped_in_entry (Log NoMemory) old mid new reads reads' bytes left puts puts' before text after r p s e = stopped_memory (Log NoMemory) old mid new reads bytes left puts puts' before text after p (λ _. refl) (λ _. tt) tt s e.stops
+  stopped_in_entry OutOfMemory old mid new reads reads' bytes left puts puts' before text after r p s e = record {
+    incoming = s.incoming;
+    entries = s.entries;
+    messages = s.messages;
+    left = left;
+    came = s.came;
+    are = s.are;
+    logged = s.logged;
+    each = s.each;
+    read = s.read;
+    log = (
+      bodies_of e.incoming,
+      came_next reads reads' left e.left e.incoming r e.came e.are,
+      may_enter_to old.log mid.log new.log s.entries (bodies_of e.incoming) s.log e.stops.log,
+    );
+    after = tt;
+    answered = λ known. e.stops.unanswered (p known) ∙ s.answered known;
+    fits = tt;
+  }
 
   -- it stopped behind those that were served: while frames were read, or in an entry
   pub stopped_next : (fault : HostFault) (old mid new : Host G) (reads reads' : Type 0) (bytes left : List ℕ) (puts puts' same : Type 0) (before text after : List ℕ) → (reads → reads') → (puts → puts')
@@ -369,7 +406,7 @@ module _ {G : Type 0} (is_known : G → Type 0) (synced unsynced : G → List �
     no_message = subst (λ (x : List (List ℕ)). AreFramesOf x []) (sym no_body) tt
 
     no_entry : Grows is_known synced unsynced old.log old.log (entry_of (bodies_of incoming))
-    no_entry = subst (λ (x : List (List ℕ)). Grows is_known synced unsynced old.log old.log (entry_of x)) (sym no_body) (grows_none old.log)
+    no_entry = subst (λ (x : List (List ℕ)). Grows is_known synced unsynced old.log old.log (entry_of x)) (sym no_body) (grows_none is_known synced unsynced old.log)
 
     alone : merged turn.requests.items [] ≡ answers_to (book_of old) incoming []
     alone = ap (λ x. merged x []) is.requests ∙ in_order incoming [] (ap (λ (x : List (List ℕ)). length x) (sym no_body))

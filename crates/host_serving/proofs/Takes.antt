@@ -1,12 +1,12 @@
 -- Bodies that are taken out of frames, one after another.
 use Rattle.std.proofs.Common.{◌≡◌, ℕ, suc, ◌+◌, ◌-◌, ◌<◌, List, [], ◌∷◌, ◌++◌, length, Result, Ok, Err, Bor, inl, inr, refl, sym, ap, subst, ◌∙◌, append_assoc, arith}
 use Rattle.std.specs.List.{flat_map, AllByRecursion}
-use Rattle.std.proofs.lemmas.List.{append-nil, length-append}
+use Rattle.std.proofs.lemmas.List.{append-nil}
 use Rattle.std.proofs.lemmas.List.Concat.{flat_map-append}
 use Rattle.file_batch_laws.specs.Files.{framed, IsBody}
 use Rattle.file_batch_laws.specs.Reading.{bodies_at}
 use Rattle.file_batch_laws.specs.declared.batch_fault.BatchFault.{BatchFault}
-use Rattle.file_batch_laws.specs.Frames.{IsFrameOf, AreFramesOf}
+use Rattle.file_batch_laws.specs.Frames.{AreFramesOf}
 use Rattle.file_batch_laws.proofs.Again.{bodies_again}
 use Rattle.issuer_rows.specs.declared.frame.Frame.{Frame as Message}
 use Rattle.link_frames.specs.Front.{IsFront}

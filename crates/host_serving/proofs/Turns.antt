@@ -1,10 +1,10 @@
 -- What comes on a link in one turn, one frame after another.
-use Rattle.std.proofs.Common.{◌≡◌, ◌≢◌, ℕ, ◌+◌, List, [], ◌∷◌, ◌++◌, Result, Ok, Err, OnOk, length, refl, sym, ap, subst, ◌∙◌}
+use Rattle.std.proofs.Common.{◌≡◌, ◌≢◌, ℕ, ◌+◌, List, [], ◌∷◌, ◌++◌, Result, Ok, Err, OnOk, refl, sym, ap, subst, ◌∙◌}
 use Rattle.std.specs.List.{AllByRecursion}
 use Rattle.std.proofs.lemmas.List.{append-nil}
 use Rattle.std.proofs.lemmas.List.Concat.{flat_map-append}
 use Rattle.file_batch_laws.specs.Files.{framed, IsBody}
-use Rattle.link_frames.specs.Incoming.{Incoming, Network, Body, IsIncoming, body_in, frames_of, bodies_of, requests_behind, bodies_behind}
+use Rattle.link_frames.specs.Incoming.{Incoming, Network, Body, IsIncoming, body_in, frames_of, bodies_of, requests_behind}
 use Rattle.link_frames.specs.Link.{AreFrames}
 use Rattle.link_frames.specs.declared.network_request.NetworkRequest.{NetworkRequest}
 use Rattle.link_frames.proofs.InOrder.{frames_more, bodies_more, requests_more, bodies_behind_more}

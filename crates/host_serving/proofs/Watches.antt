@@ -1,22 +1,20 @@
 -- Entries that a watch is told of, one turn after another.
-use Rattle.std.proofs.Common.{◌≡◌, ◌≤◌, ◌⊎◌, inl, inr, ℕ, length, List, [], ◌∷◌, ◌++◌, Result, Ok, Err, OnOk, IfErr, refl, sym, ap, subst, append_assoc}
-use Rattle.std.specs.List.{AllByRecursion, AllZip}
-use Rattle.std.proofs.lemmas.List.{append-nil}
+use Rattle.std.proofs.Common.{◌≡◌, ◌≤◌, ◌⊎◌, inl, inr, ℕ, length, List, [], ◌∷◌, ◌++◌, Result, Ok, Err, OnOk, IfErr, refl, sym, subst}
+use Rattle.std.specs.List.{AllZip}
 use Rattle.issuer_rows.specs.declared.frame.Frame.{Frame}
 use Rattle.file_batch_laws.specs.Frames.{AreFramesOf}
-use Rattle.log_file.specs.Writes.{HasLog, IsCutOff}
 use Rattle.log_file.specs.declared.log_writer.LogWriter.{LogWriter}
 use Rattle.log_laws.specs.declared.log_fault.LogFault.{LogFault}
 use Rattle.log_laws.specs.declared.log_fault.LogFault.TheVariants.{NoLog, Version, OtherBook, InUse, Broken, Failed, OutOfMemory as NoMemory}
-use Rattle.host_serving.specs.Entering.{Grows}
+use Rattle.host_serving.specs.Entering.{BreaksOff, Grows}
 use Rattle.host_serving.specs.Serving.{LogAfter}
 use Rattle.host_serving.specs.Tally.{counted}
 use Rattle.host_serving.specs.Watched.{HasAtMost, Hears, Watched, WatchedSoFar}
 use Rattle.host_serving.specs.declared.host_fault.HostFault.{HostFault}
 use Rattle.host_serving.specs.declared.host_fault.HostFault.TheVariants.{Link, Log, OutOfMemory}
 use Rattle.host_serving.specs.declared.tally.Tally.{Tally}
+use Rattle.host_serving.proofs.Appendings.{breaks_more, grows_more, grows_none, may_enter_more}
 use Rattle.host_serving.proofs.Takes.{each_more}
-use Rattle.host_serving.proofs.Servings.{grows_none, grows_more, same_log}
 
 abbrev Entries : Type 0
 Entries = List (List (List ℕ))
@@ -70,15 +68,20 @@ module _ {N : Type 0} (most : ℕ) (hears : N → Tally → List Frame → N →
     told = hears_more hears had before f.messages b.messages mid between has after f.told b.told;
   }
 
+  -- the same entries, of which less is known
+  pub watched_as : (log other : Entries → Type 0) (had has : N) (before after : Tally) → ((entries : Entries) → log entries → other entries) → Watched log most hears had before has after
+      → Watched other most hears had before has after
+  watched_as log other had has before after less w = record {
+    entries = w.entries;
+    messages = w.messages;
+    stand = less w.entries w.stand;
+    few = w.few;
+    read = w.read;
+    told = w.told;
+  }
+
   -- over the file of a log
   module _ {G : Type 0} (is_known : G → Type 0) (synced unsynced : G → List ℕ) where
-    breaks_more : (old mid new : LogWriter G) (some more : Entries) → Grows is_known synced unsynced old mid some → LogAfter is_known synced unsynced (Log Failed) mid new more
-        → LogAfter is_known synced unsynced (Log Failed) old new (some ++ more)
-    breaks_more old mid new some more front back = (
-      back.0,
-      λ digest had has. subst (λ (entries : Entries). IsCutOff is_known synced unsynced digest entries back.0 new.file) (append_assoc had some more) (back.1 digest (had ++ some) (front digest had has)),
-    )
-
     pub log_more : (fault : HostFault) (old mid new : LogWriter G) (some more : Entries) → Grows is_known synced unsynced old mid some → LogAfter is_known synced unsynced fault mid new more
         → LogAfter is_known synced unsynced fault old new (some ++ more)
     log_more (Link f) old mid new some more front back = grows_more is_known synced unsynced old mid new some more front back
@@ -87,9 +90,9 @@ module _ {N : Type 0} (most : ℕ) (hears : N → Tally → List Frame → N →
     log_more (Log OtherBook) old mid new some more front back = grows_more is_known synced unsynced old mid new some more front back
     log_more (Log InUse) old mid new some more front back = grows_more is_known synced unsynced old mid new some more front back
     log_more (Log (Broken k)) old mid new some more front back = grows_more is_known synced unsynced old mid new some more front back
-    log_more (Log Failed) old mid new some more front back = breaks_more old mid new some more front back
+    log_more (Log Failed) old mid new some more front back = (back.0, breaks_more is_known synced unsynced old mid new some more back.0 front back.1)
     log_more (Log NoMemory) old mid new some more front back = grows_more is_known synced unsynced old mid new some more front back
-    log_more OutOfMemory old mid new some more front back = grows_more is_known synced unsynced old mid new some more front back
+    log_more OutOfMemory old mid new some more front back = (back.0, may_enter_more is_known synced unsynced old mid new some more back.0 front back.1)
 
     -- entries, and entries behind them
     pub watched_more : (old mid new : LogWriter G) (had text has : N) (before between after : Tally) → Watched (Grows is_known synced unsynced old mid) most hears had before text between
@@ -107,22 +110,20 @@ module _ {N : Type 0} (most : ℕ) (hears : N → Tally → List Frame → N →
           (λ some more. log_more fault old mid new some more) f b.1,
     )
 
-    log_appending : (fault : LogFault) (old new : LogWriter G) (bodies : List (List ℕ)) → ((digest : List ℕ) (had : Entries) → HasLog is_known synced unsynced digest had old → IsCutOff is_known synced unsynced digest had bodies new.file)
-        → (fault ≡ NoMemory → (new.file ≡ old.file) × (new.digest ≡ old.digest) × (new.entries ≡ old.entries)) → (fault ≡ Failed) ⊎ (fault ≡ NoMemory)
-        → LogAfter is_known synced unsynced (Log fault) old new []
-    log_appending fault old new bodies cut memory (inl failed) =
-        subst (λ (f : LogFault). LogAfter is_known synced unsynced (Log f) old new []) (sym failed)
-        (bodies, λ digest had has. subst (λ (x : Entries). IsCutOff is_known synced unsynced digest x bodies new.file) (sym (append-nil had)) (cut digest had has))
-    log_appending fault old new bodies cut memory (inr none) =
-        subst (λ (f : LogFault). LogAfter is_known synced unsynced (Log f) old new []) (sym none) (same_log is_known synced unsynced old new (memory none).0 (memory none).1 (memory none).2)
+    -- the entry couldn't be appended
+    log_appending : (fault : LogFault) (old new : LogWriter G) (bodies : List (List ℕ)) → (fault ≡ Failed → BreaksOff is_known synced unsynced old new [] bodies)
+        → (fault ≡ NoMemory → Grows is_known synced unsynced old new []) → (fault ≡ Failed) ⊎ (fault ≡ NoMemory) → LogAfter is_known synced unsynced (Log fault) old new []
+    log_appending fault old new bodies breaks none (inl failed) =
+        subst (λ (f : LogFault). LogAfter is_known synced unsynced (Log f) old new []) (sym failed) (bodies, breaks failed)
+    log_appending fault old new bodies breaks none (inr memory) =
+        subst (λ (f : LogFault). LogAfter is_known synced unsynced (Log f) old new []) (sym memory) (none memory)
 
-    -- the entry couldn't be appended, and nothing was told
-    pub untold_appending : (fault : LogFault) (old new : LogWriter G) (same : N) (before : Tally) (bodies : List (List ℕ))
-        → ((digest : List ℕ) (had : Entries) → HasLog is_known synced unsynced digest had old → IsCutOff is_known synced unsynced digest had bodies new.file)
-        → (fault ≡ NoMemory → (new.file ≡ old.file) × (new.digest ≡ old.digest) × (new.entries ≡ old.entries)) → (fault ≡ Failed) ⊎ (fault ≡ NoMemory)
+    -- and nothing was told
+    pub untold_appending : (fault : LogFault) (old new : LogWriter G) (same : N) (before : Tally) (bodies : List (List ℕ)) → (fault ≡ Failed → BreaksOff is_known synced unsynced old new [] bodies)
+        → (fault ≡ NoMemory → Grows is_known synced unsynced old new []) → (fault ≡ Failed) ⊎ (fault ≡ NoMemory)
         → WatchedSoFar (LogAfter is_known synced unsynced (Log fault) old new) most hears same before same
-    untold_appending fault old new same before bodies cut memory kind =
-        (before, untold (LogAfter is_known synced unsynced (Log fault) old new) same before (log_appending fault old new bodies cut memory kind))
+    untold_appending fault old new same before bodies breaks none kind =
+        (before, untold (LogAfter is_known synced unsynced (Log fault) old new) same before (log_appending fault old new bodies breaks none kind))
 
     -- a turn without bodies tells nothing
     pub untold_alone : {X : Type 0} (result : Result X HostFault) (log : LogWriter G) (same : N) (before : Tally) → OnOk result (Watched (Grows is_known synced unsynced log log) most hears same before same before)

@@ -1,5 +1,5 @@
--- One turn: the messages of its bodies are decided, their entry is appended to the log and synced, and then all that came is answered.
-use Rattle.std.specs.Prelude.{◌≡◌, ℕ, List, [], ◌++◌}
+-- One turn: the messages of its bodies are decided while their entry is appended to the log and synced, and then all that came is answered.
+use Rattle.std.specs.Prelude.{◌≡◌, ◌⊎◌, ℕ, List, [], ◌∷◌, ◌++◌, Result, IfOk, IfErr, OnOk}
 use Rattle.issuer_rows.specs.Fold.{Rows}
 use Rattle.issuer_rows.specs.declared.frame.Frame.{Frame}
 use Rattle.file_batch_laws.specs.Frames.{AreFramesOf}
@@ -8,7 +8,9 @@ use Rattle.link_frames.specs.Replies.{AppendsPart}
 use Rattle.link_frames.specs.declared.link_fault.LinkFault.TheVariants as link
 use Rattle.log_file.specs.Writes.{HasLog, IsCutOff}
 use Rattle.log_file.specs.declared.log_writer.LogWriter.{LogWriter}
-use Rattle.log_laws.specs.declared.log_fault.LogFault.TheVariants.{Failed}
+use Rattle.log_file.specs.declared.synced.Synced.{Synced}
+use Rattle.log_laws.specs.declared.log_fault.LogFault.{LogFault}
+use Rattle.log_laws.specs.declared.log_fault.LogFault.TheVariants.{Failed, OutOfMemory as NoMemory}
 use Rattle.host_serving.specs.Deciding.{Follows, answers_to}
 use Rattle.host_serving.specs.Turn.{entry_of}
 use Rattle.host_serving.specs.declared.host.Host.{Host}
@@ -30,6 +32,20 @@ module _ {G : Type 0} (is_known : G → Type 0) (synced unsynced : G → List �
   abbrev pub BreaksOff : LogWriter G → LogWriter G → List (List (List ℕ)) → List (List ℕ) → Type 0
   BreaksOff old new entries bodies = (digest : List ℕ) (first : List (List (List ℕ))) → HasLog is_known synced unsynced digest first old
       → IsCutOff is_known synced unsynced digest (first ++ entries) bodies new.file
+
+  -- The entry of these bodies was appended, and synced. Where a call on the file failed, some beginning of it may stand there; where memory ran
+  -- out, nothing.
+  pub record Appends (old new : LogWriter G) (bodies : List (List ℕ)) (result : Result Synced LogFault) : Type 0 where
+    pub of : IfOk result (λ entry. entry.bodies.now ≡ bodies)
+    pub grows : OnOk result (Grows old new (bodies ∷ []))
+    pub fault : IfErr result (λ e. (e ≡ Failed) ⊎ (e ≡ NoMemory))
+    pub breaks_off : IfErr result (λ e. e ≡ Failed → BreaksOff old new [] bodies)
+    pub same : IfErr result (λ e. e ≡ NoMemory → Grows old new [])
+
+  -- what the log had stays, and these entries stand behind it, all synced; one entry more, of these bodies, may stand behind them, or some
+  -- beginning of it
+  abbrev pub MayEnter : LogWriter G → LogWriter G → List (List (List ℕ)) → List (List ℕ) → Type 0
+  MayEnter old new entries bodies = Grows old new entries ⊎ (Grows old new (entries ++ bodies ∷ []) ⊎ BreaksOff old new entries bodies)
 
   -- the messages of the bodies were decided, their entry was appended and synced, and all was answered; where no body came, the log and the
   -- book are as they were
@@ -56,8 +72,13 @@ module _ {G : Type 0} (is_known : G → Type 0) (synced unsynced : G → List �
     pub after : Follows old.decider new.decider messages
     pub unanswered : puts → has ≡ had
 
-  -- Memory ran out before the entry was appended: the log is as it was, nothing was written, and the book is of no use.
-  pub record StopsDeciding (old new : Host G) (puts : Type 0) (had has : List ℕ) : Type 0 where
+  -- Memory ran out while the messages were decided: nothing was written on the link, and the book is of no use. The log may have their entry.
+  pub record StopsDeciding (incoming : List Incoming) (old new : Host G) (puts : Type 0) (had has : List ℕ) : Type 0 where
+    pub log : MayEnter old.log new.log [] (bodies_of incoming)
+    pub unanswered : puts → has ≡ had
+
+  -- Memory ran out before a byte of the entry was written: the log is as it was, and nothing was written on the link.
+  pub record StopsBefore (old new : Host G) (puts : Type 0) (had has : List ℕ) : Type 0 where
     pub log : Grows old.log new.log []
     pub unanswered : puts → has ≡ had
 
@@ -67,4 +88,5 @@ module _ {G : Type 0} (is_known : G → Type 0) (synced unsynced : G → List �
   StopsEntering (Link link.OutOfMemory) incoming old new puts had has = StopsAnswering incoming old new puts had has
   StopsEntering (Link fault) incoming old new puts had has = ⊥
   StopsEntering (Log Failed) incoming old new puts had has = StopsAppending incoming old new puts had has
-  StopsEntering fault incoming old new puts had has = StopsDeciding old new puts had has
+  StopsEntering (Log fault) incoming old new puts had has = StopsBefore old new puts had has
+  StopsEntering OutOfMemory incoming old new puts had has = StopsDeciding incoming old new puts had has

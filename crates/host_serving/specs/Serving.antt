@@ -10,12 +10,20 @@ use Rattle.link_frames.specs.declared.link_fault.LinkFault.TheVariants as link
 use Rattle.log_file.specs.declared.log_writer.LogWriter.{LogWriter}
 use Rattle.log_laws.specs.declared.log_fault.LogFault.TheVariants.{Failed}
 use Rattle.host_serving.specs.Deciding.{Follows, answers_to}
-use Rattle.host_serving.specs.Entering.{book_of, Grows, BreaksOff, Enters, StopsEntering}
+use Rattle.host_serving.specs.Entering.{book_of, Grows, BreaksOff, MayEnter, Enters, StopsEntering}
 use Rattle.host_serving.specs.Entries.{all_bodies, AreMessagesOf, HasBody}
 use Rattle.host_serving.specs.declared.decider.Decider.{Decider}
 use Rattle.host_serving.specs.declared.host.Host.{Host}
 use Rattle.host_serving.specs.declared.host_fault.HostFault.{HostFault}
 use Rattle.host_serving.specs.declared.host_fault.HostFault.TheVariants.{Link, Log, OutOfMemory}
+
+-- bodies of the frames that come next
+pub record CameNext (reads : Type 0) (left : List ℕ) (next : List (List ℕ)) : Type 0 where
+  pub incoming : List Incoming
+  pub rest : List ℕ
+  pub came : reads → AreFrames left (frames_of incoming) rest
+  pub are : AllByRecursion IsIncoming incoming
+  pub bodies : next ≡ bodies_of incoming
 
 -- The book after a fault: that after these messages. Where a call on the log failed, the messages of the frames that came next are decided
 -- too, and not answered; where memory ran out it is of no use.
@@ -46,10 +54,19 @@ StopsReading OutOfMemory reads left = ⊤
 -- over the file of a log
 module _ {G : Type 0} (is_known : G → Type 0) (synced unsynced : G → List ℕ) where
   -- What the log is after a fault: what it had, and these entries, all synced. Where a call on its file failed, some beginning of one more
-  -- may stand behind them.
+  -- may stand behind them; where memory ran out while messages were decided, all of it, too.
   abbrev pub LogAfter : HostFault → LogWriter G → LogWriter G → List (List (List ℕ)) → Type 0
   LogAfter (Log Failed) old new entries = (bodies : List (List ℕ)) × BreaksOff is_known synced unsynced old new entries bodies
+  LogAfter OutOfMemory old new entries = (bodies : List (List ℕ)) × MayEnter is_known synced unsynced old new entries bodies
   LogAfter fault old new entries = Grows is_known synced unsynced old new entries
+
+  -- the same, and such an entry is of the frames that come next
+  abbrev pub LogBehind : HostFault → LogWriter G → LogWriter G → List (List (List ℕ)) → Type 0 → List ℕ → Type 0
+  LogBehind (Log Failed) old new entries reads left =
+      (bodies : List (List ℕ)) × CameNext reads left bodies × BreaksOff is_known synced unsynced old new entries bodies
+  LogBehind OutOfMemory old new entries reads left =
+      (bodies : List (List ℕ)) × CameNext reads left bodies × MayEnter is_known synced unsynced old new entries bodies
+  LogBehind fault old new entries reads left = Grows is_known synced unsynced old new entries
 
   -- All frames that came on a link, up to the bytes that are left, were served: the bodies stand in the log, each entry synced, and network
   -- management stands in none; the book is the one after the bodies' messages, decided in order; and all was answered, in the order of the
@@ -68,7 +85,8 @@ module _ {G : Type 0} (is_known : G → Type 0) (synced unsynced : G → List �
     pub answered : puts → has ≡ had ++ answers_to (book_of old) incoming messages
 
   -- Serving a link stopped with a fault. The log has entries more, all synced, of the bodies of a beginning of the frames that came. What
-  -- was written are the answers to that beginning, or a beginning of these: no body was answered, not even in part, that isn't in the log.
+  -- was written are the answers to that beginning, or a beginning of these: no body was answered, not even in part, that isn't in the log. An
+  -- entry that may stand behind those is of the frames that come next.
   pub record Stopped (fault : HostFault) (old new : Host G) (reads : Type 0) (bytes : List ℕ) (puts : Type 0) (had has : List ℕ) : Type 0 where
     pub incoming : List Incoming
     pub entries : List (List (List ℕ))
@@ -79,7 +97,7 @@ module _ {G : Type 0} (is_known : G → Type 0) (synced unsynced : G → List �
     pub logged : all_bodies entries ≡ bodies_of incoming
     pub each : AllByRecursion HasBody entries
     pub read : AreMessagesOf entries messages
-    pub log : LogAfter fault old.log new.log entries
+    pub log : LogBehind fault old.log new.log entries reads left
     pub after : BookAfter fault old.decider messages reads left new.decider
     pub answered : puts → AnsweredAfter fault had has (answers_to (book_of old) incoming messages)
     pub fits : FaultFits fault reads left

@@ -20,7 +20,7 @@ pub fn answer<W: Sink>(
     requests: &[NetworkRequest],
     sink: &mut W,
 ) -> Result<(), LinkFault>
-    requires ahead { HasDecided synced.now.bodies decider.now }
+    requires ahead { HasDecided synced.now.bodies.now decider.now }
     ensures device { Writes W.is_known W.has_failed W.may_fail sink.old sink.new result }
     ensures ok { OnOk result (W.is_known sink.old
         → W.written sink.new ≡ W.written sink.old ++ merged requests.now decider.now.prefix.replies.items) }

@@ -11,6 +11,7 @@ mod max_batch;
 mod serving;
 mod taking;
 mod tally;
+mod together;
 mod turn;
 mod unwatched;
 mod watch;

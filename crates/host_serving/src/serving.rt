@@ -3,15 +3,16 @@ use crate::host::Host;
 use crate::host_fault::HostFault;
 use crate::max_batch::MaxBatch;
 use crate::taking::take_turn;
+use crate::together::decide_and_append;
 use crate::turn::Turn;
 use crate::watch::Watch;
 use file_devices::{Sink, Source};
 use issuer_view::Decide;
 use link_frames::{LinkFault, LinkReader, ReplyWriter};
 use log_devices::GrowingFile;
-use log_file::Bodies;
 use std::alloc::{AllocError, Global};
 use std::mem;
+use std::thread::Threads;
 
 // The memory of a link: what came on it, what is about to be written, and what came in one turn.
 #[derive(Drop)]
@@ -71,10 +72,11 @@ impl<G: GrowingFile + Drop> Host<G> {
         Ok(turn)
     }
 
-    // Decides the messages of the bodies that came in this turn, appends their entry to the log, and once it is synced answers them and the
-    // network management requests between them, in order.
-    fn enter_bodies<W: Sink, F: Decide, N: Watch>(
+    // Decides the messages of the bodies that came in this turn while their entry is appended to the log, and once it is synced answers them and
+    // the network management requests between them, in order.
+    fn enter_bodies<R: Threads + Sync, W: Sink, F: Decide + Sync, N: Watch>(
         &mut self,
+        rt: &R,
         alloc: Global,
         turn: Turn,
         writer: &mut ReplyWriter,
@@ -97,22 +99,28 @@ impl<G: GrowingFile + Drop> Host<G> {
         ensures told_before { (most : ℕ) → length turn.bodies ≤ most → IfErr result (λ e. WatchedSoFar (LogAfter G.is_known G.synced G.unsynced e self.old.log self.new.log)
             most N.hears watch.old self.old.decider.tally watch.new) }
     {
-        let mut turn = turn;
         let before = self.decider.tally();
-        self.decider.decide(alloc, &turn.bodies, decision)?;
-        let bodies = mem::replace(&mut turn.bodies, Bodies::new(alloc));
-        let synced = self.log.append(bodies)?;
+        let (decided, synced) = decide_and_append(
+            rt,
+            alloc,
+            &mut self.decider,
+            &mut self.log,
+            &turn.bodies,
+            decision,
+        );
+        decided?;
+        let synced = synced?;
         watch.entry_synced(before, self.decider.frames());
         answer(writer, &synced, &self.decider, &turn.requests, sink)?;
-        turn.bodies = synced.into_bodies();
         Ok(turn)
     }
 
     /// Serves what came in one turn of a link: its bodies become an entry of the log, which is decided, synced and answered, as
     /// `serve_link` does it; where no body came, there is no entry. The turn is given back, for its memory. Several links can have their
     /// turns at one host, one after another.
-    pub fn enter<W: Sink, F: Decide, N: Watch>(
+    pub fn enter<R: Threads + Sync, W: Sink, F: Decide + Sync, N: Watch>(
         &mut self,
+        rt: &R,
         alloc: Global,
         turn: Turn,
         writer: &mut ReplyWriter,
@@ -139,12 +147,13 @@ impl<G: GrowingFile + Drop> Host<G> {
         if turn.bodies.is_empty() {
             return self.answer_requests(turn, writer, sink);
         }
-        self.enter_bodies(alloc, turn, writer, sink, decision, watch)
+        self.enter_bodies(rt, alloc, turn, writer, sink, decision, watch)
     }
 
     // Waits for frames, and serves those that have come. Returns false at the link's end.
-    fn serve_next<R: Source, W: Sink, F: Decide, N: Watch>(
+    fn serve_next<T: Threads + Sync, R: Source, W: Sink, F: Decide + Sync, N: Watch>(
         &mut self,
+        rt: &T,
         alloc: Global,
         link: &mut Link,
         source: &mut R,
@@ -177,7 +186,7 @@ impl<G: GrowingFile + Drop> Host<G> {
         }
         take_turn(&mut link.turn, link.reader.frames(), count)?;
         let turn = mem::replace(&mut link.turn, Turn::new(alloc));
-        link.turn = self.enter(alloc, turn, &mut link.writer, sink, decision, watch)?;
+        link.turn = self.enter(rt, alloc, turn, &mut link.writer, sink, decision, watch)?;
         Ok(true)
     }
 
@@ -186,8 +195,9 @@ impl<G: GrowingFile + Drop> Host<G> {
     /// no message stands in the log, too, and gets no reply. Network management (ISO 8583:1993, 1804) is answered by the link itself, 1814
     /// with action 800, at its place among the replies: it stands in no entry, and changes nothing. At most so many frames are served in one
     /// turn, and the watch is told of each entry once it is synced. What a batch costs doesn't grow with the book or the log.
-    pub fn serve_link<R: Source, W: Sink, F: Decide, N: Watch>(
+    pub fn serve_link<T: Threads + Sync, R: Source, W: Sink, F: Decide + Sync, N: Watch>(
         &mut self,
+        rt: &T,
         alloc: Global,
         source: &mut R,
         sink: &mut W,
@@ -214,7 +224,7 @@ impl<G: GrowingFile + Drop> Host<G> {
     {
         let mut link = Link::new(alloc)?;
         for _ in 0..u64::MAX {
-            if !self.serve_next(alloc, &mut link, source, sink, decision, most, watch)? {
+            if !self.serve_next(rt, alloc, &mut link, source, sink, decision, most, watch)? {
                 return Ok(());
             }
         }

@@ -1,5 +1,6 @@
 ghost use Rattle.std.specs.Prelude.{◌≡◌, ◌≤◌, ◌++◌, [], length, take, IfOk, IfErr, OnOk, OnErr};
 ghost use Rattle.byteorder.specs.Endian.{big_bytes};
+ghost use Rattle.file_batch_laws.specs.Files.{AreBodies};
 ghost use Rattle.log_devices.specs.Growing.{AddsPart, Begins};
 ghost use Rattle.log_laws.specs.Texts.{entry_text, next_digest};
 ghost use Rattle.log_file.specs.Device.{UsesFile};
@@ -81,6 +82,7 @@ pub(crate) fn make_entry(
 ) -> Result<[u8; 32], AllocError>
     ensures text { OnOk result (text.new.items ≡ entry_text before.now bodies.now) }
     ensures digest { IfOk result (λ digest. digest ≡ next_digest before.now bodies.now) }
+    ensures are { AreBodies bodies.now }
 {
     text.clear();
     let framed = bodies.framed();

@@ -79,14 +79,14 @@ impl<G: GrowingFile + Drop> LogWriter<G> {
     /// Writes one entry of these bodies behind the others, and syncs it. After `Failed` the file has some beginning of the entry behind
     /// the others, all of it perhaps, and every later call is `Failed` and does nothing: what the disk holds is not known, and the next
     /// reading finds it. After `OutOfMemory` nothing was written.
-    pub fn append(&mut self, bodies: Bodies) -> Result<Synced, LogFault>
-        ensures bodies { IfOk result (λ synced. (synced.bodies ≡ bodies) × (synced.number ≡ self.old.entries)) }
+    pub fn append<'a>(&mut self, bodies: &'a Bodies) -> Result<Synced<'a>, LogFault>
+        ensures bodies { IfOk result (λ synced. (synced.bodies.now ≡ bodies.now) × (synced.number ≡ self.old.entries)) }
         // The log has this entry behind the others, and a crash keeps it.
         ensures synced { (book : List ℕ) (entries : List (List (List ℕ))) → HasLog G.is_known G.synced G.unsynced book entries self.old
-            → OnOk result (HasLog G.is_known G.synced G.unsynced book (entries ++ bodies ∷ []) self.new) }
+            → OnOk result (HasLog G.is_known G.synced G.unsynced book (entries ++ bodies.now ∷ []) self.new) }
         // The log has the others, and a crash keeps them; of this entry some beginning may stand behind them.
         ensures cut_off { (book : List ℕ) (entries : List (List (List ℕ))) → HasLog G.is_known G.synced G.unsynced book entries self.old
-            → IfErr result (λ e. IsCutOff G.is_known G.synced G.unsynced book entries bodies self.new.file) }
+            → IfErr result (λ e. IsCutOff G.is_known G.synced G.unsynced book entries bodies.now self.new.file) }
         ensures memory { result ≡ Err LogFault.OutOfMemory → (self.new.file ≡ self.old.file) × (self.new.digest ≡ self.old.digest)
             × (self.new.entries ≡ self.old.entries) × (self.new.has_failed ≡ self.old.has_failed) }
         ensures failed { result ≡ Err LogFault.Failed → self.new.has_failed ≡ true }
@@ -103,7 +103,7 @@ impl<G: GrowingFile + Drop> LogWriter<G> {
             // No memory can hold so many entries.
             return Err(LogFault::OutOfMemory);
         };
-        let digest = make_entry(&mut self.text, &self.digest, &bodies)?;
+        let digest = make_entry(&mut self.text, &self.digest, bodies)?;
         if let Err(fault) = put_and_sync(&mut self.file, &self.text) {
             self.has_failed = true;
             return Err(fault);

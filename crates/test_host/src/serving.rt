@@ -11,6 +11,7 @@ use log_devices::MemoryLog;
 use log_file::{Begun, LogFault, LogWriter, read_log};
 use std::alloc::Global;
 use std::test::Fail;
+use std::thread::Threads;
 use test_fixtures::{first_book_with, has_row};
 use test_links::{
     ECHO, ECHO_REPLY, FIRST, FIRST_REPLY, LINK, NO_MESSAGE, REPEAT, REPLIES, SECOND, SECOND_REPLY,
@@ -65,7 +66,14 @@ fn log_size(alloc: Global, bytes: &[u8]) -> Option<(usize, u32)> {
 }
 
 // Serves a link whose source gives pieces of this size. `None` where the log can't be begun.
-fn serve(alloc: Global, book: &Book, link: &[u8], piece: usize, answers: Answers) -> Option<Outcome>
+fn serve<R: Threads + Sync>(
+    rt: &R,
+    alloc: Global,
+    book: &Book,
+    link: &[u8],
+    piece: usize,
+    answers: Answers,
+) -> Option<Outcome>
     requires { 0 < piece }
 {
     let mut host = host(alloc, book, answers.log)?;
@@ -73,6 +81,7 @@ fn serve(alloc: Global, book: &Book, link: &[u8], piece: usize, answers: Answers
     let mut sink = FailingSink::new(alloc, 64, answers.sink);
     let most = MaxBatch::whole_entry();
     let result = host.serve_link(
+        rt,
         alloc,
         &mut source,
         &mut sink,
@@ -93,10 +102,16 @@ fn serve(alloc: Global, book: &Book, link: &[u8], piece: usize, answers: Answers
 }
 
 // Whether a link is served whole: its replies, in so many entries of so many bodies, of which so many are no message.
-fn is_served(alloc: Global, book: &Book, piece: usize, entries: usize) -> bool
+fn is_served<R: Threads + Sync>(
+    rt: &R,
+    alloc: Global,
+    book: &Book,
+    piece: usize,
+    entries: usize,
+) -> bool
     requires { 0 < piece }
 {
-    match serve(alloc, book, LINK, piece, ALL) {
+    match serve(rt, alloc, book, LINK, piece, ALL) {
         Some(outcome) => {
             outcome.result == Ok(())
                 && outcome.replies.as_slice() == REPLIES
@@ -112,11 +127,11 @@ fn is_served(alloc: Global, book: &Book, piece: usize, entries: usize) -> bool
 #[test]
 fn a_link_is_served_however_it_is_cut(rt: HostRuntime) -> Result<(), Fail> {
     let book = first_book_with(rt.alloc(), &[])?;
-    assert!(rt; is_served(rt.alloc(), &book, 4096, 1));
+    assert!(rt; is_served(&rt, rt.alloc(), &book, 4096, 1));
     // The request, then the body that is no message, then the repeat.
-    assert!(rt; is_served(rt.alloc(), &book, 1, 3));
+    assert!(rt; is_served(&rt, rt.alloc(), &book, 1, 3));
     // The request; the body that is no message and most of the repeat; the rest.
-    assert!(rt; is_served(rt.alloc(), &book, 100, 3));
+    assert!(rt; is_served(&rt, rt.alloc(), &book, 100, 3));
     Ok(())
 }
 
@@ -132,8 +147,16 @@ fn calls_to_begin(alloc: Global, book: &Book) -> u64 {
 
 // Whether a link in pieces of 100 bytes leaves so many entries and these replies, where its log fails behind so many calls: each entry
 // takes two, one that writes and one that syncs.
-fn logged(alloc: Global, book: &Book, answers: u64, entries: usize, replies: &[u8]) -> bool {
+fn logged<R: Threads + Sync>(
+    rt: &R,
+    alloc: Global,
+    book: &Book,
+    answers: u64,
+    entries: usize,
+    replies: &[u8],
+) -> bool {
     match serve(
+        rt,
         alloc,
         book,
         LINK,
@@ -158,18 +181,26 @@ fn a_log_that_fails_at_any_call_lets_nothing_out(rt: HostRuntime) -> Result<(), 
     let begun = calls_to_begin(rt.alloc(), &book);
     assert!(rt; begun < 10);
     // What stands in the log is read once it is synced, and the entry that was not synced isn't.
-    assert!(rt; logged(rt.alloc(), &book, begun, 0, b""));
-    assert!(rt; logged(rt.alloc(), &book, begun + 1, 0, b""));
-    assert!(rt; logged(rt.alloc(), &book, begun + 2, 1, FIRST_REPLY));
-    assert!(rt; logged(rt.alloc(), &book, begun + 3, 1, FIRST_REPLY));
-    assert!(rt; logged(rt.alloc(), &book, begun + 4, 2, FIRST_REPLY));
-    assert!(rt; logged(rt.alloc(), &book, begun + 5, 2, FIRST_REPLY));
+    assert!(rt; logged(&rt, rt.alloc(), &book, begun, 0, b""));
+    assert!(rt; logged(&rt, rt.alloc(), &book, begun + 1, 0, b""));
+    assert!(rt; logged(&rt, rt.alloc(), &book, begun + 2, 1, FIRST_REPLY));
+    assert!(rt; logged(&rt, rt.alloc(), &book, begun + 3, 1, FIRST_REPLY));
+    assert!(rt; logged(&rt, rt.alloc(), &book, begun + 4, 2, FIRST_REPLY));
+    assert!(rt; logged(&rt, rt.alloc(), &book, begun + 5, 2, FIRST_REPLY));
     Ok(())
 }
 
 // Whether a sink that takes 64 bytes a call, and so many calls, has a beginning of the replies, with the entries of all that it has.
-fn is_cut_off(alloc: Global, book: &Book, answers: u64, taken: usize, entries: usize) -> bool {
+fn is_cut_off<R: Threads + Sync>(
+    rt: &R,
+    alloc: Global,
+    book: &Book,
+    answers: u64,
+    taken: usize,
+    entries: usize,
+) -> bool {
     match serve(
+        rt,
         alloc,
         book,
         LINK,
@@ -191,16 +222,24 @@ fn is_cut_off(alloc: Global, book: &Book, answers: u64, taken: usize, entries: u
 #[test]
 fn a_sink_that_fails_at_any_call_has_what_is_in_the_log(rt: HostRuntime) -> Result<(), Fail> {
     let book = first_book_with(rt.alloc(), &[])?;
-    assert!(rt; is_cut_off(rt.alloc(), &book, 0, 0, 1));
-    assert!(rt; is_cut_off(rt.alloc(), &book, 1, 64, 1));
-    assert!(rt; is_cut_off(rt.alloc(), &book, 2, 106, 3));
-    assert!(rt; is_cut_off(rt.alloc(), &book, 3, 170, 3));
+    assert!(rt; is_cut_off(&rt, rt.alloc(), &book, 0, 0, 1));
+    assert!(rt; is_cut_off(&rt, rt.alloc(), &book, 1, 64, 1));
+    assert!(rt; is_cut_off(&rt, rt.alloc(), &book, 2, 106, 3));
+    assert!(rt; is_cut_off(&rt, rt.alloc(), &book, 3, 170, 3));
     Ok(())
 }
 
 // Whether a source that fails behind so many calls of 100 bytes leaves these replies and entries.
-fn stops(alloc: Global, book: &Book, answers: u64, replies: &[u8], entries: usize) -> bool {
+fn stops<R: Threads + Sync>(
+    rt: &R,
+    alloc: Global,
+    book: &Book,
+    answers: u64,
+    replies: &[u8],
+    entries: usize,
+) -> bool {
     match serve(
+        rt,
         alloc,
         book,
         LINK,
@@ -222,10 +261,10 @@ fn stops(alloc: Global, book: &Book, answers: u64, replies: &[u8], entries: usiz
 #[test]
 fn a_source_that_fails_at_any_call_is_answered_up_to_there(rt: HostRuntime) -> Result<(), Fail> {
     let book = first_book_with(rt.alloc(), &[])?;
-    assert!(rt; stops(rt.alloc(), &book, 0, b"", 0));
-    assert!(rt; stops(rt.alloc(), &book, 1, FIRST_REPLY, 1));
-    assert!(rt; stops(rt.alloc(), &book, 2, FIRST_REPLY, 2));
-    assert!(rt; stops(rt.alloc(), &book, 3, REPLIES, 3));
+    assert!(rt; stops(&rt, rt.alloc(), &book, 0, b"", 0));
+    assert!(rt; stops(&rt, rt.alloc(), &book, 1, FIRST_REPLY, 1));
+    assert!(rt; stops(&rt, rt.alloc(), &book, 2, FIRST_REPLY, 2));
+    assert!(rt; stops(&rt, rt.alloc(), &book, 3, REPLIES, 3));
     Ok(())
 }
 
@@ -235,7 +274,7 @@ fn a_link_that_stops_within_a_frame_is_answered_up_to_there(rt: HostRuntime) -> 
     let Some(front) = LINK.get(..150) else {
         return Err(Fail::new("150 bytes"));
     };
-    let outcome = serve(rt.alloc(), &book, front, 4096, ALL);
+    let outcome = serve(&rt, rt.alloc(), &book, front, 4096, ALL);
     assert!(rt;
         matches!(&outcome, Some(it) if it.result == Err(HostFault::Link(LinkFault::Ended)))
     );
@@ -255,6 +294,7 @@ fn the_book_is_that_after_the_link(rt: HostRuntime) -> Result<(), Fail> {
     let mut sink = FailingSink::new(rt.alloc(), 4096, 1000);
     let most = MaxBatch::whole_entry();
     let result = host.serve_link(
+        &rt,
         rt.alloc(),
         &mut source,
         &mut sink,
@@ -279,7 +319,8 @@ fn joined(alloc: Global, parts: &[&[u8]]) -> Result<Vec<u8>, Fail> {
 }
 
 // Whether a link that comes at once is answered so, in so many entries of so many bodies.
-fn is_answered(
+fn is_answered<R: Threads + Sync>(
+    rt: &R,
     alloc: Global,
     link: &[u8],
     replies: &[u8],
@@ -287,7 +328,7 @@ fn is_answered(
     bodies: u32,
 ) -> Result<bool, Fail> {
     let book = first_book_with(alloc, &[])?;
-    match serve(alloc, &book, link, 4096, ALL) {
+    match serve(rt, alloc, &book, link, 4096, ALL) {
         Some(outcome) => Ok(
             outcome.result == Ok(())
                 && outcome.replies.as_slice() == replies
@@ -301,10 +342,10 @@ fn is_answered(
 
 #[test]
 fn an_echo_alone_makes_no_entry(rt: HostRuntime) -> Result<(), Fail> {
-    assert!(rt; is_answered(rt.alloc(), ECHO, ECHO_REPLY, 0, 0)?);
+    assert!(rt; is_answered(&rt, rt.alloc(), ECHO, ECHO_REPLY, 0, 0)?);
     let twice = joined(rt.alloc(), &[ECHO, ECHO])?;
     let replies = joined(rt.alloc(), &[ECHO_REPLY, ECHO_REPLY])?;
-    assert!(rt; is_answered(rt.alloc(), &twice, &replies, 0, 0)?);
+    assert!(rt; is_answered(&rt, rt.alloc(), &twice, &replies, 0, 0)?);
     Ok(())
 }
 
@@ -326,7 +367,7 @@ fn an_echo_is_answered_at_its_place(rt: HostRuntime) -> Result<(), Fail> {
             ECHO_REPLY,
         ],
     )?;
-    assert!(rt; is_answered(rt.alloc(), &link, &replies, 1, 4)?);
+    assert!(rt; is_answered(&rt, rt.alloc(), &link, &replies, 1, 4)?);
     Ok(())
 }
 
@@ -334,7 +375,7 @@ fn an_echo_is_answered_at_its_place(rt: HostRuntime) -> Result<(), Fail> {
 #[test]
 fn another_function_is_no_network_management(rt: HostRuntime) -> Result<(), Fail> {
     let link = b"\x00\x211804\x00\x30\x01\x00\x00\x00\x00\x00000007260315080500803";
-    assert!(rt; is_answered(rt.alloc(), link, b"", 1, 1)?);
+    assert!(rt; is_answered(&rt, rt.alloc(), link, b"", 1, 1)?);
     Ok(())
 }
 
@@ -347,6 +388,7 @@ fn an_echo_waits_for_the_entry_of_its_turn(rt: HostRuntime) -> Result<(), Fail> 
     assert!(rt; begun < 10);
     for calls in [begun, begun + 1] {
         let outcome = serve(
+            &rt,
             rt.alloc(),
             &book,
             &link,

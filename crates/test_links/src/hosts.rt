@@ -51,6 +51,7 @@ pub fn serve_link<R: Threads + Wait + Sync>(
     opened
         .host
         .serve_link(
+            rt,
             alloc,
             &mut source,
             &mut sink,

@@ -15,10 +15,10 @@ const ENDS: [usize; 3] = [38, 93, 144];
 fn write(alloc: Global, writer: &mut LogWriter<MemoryLog>) -> Result<usize, LogFault> {
     let first: &[&[u8]] = &[b"one", b"two!"];
     let second: &[&[u8]] = &[b"three"];
-    if writer.append(bodies_of(alloc, first)?).is_err() {
+    if writer.append(&bodies_of(alloc, first)?).is_err() {
         return Ok(0);
     }
-    if writer.append(bodies_of(alloc, second)?).is_err() {
+    if writer.append(&bodies_of(alloc, second)?).is_err() {
         return Ok(1);
     }
     Ok(2)
@@ -31,7 +31,7 @@ fn is_kept(alloc: Global, answers: u64) -> Result<bool, LogFault> {
     };
     let count = write(alloc, &mut writer)?;
     let has_failed = writer.has_failed();
-    let again = writer.append(bodies_of(alloc, &[b"four"])?).err();
+    let again = writer.append(&bodies_of(alloc, &[b"four"])?).err();
     let has = writer.file().bytes();
     let kept = writer.file().synced();
     let read = read_log(alloc, has, BOOK)?;

@@ -15,8 +15,8 @@ fn write<R: rt::Files<File = File>>(host: &R, alloc: Global, name: &str) -> Resu
         return Err(LogFault::InUse);
     };
     let mut writer = begun(alloc, file, BOOK)?;
-    writer.append(bodies_of(alloc, &[b"one", b"two!"])?)?;
-    let synced = writer.append(bodies_of(alloc, &[b"three"])?)?;
+    writer.append(&bodies_of(alloc, &[b"one", b"two!"])?)?;
+    let synced = writer.append(&bodies_of(alloc, &[b"three"])?)?;
     Ok(synced.number())
 }
 

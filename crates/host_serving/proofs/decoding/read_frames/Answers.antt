@@ -1,6 +1,5 @@
-use Rattle.std.proofs.Common.{◌≡◌, ◌∷◌, [], ◌++◌, ◌+◌, ℕ, List, length, sym, ap, ◌∙◌, append_assoc, subst}
+use Rattle.std.proofs.Common.{◌∷◌, [], ◌++◌, ◌+◌, ℕ, List, sym, ap, ◌∙◌, append_assoc}
 use Rattle.std.proofs.lemmas.List.{length-append}
-use Rattle.file_batch_laws.specs.Frames.{AreFramesOf}
 use Rattle.host_serving.proofs.Takes.{both_are}
 use Rattle.host_serving.proofs.decoding.read_frames.Goals as goal
 

@@ -1,4 +1,4 @@
-use Rattle.std.proofs.Common.{◌≡◌, ◌+◌, ◌-◌, List, ℕ, [], length, ap, subst, arith}
+use Rattle.std.proofs.Common.{◌≡◌, ◌+◌, ◌-◌, List, ℕ, length, ap, subst, arith}
 use Rattle.host_serving.specs.Turn.{HasTaken}
 use Rattle.link_frames.specs.Link.{AreSoMany}
 use Rattle.host_serving.proofs.Takes.{one_less, one_taken, no_more, some_front}

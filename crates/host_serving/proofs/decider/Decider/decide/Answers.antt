@@ -1,4 +1,4 @@
-use Rattle.std.proofs.Common.{length, ap, ◌∙◌, arith}
+use Rattle.std.proofs.Common.{length, ap, arith}
 use Rattle.host_serving.proofs.Takes.{as_many}
 use Rattle.host_serving.proofs.decider.Decider.decide.Goals as goal
 

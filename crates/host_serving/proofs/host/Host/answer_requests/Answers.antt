@@ -1,9 +1,10 @@
-use Rattle.std.proofs.Common.{◌≡◌, [], List, ℕ, subst}
+use Rattle.std.proofs.Common.{[], List, subst}
 use Rattle.std.proofs.lemmas.Result.{err_from_is_err_and}
 use Rattle.link_frames.specs.Incoming.{merged}
 use Rattle.link_frames.specs.Replies.{AppendsPart}
 use Rattle.link_frames.specs.declared.network_request.NetworkRequest.{NetworkRequest}
-use Rattle.host_serving.proofs.Servings.{enters_alone, stops_alone, grows_none}
+use Rattle.host_serving.proofs.Appendings.{grows_none}
+use Rattle.host_serving.proofs.Servings.{enters_alone, stops_alone}
 use Rattle.host_serving.proofs.host.Host.answer_requests.Goals as goal
 
 pub returns-in_err-write-clause-err : goal.returns-in_err-write-clause-err

@@ -1,11 +1,12 @@
-use Rattle.std.proofs.Common.{rules, ◌≡◌, ◌++◌, List, ℕ, sym, ap, subst}
+use Rattle.std.proofs.Common.{rules, ◌≡◌, ◌++◌, List, [], inl, ℕ, sym, ap, subst}
 use Rattle.std.proofs.lemmas.Result.{err_from_is_err_and}
 use Rattle.link_frames.specs.Reader.{ahead}
 use Rattle.host_serving.specs.Entering.{Grows}
 use Rattle.host_serving.specs.Serving.{LogAfter, Served}
 use Rattle.host_serving.specs.declared.host_fault.HostFault.TheVariants.{OutOfMemory}
-use Rattle.host_serving.proofs.Servings.{grows_none, served_none, served_more, stopped_reading, stopped_next}
-use Rattle.host_serving.proofs.Watches.{untold, watched_more, watched_before}
+use Rattle.host_serving.proofs.Appendings.{grows_none}
+use Rattle.host_serving.proofs.Servings.{served_none, served_more, stopped_reading, stopped_next}
+use Rattle.host_serving.proofs.Watches.{untold, watched_as, watched_more, watched_before}
 use Rattle.host_serving.proofs.host.Host.serve_link.Goals as goal
 
 pub returns-in_err-link-clause-stopped : goal.returns-in_err-link-clause-stopped
@@ -84,7 +85,7 @@ returns-in_err-link-clause-told_before g c =
     rw (p.1, p.2) (
       before,
       untold c.args.most g.N.Watch.hears (LogAfter file.is_known file.synced file.unsynced OutOfMemory log log) c.args.watch.now before
-          (grows_none file.is_known file.synced file.unsynced log),
+          ([], inl (grows_none file.is_known file.synced file.unsynced log)),
     )
 
 pub returns-in_err-serve_next-clause-told_before : goal.returns-in_err-serve_next-clause-told_before
@@ -96,7 +97,13 @@ returns-in_err-serve_next-clause-told_before g c =
     c.args.self.now.decider.tally c.loop.self.decider.tally c.loop.invariant.told c.in_err-serve_next.ensures.told_before)
 
 pub returns-clause-told_before : goal.returns-clause-told_before
-returns-clause-told_before g c = (c.loop.self.decider.tally, c.loop.invariant.told)
+returns-clause-told_before g c =
+    let file = g.G.GrowingFile in (
+      c.loop.self.decider.tally,
+      watched_as c.args.most g.N.Watch.hears (Grows file.is_known file.synced file.unsynced c.args.self.now.log c.loop.self.log)
+          (LogAfter file.is_known file.synced file.unsynced OutOfMemory c.args.self.now.log c.loop.self.log) c.args.watch.now c.loop.watch
+          c.args.self.now.decider.tally c.loop.self.decider.tally (λ entries grown. ([], inl grown)) c.loop.invariant.told,
+    )
 
 pub returns-then-not-branch-clause-told : goal.returns-then-not-branch-clause-told
 returns-then-not-branch-clause-told g c =

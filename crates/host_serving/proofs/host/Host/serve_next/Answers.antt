@@ -1,4 +1,4 @@
-use Rattle.std.proofs.Common.{◌≡◌, List, ℕ, [], inr, length, sym, ap, subst, arith}
+use Rattle.std.proofs.Common.{List, ℕ, [], inl, inr, length, sym, ap, subst, arith}
 use Rattle.std.proofs.lemmas.Result.{err_from_is_err_and}
 use Rattle.link_frames.specs.Incoming.{frames_of}
 use Rattle.link_frames.specs.Reader.{ahead, given}
@@ -6,7 +6,7 @@ use Rattle.host_serving.specs.Serving.{LogAfter}
 use Rattle.host_serving.specs.Turn.{IsTurn, HasTaken}
 use Rattle.host_serving.specs.declared.host_fault.HostFault.TheVariants.{Link, OutOfMemory}
 use Rattle.host_serving.specs.declared.turn.Turn.{Turn}
-use Rattle.host_serving.proofs.Servings.{grows_none}
+use Rattle.host_serving.proofs.Appendings.{grows_none}
 use Rattle.host_serving.proofs.Takes.{given_came}
 use Rattle.host_serving.proofs.Watches.{untold}
 use Rattle.host_serving.proofs.host.Host.serve_next.Goals as goal
@@ -58,7 +58,7 @@ returns-in_err-take_turn-clause-told_before g c =
     rw (p.1, p.2) (
       before,
       untold c.args.most g.N.Watch.hears (LogAfter file.is_known file.synced file.unsynced OutOfMemory log log) c.args.watch.now before
-          (grows_none file.is_known file.synced file.unsynced log),
+          ([], inl (grows_none file.is_known file.synced file.unsynced log)),
     )
 
 pub returns-in_err-link-clause-told_before : goal.returns-in_err-link-clause-told_before

@@ -1,6 +1,5 @@
-use Rattle.std.proofs.Common.{◌+◌, List, drop, ap, sym, ◌∙◌}
+use Rattle.std.proofs.Common.{◌+◌, drop, ap, sym, ◌∙◌}
 use Rattle.std.proofs.lemmas.List.{drop_all}
-use Rattle.issuer_rows.specs.declared.frame.Frame.{Frame}
 use Rattle.issuer_fold.proofs.FoldLaws.{left_in_turn}
 use Rattle.host_serving.specs.Tally.{counted}
 use Rattle.host_serving.specs.declared.tally.Tally.{Tally}
