@@ -128,9 +128,13 @@ fn serve_named<
     ensures unreadable { result ≡ Err (OfLink Unreadable) → L.may_fail }
 {
     let Ok(signals) = Arc::new(alloc, Signals::new()) else {
+        teller.fault(HostFault::OutOfMemory);
         return Err(HostFault::OutOfMemory);
     };
-    let (mut reading, mut ahead) = ends_of_link::<L, R>(*rt, alloc, &signals)?;
+    let Ok((mut reading, mut ahead)) = ends_of_link::<L, R>(*rt, alloc, &signals) else {
+        teller.fault(HostFault::OutOfMemory);
+        return Err(HostFault::OutOfMemory);
+    };
     let (has_read, served) = serve_together(
         rt,
         alloc,
@@ -148,6 +152,7 @@ fn serve_named<
     }
     // One of the two threads claims the link, and not both.
     if has_read {
+        teller.fault(HostFault::OutOfMemory);
         return Err(HostFault::OutOfMemory);
     }
     let served = host.serve_link(rt, alloc, source, sink, &Shipped, most, teller);
