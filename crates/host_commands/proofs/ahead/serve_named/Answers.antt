@@ -1,5 +1,4 @@
 use Rattle.std.proofs.Common.{ℕ, List, length, drop, ap}
-use Rattle.std.proofs.lemmas.Result.{err_from_is_err_and}
 use Rattle.rtrb.specs.Ring.{received}
 use Rattle.link_ahead.proofs.Fronts.{none_taken}
 use Rattle.host_commands.proofs.SameLink.{on_ok, if_err, served_for, stopped_for, stopped_at_once}
@@ -8,15 +7,13 @@ use Rattle.host_commands.proofs.ahead.serve_named.Goals as goal
 pub returns-in_default-clause-stopped : goal.returns-in_default-clause-stopped
 returns-in_default-clause-stopped g c = stopped_at_once _ _ _ c.args.host.now _ _ _ _
 
-pub returns-in_err-reading-clause-stopped : goal.returns-in_err-reading-clause-stopped
-returns-in_err-reading-clause-stopped g c =
-    let p = err_from_is_err_and c.from_residual.result c.from_residual.ensures.1 in
-    rw (p.1, p.2) (stopped_at_once _ _ _ c.args.host.now _ _ _ _)
+pub returns-in_default-ends_of_link-clause-stopped : goal.returns-in_default-ends_of_link-clause-stopped
+returns-in_default-ends_of_link-clause-stopped g c = stopped_at_once _ _ _ c.args.host.now _ _ _ _
 
 pub returns-in-Some-clause-ok : goal.returns-in-Some-clause-ok
 returns-in-Some-clause-ok g c =
-    let ahead = c.in_ok-reading.ahead in
-    let fresh = c.in_ok-reading.ensures.fresh in
+    let ahead = c.in-Ok-ends_of_link.ahead in
+    let fresh = c.in-Ok-ends_of_link.ensures.fresh in
     on_ok c.in-Some.served
     (served_for _ _ _ c.args.host.now c.serve_together-has_read.new.host _ g.L.Link.is_known _ g.L.Link.bytes _ _ _ _
     (none_taken g.L.Link.is_known g.L.Link.bytes (received ahead.inbound) ahead.last fresh.none fresh.last)
@@ -25,8 +22,8 @@ returns-in-Some-clause-ok g c =
 
 pub returns-in-Some-clause-stopped : goal.returns-in-Some-clause-stopped
 returns-in-Some-clause-stopped g c =
-    let ahead = c.in_ok-reading.ahead in
-    let fresh = c.in_ok-reading.ensures.fresh in
+    let ahead = c.in-Ok-ends_of_link.ahead in
+    let fresh = c.in-Ok-ends_of_link.ensures.fresh in
     if_err c.in-Some.served
     (λ e. stopped_for _ _ _ e c.args.host.now c.serve_together-has_read.new.host _ g.L.Link.is_known _ g.L.Link.bytes _ _ _
     (none_taken g.L.Link.is_known g.L.Link.bytes (received ahead.inbound) ahead.last fresh.none fresh.last)
