@@ -1,3 +1,4 @@
 pub mod Answers
 pub mod Journaled
 pub mod SampleBook
+pub mod ReadAlike

@@ -25,6 +25,11 @@ const FEW_ROWS: usize = 8;
 // A block of at most so many bodies is decided one after another: an engine's workers, which are started for each block anew, take longer.
 const FEW_BODIES: usize = 1024;
 
+/// Whether an engine is given all of a book for these bodies.
+pub(crate) fn has_few_rows(book: &Book, frames: &[Frame]) -> bool {
+    book.len() <= frames.len().saturating_mul(FEW_ROWS)
+}
+
 /// Decides a batch of at most 65,536 bodies by so many workers of an engine, on a book that is taken over and given back behind them. Of a
 /// book with many rows the engine sees those that the bodies may need, so that no cost grows with the book. It fails only where memory runs
 /// out.
@@ -39,7 +44,7 @@ pub fn decide_by<R: Clock + Threads + Wait + Sync>(
     requires { length frames.now ≤ 65536 }
     ensures { AnswersFold book frames.now result }
 {
-    if book.len() <= frames.len().saturating_mul(FEW_ROWS) {
+    if has_few_rows(&book, frames) {
         return decide_by_engine(rt, alloc, &book, frames, workers, engine);
     }
     let mut whole = book;

@@ -4,11 +4,13 @@
 mod answers;
 mod deciding;
 mod hexadecimal;
+mod read_alike;
 mod running;
 mod running_blocks;
 mod sample;
 mod traced_answer;
 mod tracing;
+mod tracing_rows;
 
 pub use answers::answer_on;
 pub use deciding::decide_by;

@@ -16,14 +16,13 @@ ghost use Rattle.app_jobs.specs.Faults.{IsAnsweringFault, IsPuttingFault, IsRepl
 ghost use Rattle.app_runs.specs.Journaled.{IsAnsweredWithJournal, IsDecidedWithJournal, IsDecidingFaultWithJournal, IsRunJournal, PutsRun};
 
 use crate::traced_answer::TracedAnswer;
+use crate::tracing_rows::trace_on;
 use app_jobs::{JobFault, admit, open_book, write_book, written};
-use engine_locked::run_traced;
-use engine_workers::{NoHook, Workers};
+use engine_workers::Workers;
 use file_batch::{BatchFault, BodyCount, Strictness, put_all, read_batch, write_replies};
 use file_devices::{BatchNames, Files, Sink, Source, Written};
 use issuer_fold::RunOutcome;
 use issuer_rows::Book;
-use issuer_rules::Shipped;
 use std::alloc::{AllocError, Global};
 use std::sync::Wait;
 use std::thread::Threads;
@@ -51,7 +50,7 @@ pub fn run_batch_with_journal<R: Clock + Threads + Wait + Sync, F: Files>(
     ensures known { F.is_known files.old → F.is_known files.new }
 {
     let book = open_book(rt, alloc, files, names.book.as_str())?;
-    let answer = answer_traced(rt, alloc, files, names, &book, workers, journal)?;
+    let answer = answer_traced(rt, alloc, files, names, book, workers, journal)?;
     let count = answer.count;
     admit(strictness, count)?;
     put_run(alloc, files, names, journal, answer)?;
@@ -64,12 +63,12 @@ fn answer_traced<R: Clock + Threads + Wait + Sync, F: Files>(
     alloc: Global,
     files: &F,
     names: &BatchNames,
-    book: &Book,
+    book: Book,
     workers: Workers,
     journal: &str,
 ) -> Result<TracedAnswer<F::Output>, JobFault>
     ensures answered { IfOk result (IsAnsweredWithJournal F.Output.is_known F.Output.written (F.is_known files.now) (F.holds files.now)
-        (string_bytes names.now.batch) book.now) }
+        (string_bytes names.now.batch) book) }
     ensures fault { IfErr result (IsAnsweringFault (F.holds files.now) (F.failing files.now) (names_of names.now)
         (MayNotBePut (F.failing files.now) (string_bytes names.now.new_book) ⊎ MayNotBePut (F.failing files.now) journal.now)) }
 {
@@ -98,15 +97,15 @@ fn reply_traced<R: Clock + Threads + Wait + Sync, F: Files>(
     alloc: Global,
     files: &F,
     names: &BatchNames,
-    book: &Book,
+    book: Book,
     workers: Workers,
 ) -> Result<(TracedRun, F::Output), JobFault>
     ensures there { IfOk result (λ run. F.is_known files.now → IsThere (F.holds files.now) (string_bytes names.now.batch)) }
     ensures bodies { IfOk result (λ run. AreReplyBodies run.0.outcome.replies.items) }
-    ensures ok { IfOk result (λ run. (frames : List Frame) × IsFold book.now frames run.0.outcome × IsRunJournal book.now frames run.0.entries.items run.0.outcome.committed
+    ensures ok { IfOk result (λ run. (frames : List Frame) × IsFold book frames run.0.outcome × IsRunJournal book frames run.0.entries.items run.0.outcome.committed
         × (run.0.count ≡ count_of frames)
         × ((bytes : List ℕ) → F.holds files.now (string_bytes names.now.batch) bytes → IsBatchOf bytes frames)
-        × (F.is_known files.now → F.Output.is_known run.1 × (F.Output.written run.1 ≡ replies_text (replies_to book.now frames)))) }
+        × (F.is_known files.now → F.Output.is_known run.1 × (F.Output.written run.1 ≡ replies_text (replies_to book frames)))) }
     ensures fault { IfErr result (IsReplyingFault (F.holds files.now) (F.failing files.now) (names_of names.now)) }
 {
     let mut batch = files.open(names.batch.as_str())?;
@@ -122,22 +121,22 @@ fn reply_traced<R: Clock + Threads + Wait + Sync, F: Files>(
 fn trace_batch<R: Clock + Threads + Wait + Sync, S: Source, W: Sink>(
     rt: &R,
     alloc: Global,
-    book: &Book,
+    book: Book,
     source: &mut S,
     sink: &mut W,
     workers: Workers,
 ) -> Result<TracedRun, BatchFault>
     ensures devices { UsesDevices S.is_known S.has_failed S.may_fail W.is_known W.has_failed W.may_fail source.old source.new sink.old sink.new result }
     ensures bodies { IfOk result (λ run. AreReplyBodies run.outcome.replies.items) }
-    ensures ok { IfOk result (λ run. (frames : List Frame) × IsFold book.now frames run.outcome × IsRunJournal book.now frames run.entries.items run.outcome.committed
+    ensures ok { IfOk result (λ run. (frames : List Frame) × IsFold book frames run.outcome × IsRunJournal book frames run.entries.items run.outcome.committed
         × (run.count ≡ count_of frames)
         × (S.is_known source.old → IsBatchOf (S.remaining source.old) frames)
-        × (W.is_known sink.old → W.written sink.new ≡ W.written sink.old ++ replies_text (replies_to book.now frames))) }
+        × (W.is_known sink.old → W.written sink.new ≡ W.written sink.old ++ replies_text (replies_to book frames))) }
     ensures fault { IfErr result (λ e. IsTrue (is_of_bytes e) → S.is_known source.old → bodies_of batch_magic (S.remaining source.old) ≡ Err e) }
     ensures untouched { IfErr result (λ e. IsTrue (is_of_bytes e) → sink.new ≡ sink.old) }
 {
     let frames = read_batch(alloc, source)?;
-    let (outcome, entries) = run_traced(rt, alloc, book, &frames, workers, &Shipped, &NoHook)?;
+    let (outcome, entries) = trace_on(rt, alloc, book, &frames, workers)?;
     let run = TracedRun {
         outcome,
         entries,

@@ -7,7 +7,7 @@ pub returns-in_err-write_replies-clause-fault : goal.returns-in_err-write_replie
 returns-in_err-write_replies-clause-fault g c =
     let p = err_from_is_err_and c.from_residual-in_err-write_replies.result c.from_residual-in_err-write_replies.ensures.1 in
     let replies = c.in_ok-outcome.outcome.replies.items in
-    let same : length replies ≡ length c.deref.result.now = ap length c.in_ok-outcome.ensures.run.replies ∙ as_many c.args.book.now c.deref.result.now in
+    let same : length replies ≡ length c.deref.result.now = ap length c.in_ok-outcome.ensures.fold.0 ∙ as_many c.args.book c.deref.result.now in
     let few : length replies ≤ 65536 = rw (same, c.deref.ensures.value) c.in_ok-frames.ensures.count in
     let other = (rw c.deref-3.ensures.value at c.in_err-write_replies.ensures.fit) few in
     rw (p.1, p.2) (λ of_bytes known. absurd (other of_bytes))
