@@ -97,6 +97,18 @@ has journal 20 'f 20 '0.0 0a
 0 switch audit book batch replies after --journal journal
 > same
 
+# Of a book with more than eight rows for each body the core has those that are needed. Its journal is one on the whole book all the same.
+put book DAY_BOOK
+put batch BATCH
+0 switch serial book batch replies after
+> decided 1
+0 switch run book batch answers later --workers 4 --journal journal
+> decided 1
+is answers replies
+is later after
+0 switch audit book batch answers later --journal journal
+> same
+
 # Behind a fault an older journal stays, and an older new book: no book; replies in the place of the batch; a batch without its last byte.
 put book
 put batch BATCH
