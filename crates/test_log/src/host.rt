@@ -16,7 +16,8 @@ fn write<R: rt::Files<File = File>>(host: &R, alloc: Global, name: &str) -> Resu
     };
     let mut writer = begun(alloc, file, BOOK)?;
     writer.append(&bodies_of(alloc, &[b"one", b"two!"])?)?;
-    let synced = writer.append(&bodies_of(alloc, &[b"three"])?)?;
+    let last = bodies_of(alloc, &[b"three"])?;
+    let synced = writer.append(&last)?;
     Ok(synced.number())
 }
 

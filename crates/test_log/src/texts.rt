@@ -26,7 +26,8 @@ fn is_appended<G: GrowingFile + Drop>(
     texts: &[&[u8]],
     number: u64,
 ) -> Result<bool, LogFault> {
-    let synced = writer.append(&bodies_of(alloc, texts)?)?;
+    let bodies = bodies_of(alloc, texts)?;
+    let synced = writer.append(&bodies)?;
     Ok(synced.number() == number && are(synced.bodies(), texts))
 }
 
