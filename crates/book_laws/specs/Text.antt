@@ -1,5 +1,5 @@
 -- The text of a book, version 3: compact JSON, the keys of each object in byte order, the rows of each list in key order.
-use Rattle.std.specs.Prelude.{◌≡◌, ◌<◌, ◌≤◌, ◌^◌, ℕ, List, [], ◌∷◌, ◌++◌, Option, Some, None, Ok, codes, ⊤}
+use Rattle.std.specs.Prelude.{◌≡◌, ◌<◌, ◌≤◌, ◌^◌, ℕ, List, [], ◌∷◌, ◌++◌, Bool, Option, Some, None, Ok, codes, fold, ⊤}
 use Rattle.std.specs.List.{filter}
 use Rattle.std.specs.FinMap as map
 use Rattle.std.specs.Str.{IsUtf8}
@@ -9,9 +9,9 @@ use Rattle.iso8583.specs.declared.approval.Approval.{Approval}
 use Rattle.iso8583.specs.declared.identity.Identity.{Identity}
 use Rattle.iso8583.specs.declared.pan.Pan.{Pan}
 use Rattle.iso8583.specs.declared.pan_prefix.PanPrefix.{PanPrefix}
+use Rattle.json.specs.Print.{ends, print_from}
 use Rattle.json.specs.Token.{Token}
 use Rattle.json.specs.Tree.{json_tokens, depth}
-use Rattle.json.specs.Written.{Written}
 use Rattle.issuer_rows.specs.Fold.{Rows}
 use Rattle.issuer_rows.specs.declared.account_row.AccountRow.{AccountRow}
 use Rattle.issuer_rows.specs.declared.budget_row.BudgetRow.{BudgetRow}
@@ -189,10 +189,19 @@ book_text rows = compact_text (book_data rows)
 
 -- ---- for private clauses: what is written, token by token
 
--- these tokens were written behind the old ones
-pub record Adds (old new : Written) (added : List Token) : Type 0 where
-  pub kept : new.before ≡ old.before
-  pub written : new.tokens ≡ old.tokens ++ added
+-- a text of JSON that grows, and whether a value just ended there, so that a comma stands before the next one
+pub record JsonText : Type 0 where
+  pub text : List ℕ
+  pub after_value : Bool
+
+-- whether a value just ended behind these tokens, where it is known whether one ended before them
+abbrev pub ends_after : Bool → List Token → Bool
+ends_after later tokens = fold (λ _ token. ends token) later tokens
+
+-- these tokens were written behind the old text
+pub record Adds (old new : JsonText) (added : List Token) : Type 0 where
+  pub written : new.text ≡ old.text ++ print_from old.after_value added
+  pub after : new.after_value ≡ ends_after old.after_value added
 
 -- the tokens of a value
 abbrev pub tokens_of : Data → List Token

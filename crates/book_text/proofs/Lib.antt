@@ -1,2 +1,4 @@
 pub mod Entries
 pub mod Printing
+pub mod Tokens
+pub mod Plain

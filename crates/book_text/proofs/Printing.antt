@@ -3,39 +3,19 @@ use Rattle.std.proofs.Common.{◌≡◌, ℕ, List, [], ◌∷◌, ◌++◌, Boo
 use Rattle.std.proofs.lemmas.List.{map-append}
 use Rattle.std.proofs.lemmas.List.Folds.{drop_split}
 use Rattle.json.specs.Print.{print, print_from}
-use Rattle.json.specs.Token.{Token, null, begin_object, begin_array, end_array, key}
-use Rattle.json.specs.Written.{Written}
+use Rattle.json.specs.Token.{Token, begin_object, begin_array, end_array, key}
 use Rattle.json.proofs.Printed.Tokens.{print_from-append}
 use Rattle.issuer_rows.specs.declared.row_key.RowKey.{RowKey}
 use Rattle.issuer_rows.specs.declared.row_val.RowVal.{RowVal}
 use Rattle.book_laws.specs.Parts.{list_key}
-use Rattle.book_laws.specs.Text.{Adds}
+use Rattle.book_laws.specs.Text.{ends_after}
 use Rattle.book_laws.specs.declared.row_list.RowList.{RowList}
 use Rattle.book_laws.specs.declared.row_list.RowList.TheVariants.{Cards, Days, Budgets, Originals, Ahead, Accounts}
 use Rattle.book_laws.proofs.WrittenTokens.{rest_tokens}
-use Rattle.book_text.specs.Left.{row_of, rows_listed, text_of_rows, text_left, tokens_left, tokens_behind, entries_tokens, ends_after, skipped_if}
+use Rattle.book_text.specs.Left.{row_of, rows_listed, text_of_rows, text_left, tokens_left, tokens_behind, entries_tokens}
 use Rattle.book_text.specs.Pieces.{next_list, between, last_tokens}
 use Rattle.book_text.specs.declared.listed_row.ListedRow.{ListedRow}
 use Rattle.book_text.proofs.Entries.{rest_split}
-
--- the text of tokens that were written into an empty buffer
-pub text_of_written : {before after : Written} {ts : List Token} (text : List ℕ) → text ≡ after.before ++ print after.tokens → Adds before after ts
-    → before.before ≡ [] → before.tokens ≡ [] → text ≡ print ts
-text_of_written {after = after} {ts = ts} text is adds empty none =
-    is ∙ ap (λ (b : List ℕ). b ++ print after.tokens) (adds.kept ∙ empty) ∙ ap print (adds.written ∙ ap (λ (us : List Token). us ++ ts) none)
-
--- behind `null` a comma is appended as behind an entry
-null_skipped : (ts : List Token) → drop 4 (print (null ∷ ts)) ≡ print_from true ts
-unfolding print_from
-null_skipped ts = refl
-
-pub text_behind_null : (later : Bool) (text : List ℕ) (ts : List Token) → later ≡ true → text ≡ print (null ∷ ts) → drop (skipped_if later) text ≡ print_from later ts
-text_behind_null true text ts h is = ap (λ (t : List ℕ). drop 4 t) is ∙ null_skipped ts
-text_behind_null false text ts h is = absurd cc
-
-pub text_of_first : (later : Bool) (text : List ℕ) (ts : List Token) → later ≡ false → text ≡ print ts → drop (skipped_if later) text ≡ print_from later ts
-text_of_first true text ts h is = absurd cc
-text_of_first false text ts h is = is
 
 -- what is left at the beginning
 pub begun : (rows : List (RowKey × RowVal)) → text_of_rows rows ≡ print (begin_object ∷ key (list_key Accounts) ∷ begin_array ∷ []) ++ text_left false Accounts rows rows

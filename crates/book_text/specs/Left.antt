@@ -1,6 +1,6 @@
 -- What of a book's text is left to be written, over its sorted rows.
-use Rattle.std.specs.Prelude.{ℕ, List, ◌++◌, Bool, true, false, codes, map, flat_map, fold}
-use Rattle.json.specs.Print.{print, print_from, ends}
+use Rattle.std.specs.Prelude.{ℕ, List, ◌++◌, Bool, codes, map, flat_map}
+use Rattle.json.specs.Print.{print, print_from}
 use Rattle.json.specs.Token.{Token}
 use Rattle.json.specs.Tree.{items_tokens, members_tokens}
 use Rattle.issuer_rows.specs.declared.row_key.RowKey.{RowKey}
@@ -29,15 +29,6 @@ tokens_of_entries rows = flat_map (λ row. tokens_of (entry_data row.0 row.1)) r
 -- those of the entries of a list, without its brackets
 abbrev pub entries_tokens : RowList → List (RowKey × RowVal) → List Token
 entries_tokens list rows = tokens_of_entries (rows_of list rows)
-
--- whether a value just ended behind these tokens, where it is known whether one ended before them
-abbrev pub ends_after : Bool → List Token → Bool
-ends_after later tokens = fold (λ _ token. ends token) later tokens
-
--- how much of a piece's text is no part of it, where it is known whether an entry of the list stands before it
-abbrev pub skipped_if : Bool → ℕ
-skipped_if true = 4
-skipped_if false = 0
 
 -- ---- the members of the top object behind each list
 

@@ -3,3 +3,5 @@ pub mod Digest
 pub mod Top
 pub mod Left
 pub mod Pieces
+pub mod Members
+pub mod Prepared

@@ -3,11 +3,13 @@
 
 mod digest;
 mod field_writers;
+mod json_writer;
 mod listed_row;
+mod member;
 mod parts;
 mod ranges;
 mod row_writers;
-mod tokens;
+mod text_buffer;
 mod writing;
 
 pub use digest::digest_of_book;
@@ -17,10 +19,8 @@ pub use field_writers::{
     optional_identity_field, paid_field, prefix_field, processing_field, stamp_field, stan_field,
     status_field,
 };
+pub use json_writer::JsonWriter;
 pub use listed_row::ListedRow;
-pub use parts::{emptied, last_piece, list_behind, piece_between, rows_piece, skipped_if};
-pub use tokens::{
-    begin_array, begin_object, end_array, end_object, key, null, null_field, number_field,
-    text_field,
-};
+pub use member::Member;
+pub use parts::{emptied, last_piece, list_behind, piece_between, rows_piece};
 pub use writing::{open_list, write_book};

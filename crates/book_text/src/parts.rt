@@ -1,17 +1,17 @@
 //! Parts of a book's text, each written into text that is empty.
 
-ghost use Rattle.std.specs.Prelude.{◌≡◌, ◌∷◌, [], ◌||◌, codes, decimal, drop, IfOk};
+ghost use Rattle.std.specs.Prelude.{◌≡◌, ◌∷◌, [], codes, decimal, IfOk};
 ghost use Rattle.json.specs.Print.{print, print_from};
 ghost use Rattle.json.specs.Token.{key as key_token, number as number_token, begin_array as begin_array_token, end_array as end_array_token, end_object as end_object_token};
 ghost use Rattle.book_laws.specs.Parts.{list_key};
-ghost use Rattle.book_text.specs.Left.{rows_listed, entries_tokens, ends_after, skipped_if};
+ghost use Rattle.book_laws.specs.Text.{ends_after};
+ghost use Rattle.book_text.specs.Left.{rows_listed, entries_tokens};
 ghost use Rattle.book_text.specs.Pieces.{next_list, between, last_tokens};
 
+use crate::json_writer::JsonWriter;
 use crate::listed_row::ListedRow;
-use crate::tokens::{end_array, null};
 use crate::writing::{end_book, open_list, write_rows};
 use book_laws::RowList;
-use json::Writer;
 use std::alloc::AllocError;
 use std::mem;
 
@@ -25,8 +25,8 @@ pub fn emptied(text: &mut Vec<u8>) -> Vec<u8>
     emptied
 }
 
-/// The entries of those of the rows that stand in the list, and whether an entry of the list is written then. Where one was before, the
-/// text begins with `null`: the writer appends a comma behind a value, and that one is skipped. It fails only where memory runs out.
+/// The entries of those of the rows that stand in the list, and whether an entry of the list is written then, where it is known whether
+/// one was before. It fails only where memory runs out.
 pub fn rows_piece(
     text: Vec<u8>,
     later: bool,
@@ -34,22 +34,12 @@ pub fn rows_piece(
     rows: &[ListedRow<'_>],
 ) -> Result<(Vec<u8>, bool), AllocError>
     requires { text.items ≡ [] }
-    ensures text { IfOk result (λ piece. drop (skipped_if later) piece.0.items ≡ print_from later (entries_tokens list (rows_listed rows.now))) }
+    ensures text { IfOk result (λ piece. piece.0.items ≡ print_from later (entries_tokens list (rows_listed rows.now))) }
     ensures later { IfOk result (λ piece. piece.1 ≡ ends_after later (entries_tokens list (rows_listed rows.now))) }
 {
-    let mut out = Writer::new(text);
-    if later {
-        null(&mut out)?;
-    }
-    let has_some = write_rows(&mut out, list, rows)?;
-    Ok((out.into_inner(), has_some || later))
-}
-
-/// How much of such a text is skipped.
-pub fn skipped_if(later: bool) -> usize
-    ensures { result ≡ skipped_if later }
-{
-    if later { "null".len() } else { 0 }
+    let mut out = JsonWriter::new(text, later);
+    write_rows(&mut out, list, rows)?;
+    Ok(out.into_parts())
 }
 
 /// What stands between the last entry of a list and the first of the next one. It fails only where memory runs out.
@@ -57,10 +47,10 @@ pub fn piece_between(text: Vec<u8>, next: RowList) -> Result<Vec<u8>, AllocError
     requires { text.items ≡ [] }
     ensures { IfOk result (λ piece. piece.items ≡ print (between next)) }
 {
-    let mut out = Writer::new(text);
-    end_array(&mut out)?;
+    let mut out = JsonWriter::new(text, false);
+    out.end_array()?;
     open_list(&mut out, next)?;
-    Ok(out.into_inner())
+    Ok(out.into_parts().0)
 }
 
 /// What stands behind the last entry of the last list. It fails only where memory runs out.
@@ -68,10 +58,10 @@ pub fn last_piece(text: Vec<u8>) -> Result<Vec<u8>, AllocError>
     requires { text.items ≡ [] }
     ensures { IfOk result (λ piece. piece.items ≡ print last_tokens) }
 {
-    let mut out = Writer::new(text);
-    end_array(&mut out)?;
+    let mut out = JsonWriter::new(text, false);
+    out.end_array()?;
     end_book(&mut out)?;
-    Ok(out.into_inner())
+    Ok(out.into_parts().0)
 }
 
 /// The list that stands behind this one, if there is one.

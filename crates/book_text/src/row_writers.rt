@@ -17,95 +17,95 @@ use crate::field_writers::{
     optional_account_id_field, optional_approval_field, optional_identity_field, paid_field,
     pan_field, prefix_field, processing_field, stamp_field, stan_field, status_field,
 };
-use crate::tokens::{begin_object, end_object};
+use crate::json_writer::JsonWriter;
+use crate::member::Member;
 use book_laws::OriginalEntry;
 use iso8583::{AccountId, Day, Identity, Pan, PanPrefix};
 use issuer_rows::{
     AccountRow, BudgetRow, CardAccounts, CardRow, Kept, Mark, RowKey, RowVal, VelocityRow,
 };
-use json::Writer;
 use std::alloc::AllocError;
 
 // The account that pays where a message names none.
-fn first_account_field(out: &mut Writer, accounts: CardAccounts) -> Result<(), AllocError>
+fn first_account_field(out: &mut JsonWriter, accounts: CardAccounts) -> Result<(), AllocError>
     ensures { OnOk result (Adds out.old out.new (key_token (codes "account") ∷ string_token accounts.first.0 ∷ [])) }
 {
-    account_id_field(out, "account", accounts.first())
+    account_id_field(out, Member::Account, accounts.first())
 }
 
 // The other account, if there is one.
-fn second_account_field(out: &mut Writer, accounts: CardAccounts) -> Result<(), AllocError>
+fn second_account_field(out: &mut JsonWriter, accounts: CardAccounts) -> Result<(), AllocError>
     ensures { OnOk result (Adds out.old out.new (key_token (codes "second") ∷ tokens_of (optional_data account_id_data accounts.second))) }
 {
-    optional_account_id_field(out, "second", accounts.second())
+    optional_account_id_field(out, Member::Second, accounts.second())
 }
 
-fn write_card(out: &mut Writer, pan: Pan, card: &CardRow) -> Result<(), AllocError>
+fn write_card(out: &mut JsonWriter, pan: Pan, card: &CardRow) -> Result<(), AllocError>
     ensures { OnOk result (Adds out.old out.new (tokens_of (card_data pan card.now))) }
 {
-    begin_object(out)?;
+    out.begin_object()?;
     first_account_field(out, card.accounts)?;
-    count_field(out, "approvals", card.approvals)?;
-    balance_field(out, "day_amount", card.day_amount)?;
-    count_field(out, "day_count", card.day_count)?;
-    expiry_field(out, "expiry", card.expiry)?;
-    pan_field(out, "pan", pan)?;
+    count_field(out, Member::Approvals, card.approvals)?;
+    balance_field(out, Member::DayAmount, card.day_amount)?;
+    count_field(out, Member::DayCount, card.day_count)?;
+    expiry_field(out, Member::Expiry, card.expiry)?;
+    pan_field(out, Member::Pan, pan)?;
     second_account_field(out, card.accounts)?;
-    status_field(out, "status", card.status)?;
-    end_object(out)?;
+    status_field(out, Member::Status, card.status)?;
+    out.end_object()?;
     Ok(())
 }
 
-fn write_day(out: &mut Writer, pan: Pan, day: Day, row: &VelocityRow) -> Result<(), AllocError>
+fn write_day(out: &mut JsonWriter, pan: Pan, day: Day, row: &VelocityRow) -> Result<(), AllocError>
     ensures { OnOk result (Adds out.old out.new (tokens_of (day_data pan day row.now))) }
 {
-    begin_object(out)?;
-    count_field(out, "count", row.count)?;
-    day_field(out, "day", day)?;
-    pan_field(out, "pan", pan)?;
-    balance_field(out, "sum", row.sum)?;
-    end_object(out)?;
+    out.begin_object()?;
+    count_field(out, Member::Count, row.count)?;
+    day_field(out, Member::Day, day)?;
+    pan_field(out, Member::Pan, pan)?;
+    balance_field(out, Member::Sum, row.sum)?;
+    out.end_object()?;
     Ok(())
 }
 
-fn write_budget(out: &mut Writer, prefix: PanPrefix, row: &BudgetRow) -> Result<(), AllocError>
+fn write_budget(out: &mut JsonWriter, prefix: PanPrefix, row: &BudgetRow) -> Result<(), AllocError>
     ensures { OnOk result (Adds out.old out.new (tokens_of (budget_data prefix row.now))) }
 {
-    begin_object(out)?;
-    balance_field(out, "cap", row.cap)?;
-    balance_field(out, "left", row.left)?;
-    mode_field(out, "mode", row.mode)?;
-    prefix_field(out, "prefix", prefix)?;
-    end_object(out)?;
+    out.begin_object()?;
+    balance_field(out, Member::Cap, row.cap)?;
+    balance_field(out, Member::Left, row.left)?;
+    mode_field(out, Member::Mode, row.mode)?;
+    prefix_field(out, Member::Prefix, prefix)?;
+    out.end_object()?;
     Ok(())
 }
 
 fn write_original(
-    out: &mut Writer,
+    out: &mut JsonWriter,
     identity: Identity,
     original: &OriginalEntry,
 ) -> Result<(), AllocError>
     ensures { OnOk result (Adds out.old out.new (tokens_of (original_data identity original.now))) }
 {
-    begin_object(out)?;
-    optional_account_id_field(out, "account", original.account)?;
-    acquirer_field(out, "acquirer", identity.acquirer)?;
-    action_field(out, "action", original.action)?;
-    amount_field(out, "amount", original.amount)?;
-    optional_approval_field(out, "approval", original.approval)?;
-    kind_field(out, "kind", original.kind)?;
-    paid_field(out, "paid", original.paid)?;
-    pan_field(out, "pan", original.pan)?;
-    processing_field(out, "processing", original.processing)?;
-    optional_identity_field(out, "reversed", original.reversed)?;
-    stamp_field(out, "stamp", identity.stamp)?;
-    amount_field(out, "stay", original.stay)?;
-    stan_field(out, "trace", identity.stan)?;
-    end_object(out)?;
+    out.begin_object()?;
+    optional_account_id_field(out, Member::Account, original.account)?;
+    acquirer_field(out, Member::Acquirer, identity.acquirer)?;
+    action_field(out, Member::Action, original.action)?;
+    amount_field(out, Member::Amount, original.amount)?;
+    optional_approval_field(out, Member::Approval, original.approval)?;
+    kind_field(out, Member::Kind, original.kind)?;
+    paid_field(out, Member::Paid, original.paid)?;
+    pan_field(out, Member::Pan, original.pan)?;
+    processing_field(out, Member::Processing, original.processing)?;
+    optional_identity_field(out, Member::Reversed, original.reversed)?;
+    stamp_field(out, Member::Stamp, identity.stamp)?;
+    amount_field(out, Member::Stay, original.stay)?;
+    stan_field(out, Member::Trace, identity.stan)?;
+    out.end_object()?;
     Ok(())
 }
 
-fn write_kept(out: &mut Writer, identity: Identity, kept: &Kept) -> Result<(), AllocError>
+fn write_kept(out: &mut JsonWriter, identity: Identity, kept: &Kept) -> Result<(), AllocError>
     ensures { OnOk result (Adds out.old out.new (tokens_of (original_data identity (entry_of_kept kept.now)))) }
 {
     let original = OriginalEntry::of(kept);
@@ -113,33 +113,37 @@ fn write_kept(out: &mut Writer, identity: Identity, kept: &Kept) -> Result<(), A
     Ok(())
 }
 
-fn write_mark(out: &mut Writer, identity: Identity, mark: &Mark) -> Result<(), AllocError>
+fn write_mark(out: &mut JsonWriter, identity: Identity, mark: &Mark) -> Result<(), AllocError>
     ensures { OnOk result (Adds out.old out.new (tokens_of (mark_data identity mark.now))) }
 {
-    begin_object(out)?;
-    acquirer_field(out, "acquirer", identity.acquirer)?;
-    kind_field(out, "kind", mark.kind)?;
-    pan_field(out, "pan", mark.card)?;
-    identity_field(out, "reversal", mark.reversal)?;
-    stamp_field(out, "stamp", identity.stamp)?;
-    stan_field(out, "trace", identity.stan)?;
-    end_object(out)?;
+    out.begin_object()?;
+    acquirer_field(out, Member::Acquirer, identity.acquirer)?;
+    kind_field(out, Member::Kind, mark.kind)?;
+    pan_field(out, Member::Pan, mark.card)?;
+    identity_field(out, Member::Reversal, mark.reversal)?;
+    stamp_field(out, Member::Stamp, identity.stamp)?;
+    stan_field(out, Member::Trace, identity.stan)?;
+    out.end_object()?;
     Ok(())
 }
 
-fn write_account(out: &mut Writer, id: AccountId, row: &AccountRow) -> Result<(), AllocError>
+fn write_account(out: &mut JsonWriter, id: AccountId, row: &AccountRow) -> Result<(), AllocError>
     ensures { OnOk result (Adds out.old out.new (tokens_of (account_data id row.now))) }
 {
-    begin_object(out)?;
-    balance_field(out, "available", row.available)?;
-    currency_field(out, "currency", row.currency)?;
-    account_id_field(out, "id", id)?;
-    end_object(out)?;
+    out.begin_object()?;
+    balance_field(out, Member::Available, row.available)?;
+    currency_field(out, Member::Currency, row.currency)?;
+    account_id_field(out, Member::Id, id)?;
+    out.end_object()?;
     Ok(())
 }
 
 /// Writes the entry of a row.
-pub(crate) fn write_entry(out: &mut Writer, key: &RowKey, val: &RowVal) -> Result<(), AllocError>
+pub(crate) fn write_entry(
+    out: &mut JsonWriter,
+    key: &RowKey,
+    val: &RowVal,
+) -> Result<(), AllocError>
     requires { IsOfKind key.now val.now }
     ensures { OnOk result (Adds out.old out.new (tokens_of (entry_data key.now val.now))) }
 {

@@ -1,23 +1,22 @@
 //! The text of a book.
 
-ghost use Rattle.std.specs.Prelude.{◌≡◌, ◌∷◌, [], Bool, ◌||◌, Ok, OnOk, IfOk, IsTrue, codes, decimal};
+ghost use Rattle.std.specs.Prelude.{◌≡◌, ◌∷◌, [], Ok, OnOk, IfOk, IsTrue, codes, decimal};
 ghost use Rattle.json.specs.Token.{key as key_token, number as number_token, begin_array as begin_array_token, end_object as end_object_token};
 ghost use Rattle.book_laws.specs.Parts.{list_key, is_in};
 ghost use Rattle.book_laws.specs.Reading.{reading};
 ghost use Rattle.book_laws.specs.Text.{Adds, tokens_of, entry_data, list_data, book_text};
-ghost use Rattle.book_text.specs.Left.{row_of, rows_listed, entries_tokens, ends_after};
+ghost use Rattle.book_text.specs.Left.{row_of, rows_listed, entries_tokens};
 ghost use Rattle.book_text.specs.Top.{top_data};
 
+use crate::json_writer::JsonWriter;
 use crate::listed_row::ListedRow;
 use crate::row_writers::write_entry;
-use crate::tokens::{begin_array, begin_object, end_array, end_object, key, number_field};
 use book_laws::RowList;
 use issuer_rows::Book;
-use json::Writer;
 use std::alloc::{AllocError, Global};
 
 // Writes the entry of a row that stands in the list.
-fn write_listed(out: &mut Writer, list: RowList, row: &ListedRow<'_>) -> Result<(), AllocError>
+fn write_listed(out: &mut JsonWriter, list: RowList, row: &ListedRow<'_>) -> Result<(), AllocError>
     requires { IsTrue (is_in list row.now.val.now) }
     ensures { OnOk result (Adds out.old out.new (tokens_of (entry_data row.now.key.now row.now.val.now))) }
 {
@@ -25,56 +24,54 @@ fn write_listed(out: &mut Writer, list: RowList, row: &ListedRow<'_>) -> Result<
     Ok(())
 }
 
-/// Writes the entries of those of the rows that stand in the list. Returns whether there is one.
+/// Writes the entries of those of the rows that stand in the list. It fails only where memory runs out.
 pub(crate) fn write_rows(
-    out: &mut Writer,
+    out: &mut JsonWriter,
     list: RowList,
     rows: &[ListedRow<'_>],
-) -> Result<bool, AllocError>
-    ensures text { OnOk result (Adds out.old out.new (entries_tokens list (rows_listed rows.now))) }
-    ensures some { IfOk result (λ some. (later : Bool) → ends_after later (entries_tokens list (rows_listed rows.now)) ≡ (some || later)) }
+) -> Result<(), AllocError>
+    ensures { OnOk result (Adds out.old out.new (entries_tokens list (rows_listed rows.now))) }
 {
-    let mut has_some = false;
     for row in rows {
         if row.is_in(list) {
             write_listed(out, list, row)?;
-            has_some = true;
         }
     }
-    Ok(has_some)
+    Ok(())
 }
 
 /// Begins a list: its key and its opening bracket. It fails only where memory runs out.
-pub fn open_list(out: &mut Writer, list: RowList) -> Result<(), AllocError>
+pub fn open_list(out: &mut JsonWriter, list: RowList) -> Result<(), AllocError>
     ensures { OnOk result (Adds out.old out.new (key_token (list_key list) ∷ begin_array_token ∷ [])) }
 {
-    key(out, list.key())?;
-    begin_array(out)
+    out.key(list.key())?;
+    out.begin_array()
 }
 
 /// Writes what stands behind all lists.
-pub(crate) fn end_book(out: &mut Writer) -> Result<(), AllocError>
+pub(crate) fn end_book(out: &mut JsonWriter) -> Result<(), AllocError>
     ensures { OnOk result (Adds out.old out.new (key_token (codes "version") ∷ number_token (decimal 3) ∷ end_object_token ∷ [])) }
 {
-    number_field(out, "version", 3)?;
-    end_object(out)
+    out.key("version")?;
+    out.number(3)?;
+    out.end_object()
 }
 
 // Writes the list of those of the rows that stand in it.
-fn write_list(out: &mut Writer, list: RowList, rows: &[ListedRow<'_>]) -> Result<(), AllocError>
+fn write_list(out: &mut JsonWriter, list: RowList, rows: &[ListedRow<'_>]) -> Result<(), AllocError>
     ensures { OnOk result (Adds out.old out.new (key_token (list_key list) ∷ tokens_of (list_data list (rows_listed rows.now)))) }
 {
     open_list(out, list)?;
     write_rows(out, list, rows)?;
-    end_array(out)?;
+    out.end_array()?;
     Ok(())
 }
 
 // Writes the top object of the book that has these rows.
-fn write_top(out: &mut Writer, rows: &[ListedRow<'_>]) -> Result<(), AllocError>
+fn write_top(out: &mut JsonWriter, rows: &[ListedRow<'_>]) -> Result<(), AllocError>
     ensures { OnOk result (Adds out.old out.new (tokens_of (top_data (rows_listed rows.now)))) }
 {
-    begin_object(out)?;
+    out.begin_object()?;
     write_list(out, RowList::Accounts, rows)?;
     write_list(out, RowList::Ahead, rows)?;
     write_list(out, RowList::Budgets, rows)?;
@@ -105,7 +102,7 @@ pub fn write_book(alloc: Global, book: &Book) -> Result<Vec<u8>, AllocError>
 {
     let sorted = book.sorted_rows(alloc)?;
     let rows = ListedRow::all(alloc, &sorted)?;
-    let mut out = Writer::new(room_for(alloc, book.len())?);
+    let mut out = JsonWriter::new(room_for(alloc, book.len())?, false);
     write_top(&mut out, &rows)?;
-    Ok(out.into_inner())
+    Ok(out.into_parts().0)
 }

@@ -20,7 +20,7 @@ rest_of left = rest_at left.place left.later left.at left.rows.now
 
 -- the piece that was made last
 abbrev pub piece_of : TextLeft → List ℕ
-piece_of left = drop left.skipped left.text.items
+piece_of left = left.text.items
 
 -- how many lists stand behind a list
 abbrev pub lists_behind : RowList → ℕ

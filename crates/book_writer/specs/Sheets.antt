@@ -1,9 +1,10 @@
 -- Texts of rows that are made ahead.
-use Rattle.std.specs.Prelude.{◌≡◌, ℕ, ◌<◌, ◌≤◌, List, length, Bool, drop, slice_range}
+use Rattle.std.specs.Prelude.{◌≡◌, ℕ, ◌<◌, ◌≤◌, List, length, Bool, slice_range}
 use Rattle.json.specs.Print.{print_from}
 use Rattle.issuer_rows.specs.declared.row_key.RowKey.{RowKey}
 use Rattle.issuer_rows.specs.declared.row_val.RowVal.{RowVal}
-use Rattle.book_text.specs.Left.{entries_tokens, ends_after, skipped_if}
+use Rattle.book_laws.specs.Text.{ends_after}
+use Rattle.book_text.specs.Left.{entries_tokens}
 use Rattle.book_writer.specs.declared.span.Span.{Span}
 
 -- the rows of a span, which are some of these
@@ -14,5 +15,5 @@ rows_of_span rows span = slice_range rows span.at span.end
 pub record IsTextOf (rows : List (RowKey × RowVal)) (span : Span) (text : List ℕ) (goes_on : Bool) : Type 0 where
   pub some : span.at < span.end
   pub within : span.end ≤ length rows
-  pub made : drop (skipped_if span.later) text ≡ print_from span.later (entries_tokens span.list (rows_of_span rows span))
+  pub made : text ≡ print_from span.later (entries_tokens span.list (rows_of_span rows span))
   pub ends : goes_on ≡ ends_after span.later (entries_tokens span.list (rows_of_span rows span))

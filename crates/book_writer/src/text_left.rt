@@ -3,9 +3,8 @@ ghost use Rattle.std.specs.Prelude.{◌≤◌, length};
 use crate::span::{ENTRIES, Span};
 use book_laws::RowList;
 use book_text::{
-    ListedRow, begin_object, emptied, last_piece, list_behind, open_list, piece_between, skipped_if,
+    JsonWriter, ListedRow, emptied, last_piece, list_behind, open_list, piece_between,
 };
-use json::Writer;
 use std::alloc::{AllocError, Global};
 
 /// Where the text of a book is written next.
@@ -28,8 +27,6 @@ pub(crate) struct TextLeft<'a> {
     pub(crate) at: usize,
     pub(crate) later: bool,
     pub(crate) text: Vec<u8>,
-    // How much of the text's beginning is no part of the piece.
-    skipped: usize,
     ghost within: { at ≤ length rows.now },
 }
 
@@ -51,7 +48,6 @@ impl<'a> TextLeft<'a> {
             at: 0,
             later: false,
             text: Vec::new(alloc),
-            skipped: 0,
         }
     }
 
@@ -62,11 +58,10 @@ impl<'a> TextLeft<'a> {
         ensures fewer { OnOk result (pieces_left self.new < pieces_left self.old) }
         ensures rows { self.new.rows ≡ self.old.rows }
     {
-        let mut out = Writer::new(emptied(&mut self.text));
-        begin_object(&mut out)?;
+        let mut out = JsonWriter::new(emptied(&mut self.text), false);
+        out.begin_object()?;
         open_list(&mut out, RowList::Accounts)?;
-        self.text = out.into_inner();
-        self.skipped = 0;
+        self.text = out.into_parts().0;
         self.place = TextPlace::In(RowList::Accounts);
         self.at = 0;
         self.later = false;
@@ -102,7 +97,6 @@ impl<'a> TextLeft<'a> {
         ensures fewer { pieces_left self.new < pieces_left self.old }
         ensures rows { self.new.rows ≡ self.old.rows }
     {
-        self.skipped = skipped_if(self.later);
         self.at = span.end;
         self.later = goes_on;
     }
@@ -116,7 +110,6 @@ impl<'a> TextLeft<'a> {
         ensures rows { self.new.rows ≡ self.old.rows }
     {
         let text = emptied(&mut self.text);
-        self.skipped = 0;
         self.at = 0;
         self.later = false;
         match list_behind(list) {
@@ -153,6 +146,6 @@ impl<'a> TextLeft<'a> {
     pub(crate) fn piece(&self) -> &[u8]
         ensures { result.now ≡ piece_of self.now }
     {
-        self.text.get(self.skipped..).unwrap_or(&[])
+        &self.text
     }
 }

@@ -1,5 +1,5 @@
 -- Values and members of elements.
-use Rattle.std.proofs.Common.{◌≡◌, ℕ, ◌<◌, ◌^◌, List, [], ◌∷◌, ◌++◌, Option, Some, None, refl, sym, ap, ◌∙◌, append_assoc, take, drop, length, subst, arith}
+use Rattle.std.proofs.Common.{◌≡◌, ℕ, ◌<◌, ◌^◌, false, List, [], ◌∷◌, ◌++◌, Option, Some, None, refl, sym, ap, ◌∙◌, append_assoc, take, drop, length, subst, arith}
 use Rattle.std.specs.Prelude.{option_map, Result, IfOk, codes}
 use Rattle.std.specs.Global.{Vec}
 use Rattle.std.proofs.lemmas.List.{take_at, length-append}
@@ -10,14 +10,12 @@ use Rattle.iso_laws.specs.Elements.{original_text, original_type, twelve_zeros}
 use Rattle.iso_laws.proofs.Originals.{cut-acquirer, length-original_type}
 use Rattle.iso_laws.specs.Spelling.{Field, Texts, fields_among, with_field}
 use Rattle.iso_laws.specs.declared.element.Element.{Element}
-use Rattle.json.specs.Print.{print}
 use Rattle.json.specs.Token.{Token, begin_object, end_object, key}
 use Rattle.json.specs.Tree.{members_tokens}
-use Rattle.json.specs.Written.{Written}
 use Rattle.serde_json.specs.Data.{Data, object}
 use Rattle.serde_json.specs.Written.{compact_text, members_outline}
-use Rattle.serde_json.proofs.Texts.{print-outline}
-use Rattle.book_laws.specs.Text.{Adds, members, numeral, tokens_of}
+use Rattle.book_laws.proofs.WrittenTokens.{printed}
+use Rattle.book_laws.specs.Text.{Adds, JsonText, members, numeral, tokens_of}
 use Rattle.message_json.specs.Lines.{Member, all_tokens, element_tokens, elements_tokens, member_tokens}
 use Rattle.message_json.specs.Values.{value_of, without_length}
 use Rattle.iso_shown.specs.declared.card_numbers.CardNumbers.{CardNumbers}
@@ -40,17 +38,14 @@ in_front : (cards : CardNumbers) (e : Element) (text : Option (List ℕ)) (fs : 
 in_front cards e None fs = refl
 in_front cards e (Some text) fs = refl
 
--- once an element is written, those that are left are those behind it
-pub one_more : (cards : CardNumbers) (texts : Texts) (e : Element) (rest more : List Element) (before after all : List Token) (value : Option Data)
-    → rest ≡ e ∷ more → value ≡ option_map (value_of cards e) (texts e) → after ≡ before ++ element_tokens e value
-    → before ++ elements_tokens cards (fields_among rest texts) ≡ all → after ++ elements_tokens cards (fields_among more texts) ≡ all
-one_more cards texts e rest more before after all value are is written so =
-    let left = elements_tokens cards (fields_among more texts) in
-    ap (λ (ts : List Token). ts ++ left) (written ∙ ap (λ (v : Option Data). before ++ element_tokens e v) is)
-    ∙ append_assoc before (element_tokens e (option_map (value_of cards e) (texts e))) left
-    ∙ ap (λ (ts : List Token). before ++ ts) (sym (in_front cards e (texts e) (fields_among more texts)))
-    ∙ ap (λ (es : List Element). before ++ elements_tokens cards (fields_among es texts)) (sym are)
-    ∙ so
+-- the tokens of the next element, and of those behind it
+pub next_element : (cards : CardNumbers) (texts : Texts) (e : Element) (rest more : List Element) (value : Option Data) → rest ≡ e ∷ more
+    → value ≡ option_map (value_of cards e) (texts e)
+    → element_tokens e value ++ elements_tokens cards (fields_among more texts) ≡ elements_tokens cards (fields_among rest texts)
+next_element cards texts e rest more value are is =
+    ap (λ (v : Option Data). element_tokens e v ++ elements_tokens cards (fields_among more texts)) is
+    ∙ sym (in_front cards e (texts e) (fields_among more texts))
+    ∙ ap (λ (es : List Element). elements_tokens cards (fields_among es texts)) (sym are)
 
 -- ---- objects
 
@@ -74,14 +69,12 @@ object_tokens ps ms =
     ∙ sym (members_are (ps ++ ms)))
 
 -- the line of an object that was written into nothing
-pub line_of : {E : Type 0} {before after : Written} (r : Result (Vec ℕ) E) (ps ms : List Member)
-    → Adds before after (begin_object ∷ (all_tokens ps ++ (all_tokens ms ++ end_object ∷ []))) → before.tokens ≡ []
-    → IfOk r (λ line. line.items ≡ print after.tokens ++ codes "\n") → IfOk r (λ line. line.items ≡ compact_text (object (members (ps ++ ms))) ++ codes "\n")
+pub line_of : {E : Type 0} {before after : JsonText} (r : Result (Vec ℕ) E) (ps ms : List Member)
+    → Adds before after (begin_object ∷ (all_tokens ps ++ (all_tokens ms ++ end_object ∷ []))) → before ≡ record { text = []; after_value = false }
+    → IfOk r (λ line. line.items ≡ after.text ++ codes "\n") → IfOk r (λ line. line.items ≡ compact_text (object (members (ps ++ ms))) ++ codes "\n")
 line_of {before = before} {after = after} r ps ms adds none h =
-    let whole = begin_object ∷ (all_tokens ps ++ (all_tokens ms ++ end_object ∷ [])) in
-    let are : after.tokens ≡ tokens_of (object (members (ps ++ ms))) =
-    adds.written ∙ ap (λ (ts : List Token). ts ++ whole) none ∙ object_tokens ps ms in
-    subst (λ (text : List ℕ). IfOk r (λ line. line.items ≡ text ++ codes "\n")) (ap print are ∙ print-outline (object (members (ps ++ ms)))) h
+    let whole = subst (λ (ts : List Token). Adds before after ts) (object_tokens ps ms) adds in
+    subst (λ (text : List ℕ). IfOk r (λ line. line.items ≡ text ++ codes "\n")) (printed after.text (object (members (ps ++ ms))) refl whole none) h
 
 -- ---- element 56
 

@@ -5,21 +5,10 @@ ghost use Rattle.message_json.specs.Lines.{frame_line, reply_line};
 use crate::members::{put_frame, put_reply};
 use crate::place::Place;
 use crate::writing::put_place;
-use book_text::{begin_object, end_object};
+use book_text::JsonWriter;
 use iso_shown::CardNumbers;
 use issuer_rows::{Frame, ReplyBody};
-use json::Writer;
 use std::alloc::{AllocError, Global};
-
-// The text of an object that was written into nothing, with a line feed behind it.
-fn ended(out: Writer) -> Result<Vec<u8>, AllocError>
-    requires { out.before ≡ [] }
-    ensures { IfOk result (λ line. line.items ≡ print out.tokens ++ codes "\n") }
-{
-    let mut line = out.into_inner();
-    line.push(b'\n')?;
-    Ok(line)
-}
 
 /// The line of a body of a batch: an object of JSON with its place, and its type and elements, or how its fault is answered. It fails
 /// only where memory runs out.
@@ -31,12 +20,12 @@ pub fn frame_line(
 ) -> Result<Vec<u8>, AllocError>
     ensures { IfOk result (λ line. line.items ≡ frame_line place cards frame.now) }
 {
-    let mut out = Writer::new(Vec::new(alloc));
-    begin_object(&mut out)?;
+    let mut out = JsonWriter::empty(alloc);
+    out.begin_object()?;
     put_place(&mut out, place)?;
     put_frame(&mut out, alloc, cards, frame)?;
-    end_object(&mut out)?;
-    ended(out)
+    out.end_object()?;
+    out.into_line()
 }
 
 /// The line of a reply: an object of JSON with its place, and its type and elements, or the fault of a body that is no message. It fails
@@ -49,10 +38,10 @@ pub fn reply_line(
 ) -> Result<Vec<u8>, AllocError>
     ensures { IfOk result (λ line. line.items ≡ reply_line place cards reply.now) }
 {
-    let mut out = Writer::new(Vec::new(alloc));
-    begin_object(&mut out)?;
+    let mut out = JsonWriter::empty(alloc);
+    out.begin_object()?;
     put_place(&mut out, place)?;
     put_reply(&mut out, alloc, cards, reply)?;
-    end_object(&mut out)?;
-    ended(out)
+    out.end_object()?;
+    out.into_line()
 }

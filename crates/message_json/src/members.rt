@@ -7,29 +7,28 @@ ghost use Rattle.message_json.specs.Lines.{all_tokens, answer_members, frame_mem
 use crate::message_values::type_of_message;
 use crate::reply_values::type_of_reply;
 use crate::writing::{put_elements, put_fault};
-use book_text::text_field;
+use book_text::JsonWriter;
 use iso_shown::CardNumbers;
 use iso8583::{Message, Reply};
 use issuer_rows::{Frame, ReplyBody};
-use json::Writer;
 use std::alloc::{AllocError, Global};
 
 // Writes a message.
 fn put_message(
-    out: &mut Writer,
+    out: &mut JsonWriter,
     alloc: Global,
     cards: CardNumbers,
     message: &Message,
 ) -> Result<(), AllocError>
     ensures { OnOk result (Adds out.old out.new (all_tokens (message_members cards message.now))) }
 {
-    text_field(out, "type", type_of_message(message))?;
+    out.text_field("type", type_of_message(message))?;
     put_elements(out, alloc, cards, message)
 }
 
 /// Writes the members of a body: those of its message, or its fault. It fails only where memory runs out.
 pub fn put_frame(
-    out: &mut Writer,
+    out: &mut JsonWriter,
     alloc: Global,
     cards: CardNumbers,
     frame: &Frame,
@@ -44,21 +43,21 @@ pub fn put_frame(
 
 // Writes a reply to a message.
 fn put_answer(
-    out: &mut Writer,
+    out: &mut JsonWriter,
     alloc: Global,
     cards: CardNumbers,
     reply: &Reply,
 ) -> Result<(), AllocError>
     ensures { OnOk result (Adds out.old out.new (all_tokens (answer_members cards reply.now))) }
 {
-    text_field(out, "type", type_of_reply(reply))?;
+    out.text_field("type", type_of_reply(reply))?;
     put_elements(out, alloc, cards, reply)?;
     Ok(())
 }
 
 /// Writes the members of a reply: its own, or the fault of a body that is no message. It fails only where memory runs out.
 pub fn put_reply(
-    out: &mut Writer,
+    out: &mut JsonWriter,
     alloc: Global,
     cards: CardNumbers,
     reply: &ReplyBody,

@@ -13,17 +13,16 @@ ghost use Rattle.message_json.specs.Values.{value_data, without_length};
 use crate::element_value::ElementValue;
 use crate::has_elements::HasElements;
 use crate::place::Place;
-use book_text::{number_field, text_field};
+use book_text::JsonWriter;
 use iso_laws::Element;
 use iso_shown::{CardNumbers, MaskedPan};
 use iso8583::{Digits, OriginalKind, OriginalRef, Pan};
 use issuer_rows::FrameFault;
-use json::Writer;
 use message_words::{elements, name_of};
 use std::alloc::{AllocError, Global};
 
 // Writes a card number, masked.
-fn put_masked(out: &mut Writer, alloc: Global, pan: Pan) -> Result<(), AllocError>
+fn put_masked(out: &mut JsonWriter, alloc: Global, pan: Pan) -> Result<(), AllocError>
     ensures { OnOk result (Adds out.old out.new (string_token (masked pan.0) ∷ [])) }
 {
     let pan = MaskedPan::new(pan);
@@ -44,7 +43,11 @@ fn type_of_original(kind: OriginalKind, repeat: bool) -> &'static str
 }
 
 // Writes what a reversal takes back.
-fn put_original(out: &mut Writer, alloc: Global, original: &OriginalRef) -> Result<(), AllocError>
+fn put_original(
+    out: &mut JsonWriter,
+    alloc: Global,
+    original: &OriginalRef,
+) -> Result<(), AllocError>
     ensures { OnOk result (Adds out.old out.new (string_token (without_length (original_text original.now)) ∷ [])) }
 {
     let kind = type_of_original(original.kind, original.repeat);
@@ -58,12 +61,16 @@ fn put_original(out: &mut Writer, alloc: Global, original: &OriginalRef) -> Resu
 }
 
 // Writes the value of an element.
-fn put_value(out: &mut Writer, alloc: Global, value: &ElementValue<'_>) -> Result<(), AllocError>
+fn put_value(
+    out: &mut JsonWriter,
+    alloc: Global,
+    value: &ElementValue<'_>,
+) -> Result<(), AllocError>
     ensures { OnOk result (Adds out.old out.new (tokens_of (value_data value.now))) }
 {
     match value {
         ElementValue::Masked(pan) => put_masked(out, alloc, *pan),
-        ElementValue::Number(number) => out.u64(*number),
+        ElementValue::Number(number) => out.number(*number),
         ElementValue::Action(action) => out.string(action.digits().as_str()),
         ElementValue::Original(original) => put_original(out, alloc, original),
         ElementValue::Text(text) => out.string(text),
@@ -72,7 +79,7 @@ fn put_value(out: &mut Writer, alloc: Global, value: &ElementValue<'_>) -> Resul
 
 // Writes an element with its value, if it has one.
 fn put_element(
-    out: &mut Writer,
+    out: &mut JsonWriter,
     alloc: Global,
     element: Element,
     value: &Option<ElementValue<'_>>,
@@ -88,7 +95,7 @@ fn put_element(
 
 /// Writes the elements that are there, in rising number.
 pub(crate) fn put_elements<M: HasElements>(
-    out: &mut Writer,
+    out: &mut JsonWriter,
     alloc: Global,
     cards: CardNumbers,
     message: &M,
@@ -105,13 +112,13 @@ pub(crate) fn put_elements<M: HasElements>(
 }
 
 // Writes the number of the element that a fault is of.
-fn put_fault_element(out: &mut Writer, element: u8) -> Result<(), AllocError>
+fn put_fault_element(out: &mut JsonWriter, element: u8) -> Result<(), AllocError>
     ensures { OnOk result (Adds out.old out.new (all_tokens (fault_element element))) }
 {
     if element == 0 {
         return Ok(());
     }
-    number_field(out, "element", u64::from(element))
+    out.number_field("element", u64::from(element))
 }
 
 // How a fault is answered.
@@ -127,31 +134,31 @@ fn fault_text(alloc: Global, fault: &FrameFault) -> Result<String, AllocError>
 
 /// Writes the fault of a body that is no message.
 pub(crate) fn put_fault(
-    out: &mut Writer,
+    out: &mut JsonWriter,
     alloc: Global,
     fault: &FrameFault,
 ) -> Result<(), AllocError>
     ensures { OnOk result (Adds out.old out.new (all_tokens (fault_members fault.now))) }
 {
     let text = fault_text(alloc, fault)?;
-    text_field(out, "fault", text.as_str())?;
+    out.text_field("fault", text.as_str())?;
     put_fault_element(out, fault.fault().element())
 }
 
 // Writes the block, where there is one.
-fn put_block(out: &mut Writer, block: Option<usize>) -> Result<(), AllocError>
+fn put_block(out: &mut JsonWriter, block: Option<usize>) -> Result<(), AllocError>
     ensures { OnOk result (Adds out.old out.new (all_tokens (block_members block))) }
 {
     match block {
-        Some(block) => number_field(out, "block", block as u64),
+        Some(block) => out.number_field("block", block as u64),
         None => Ok(()),
     }
 }
 
 /// Writes where it stands in its file.
-pub(crate) fn put_place(out: &mut Writer, place: Place) -> Result<(), AllocError>
+pub(crate) fn put_place(out: &mut JsonWriter, place: Place) -> Result<(), AllocError>
     ensures { OnOk result (Adds out.old out.new (all_tokens (place_members place))) }
 {
     put_block(out, place.block)?;
-    number_field(out, "index", place.index as u64)
+    out.number_field("index", place.index as u64)
 }

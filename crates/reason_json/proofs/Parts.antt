@@ -1,13 +1,13 @@
 -- Arrays of rows, and objects, as they are written.
-use Rattle.std.proofs.Common.{◌≡◌, ℕ, zero, suc, ◌+◌, List, [], ◌∷◌, ◌++◌, take, map, Option, Some, None, slice_get, refl, sym, ap, ◌∙◌, append_assoc, add-one}
+use Rattle.std.proofs.Common.{◌≡◌, ℕ, zero, suc, ◌+◌, List, [], ◌∷◌, ◌++◌, take, map, Option, Some, None, slice_get, refl, sym, ap, ◌∙◌, append_assoc, add-one, subst}
 use Rattle.std.proofs.lemmas.List.{append-nil}
 use Rattle.std.specs.List.{flat_map}
 use Rattle.json.specs.Token.{Token, begin_array, begin_object, end_array, end_object}
 use Rattle.json.specs.Tree.{items_tokens}
-use Rattle.json.specs.Written.{Written}
 use Rattle.serde_json.specs.Data.{Data, array, object}
 use Rattle.serde_json.specs.Written.{items_outline}
-use Rattle.book_laws.specs.Text.{Adds, members, tokens_of}
+use Rattle.book_laws.specs.Text.{Adds, JsonText, members, tokens_of}
+use Rattle.book_laws.proofs.WrittenTokens.{then}
 use Rattle.message_json.specs.Lines.{Member, all_tokens}
 use Rattle.message_json.proofs.Elements.{all_append, members_are}
 use Rattle.reason_json.specs.Lines.{items}
@@ -27,14 +27,10 @@ so_far f (y ∷ xs) zero x at = append-nil (f y) ∙ ap f (some_is y x at)
 so_far f (y ∷ xs) (suc i) x at = ap (λ rest. f y ++ rest) (so_far f xs i x at) ∙ sym (append_assoc (f y) (flat_map f (take i xs)) (f x))
 
 -- the next item is written behind the first ones
-pub one_more : {X : Type 0} (f : X → List Token) (xs : List X) (i : ℕ) (x : X) {a b c : Written} → slice_get xs i ≡ Some x
+pub one_more : {X : Type 0} (f : X → List Token) (xs : List X) (i : ℕ) (x : X) {a b c : JsonText} → slice_get xs i ≡ Some x
     → Adds a b (flat_map f (take i xs)) → Adds b c (f x) → Adds a c (flat_map f (take (i + 1) xs))
-one_more f xs i x {a} {b} {c} at before next = record {
-  kept = next.kept ∙ before.kept;
-  written =
-      next.written ∙ ap (λ (ts : List Token). ts ++ f x) before.written ∙ append_assoc a.tokens (flat_map f (take i xs)) (f x)
-      ∙ ap (λ (ts : List Token). a.tokens ++ ts) (sym (rw add-one (so_far f xs i x at)));
-}
+one_more f xs i x {a} {b} {c} at before next =
+    subst (λ (ts : List Token). Adds a c ts) (sym (rw add-one (so_far f xs i x at))) (then before next)
 
 -- ---- arrays
 

@@ -1,5 +1,5 @@
 -- The tokens of long rows, part by part, as they are written.
-use Rattle.std.proofs.Common.{◌≡◌, ℕ, List, [], ◌∷◌, ◌++◌, Option, Some, None, refl, subst, ap, ◌∙◌}
+use Rattle.std.proofs.Common.{◌≡◌, List, [], ◌∷◌, ◌++◌, Option, Some, None, refl, subst, ap, ◌∙◌}
 use Rattle.std.specs.Prelude.{codes}
 use Rattle.iso8583.specs.Number.{fixed_digits}
 use Rattle.iso8583.specs.declared.approval.Approval.{Approval}
@@ -11,15 +11,14 @@ use Rattle.issuer_rows.specs.declared.card_row.CardRow.{CardRow}
 use Rattle.issuer_rows.specs.declared.row_key.RowKey.TheVariants as row
 use Rattle.issuer_rows.specs.declared.row_val.RowVal.TheVariants as val
 use Rattle.json.specs.Token.{Token, begin_object, end_object, key}
-use Rattle.json.specs.Written.{Written}
-use Rattle.book_laws.specs.Text.{Adds, account_id_data, approval_data, identity_data, optional_data, original_data, tokens_of}
+use Rattle.book_laws.specs.Text.{Adds, JsonText, account_id_data, approval_data, identity_data, optional_data, original_data, tokens_of}
 use Rattle.book_laws.specs.Words.{kind_word, paid_word, status_word}
 use Rattle.book_laws.specs.declared.original_entry.OriginalEntry.{OriginalEntry}
 use Rattle.reason_json.specs.RowTokens.{answer_tokens, limit_tokens, number_tokens, payment_tokens, text_tokens}
 use Rattle.reason_json.specs.Rows.{entry_shown, row_data, shown_value}
 
 -- the same tokens are written, said otherwise
-pub written_as : {a b : Written} {xs ys : List Token} → xs ≡ ys → Adds a b xs → Adds a b ys
+pub written_as : {a b : JsonText} {xs ys : List Token} → xs ≡ ys → Adds a b xs → Adds a b ys
 written_as {a} {b} same adds = subst (λ (ts : List Token). Adds a b ts) same adds
 
 -- a card, part by part

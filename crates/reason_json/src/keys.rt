@@ -10,16 +10,15 @@ ghost use Rattle.reason_json.specs.Rows.{absent_data, key_members};
 use crate::numbers::{account_field, pan_field};
 use crate::rows::{begin_row, kind_name};
 use book_text::{
-    acquirer_field, day_field, end_object, key as put_name, prefix_field, stamp_field, stan_field,
+    JsonWriter, Member, acquirer_field, day_field, prefix_field, stamp_field, stan_field,
 };
 use iso_shown::CardNumbers;
 use issuer_rows::RowKey;
-use json::Writer;
 use std::alloc::{AllocError, Global};
 
 // Writes what finds a row.
 fn put_key(
-    out: &mut Writer,
+    out: &mut JsonWriter,
     alloc: Global,
     cards: CardNumbers,
     key: &RowKey,
@@ -30,29 +29,29 @@ fn put_key(
         RowKey::Card(pan) => pan_field(out, alloc, cards, *pan),
         RowKey::Velocity(pan, day) => {
             pan_field(out, alloc, cards, *pan)?;
-            day_field(out, "day", *day)
+            day_field(out, Member::Day, *day)
         }
-        RowKey::Budget(prefix) => prefix_field(out, "prefix", *prefix),
+        RowKey::Budget(prefix) => prefix_field(out, Member::Prefix, *prefix),
         RowKey::Original(identity) => {
-            acquirer_field(out, "acquirer", identity.acquirer)?;
-            stamp_field(out, "stamp", identity.stamp)?;
-            stan_field(out, "trace", identity.stan)
+            acquirer_field(out, Member::Acquirer, identity.acquirer)?;
+            stamp_field(out, Member::Stamp, identity.stamp)?;
+            stan_field(out, Member::Trace, identity.stan)
         }
         RowKey::Account(id) => account_field(out, alloc, cards, "id", *id),
     }
 }
 
 // Writes that a row is absent.
-fn put_absence(out: &mut Writer) -> Result<(), AllocError>
+fn put_absence(out: &mut JsonWriter) -> Result<(), AllocError>
     ensures { OnOk result (Adds out.old out.new (key_token (codes "absent") ∷ boolean_token true ∷ [])) }
 {
-    put_name(out, "absent")?;
-    out.boolean(true)
+    out.key("absent")?;
+    out.put_true()
 }
 
 /// Writes a row that isn't there. It fails only where memory runs out.
 pub(crate) fn put_absent(
-    out: &mut Writer,
+    out: &mut JsonWriter,
     alloc: Global,
     cards: CardNumbers,
     key: &RowKey,
@@ -62,5 +61,5 @@ pub(crate) fn put_absent(
     begin_row(out, kind_name(key))?;
     put_key(out, alloc, cards, key)?;
     put_absence(out)?;
-    end_object(out)
+    out.end_object()
 }

@@ -7,24 +7,23 @@ ghost use Rattle.json.specs.Token.{key as key_token, string as string_token};
 ghost use Rattle.book_laws.specs.Text.{Adds, account_id_data, optional_data, tokens_of};
 ghost use Rattle.reason_json.specs.Rows.{names_account, shown_value};
 
-use book_text::{null_field, text_field};
+use book_text::JsonWriter;
 use iso_shown::{CardNumbers, MaskedPan};
 use iso8583::{AccountId, Pan};
-use json::Writer;
 use std::alloc::{AllocError, Global};
 
 // Writes a member that is a card number, masked.
-fn masked_field(out: &mut Writer, alloc: Global, name: &str, pan: Pan) -> Result<(), AllocError>
+fn masked_field(out: &mut JsonWriter, alloc: Global, name: &str, pan: Pan) -> Result<(), AllocError>
     ensures { OnOk result (Adds out.old out.new (key_token name.now ∷ string_token (masked pan.0) ∷ [])) }
 {
     let pan = MaskedPan::new(pan);
     let text = format!(in alloc; "{pan}")?;
-    text_field(out, name, text.as_str())
+    out.text_field(name, text.as_str())
 }
 
 /// Writes a card number as a member. It fails only where memory runs out.
 pub(crate) fn pan_field(
-    out: &mut Writer,
+    out: &mut JsonWriter,
     alloc: Global,
     cards: CardNumbers,
     pan: Pan,
@@ -33,13 +32,13 @@ pub(crate) fn pan_field(
 {
     match cards {
         CardNumbers::Masked => masked_field(out, alloc, "pan", pan),
-        CardNumbers::Full => text_field(out, "pan", pan.as_str()),
+        CardNumbers::Full => out.text_field("pan", pan.as_str()),
     }
 }
 
 /// Writes the name of an account, which may be a card number, as a member. It fails only where memory runs out.
 pub(crate) fn account_field(
-    out: &mut Writer,
+    out: &mut JsonWriter,
     alloc: Global,
     cards: CardNumbers,
     name: &str,
@@ -49,13 +48,13 @@ pub(crate) fn account_field(
 {
     match (cards, Pan::new(id.as_slice())) {
         (CardNumbers::Masked, Some(pan)) => masked_field(out, alloc, name, pan),
-        _ => text_field(out, name, id.as_str()),
+        _ => out.text_field(name, id.as_str()),
     }
 }
 
 /// Writes the name of an account as a member, or null. It fails only where memory runs out.
 pub(crate) fn optional_account_field(
-    out: &mut Writer,
+    out: &mut JsonWriter,
     alloc: Global,
     cards: CardNumbers,
     name: &str,
@@ -66,6 +65,6 @@ pub(crate) fn optional_account_field(
 {
     match id {
         Some(id) => account_field(out, alloc, cards, name, id),
-        None => null_field(out, name),
+        None => out.null_field(name),
     }
 }

@@ -12,17 +12,16 @@ ghost use Rattle.reason_json.specs.RowTokens.{answer_tokens, limit_tokens, payme
 use crate::numbers::{account_field, optional_account_field, pan_field};
 use book_laws::OriginalEntry;
 use book_text::{
-    acquirer_field, action_field, amount_field, balance_field, begin_object, count_field,
-    currency_field, day_field, end_object, expiry_field, identity_field, kind_field, mode_field,
+    JsonWriter, Member, acquirer_field, action_field, amount_field, balance_field, count_field,
+    currency_field, day_field, expiry_field, identity_field, kind_field, mode_field,
     optional_approval_field, optional_identity_field, paid_field, prefix_field, processing_field,
-    stamp_field, stan_field, status_field, text_field,
+    stamp_field, stan_field, status_field,
 };
 use iso_shown::CardNumbers;
 use iso8583::{AccountId, Day, Identity, Pan, PanPrefix};
 use issuer_rows::{
     AccountRow, BudgetRow, CardAccounts, CardRow, Kept, Mark, RowKey, RowVal, VelocityRow,
 };
-use json::Writer;
 use std::alloc::{AllocError, Global};
 
 /// What a row is of.
@@ -39,16 +38,16 @@ pub(crate) fn kind_name(key: &RowKey) -> &'static str
 }
 
 /// Writes the opening brace of a row, and what it is of. It fails only where memory runs out.
-pub(crate) fn begin_row(out: &mut Writer, kind: &str) -> Result<(), AllocError>
+pub(crate) fn begin_row(out: &mut JsonWriter, kind: &str) -> Result<(), AllocError>
     ensures { OnOk result (Adds out.old out.new (begin_object ∷ key_token (codes "row") ∷ string_token kind.now ∷ [])) }
 {
-    begin_object(out)?;
-    text_field(out, "row", kind)
+    out.begin_object()?;
+    out.text_field("row", kind)
 }
 
 // Writes the account that pays where a message names none.
 fn first_account_field(
-    out: &mut Writer,
+    out: &mut JsonWriter,
     alloc: Global,
     cards: CardNumbers,
     accounts: CardAccounts,
@@ -60,7 +59,7 @@ fn first_account_field(
 
 // Writes the other account, if there is one.
 fn second_account_field(
-    out: &mut Writer,
+    out: &mut JsonWriter,
     alloc: Global,
     cards: CardNumbers,
     accounts: CardAccounts,
@@ -72,19 +71,19 @@ fn second_account_field(
 }
 
 // Writes how often, for how much and until when a card pays.
-fn put_limits(out: &mut Writer, card: &CardRow) -> Result<(), AllocError>
+fn put_limits(out: &mut JsonWriter, card: &CardRow) -> Result<(), AllocError>
     ensures { OnOk result (Adds out.old out.new (limit_tokens card.now)) }
 {
-    count_field(out, "approvals", card.approvals)?;
-    balance_field(out, "day_amount", card.day_amount)?;
-    count_field(out, "day_count", card.day_count)?;
-    expiry_field(out, "expiry", card.expiry)?;
+    count_field(out, Member::Approvals, card.approvals)?;
+    balance_field(out, Member::DayAmount, card.day_amount)?;
+    count_field(out, Member::DayCount, card.day_count)?;
+    expiry_field(out, Member::Expiry, card.expiry)?;
     Ok(())
 }
 
 // Writes a card.
 fn put_card(
-    out: &mut Writer,
+    out: &mut JsonWriter,
     alloc: Global,
     cards: CardNumbers,
     pan: Pan,
@@ -97,14 +96,14 @@ fn put_card(
     put_limits(out, card)?;
     pan_field(out, alloc, cards, pan)?;
     second_account_field(out, alloc, cards, card.accounts)?;
-    status_field(out, "status", card.status)?;
-    end_object(out)?;
+    status_field(out, Member::Status, card.status)?;
+    out.end_object()?;
     Ok(())
 }
 
 // Writes what was spent with a card on a day.
 fn put_day(
-    out: &mut Writer,
+    out: &mut JsonWriter,
     alloc: Global,
     cards: CardNumbers,
     pan: Pan,
@@ -114,17 +113,17 @@ fn put_day(
     ensures { OnOk result (Adds out.old out.new (tokens_of (row_data cards (key.Velocity pan day) (val.Velocity row.now)))) }
 {
     begin_row(out, "day")?;
-    count_field(out, "count", row.count)?;
-    day_field(out, "day", day)?;
+    count_field(out, Member::Count, row.count)?;
+    day_field(out, Member::Day, day)?;
     pan_field(out, alloc, cards, pan)?;
-    balance_field(out, "sum", row.sum)?;
-    end_object(out)?;
+    balance_field(out, Member::Sum, row.sum)?;
+    out.end_object()?;
     Ok(())
 }
 
 // Writes a stand-in budget.
 fn put_budget(
-    out: &mut Writer,
+    out: &mut JsonWriter,
     cards: CardNumbers,
     prefix: PanPrefix,
     row: &BudgetRow,
@@ -132,44 +131,44 @@ fn put_budget(
     ensures { OnOk result (Adds out.old out.new (tokens_of (row_data cards (key.Budget prefix) (val.Budget row.now)))) }
 {
     begin_row(out, "budget")?;
-    balance_field(out, "cap", row.cap)?;
-    balance_field(out, "left", row.left)?;
-    mode_field(out, "mode", row.mode)?;
-    prefix_field(out, "prefix", prefix)?;
-    end_object(out)?;
+    balance_field(out, Member::Cap, row.cap)?;
+    balance_field(out, Member::Left, row.left)?;
+    mode_field(out, Member::Mode, row.mode)?;
+    prefix_field(out, Member::Prefix, prefix)?;
+    out.end_object()?;
     Ok(())
 }
 
 // Writes how an original was answered, and for which amount.
-fn put_answer(out: &mut Writer, original: &OriginalEntry) -> Result<(), AllocError>
+fn put_answer(out: &mut JsonWriter, original: &OriginalEntry) -> Result<(), AllocError>
     ensures { OnOk result (Adds out.old out.new (answer_tokens original.now)) }
 {
-    action_field(out, "action", original.action)?;
-    amount_field(out, "amount", original.amount)?;
-    optional_approval_field(out, "approval", original.approval)?;
+    action_field(out, Member::Action, original.action)?;
+    amount_field(out, Member::Amount, original.amount)?;
+    optional_approval_field(out, Member::Approval, original.approval)?;
     Ok(())
 }
 
 // Writes what paid an original, with which card, and by what it is reversed.
 fn put_payment(
-    out: &mut Writer,
+    out: &mut JsonWriter,
     alloc: Global,
     cards: CardNumbers,
     original: &OriginalEntry,
 ) -> Result<(), AllocError>
     ensures { OnOk result (Adds out.old out.new (payment_tokens cards original.now)) }
 {
-    kind_field(out, "kind", original.kind)?;
-    paid_field(out, "paid", original.paid)?;
+    kind_field(out, Member::Kind, original.kind)?;
+    paid_field(out, Member::Paid, original.paid)?;
     pan_field(out, alloc, cards, original.pan)?;
-    processing_field(out, "processing", original.processing)?;
-    optional_identity_field(out, "reversed", original.reversed)?;
+    processing_field(out, Member::Processing, original.processing)?;
+    optional_identity_field(out, Member::Reversed, original.reversed)?;
     Ok(())
 }
 
 // Writes what a book's text says of an original that was decided.
 fn put_original(
-    out: &mut Writer,
+    out: &mut JsonWriter,
     alloc: Global,
     cards: CardNumbers,
     identity: Identity,
@@ -179,19 +178,19 @@ fn put_original(
 {
     begin_row(out, "original")?;
     optional_account_field(out, alloc, cards, "account", original.account)?;
-    acquirer_field(out, "acquirer", identity.acquirer)?;
+    acquirer_field(out, Member::Acquirer, identity.acquirer)?;
     put_answer(out, original)?;
     put_payment(out, alloc, cards, original)?;
-    stamp_field(out, "stamp", identity.stamp)?;
-    amount_field(out, "stay", original.stay)?;
-    stan_field(out, "trace", identity.stan)?;
-    end_object(out)?;
+    stamp_field(out, Member::Stamp, identity.stamp)?;
+    amount_field(out, Member::Stay, original.stay)?;
+    stan_field(out, Member::Trace, identity.stan)?;
+    out.end_object()?;
     Ok(())
 }
 
 // Writes an original that was decided.
 fn put_kept(
-    out: &mut Writer,
+    out: &mut JsonWriter,
     alloc: Global,
     cards: CardNumbers,
     identity: Identity,
@@ -206,7 +205,7 @@ fn put_kept(
 
 // Writes an original whose reversal came ahead of it.
 fn put_mark(
-    out: &mut Writer,
+    out: &mut JsonWriter,
     alloc: Global,
     cards: CardNumbers,
     identity: Identity,
@@ -215,19 +214,19 @@ fn put_mark(
     ensures { OnOk result (Adds out.old out.new (tokens_of (row_data cards (key.Original identity) (val.Ahead mark.now)))) }
 {
     begin_row(out, "original")?;
-    acquirer_field(out, "acquirer", identity.acquirer)?;
-    kind_field(out, "kind", mark.kind)?;
+    acquirer_field(out, Member::Acquirer, identity.acquirer)?;
+    kind_field(out, Member::Kind, mark.kind)?;
     pan_field(out, alloc, cards, mark.card)?;
-    identity_field(out, "reversal", mark.reversal)?;
-    stamp_field(out, "stamp", identity.stamp)?;
-    stan_field(out, "trace", identity.stan)?;
-    end_object(out)?;
+    identity_field(out, Member::Reversal, mark.reversal)?;
+    stamp_field(out, Member::Stamp, identity.stamp)?;
+    stan_field(out, Member::Trace, identity.stan)?;
+    out.end_object()?;
     Ok(())
 }
 
 // Writes an account.
 fn put_account(
-    out: &mut Writer,
+    out: &mut JsonWriter,
     alloc: Global,
     cards: CardNumbers,
     id: AccountId,
@@ -236,24 +235,24 @@ fn put_account(
     ensures { OnOk result (Adds out.old out.new (tokens_of (row_data cards (key.Account id) (val.Account row.now)))) }
 {
     begin_row(out, "account")?;
-    balance_field(out, "available", row.available)?;
-    currency_field(out, "currency", row.currency)?;
+    balance_field(out, Member::Available, row.available)?;
+    currency_field(out, Member::Currency, row.currency)?;
     account_field(out, alloc, cards, "id", id)?;
-    end_object(out)?;
+    out.end_object()?;
     Ok(())
 }
 
 // Writes a row whose value isn't of its key's kind, which no book has.
-fn put_other(out: &mut Writer, key: &RowKey) -> Result<(), AllocError>
+fn put_other(out: &mut JsonWriter, key: &RowKey) -> Result<(), AllocError>
     ensures { OnOk result (Adds out.old out.new (begin_object ∷ key_token (codes "row") ∷ string_token (kind_name key.now) ∷ end_object_token ∷ [])) }
 {
     begin_row(out, kind_name(key))?;
-    end_object(out)
+    out.end_object()
 }
 
 /// Writes a row. It fails only where memory runs out.
 pub(crate) fn put_row(
-    out: &mut Writer,
+    out: &mut JsonWriter,
     alloc: Global,
     cards: CardNumbers,
     key: &RowKey,

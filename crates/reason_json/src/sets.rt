@@ -11,16 +11,15 @@ ghost use Rattle.reason_json.specs.Tokens.{read_tokens, written_tokens};
 
 use crate::keys::put_absent;
 use crate::rows::put_row;
-use book_text::{begin_array, end_array};
+use book_text::JsonWriter;
 use iso_shown::CardNumbers;
 use issuer_rows::{RowKey, RowVal};
 use issuer_view::{ReadSet, WriteSet};
-use json::Writer;
 use std::alloc::{AllocError, Global};
 
 // Writes what was found at a key.
 fn put_found(
-    out: &mut Writer,
+    out: &mut JsonWriter,
     alloc: Global,
     cards: CardNumbers,
     key: &RowKey,
@@ -36,7 +35,7 @@ fn put_found(
 
 // Writes the rows that were read, one behind another.
 fn put_each_read(
-    out: &mut Writer,
+    out: &mut JsonWriter,
     alloc: Global,
     cards: CardNumbers,
     reads: &ReadSet,
@@ -52,7 +51,7 @@ fn put_each_read(
 
 // Writes the rows that are written, one behind another.
 fn put_each_written(
-    out: &mut Writer,
+    out: &mut JsonWriter,
     alloc: Global,
     cards: CardNumbers,
     writes: &WriteSet,
@@ -68,30 +67,30 @@ fn put_each_written(
 
 /// Writes the rows that were read, as an array. It fails only where memory runs out.
 pub(crate) fn put_reads(
-    out: &mut Writer,
+    out: &mut JsonWriter,
     alloc: Global,
     cards: CardNumbers,
     reads: &ReadSet,
 ) -> Result<(), AllocError>
     ensures { OnOk result (Adds out.old out.new (tokens_of (array (items (map (read_data cards) reads.now))))) }
 {
-    begin_array(out)?;
+    out.begin_array()?;
     put_each_read(out, alloc, cards, reads)?;
-    end_array(out)?;
+    out.end_array()?;
     Ok(())
 }
 
 /// Writes the rows that are written, as an array. It fails only where memory runs out.
 pub(crate) fn put_writes(
-    out: &mut Writer,
+    out: &mut JsonWriter,
     alloc: Global,
     cards: CardNumbers,
     writes: &WriteSet,
 ) -> Result<(), AllocError>
     ensures { OnOk result (Adds out.old out.new (tokens_of (array (items (map (written_data cards) writes.now))))) }
 {
-    begin_array(out)?;
+    out.begin_array()?;
     put_each_written(out, alloc, cards, writes)?;
-    end_array(out)?;
+    out.end_array()?;
     Ok(())
 }

@@ -1,28 +1,25 @@
-use Rattle.std.proofs.Common.{◌≡◌, subst, List, ◌++◌, ap, ◌∙◌}
+use Rattle.std.proofs.Common.{◌≡◌, ℕ, false, subst, List, ap, ◌∙◌}
 use Rattle.std.specs.FinMap as map
-use Rattle.json.specs.Token.{Token}
-use Rattle.json.specs.Written.{Written}
 use Rattle.issuer_rows.specs.Fold.{Rows}
 use Rattle.issuer_rows.specs.declared.row_key.RowKey.{RowKey}
 use Rattle.issuer_rows.specs.declared.row_val.RowVal.{RowVal}
 use Rattle.book_laws.specs.Reading.{reading}
-use Rattle.book_laws.specs.Text.{Adds, tokens_of, book_data}
+use Rattle.book_laws.specs.Text.{Adds, JsonText, tokens_of, book_data}
 use Rattle.book_laws.proofs.WrittenTokens.{printed}
 use Rattle.book_text.specs.Left.{rows_listed}
 use Rattle.book_text.specs.Top.{top_data}
 use Rattle.book_text.proofs.writing.write_book.Goals as goal
 
 -- what is written of the sorted rows is written of the book
-of_book : {before after : Written} (book : Rows) {rows : List (RowKey × RowVal)} → rows ≡ map.entries book → Adds before after (tokens_of (top_data rows))
+of_book : {before after : JsonText} (book : Rows) {rows : List (RowKey × RowVal)} → rows ≡ map.entries book → Adds before after (tokens_of (top_data rows))
     → Adds before after (tokens_of (book_data book))
 of_book {before} {after} book sorted h = subst (λ (rows : List (RowKey × RowVal)). Adds before after (tokens_of (top_data rows))) sorted h
 
 pub returns-clause-text : goal.returns-clause-text
 returns-clause-text c =
     let all = of_book c.args.book.now (ap rows_listed c.deref.ensures.value ∙ c.in_ok-rows.ensures.rows ∙ c.in_ok-sorted.ensures.rows) c.in_ok-write_top.ensures in
-    printed c.write_top.new.out c.into_inner.result.items (book_data c.args.book.now) c.into_inner.ensures.items
-    (all.kept ∙ c.new-out.ensures.before ∙ c.in_ok-room_for.ensures)
-    (all.written ∙ ap (λ (ts : List Token). ts ++ tokens_of (book_data c.args.book.now)) c.new-out.ensures.tokens)
+    printed c.into_parts.result.0.items (book_data c.args.book.now) c.into_parts.ensures.text all
+    (c.new-out.ensures ∙ ap (λ (items : List ℕ). record { text = items; after_value = false }) c.in_ok-room_for.ensures)
 
 pub returns-clause-back : goal.returns-clause-back
 returns-clause-back c = ap reading (returns-clause-text c) ∙ c.in_ok-rows.ensures.back c.args.book.now c.in_ok-sorted.ensures.rows

@@ -11,5 +11,5 @@ pub returns : goal.returns
 returns c =
     let rows = rows_listed c.args.rows.now in
     let whole = sym (rest_split c.args.list rows []) ∙ ap (rest_tokens c.args.list) (append-nil rows) in
-    subst (λ (ts : List Token). Adds c.args.out.now c.end_array.new.out (key_token (list_key c.args.list) ∷ begin_array ∷ ts)) whole
-    (then c.in_ok-open_list.ensures (then c.in_ok-write_rows.ensures.text c.in_ok-end_array.ensures))
+    subst (λ (ts : List Token). Adds c.args.out.now c.end_array.new.self (key_token (list_key c.args.list) ∷ begin_array ∷ ts)) whole
+    (then c.in_ok-open_list.ensures (then c.in_ok-write_rows.ensures c.in_ok-end_array.ensures))

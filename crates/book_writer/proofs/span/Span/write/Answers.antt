@@ -3,7 +3,8 @@ use Rattle.std.proofs.lemmas.List.{length-map}
 use Rattle.json.specs.Print.{print_from}
 use Rattle.issuer_rows.specs.declared.row_key.RowKey.{RowKey}
 use Rattle.issuer_rows.specs.declared.row_val.RowVal.{RowVal}
-use Rattle.book_text.specs.Left.{row_of, entries_tokens, ends_after}
+use Rattle.book_laws.specs.Text.{ends_after}
+use Rattle.book_text.specs.Left.{row_of, entries_tokens}
 use Rattle.book_writer.proofs.Spans.{range_listed}
 use Rattle.book_writer.proofs.span.Span.write.Goals as goal
 

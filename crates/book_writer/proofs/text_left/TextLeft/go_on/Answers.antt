@@ -1,8 +1,9 @@
-use Rattle.std.proofs.Common.{◌≡◌, ℕ, ◌++◌, List, Bool, ap, sym, ◌∙◌, drop, slice_range, arith}
+use Rattle.std.proofs.Common.{◌≡◌, ◌++◌, List, ap, sym, ◌∙◌, slice_range, arith}
 use Rattle.json.specs.Print.{print_from}
 use Rattle.issuer_rows.specs.declared.row_key.RowKey.{RowKey}
 use Rattle.issuer_rows.specs.declared.row_val.RowVal.{RowVal}
-use Rattle.book_text.specs.Left.{rows_listed, entries_tokens, ends_after, skipped_if}
+use Rattle.book_laws.specs.Text.{ends_after}
+use Rattle.book_text.specs.Left.{rows_listed, entries_tokens}
 use Rattle.book_writer.specs.Rest.{rest_at}
 use Rattle.book_writer.specs.declared.text_left.TextPlace.{TextPlace}
 use Rattle.book_text.proofs.Printing.{piece_split}
@@ -14,12 +15,10 @@ returns-clause-rest c =
     let s = c.args.self.now in
     let span = c.args.span in
     let rows = s.rows.now in
-    let text = drop c.skipped_if-self.result s.text.items in
+    let text = s.text.items in
     let listed = range_listed rows span.at span.end in
     let piece : text ≡ print_from s.later (entries_tokens span.list (rows_listed (slice_range rows s.at span.end)))
-    = ap (λ (n : ℕ). drop n s.text.items) c.skipped_if-self.ensures
-    ∙ ap (λ (later : Bool). drop (skipped_if later) s.text.items) (sym c.requires.later)
-    ∙ c.requires.made.made
+    = c.requires.made.made
     ∙ ap (λ (some : List (RowKey × RowVal)). print_from span.later (entries_tokens span.list some)) (sym listed)
     ∙ (λ i. print_from (c.requires.later i) (entries_tokens span.list (rows_listed (slice_range rows (c.requires.at i) span.end)))) in
     let ends : c.args.goes_on ≡ ends_after s.later (entries_tokens span.list (rows_listed (slice_range rows s.at span.end)))

@@ -1,0 +1,6 @@
+use Rattle.std.proofs.lemmas.Result.{on_ok_weaker}
+use Rattle.book_laws.proofs.WrittenTokens.{then}
+use Rattle.reason_json.proofs.rows.begin_row.Goals as goal
+
+pub returns : goal.returns
+returns c = on_ok_weaker _ (then c.in_ok-begin_object.ensures) c.text_field.ensures
