@@ -1,11 +1,11 @@
-ghost use Rattle.std.specs.Prelude.{◌≡◌, ◌≢◌, ◌⊎◌, [], ◌∷◌, ℕ, List, IfOk, IfErr, OnOk, OnErr};
+ghost use Rattle.std.specs.Prelude.{◌≢◌, ◌⊎◌, ℕ, List, IfErr, OnOk, OnErr};
 ghost use Rattle.app_jobs.specs.Faults.{IsPuttingFault};
 ghost use Rattle.file_devices.specs.Holding.{AreAsTheyWere, IsAsItWas};
 
 use crate::archive_names::ArchiveNames;
-use app_jobs::{JobFault, written};
-use file_devices::{Files, Written};
-use std::alloc::{AllocError, Global};
+use app_jobs::{JobFault, both, written};
+use file_devices::Files;
+use std::alloc::Global;
 
 /// Puts the new book and the old one in place, the old one first: both, or after a fault none.
 pub(crate) fn put_books<F: Files>(
@@ -26,18 +26,4 @@ pub(crate) fn put_books<F: Files>(
     let new_book = written(alloc, names.new_book, new_book)?;
     let books = both(alloc, old, new_book)?;
     Ok(files.put_in_place(books)?)
-}
-
-// Two files that were written, in this order.
-fn both<O: Drop>(
-    alloc: Global,
-    first: Written<O>,
-    second: Written<O>,
-) -> Result<Vec<Written<O>>, AllocError>
-    ensures { IfOk result (λ files. files.items ≡ first ∷ second ∷ []) }
-{
-    let mut files = Vec::new(alloc);
-    files.push(first)?;
-    files.push(second)?;
-    Ok(files)
 }

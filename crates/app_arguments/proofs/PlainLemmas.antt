@@ -1,6 +1,7 @@
 -- How plain words are read.
 use Rattle.std.proofs.Common.{◌≡◌, ◌==◌, ℕ, Bool, true, false, List, [], ◌∷◌, ◌%◌, length, Err, inl, refl, codes, ap, ap₂, ◌∙◌, arith, Some, find, fold, unwrap_or, inr, option_map, if◌then◌else◌}
 use Rattle.std.proofs.lemmas.Bool.Decides.{nat_tests}
+use Rattle.std.proofs.lemmas.Bool.{false_from_ne_true}
 use Rattle.clap.proofs.OnLiterals.{clap_on_literals}
 use Rattle.clap.specs.Faults.{fault_of, level_fault, step_fault, turn_fault, walk_fault}
 use Rattle.clap.specs.Kinds.{Kinds, or_else}
@@ -26,12 +27,8 @@ unfolding decode_pairs
 hyphen_is_none [] body h = cc
 hyphen_is_none (low ∷ rest) body h = either_error (length (45 ∷ low ∷ rest) % 2 == 1) _ _ body h
 
-is_false : (b : Bool) → (b ≡ true → ⊥) → b ≡ false
-is_false true h = absurd (h refl)
-is_false false h = refl
-
 not_hyphen : (d : ℕ) (rest : Text) (body : List ℕ) → body_of (d ∷ rest) ≡ Some body → (d == 45) ≡ false
-not_hyphen d rest body h = is_false (d == 45) (λ e. let same : d ≡ 45 = grind (arith, nat_tests) in hyphen_is_none rest body (rw (← same) h))
+not_hyphen d rest body h = false_from_ne_true (d == 45) (λ e. let same : d ≡ 45 = grind (arith, nat_tests) in hyphen_is_none rest body (rw (← same) h))
 
 -- a word that begins with no hyphen is FRAME
 no_fault : (name : Text) (d : ℕ) (rest : Text) → (d == 45) ≡ false → fault_of command_line (name ∷ codes "one" ∷ (d ∷ rest) ∷ []) ≡ []

@@ -1,7 +1,8 @@
 -- How words that begin with no hyphen are met, behind the name of a subcommand.
-use Rattle.std.proofs.Common.{◌≡◌, ◌==◌, ◌+◌, ℕ, Bool, true, false, List, [], ◌∷◌, Some, None, refl, ap, ap₂, ◌∙◌, arith, fold, min}
+use Rattle.std.proofs.Common.{◌≡◌, ◌==◌, ◌+◌, ℕ, false, List, [], ◌∷◌, Some, None, refl, ap, ap₂, ◌∙◌, arith, fold, min}
 use Rattle.std.proofs.lemmas.Bool.Decides.{nat_tests}
 use Rattle.std.specs.Str.{bytes_eq}
+use Rattle.std.proofs.lemmas.Bool.{false_from_ne_true}
 use Rattle.clap.specs.Faults.{check_fault, defaults_fault, positional_fault, settle_fault, step_fault, turn_fault, walk_fault}
 use Rattle.clap.specs.Kinds.{Kinds, or_else}
 use Rattle.clap.specs.Lexer.{long_of, short_of, usize_max}
@@ -9,12 +10,8 @@ use Rattle.clap.specs.Simple.{Shape}
 use Rattle.clap.specs.Walk.{Held, Rule, Text, Waiting, Walk, after_step, arg_by_index, finished, idle, is_multiple, nothing_held, option, plain_word, positional, positional_held, settled, walked, word_met}
 use Rattle.app_arguments.specs.Plainly.{IsPlain}
 
-is_false : (b : Bool) → (b ≡ true → ⊥) → b ≡ false
-is_false true h = absurd (h refl)
-is_false false h = refl
-
 no_hyphen : (d : ℕ) → (d ≡ 45 → ⊥) → (d == 45) ≡ false
-no_hyphen d h = is_false (d == 45) (λ e. h (grind (arith, nat_tests)))
+no_hyphen d h = false_from_ne_true (d == 45) (λ e. h (grind (arith, nat_tests)))
 
 no_long : (d : ℕ) (rest : Text) → (d == 45) ≡ false → long_of (d ∷ rest) ≡ None
 no_long d rest h = rw h refl

@@ -1,18 +1,11 @@
 -- The test whether blocks have the same counts decides it.
-use Rattle.std.proofs.Common.{◌≡◌, ◌↔◌, ℕ, Bool, true, false, ◌&&◌, ◌==◌, IsTrue, List, [], ◌∷◌, length, map, drop, zip, slice_index_or, refl, ap, arith, rules}
-use Rattle.std.proofs.lemmas.Bool.{false≢true}
-use Rattle.std.specs.Bool.{Decides}
+use Rattle.std.proofs.Common.{◌≡◌, ◌↔◌, ℕ, ◌==◌, IsTrue, List, [], ◌∷◌, length, map, drop, zip, slice_index_or, refl, ap, arith}
+use Rattle.std.proofs.lemmas.Bool.{and_parts}
 use Rattle.std.specs.Cmp.Derive.{both_true}
 use Rattle.std.specs.List.{list_all}
+use Rattle.std.proofs.lemmas.Bool.Decides.{Decides-eqb}
 use Rattle.issuer_view.specs.Words.{Frame, ReplyBody}
 use Rattle.app_audit.specs.Blocks.{counts}
-
-numbers : (m n : ℕ) → Decides (m == n) (m ≡ n)
-numbers m n = search rules
-
-split : (a b : Bool) → (a && b) ≡ true → (a ≡ true) × (b ≡ true)
-split true b h = (refl, h)
-split false b h = absurd (false≢true h)
 
 pub decided : {V W : Type 0} (f : V → List Frame) (g : W → List ReplyBody) (vs : List V) (ws : List W) → length vs ≡ length ws
     → IsTrue (list_all (λ p. length (f p.0) == length (g p.1)) (zip vs ws)) ↔ (counts (map f vs) ≡ counts (map g ws))
@@ -21,7 +14,7 @@ decided f g [] (w ∷ ws) e = absurd (omega arith)
 decided f g (v ∷ vs) [] e = absurd (omega arith)
 decided f g (v ∷ vs) (w ∷ ws) e =
     let rest = decided f g vs ws (omega arith) in
-    let first = numbers (length (f v)) (length (g w)) in (
-      λ t. let p = split _ _ t in λ i. first.0 p.0 i ∷ rest.0 p.1 i,
+    let first = Decides-eqb (length (f v)) (length (g w)) in (
+      λ t. let p = and_parts _ _ t in λ i. first.0 p.0 i ∷ rest.0 p.1 i,
       λ same. both_true (first.1 (ap (λ (ns : List ℕ). slice_index_or ns 0 0) same)) (rest.1 (ap (drop 1) same)),
     )

@@ -1,5 +1,6 @@
 -- Names that have to be of two files.
-use Rattle.std.specs.Prelude.{◌≡◌, ◌≢◌, ◌⊎◌, ⊤, ℕ, List, [], ◌∷◌, ◌++◌}
+use Rattle.std.specs.Prelude.{◌≡◌, ℕ, List, [], ◌∷◌, ◌++◌}
+pub use Rattle.app_jobs.specs.Apart.{AreApart, HasOneFile}
 use Rattle.app_commands.specs.declared.fault.Fault.{Fault}
 use Rattle.app_commands.specs.declared.fault.Fault.TheVariants.{Usage, OutOfMemory}
 use Rattle.app_arguments.specs.Asked.{Asked, Names, blocks, pack, pack_blocks, run, run_with_journal, serial}
@@ -27,16 +28,6 @@ names_apart (blocks names workers engine strictness) = batch_apart names
 names_apart (pack texts batch) = made_apart batch texts
 names_apart (pack_blocks texts file) = made_apart file texts
 names_apart what = []
-
--- of each pair the names differ
-abbrev pub AreApart : List (List ℕ × List ℕ) → Type 0
-AreApart [] = ⊤
-AreApart (pair ∷ pairs) = (pair.0 ≢ pair.1) × AreApart pairs
-
--- of some pair both names are one
-abbrev pub HasOneFile : List (List ℕ × List ℕ) → Type 0
-HasOneFile [] = ⊥
-HasOneFile (pair ∷ pairs) = (pair.0 ≡ pair.1) ⊎ HasOneFile pairs
 
 -- why names are refused: of some pair both are one, or memory ran out
 abbrev pub IsApartFault : Type 0 → List (List ℕ × List ℕ) → Fault → Type 0

@@ -1,5 +1,5 @@
 -- From what a batch came to, and that it is put in place, to files that are decided.
-use Rattle.std.proofs.Common.{◌≡◌, ◌⊎◌, ◌<◌, ℕ, List, [], ◌∷◌, ◌∙◌, ap, inl, inr, sym, string_bytes, Result, Ok, Err}
+use Rattle.std.proofs.Common.{◌≡◌, ◌<◌, ℕ, List, [], ◌∷◌, ◌∙◌, ap, inl, inr, sym, string_bytes, Ok, Err}
 use Rattle.file_batch.specs.Counting.{Admits, count_of}
 use Rattle.file_batch.specs.declared.body_count.BodyCount.{BodyCount}
 use Rattle.file_batch.specs.declared.strictness.Strictness.{Strictness}

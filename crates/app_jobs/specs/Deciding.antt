@@ -1,5 +1,5 @@
 -- What it comes to that files are decided, or that what was written is put in place, whoever does it.
-use Rattle.std.specs.Prelude.{◌≡◌, ◌≢◌, ◌⊎◌, ℕ, List, Result, IfOk, IfErr, OnOk, OnErr, Some, None}
+use Rattle.std.specs.Prelude.{◌≡◌, ◌≢◌, ℕ, List, Result, IfOk, IfErr, OnOk, OnErr, Some, None}
 use Rattle.file_batch.specs.Counting.{Admits}
 use Rattle.file_batch.specs.declared.body_count.BodyCount.{BodyCount}
 use Rattle.file_batch.specs.declared.strictness.Strictness.{Strictness}

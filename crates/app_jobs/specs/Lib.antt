@@ -1,3 +1,4 @@
+pub mod Apart
 pub mod Audited
 pub mod AuditedBlocks
 pub mod BlockFaults

@@ -26,6 +26,6 @@ pub use deciding_blocks::decide_blocks;
 pub use halt::Halt;
 pub use job_fault::JobFault;
 pub use opening::{open_batch, open_book, open_replies};
-pub use placing::{alone, written};
+pub use placing::{alone, both, written};
 pub use serial::serial_batch;
 pub use writing::write_book;

@@ -34,8 +34,8 @@ pub fn alone<O: Drop>(alloc: Global, file: Written<O>) -> Result<Vec<Written<O>>
     Ok(files)
 }
 
-// Two files that were written, in this order.
-fn both<O: Drop>(
+/// A list of two files that were written, in this order, to be put in place together.
+pub fn both<O: Drop>(
     alloc: Global,
     first: Written<O>,
     second: Written<O>,

@@ -1,5 +1,5 @@
 -- A file that is read has no fault.
-use Rattle.std.proofs.Common.{◌≡◌, ◌<◌, ℕ, zero, suc, List, [], ◌∷◌, length, Result, Ok, Err, refl, sym, ap, ◌∙◌, subst, arith, inl, inr}
+use Rattle.std.proofs.Common.{◌≡◌, ◌<◌, ℕ, zero, suc, List, [], ◌∷◌, length, Result, Ok, Err, sym, ap, ◌∙◌, subst, arith, inl, inr}
 use Rattle.issuer_rows.specs.declared.frame.Frame.{Frame}
 use Rattle.issuer_rows.specs.declared.reply_body.ReplyBody.{ReplyBody}
 use Rattle.file_batch_laws.specs.Blocks.{AreBlocks, AreReplyBlocks, FailsAsBlockReplies, FailsInReplyBlock, InTurn, IsBlock, IsBlockFileOf, IsBlockReplyFileOf, IsReplyBlock, all_replies, block_at, block_head_at, block_replies_magic, blocks_magic}
@@ -7,16 +7,9 @@ use Rattle.file_batch_laws.specs.Reading.{◌>>=◌, bodies_at, bodies_of, body_
 use Rattle.file_batch_laws.specs.Replies.{AreRepliesOf, FailsAsReplies, FailsAt, IsReplyFileOf, IsReplyText}
 use Rattle.file_batch_laws.specs.declared.batch_fault.BatchFault.{BatchFault}
 use Rattle.app_jobs.specs.BlockFaults.{FailsAsBlocks}
+use Rattle.file_batch_laws.proofs.Steps.{bind_ok, ok_is}
 
 -- ---- one answer
-
--- the value of a step that did not fail
-bind_ok : {A B : Type 0} (r : Result A BatchFault) (f : A → Result B BatchFault) (y : B) → (r >>= f) ≡ Ok y → (x : A) × (r ≡ Ok x) × (f x ≡ Ok y)
-bind_ok (Ok x) f y e = (x, refl, e)
-bind_ok (Err d) f y e = absurd cc
-
-ok_is : {A : Type 0} (x y : A) → Path (Result A BatchFault) (Ok x) (Ok y) → x ≡ y
-ok_is x y e = cc
 
 ok_or_err : {A : Type 0} (x : A) (fault : BatchFault) → Path (Result A BatchFault) (Ok x) (Err fault) → ⊥
 ok_or_err x fault e = cc

@@ -1,6 +1,7 @@
 -- A message that is sent again to a later run.
-use Rattle.std.proofs.Common.{◌≡◌, ℕ, zero, suc, List, [], ◌∷◌, ◌++◌, take, Option, Some, None, sym, ap, ◌∙◌, subst}
+use Rattle.std.proofs.Common.{◌≡◌, ℕ, zero, suc, List, [], ◌∷◌, ◌++◌, take, Some, sym, ap, ◌∙◌, subst}
 use Rattle.std.specs.List.{slice_get}
+use Rattle.std.proofs.lemmas.Option.{same_Some, none-some}
 use Rattle.iso8583.specs.declared.message.Message.{Message}
 use Rattle.issuer_rows.specs.Fold.{Rows, overlay, replies_to, reply_of, rows_after, rows_after_one, writes_of}
 use Rattle.issuer_rows.specs.declared.frame.Frame.{Frame}
@@ -17,6 +18,7 @@ use Rattle.file_devices.specs.Holding.{Holding}
 use Rattle.app_jobs.specs.Decided.{IsDecided}
 use Rattle.app_laws.specs.Repeats.{AreRepliesIn, HasTwoOutputs, IsBookLeft, IsFirstSent, IsRepeatOf, without}
 use Rattle.app_laws.proofs.Once.{same_ok}
+use Rattle.issuer_laws.proofs.RepliesAt.{reply_at}
 
 -- ---- places of a batch
 
@@ -25,33 +27,20 @@ record Cut (frames : List Frame) (place : ℕ) (frame : Frame) : Type 0 where
   back : List Frame
   are : take place frames ++ frame ∷ back ≡ frames
 
-some_is : {X : Type 0} (x y : X) → Path (Option X) (Some x) (Some y) → x ≡ y
-some_is x y e = cc
-
-none_is : {X : Type 0} (x : X) → Path (Option X) None (Some x) → ⊥
-none_is x e = cc
-
 cut : (frames : List Frame) (place : ℕ) (frame : Frame) → slice_get frames place ≡ Some frame → Cut frames place frame
-cut [] place frame at = absurd (none_is frame at)
-cut (f ∷ frames) zero frame at = record { back = frames; are = ap (λ (g : Frame). g ∷ frames) (sym (some_is f frame at)) }
+cut [] place frame at = absurd (none-some frame at)
+cut (f ∷ frames) zero frame at = record { back = frames; are = ap (λ (g : Frame). g ∷ frames) (sym (same_Some f frame at)) }
 cut (f ∷ frames) (suc place) frame at =
     let rest = cut frames place frame at in
     record { back = rest.back; are = ap (λ (fs : List Frame). f ∷ fs) rest.are }
-
--- the reply at a place is to the message there, on the rows after those before it
-reply_at : (rows : Rows) (frames : List Frame) (place : ℕ) (frame : Frame) → slice_get frames place ≡ Some frame
-    → slice_get (replies_to rows frames) place ≡ Some (reply_of (rows_after rows (take place frames)) frame)
-reply_at rows [] place frame at = absurd (none_is frame at)
-reply_at rows (f ∷ frames) zero frame at = ap (λ (g : Frame). Some (reply_of rows g)) (some_is f frame at)
-reply_at rows (f ∷ frames) (suc place) frame at = reply_at (rows_after_one rows f) frames place frame at
 
 -- a message that writes nothing leaves the book, and the other replies, as if it hadn't been sent
 nothing_written : (rows : Rows) (frames : List Frame) (place : ℕ) (frame : Frame) → slice_get frames place ≡ Some frame
     → writes_of (rows_after rows (take place frames)) frame ≡ []
     → (rows_after rows (without place frames) ≡ rows_after rows frames) × (replies_to rows (without place frames) ≡ without place (replies_to rows frames))
-nothing_written rows [] place frame at none = absurd (none_is frame at)
+nothing_written rows [] place frame at none = absurd (none-some frame at)
 nothing_written rows (f ∷ frames) zero frame at none =
-    let same = some_is f frame at in
+    let same = same_Some f frame at in
     let stays : rows_after_one rows f ≡ rows = ap (λ (g : Frame). rows_after_one rows g) same ∙ ap (overlay rows) none in
     (ap (λ (r : Rows). rows_after r frames) (sym stays), ap (λ (r : Rows). replies_to r frames) (sym stays))
 nothing_written rows (f ∷ frames) (suc place) frame at none =

@@ -1,17 +1,9 @@
 -- What words ask of `unpack`.
-use Rattle.std.specs.Prelude.{◌≡◌, ◌≢◌, ◌⊎◌, ◌<◌, ◌+◌, ◌^◌, ℕ, List, Some, codes, length, slice_get}
-use Rattle.std.specs.Str.Parse.{IsNumeral, digits_value, without_leading_plus}
+use Rattle.std.specs.Prelude.{◌≡◌, ◌≢◌, ◌⊎◌, ◌+◌, ℕ, List, Some, codes, length, slice_get}
+use Rattle.app_words.specs.Numbers.{IsNumber, number_of}
 use Rattle.app_words.specs.Words.{AsksHelp}
 use Rattle.app_messages.specs.declared.asking.UnpackAsked.{UnpackAsked}
 use Rattle.app_messages.specs.declared.asking.UnpackAsked.TheVariants.{Batch, Block, Help, Wrong}
-
--- the number that a word stands for
-abbrev pub number_of : List ℕ → ℕ
-number_of word = digits_value 10 (without_leading_plus word)
-
--- a word says the number of a block: in decimal digits, below 2^32
-abbrev pub IsNumber : List ℕ → Type 0
-IsNumber word = IsNumeral 10 (without_leading_plus word) × (number_of word < 2 ^ 32)
 
 -- the word at this place is `--block`, and the next one says this number
 abbrev pub SaysBlock : List (List ℕ) → ℕ → ℕ → Type 0

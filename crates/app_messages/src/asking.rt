@@ -1,9 +1,8 @@
 ghost use Rattle.std.specs.Prelude.{◌≡◌, ◌<◌, ◌+◌, ℕ, IfSome, IfNone, OnSome, codes, length, map, string_bytes};
-ghost use Rattle.std.specs.Option.{SomeIff};
-ghost use Rattle.app_messages.specs.UnpackAsked.{IsAskedBy, IsNumber, SaysBlock, number_of};
+ghost use Rattle.app_messages.specs.UnpackAsked.{IsAskedBy, SaysBlock};
 ghost use Rattle.app_words.specs.Words.{IsCommand};
 
-use app_words::{asks_help, is_command, is_word};
+use app_words::{asks_help, is_command, is_word, number_in};
 
 /// What words ask of `unpack`.
 #[derive(Clone, Copy)]
@@ -68,15 +67,5 @@ fn number_behind(words: &[String], place: usize) -> Option<usize>
     if !is_word(words, place, "--block") {
         return None;
     }
-    number_in(words[place + 1].as_str())
-}
-
-// The number of a block that a word says, if it says one.
-fn number_in(word: &str) -> Option<usize>
-    ensures { SomeIff result (IsNumber word.now) (number_of word.now) }
-{
-    match word.parse::<u32>() {
-        Ok(number) => Some(number as usize),
-        Err(_) => None,
-    }
+    Some(number_in(words[place + 1].as_str())? as usize)
 }

@@ -4,7 +4,7 @@ use Rattle.std.specs.List.{AllByRecursion}
 use Rattle.sha2.specs.Sha256.{sha256}
 use Rattle.book_laws.specs.Reading.{reading}
 use Rattle.book_laws.specs.Text.{book_text}
-use Rattle.file_batch_laws.proofs.ReadBack.{ok_is, same_replies, texts_of}
+use Rattle.file_batch_laws.proofs.ReadBack.{same_replies, texts_of}
 use Rattle.file_batch_laws.specs.Files.{reply_text}
 use Rattle.file_batch_laws.specs.Replies.{AreRepliesOf, AreReplyBodies, IsReplyBody, IsReplyFileOf, IsReplyText}
 use Rattle.file_devices.specs.Failing.{Failing}
@@ -30,6 +30,7 @@ use Rattle.app_parts_folder.specs.declared.part_fault.PartFault.TheVariants as w
 use Rattle.app_parts_folder.specs.declared.parts_fault.PartsFault.{PartsFault}
 use Rattle.app_parts_folder.specs.declared.parts_fault.PartsFault.TheVariants as fault
 use Rattle.app_parts_folder.specs.declared.plan_opening.OpenPlan.{OpenPlan}
+use Rattle.file_batch_laws.proofs.Steps.{ok_is}
 
 -- ---- bytes have one meaning
 

@@ -1,17 +1,9 @@
 -- What words ask of `part`, `decide` and `join`.
-use Rattle.std.specs.Prelude.{◌≡◌, ◌≤◌, ◌<◌, ◌^◌, ◌⊎◌, ℕ, List, Some, codes, length, slice_get}
-use Rattle.std.specs.Str.Parse.{IsNumeral, digits_value, without_leading_plus}
+use Rattle.std.specs.Prelude.{◌≡◌, ◌≤◌, ◌⊎◌, ℕ, List, Some, codes, length, slice_get}
+use Rattle.app_words.specs.Numbers.{IsNumber, number_of}
 use Rattle.app_words.specs.Words.{AsksHelp, IsCommand}
 use Rattle.app_parts.specs.declared.asking.PartsAsked.{PartsAsked}
 use Rattle.app_parts.specs.declared.asking.PartsAsked.TheVariants.{Part, Decide, Join, Help, Wrong}
-
--- the number that a word stands for
-abbrev pub number_of : List ℕ → ℕ
-number_of word = digits_value 10 (without_leading_plus word)
-
--- a word is a number in decimal digits, below 2^32
-abbrev pub IsNumber : List ℕ → Type 0
-IsNumber word = IsNumeral 10 (without_leading_plus word) × (number_of word < 2 ^ 32)
 
 -- it is so many parts as there can be
 abbrev pub IsMost : ℕ → Type 0

@@ -1,10 +1,11 @@
 ghost use Rattle.std.specs.Prelude.{◌⊎◌, IfSome, IfNone, SomeIff, codes, map, string_bytes};
-ghost use Rattle.app_parts.specs.Asked.{IsAskedBy, IsMost, IsNumber, number_of};
+ghost use Rattle.app_parts.specs.Asked.{IsAskedBy, IsMost};
+ghost use Rattle.app_words.specs.Numbers.{IsNumber, number_of};
 ghost use Rattle.app_words.specs.Words.{IsCommand};
 
 use crate::help::{DECIDE_HELP, DECIDE_USAGE, JOIN_HELP, JOIN_USAGE, PART_HELP, PART_USAGE};
 use app_parts_folder::{JoinNames, PartNames};
-use app_words::{asks_help, is_command};
+use app_words::{asks_help, is_command, number_in};
 use parts_files::MostParts;
 
 /// What words ask of `part`, `decide` and `join`.
@@ -72,7 +73,7 @@ fn decide_asked(words: &[String]) -> PartsAsked<'_>
     if words.len() != 4 {
         return PartsAsked::Wrong(DECIDE_USAGE);
     }
-    match number_of(words[3].as_str()) {
+    match number_in(words[3].as_str()) {
         Some(part) => PartsAsked::Decide(words[2].as_str(), part),
         None => PartsAsked::Wrong(DECIDE_USAGE),
     }
@@ -100,18 +101,8 @@ fn join_asked(words: &[String]) -> PartsAsked<'_>
 fn most_of(word: &str) -> Option<MostParts>
     ensures { SomeIff result (IsNumber word.now × IsMost (number_of word.now)) (number_of word.now) }
 {
-    match number_of(word) {
+    match number_in(word) {
         Some(number) => MostParts::new(number),
         None => None,
-    }
-}
-
-// The number of this word, in decimal digits.
-fn number_of(word: &str) -> Option<u32>
-    ensures { SomeIff result (IsNumber word.now) (number_of word.now) }
-{
-    match word.parse::<u32>() {
-        Ok(number) => Some(number),
-        Err(_) => None,
     }
 }

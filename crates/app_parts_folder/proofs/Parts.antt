@@ -7,21 +7,13 @@ use Rattle.book_laws.specs.Reading.{reading}
 use Rattle.parts_books.specs.PartBooks.{each_from, each_part, part_rows}
 use Rattle.app_parts_folder.specs.Parting.{Parting, book_of_part, part_texts, parted, parts_texts}
 use Rattle.app_parts_folder.specs.Texts.{Text}
-
-last_from : {A : Type 0} (of : ℕ → A) (from count : ℕ) → each_from of from (suc count) ≡ each_from of from count ++ of (from + count) ∷ []
-last_from of from zero =
-    let same : from ≡ from + zero = omega arith in
-    ap (λ (n : ℕ). of n ∷ []) same
-last_from {A} of from (suc count) =
-    let same : suc from + count ≡ from + suc count = omega arith in
-    ap (λ (xs : List A). of from ∷ xs) (last_from of (suc from) count ∙ ap (λ (n : ℕ). each_from of (suc from) count ++ of n ∷ []) same)
+use Rattle.parts_books.proofs.Going.{each_last}
 
 -- one more part
 pub each_more : {A : Type 0} (of : ℕ → A) (count : ℕ) → each_part of (count + 1) ≡ each_part of count ++ of count ∷ []
 each_more of count =
-    let next : count + 1 ≡ suc count = omega arith in
     let same : 0 + count ≡ count = omega arith in
-    ap (each_part of) next ∙ last_from of 0 count ∙ ap (λ (n : ℕ). each_part of count ++ of n ∷ []) same
+    each_last of 0 count ∙ ap (λ (n : ℕ). each_part of count ++ of n ∷ []) same
 
 long_from : {A : Type 0} (of : ℕ → A) (from count : ℕ) → length (each_from of from count) ≡ count
 long_from of from zero = refl

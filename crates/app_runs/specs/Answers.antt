@@ -1,21 +1,13 @@
 -- What one body is answered, from bytes to bytes.
-use Rattle.std.specs.Prelude.{◌≡◌, ℕ, List, Err}
+use Rattle.std.specs.Prelude.{◌≡◌, ℕ, List}
 use Rattle.hex.specs.Hex.{encode_lower}
-use Rattle.iso_laws.specs.Messages.{Spells}
-use Rattle.iso_laws.specs.Reading.{reading}
+use Rattle.file_batch_laws.specs.Frames.{IsFrameOf}
 use Rattle.iso_laws.specs.Replies.{reply_spelling}
-use Rattle.iso_laws.specs.Types.{taken_in}
 use Rattle.issuer_rows.specs.Fold.{Rows, reply_of}
 use Rattle.issuer_rows.specs.FrameFault.{fault_body}
 use Rattle.issuer_rows.specs.declared.frame.Frame.{Frame}
-use Rattle.issuer_rows.specs.declared.frame.Frame.TheVariants.{Good, Bad}
 use Rattle.issuer_rows.specs.declared.reply_body.ReplyBody.{ReplyBody}
 use Rattle.issuer_rows.specs.declared.reply_body.ReplyBody.TheVariants.{Reply, Fault}
-
--- the body spells this message, or it spells none and has this fault before all others
-abbrev pub IsFrameOf : List ℕ → Frame → Type 0
-IsFrameOf body (Good message) = Spells body message
-IsFrameOf body (Bad fault) = reading taken_in body ≡ Err fault
 
 -- a reply's spelling, or how a fault is answered
 abbrev pub answer_text : ReplyBody → List ℕ

@@ -1,5 +1,6 @@
 ghost use Rattle.std.specs.Prelude.{◌≡◌, IfOk};
-ghost use Rattle.app_runs.specs.Answers.{IsFrameOf, IsAnswerTo, answer_text};
+ghost use Rattle.app_runs.specs.Answers.{IsAnswerTo, answer_text};
+ghost use Rattle.file_batch_laws.specs.Frames.{IsFrameOf};
 
 use engine_locked::run;
 use engine_workers::{NoHook, Workers};

@@ -1,21 +1,15 @@
 -- Blocks that are packed are read as these blocks.
-use Rattle.std.proofs.Common.{◌≡◌, ℕ, ◌≤◌, ltb, List, [], ◌∷◌, ◌++◌, length, Ok, refl, sym, ap, subst, ◌∙◌, append_assoc, arith, false}
+use Rattle.std.proofs.Common.{◌≡◌, ℕ, ◌≤◌, List, [], ◌∷◌, ◌++◌, length, Ok, refl, sym, ap, subst, ◌∙◌, append_assoc, arith}
 use Rattle.std.specs.List.{flat_map, AllByRecursion, AllZip}
-use Rattle.std.proofs.lemmas.Bool.{le-ltb}
 use Rattle.std.proofs.lemmas.List.{append-nil}
 use Rattle.byteorder.specs.Endian.{big_bytes}
 use Rattle.issuer_rows.specs.declared.frame.Frame.{Frame}
-use Rattle.file_batch_laws.specs.Blocks.{AreBlocks, IsBlock, IsBlockFileOf, block_at, block_count_at, block_head_at, blocks_magic}
+use Rattle.file_batch_laws.specs.Blocks.{AreBlocks, IsBlock, IsBlockFileOf, block_at, block_head_at, blocks_magic}
 use Rattle.file_batch_laws.specs.Files.{AreBodies, framed, head_text}
 use Rattle.file_batch_laws.specs.Frames.{AreFramesOf}
-use Rattle.file_batch_laws.proofs.Again.{bodies_again, count_again, magic_again, number_4, version_again}
+use Rattle.file_batch_laws.proofs.Again.{bodies_again, count_again, magic_again, version_again}
 use Rattle.file_bodies.specs.BlockText.{AreBlocksOfBodies, block_file_text, block_text}
-
-count_is_read : (n : ℕ) (rest : List ℕ) → n ≤ 1000 → block_count_at (big_bytes 4 n ++ rest) ≡ Ok (n, rest)
-unfolding block_count_at
-count_is_read n rest le =
-    let few : ltb 1000 n ≡ false = le-ltb 1000 n le in
-    rw (number_4 n rest (omega arith), few) refl
+use Rattle.file_batch_laws.proofs.ReadBackBlocks.{block_count_again}
 
 head_is_read : (n : ℕ) (rest : List ℕ) → n ≤ 1000 → block_head_at blocks_magic (head_text blocks_magic n ++ rest) ≡ Ok (n, rest)
 unfolding block_head_at head_text
@@ -23,7 +17,7 @@ head_is_read n rest le =
     let regrouped : (blocks_magic ++ big_bytes 2 1 ++ big_bytes 4 n) ++ rest ≡ blocks_magic ++ (big_bytes 2 1 ++ (big_bytes 4 n ++ rest)) =
     append_assoc (blocks_magic ++ big_bytes 2 1) (big_bytes 4 n) rest ∙ append_assoc blocks_magic (big_bytes 2 1) (big_bytes 4 n ++ rest) in
     ap (block_head_at blocks_magic) regrouped
-    ∙ rw (magic_again blocks_magic (big_bytes 2 1 ++ (big_bytes 4 n ++ rest)) refl refl, version_again (big_bytes 4 n ++ rest), count_is_read n rest le) refl
+    ∙ rw (magic_again blocks_magic (big_bytes 2 1 ++ (big_bytes 4 n ++ rest)) refl refl, version_again (big_bytes 4 n ++ rest), block_count_again n rest le) refl
 
 -- a block is its count and its bodies
 block_is_read : (bodies : List (List ℕ)) (rest : List ℕ) → AreBodies bodies → block_at (block_text bodies ++ rest) ≡ Ok (bodies, rest)

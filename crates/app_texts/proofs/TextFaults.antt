@@ -5,14 +5,13 @@ use Rattle.std.specs.Global.{Vec}
 use Rattle.std.specs.List.{AllByRecursion}
 use Rattle.std.proofs.lemmas.Bool.{and_parts, leb-true}
 use Rattle.std.proofs.lemmas.List.{length-map}
+use Rattle.std.proofs.lemmas.Option.{same_Some}
 use Rattle.hex.specs.Hex.{decode_of}
 use Rattle.hex.specs.declared.FromHexError.{FromHexError}
 use Rattle.file_batch.specs.Bodies.{bytes_of}
 use Rattle.file_batch_laws.specs.Files.{AreBodies, IsBody}
 use Rattle.file_listing.specs.Bodies.{alone, body_of, bodies_from, bodies_of, fitting, line_bodies, lines_of, then_bodies}
-
-some_is : {A : Type 0} (x y : A) → Path (Option A) (Some x) (Some y) → x ≡ y
-some_is x y h = cc
+use Rattle.file_batch_laws.proofs.Lists.{each_more}
 
 ok_is : {A : Type 0} (x y : A) → Path (Result A ℕ) (Ok x) (Ok y) → x ≡ y
 ok_is x y h = cc
@@ -31,28 +30,24 @@ fits (Err e) body is = absurd cc
 
 alone_fits : (body : Option (List ℕ)) (bodies : List (List ℕ)) → ((b : List ℕ) → body ≡ Some b → IsBody b) → alone body ≡ Some bodies
     → AllByRecursion IsBody bodies
-alone_fits (Some b) bodies fit is = subst (AllByRecursion IsBody) (some_is (b ∷ []) bodies is) (fit b refl, tt)
+alone_fits (Some b) bodies fit is = subst (AllByRecursion IsBody) (same_Some (b ∷ []) bodies is) (fit b refl, tt)
 alone_fits None bodies fit is = absurd cc
 
 -- of a line that is a comment, or stands for a body
 told_fits : (comment : Bool) (body : Option (List ℕ)) (bodies : List (List ℕ)) → ((b : List ℕ) → body ≡ Some b → IsBody b)
     → cond comment (Some []) (alone body) ≡ Some bodies → AllByRecursion IsBody bodies
-told_fits true body bodies fit is = subst (AllByRecursion IsBody) (some_is [] bodies is) tt
+told_fits true body bodies fit is = subst (AllByRecursion IsBody) (same_Some [] bodies is) tt
 told_fits false body bodies fit is = alone_fits body bodies fit is
 
 line_fits : (line : List ℕ) (bodies : List (List ℕ)) → line_bodies line ≡ Some bodies → AllByRecursion IsBody bodies
-line_fits [] bodies is = subst (AllByRecursion IsBody) (some_is [] bodies is) tt
+line_fits [] bodies is = subst (AllByRecursion IsBody) (same_Some [] bodies is) tt
 line_fits (c ∷ cs) bodies is = told_fits (c == 35) (body_of (c ∷ cs)) bodies (fits (decode_of (c ∷ cs))) is
-
-joined : (xs ys : List (List ℕ)) → AllByRecursion IsBody xs → AllByRecursion IsBody ys → AllByRecursion IsBody (xs ++ ys)
-joined [] ys h k = k
-joined (x ∷ xs) ys h k = (h.0, joined xs ys h.1 k)
 
 then_fits : (n : ℕ) (first : Option (List (List ℕ))) (rest : Result (List (List ℕ)) ℕ) (bodies : List (List ℕ))
     → ((some : List (List ℕ)) → first ≡ Some some → AllByRecursion IsBody some)
     → ((more : List (List ℕ)) → rest ≡ Ok more → AllByRecursion IsBody more)
     → then_bodies n first rest ≡ Ok bodies → AllByRecursion IsBody bodies
-then_fits n (Some some) (Ok more) bodies f r is = subst (AllByRecursion IsBody) (ok_is (some ++ more) bodies is) (joined some more (f some refl) (r more refl))
+then_fits n (Some some) (Ok more) bodies f r is = subst (AllByRecursion IsBody) (ok_is (some ++ more) bodies is) (each_more IsBody some more (f some refl) (r more refl))
 then_fits n (Some some) (Err e) bodies f r is = absurd cc
 then_fits n None rest bodies f r is = absurd cc
 

@@ -11,6 +11,7 @@ use Rattle.app_jobs.specs.Decided.{Holding}
 use Rattle.app_jobs.specs.declared.job_fault.JobFault.{JobFault}
 use Rattle.app_jobs.specs.declared.job_fault.JobFault.TheVariants.{Batch}
 use Rattle.app_texts.specs.Packed.{HasBodies, HaveBlocks, HaveBodies, IsBodiesFault}
+use Rattle.file_batch_laws.proofs.Lists.{each_more}
 
 -- ---- bodies one text's behind another's
 
@@ -33,13 +34,9 @@ pub too_many : (old : Holding) (failing : Failing) (text : List ℕ) (texts : Li
     → HasBodies old text own → 65536 < length bodies + length own → IsBodiesFault old failing (length bodies) (text ∷ texts) (Batch Count)
 too_many old failing text texts bodies own has more = inr (own, has, inl (refl, more))
 
-all_behind : (xs ys : List (List ℕ)) → AllByRecursion IsBody xs → AllByRecursion IsBody ys → AllByRecursion IsBody (xs ++ ys)
-all_behind [] ys h k = k
-all_behind (x ∷ xs) ys h k = (h.0, all_behind xs ys h.1 k)
-
 -- bodies behind bodies, where they are no more than a batch may have
 pub more_bodies : (bodies own : List (List ℕ)) → AreBodies bodies → AreBodies own → length bodies + length own ≤ 65536 → AreBodies (bodies ++ own)
-more_bodies bodies own are also few = (rw length-append few, all_behind bodies own are.1 also.1)
+more_bodies bodies own are also few = (rw length-append few, each_more IsBody bodies own are.1 also.1)
 
 -- behind the last text all are read
 pub all_texts : (old : Holding) (all : List (List ℕ)) (rest : List (String Global)) (bodies : List (List ℕ)) → length rest ≡ 0

@@ -1,6 +1,6 @@
 -- What words ask of `why`.
-use Rattle.std.specs.Prelude.{◌≡◌, ◌⊎◌, ℕ, ◌<◌, ◌^◌, List, Some, codes, slice_get}
-use Rattle.std.specs.Str.Parse.{IsNumeral, digits_value, without_leading_plus}
+use Rattle.std.specs.Prelude.{◌≡◌, ◌⊎◌, ℕ, List, Some, codes, slice_get}
+use Rattle.app_words.specs.Numbers.{IsNumber, number_of}
 use Rattle.app_words.specs.Words.{AsksHelp}
 use Rattle.app_why.specs.FormAsked.{SaysForm}
 use Rattle.app_why.specs.declared.form.Form.{Form}
@@ -8,14 +8,6 @@ use Rattle.app_why.specs.declared.asking.WhyAsked.{WhyAsked}
 use Rattle.app_why.specs.declared.asking.WhyAsked.TheVariants.{Message, Messages, Help, Wrong}
 use Rattle.app_why.specs.declared.sought.Sought.{Sought}
 use Rattle.app_why.specs.declared.sought.Sought.TheVariants.{Trace, Card}
-
--- the number that a word stands for
-abbrev pub place_of : List ℕ → ℕ
-place_of word = digits_value 10 (without_leading_plus word)
-
--- a word says a place of a batch: a number in decimal digits, below 2^32
-abbrev pub IsPlace : List ℕ → Type 0
-IsPlace word = IsNumeral 10 (without_leading_plus word) × (place_of word < 2 ^ 32)
 
 -- the words `--trace TRACE` or `--card CARD`, behind those of the command and of two files, say what is sought
 abbrev pub IsSoughtBy : List (List ℕ) → Sought → Type 0
@@ -28,7 +20,7 @@ IsSearch words = (slice_get words 4 ≡ Some (codes "--trace")) ⊎ (slice_get w
 
 -- words ask for a message: behind those of the command and of two files stands its place, and behind that how it is told
 abbrev pub AsksMessage : List (List ℕ) → Type 0
-AsksMessage words = (form : Form) × SaysForm words 5 form × (word : List ℕ) × (slice_get words 4 ≡ Some word) × IsPlace word
+AsksMessage words = (form : Form) × SaysForm words 5 form × (word : List ℕ) × (slice_get words 4 ≡ Some word) × IsNumber word
 
 -- words ask for messages that are sought: by two words there, and behind those how they are told
 abbrev pub AsksMessages : List (List ℕ) → Type 0
@@ -40,7 +32,7 @@ AsksMessages words = (form : Form) × SaysForm words 6 form × IsSearch words
 abbrev pub IsAskedBy : List (List ℕ) → WhyAsked → Type 0
 IsAskedBy words (Message book batch place form) =
     SaysForm words 5 form × (slice_get words 2 ≡ Some book.now) × (slice_get words 3 ≡ Some batch.now)
-    × (word : List ℕ) × (slice_get words 4 ≡ Some word) × IsPlace word × (place ≡ place_of word)
+    × (word : List ℕ) × (slice_get words 4 ≡ Some word) × IsNumber word × (place ≡ number_of word)
 IsAskedBy words (Messages batch sought form) = SaysForm words 6 form × (slice_get words 3 ≡ Some batch.now) × IsSoughtBy words sought
 IsAskedBy words Help = AsksHelp words
 IsAskedBy words Wrong = (¬ AsksHelp words) × (¬ AsksMessage words) × (¬ AsksMessages words)

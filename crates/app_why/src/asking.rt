@@ -1,12 +1,13 @@
 ghost use Rattle.std.specs.Prelude.{◌≤◌, IfSome, IfNone, OnSome, codes, length, map, string_bytes};
 ghost use Rattle.std.specs.Option.{SomeIff};
-ghost use Rattle.app_why.specs.WhyAsked.{AsksMessage, AsksMessages, IsAskedBy, IsPlace, IsSearch, IsSoughtBy, place_of};
+ghost use Rattle.app_why.specs.WhyAsked.{AsksMessage, AsksMessages, IsAskedBy, IsSearch, IsSoughtBy};
+ghost use Rattle.app_words.specs.Numbers.{IsNumber, number_of};
 ghost use Rattle.app_words.specs.Words.{IsCommand};
 
 use crate::form::Form;
 use crate::form_asked::form_in;
 use crate::sought::Sought;
-use app_words::{asks_help, is_command, is_word};
+use app_words::{asks_help, is_command, is_word, number_in};
 
 /// What words ask of `why`.
 #[derive(Clone, Copy)]
@@ -87,10 +88,7 @@ fn sought_by(words: &[String]) -> Option<Sought<'_>>
 
 // The place that a word says, if it is one.
 fn place_in(word: &str) -> Option<usize>
-    ensures { SomeIff result (IsPlace word.now) (place_of word.now) }
+    ensures { SomeIff result (IsNumber word.now) (number_of word.now) }
 {
-    match word.parse::<u32>() {
-        Ok(place) => Some(place as usize),
-        Err(_) => None,
-    }
+    Some(number_in(word)? as usize)
 }

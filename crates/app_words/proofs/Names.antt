@@ -1,15 +1,11 @@
 -- How names are counted, and streams named, word by word.
-use Rattle.std.proofs.Common.{◌≡◌, ◌+◌, ◌++◌, ℕ, Bool, true, false, List, [], ◌∷◌, Result, Ok, Err, OnOk, map, string_bytes, String, refl, sym, ◌∙◌, ap, length}
+use Rattle.std.proofs.Common.{◌≡◌, ◌+◌, ◌++◌, ℕ, Bool, true, false, List, [], ◌∷◌, map, string_bytes, String, refl, sym, ◌∙◌, ap, length}
 use Rattle.std.proofs.lemmas.List.{append_assoc, append-nil, nil_from_length}
 use Rattle.app_words.specs.Streams.{has_value, is_option, named, names, streamed, streamed_command, valued, with_streams}
 
 pub no_words : {Z : Type 0} (is_value : Bool) (words : List (String Z)) → length words ≡ 0 → 0 ≡ names is_value (map string_bytes words)
 unfolding names
 no_words is_value words none = rw (nil_from_length words none) refl
-
-pub on_ok : {A E : Type 0} {P Q : Type 0} (r : Result A E) → (P → Q) → OnOk r P → OnOk r Q
-on_ok (Ok x) f p = f p
-on_ok (Err e) f p = p
 
 added : {A : Type 0} (old mid new rest : List A) (x : A) → mid ≡ old ++ x ∷ [] → new ≡ mid ++ rest → new ≡ old ++ x ∷ rest
 added old mid new rest x first then_rest = then_rest ∙ ap (λ l. l ++ rest) first ∙ append_assoc old (x ∷ []) rest

@@ -1,6 +1,7 @@
 //! What the commands share: words of a command line that each reads alike, topics of help, and how what is said goes out.
 #![tactic(auto)]
 
+mod numbers;
 mod progress;
 mod saying;
 mod streams;
@@ -8,6 +9,7 @@ mod topic;
 mod topic_text;
 mod words;
 
+pub use numbers::number_in;
 pub use progress::take_progress;
 pub use saying::{put, status_of};
 pub use streams::{names_standard_output, with_streams};

@@ -1,6 +1,6 @@
 -- Both books are sound where the book is.
 use Rattle.std.proofs.Common.{◌≡◌, ℕ, ◌≤◌, ◌^◌, Bool, true, false, ◌&&◌, ◌||◌, not, cond, if◌then◌else◌, List, [], ◌∷◌, Option, Some, None, is_some, refl, sym, ap, ◌∙◌, subst, arith}
-use Rattle.std.proofs.lemmas.Bool.{false≢true}
+use Rattle.std.proofs.lemmas.Bool.{false≢true, and_parts, or_right}
 use Rattle.std.proofs.lemmas.List.Sums.{sum_by-cons}
 use Rattle.std.specs.Cmp.Derive.{both_true}
 use Rattle.std.specs.FinMap as map
@@ -20,10 +20,11 @@ use Rattle.issuer_rows.specs.declared.payment.Payment.{Payment}
 use Rattle.issuer_rows.specs.declared.row_key.RowKey.{RowKey}
 use Rattle.issuer_rows.specs.declared.row_val.RowVal.{RowVal}
 use Rattle.issuer_laws.specs.Rules.{has}
-use Rattle.book_laws.specs.CheckBook.{has_right_number, has_account, has_payer, is_backed, has_paying_account, has_second, has_accounts, are_numbers_right, IsSound}
+use Rattle.book_laws.specs.CheckBook.{has_right_number, has_account, has_payer, is_backed, has_paying_account, has_accounts, are_numbers_right, IsSound}
 use Rattle.book_archive.specs.Archive.{is_past, is_past_at, has_paid, has_paid_before, new_rows, old_rows}
 use Rattle.book_archive.specs.Joining.{LeavesBothSound}
 use Rattle.book_archive.proofs.Splitting.{Row, is_new, is_old, get_retained, get_new, get_old, any_row}
+use Rattle.book_laws.proofs.AccountsKept.{KeepsAllAccounts, paying_stays, accounts_stay}
 
 -- ---- rows that are left of a book
 
@@ -41,13 +42,9 @@ all_left left test other P [] implies there h = refl
 all_left left test other P (e ∷ es) implies there h =
     let rest = λ (more : list_all test es ≡ true). all_left left test other P es implies there.1 more in
     elim (left e) as (λ b. left e ≡ b → list_all other (if b then e ∷ filter left es else filter left es) ≡ true) [
-      | true ↦ λ is. both_true (implies e there.0 is (both (test e) _ h).0) (rest (both (test e) _ h).1)
-      | false ↦ λ _. rest (both (test e) _ h).1
+      | true ↦ λ is. both_true (implies e there.0 is (and_parts (test e) _ h).0) (rest (and_parts (test e) _ h).1)
+      | false ↦ λ _. rest (and_parts (test e) _ h).1
     ] refl
-  where
-    both : (a b : Bool) → (a && b) ≡ true → (a ≡ true) × (b ≡ true)
-    both true b h = (refl, h)
-    both false b h = absurd (false≢true h)
 
 pub all_retained : (keys : RowKey → Bool) (test other : Row → Bool) (rows : Rows) → ((e : Row) → map.get rows e.0 ≡ Some e.1 → keys e.0 ≡ true → test e ≡ true → other e ≡ true) → list_all test (map.entries rows) ≡ true → list_all other (map.entries (map.retain_keys rows keys)) ≡ true
 all_retained keys test other rows implies h =
@@ -101,44 +98,6 @@ pub right_numbers : (rows : Rows) (keys : RowKey → Bool) → IsSound rows → 
 right_numbers rows keys h = all_retained keys (λ row. has_right_number row.0) (λ row. has_right_number row.0) rows (λ e found left right. right) h.numbers
 
 -- ---- the new book
-
--- no account goes
-abbrev pub KeepsAllAccounts : Rows → Rows → Type 0
-KeepsAllAccounts rows after = (id : AccountId) → has_account rows id ≡ true → has_account after id ≡ true
-
-payer_stays : (rows after : Rows) → KeepsAllAccounts rows after → (p : Payer) → has_payer rows p ≡ true → has_payer after p ≡ true
-payer_stays rows after keeps (Payer.Account id) h = keeps id h
-payer_stays rows after keeps Payer.Budget h = refl
-
-backed_stays : (rows after : Rows) → KeepsAllAccounts rows after → (p : Option Payment) → is_backed rows p ≡ true → is_backed after p ≡ true
-backed_stays rows after keeps None h = refl
-backed_stays rows after keeps (Some payment) h = payer_stays rows after keeps payment.payer h
-
-pub paying_stays : (rows after : Rows) → KeepsAllAccounts rows after → (v : RowVal) → has_paying_account rows v ≡ true → has_paying_account after v ≡ true
-paying_stays rows after keeps (RowVal.Card row) h = refl
-paying_stays rows after keeps (RowVal.Velocity row) h = refl
-paying_stays rows after keeps (RowVal.Budget row) h = refl
-paying_stays rows after keeps (RowVal.Kept k) h = backed_stays rows after keeps (payment_of_outcome k.outcome) h
-paying_stays rows after keeps (RowVal.Ahead mark) h = refl
-paying_stays rows after keeps (RowVal.Account row) h = refl
-
-both : (a b : Bool) → (a && b) ≡ true → (a ≡ true) × (b ≡ true)
-both true b h = (refl, h)
-both false b h = absurd (false≢true h)
-
-second_stays : (rows after : Rows) → KeepsAllAccounts rows after → (first : AccountId) (second : Option AccountId) → has_second rows first second ≡ true → has_second after first second ≡ true
-second_stays rows after keeps first None h = refl
-second_stays rows after keeps first (Some second) h =
-    let two = both (has_account rows second) _ h in both_true (keeps second two.0) two.1
-
-pub accounts_stay : (rows after : Rows) → KeepsAllAccounts rows after → (v : RowVal) → has_accounts rows v ≡ true → has_accounts after v ≡ true
-accounts_stay rows after keeps (RowVal.Card row) h =
-    let two = both (has_account rows row.accounts.first) _ h in both_true (keeps row.accounts.first two.0) (second_stays rows after keeps row.accounts.first row.accounts.second two.1)
-accounts_stay rows after keeps (RowVal.Velocity row) h = refl
-accounts_stay rows after keeps (RowVal.Budget row) h = refl
-accounts_stay rows after keeps (RowVal.Kept k) h = refl
-accounts_stay rows after keeps (RowVal.Ahead mark) h = refl
-accounts_stay rows after keeps (RowVal.Account row) h = refl
 
 account_now : (date : List ℕ) (rows : Rows) (id : AccountId) → is_past_at date rows (RowKey.Account id) ≡ false
 account_now date rows id = each (map.get rows (RowKey.Account id))
@@ -220,9 +179,9 @@ own_payer rows (RowKey.Original identity) v paid backed = absurd (false≢true p
 paid_account : (date : List ℕ) (rows : Rows) (k : RowKey) (es : List Row) → list_all (λ row. has_paying_account rows row.1) es ≡ true → list_any (λ row. is_past date row.0 row.1 && has_paid k row.1) es ≡ true → IsPayer rows k
 paid_account date rows k [] backed paid = absurd (false≢true paid)
 paid_account date rows k (e ∷ es) backed paid =
-    let two = both (has_paying_account rows e.1) _ backed in
+    let two = and_parts (has_paying_account rows e.1) _ backed in
     elim (is_past date e.0 e.1 && has_paid k e.1) as (λ b. (is_past date e.0 e.1 && has_paid k e.1) ≡ b → (b || list_any (λ row. is_past date row.0 row.1 && has_paid k row.1) es) ≡ true → IsPayer rows k) [
-      | true ↦ λ own _. own_payer rows k e.1 (both (is_past date e.0 e.1) _ own).1 two.0
+      | true ↦ λ own _. own_payer rows k e.1 (and_parts (is_past date e.0 e.1) _ own).1 two.0
       | false ↦ λ _ rest. paid_account date rows k es two.1 rest
     ] refl paid
 
@@ -244,14 +203,10 @@ old_value date rows sound k v found h =
           account_value date rows v (ap (λ (o : Option RowVal). is_some (account_in o)) (sym stands) ∙ payer.there)
     ] refl h
 
-or_true : (a b : Bool) → b ≡ true → (a || b) ≡ true
-or_true true b h = refl
-or_true false b h = h
-
 old_account : (date : List ℕ) (rows : Rows) (id : AccountId) → has_account rows id ≡ true → has_paid_before date rows (RowKey.Account id) ≡ true → has_account (old_rows date rows) id ≡ true
 old_account date rows id there paid =
     ap (λ (o : Option RowVal). is_some (account_in o))
-    (get_old date rows (RowKey.Account id) ∙ ap (λ b. cond b (map.get rows (RowKey.Account id)) None) (or_true (is_past_at date rows (RowKey.Account id)) (has_paid_before date rows (RowKey.Account id)) paid))
+    (get_old date rows (RowKey.Account id) ∙ ap (λ b. cond b (map.get rows (RowKey.Account id)) None) (or_right (is_past_at date rows (RowKey.Account id)) (has_paid_before date rows (RowKey.Account id)) paid))
     ∙ there
 
 old_backed : (date : List ℕ) (rows : Rows) (p : Option Payment) → is_backed rows p ≡ true → ((id : AccountId) → account_paid id p ≡ true → has_paid_before date rows (RowKey.Account id) ≡ true) → is_backed (old_rows date rows) p ≡ true

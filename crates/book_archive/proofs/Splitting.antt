@@ -1,6 +1,6 @@
 -- A book that is split row by row.
 use Rattle.std.proofs.Common.{◌≡◌, ℕ, Bool, true, false, ◌&&◌, ◌||◌, not, cond, List, [], ◌∷◌, Option, Some, None, IfSome, IsPermutation, refl, sym, ap, ◌∙◌, subst}
-use Rattle.std.proofs.lemmas.Bool.{false≢true}
+use Rattle.std.proofs.lemmas.Bool.{false≢true, and_parts, or_right}
 use Rattle.std.proofs.lemmas.List.Sorted.{list_any-IsPermutation}
 use Rattle.std.specs.Cmp.Derive.{both_true}
 use Rattle.std.specs.FinMap as map
@@ -32,12 +32,8 @@ any_found test q v (e ∷ es) found passes =
           let value = ap (λ (o : Option RowVal). has (λ w. test (q, w)) o) is in
           let own : test e ≡ true = ap (λ (k : RowKey). test (k, e.1)) (sym key) ∙ value ∙ passes in
           ap (λ (b : Bool). b || list_any test es) own
-      | false ↦ λ other is. later (test e) (list_any test es) (any_found test q v es is passes)
+      | false ↦ λ other is. or_right (test e) (list_any test es) (any_found test q v es is passes)
     ] refl (ap (λ (b : Bool). cond b (Some e.1) (map.find key_cmp q es)) (sym (same_test q e.0)) ∙ found)
-  where
-    later : (a b : Bool) → b ≡ true → (a || b) ≡ true
-    later true b h = refl
-    later false b h = h
 
 pub any_row : (test : Row → Bool) (rows : Rows) (q : RowKey) (v : RowVal) → map.get rows q ≡ Some v → test (q, v) ≡ true → list_any test (map.entries rows) ≡ true
 any_row test rows q v at passes = any_found test q v (map.entries rows) (sym (map.get-entries rows q) ∙ at) passes
@@ -101,7 +97,7 @@ moves date q row = is_past date row.0 row.1 && (key_eq q row.0 || has_paid q row
 abbrev pub IsGoing : (RowKey → Row → Bool) → List Row → Rows → Rows → Rows → Type 0
 IsGoing test left whole so_far all = (q : RowKey) → cond (list_any (test q) left) (map.get whole q) (map.get so_far q) ≡ map.get all q
 
-step : (a b : Bool) (whole before after all : Option RowVal) → cond (a || b) whole before ≡ all → after ≡ cond a whole before → cond b whole after ≡ all
+pub step : (a b : Bool) (whole before after all : Option RowVal) → cond (a || b) whole before ≡ all → after ≡ cond a whole before → cond b whole after ≡ all
 step true true whole before after all h e = h
 step true false whole before after all h e = e ∙ h
 step false true whole before after all h e = h
@@ -172,7 +168,7 @@ old_begins date rows es moved q =
 
 -- ---- rows of the book alone
 
-own_value : (o : Option RowVal) → IfSome o (λ v. o ≡ Some v)
+pub own_value : (o : Option RowVal) → IfSome o (λ v. o ≡ Some v)
 own_value (Some v) = refl
 own_value None = tt
 
@@ -193,10 +189,6 @@ nothing_within whole q = subst (λ (o : Option RowVal). IfSome o (λ v. map.get 
 
 -- ---- payers
 
-both : (a b : Bool) → (a && b) ≡ true → (a ≡ true) × (b ≡ true)
-both true b h = (refl, h)
-both false b h = absurd (false≢true h)
-
 -- what paid is an account
 account_alone : (k : RowKey) (v : RowVal) → has_paid k v ≡ true → (id : AccountId) × (k ≡ RowKey.Account id)
 account_alone (RowKey.Account id) v h = (id, refl)
@@ -209,6 +201,13 @@ pub is_account : (date : List ℕ) (k : RowKey) (es : List Row) → list_any (λ
 is_account date k [] h = absurd (false≢true h)
 is_account date k (e ∷ es) h =
     elim (is_past date e.0 e.1 && has_paid k e.1) as (λ b. (is_past date e.0 e.1 && has_paid k e.1) ≡ b → (b || list_any (λ row. is_past date row.0 row.1 && has_paid k row.1) es) ≡ true → (id : AccountId) × (k ≡ RowKey.Account id)) [
-      | true ↦ λ own _. account_alone k e.1 (both (is_past date e.0 e.1) (has_paid k e.1) own).1
+      | true ↦ λ own _. account_alone k e.1 (and_parts (is_past date e.0 e.1) (has_paid k e.1) own).1
       | false ↦ λ _ rest. is_account date k es rest
     ] refl h
+
+-- the row, and then its payer
+pub both_put : (own paid : Bool) (whole before between after : Option RowVal) → between ≡ cond own whole before → after ≡ cond paid whole between → after ≡ cond (own || paid) whole before
+both_put true true whole before between after one two = two
+both_put true false whole before between after one two = two ∙ one
+both_put false true whole before between after one two = two
+both_put false false whole before between after one two = two ∙ one

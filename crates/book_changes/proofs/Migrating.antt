@@ -1,9 +1,10 @@
 -- The lists of a text of version 1 or 2, one after another.
-use Rattle.std.proofs.Common.{◌≡◌, ℕ, ◌+◌, true, false, cond, List, [], ◌∷◌, Option, Some, None, option_and_then, Result, Ok, refl, sym, ap, subst, ◌∙◌, arith, length}
+use Rattle.std.proofs.Common.{◌≡◌, ℕ, ◌+◌, true, false, cond, List, [], ◌∷◌, Option, Some, None, option_and_then, Result, Ok, refl, sym, ap, subst, ◌∙◌, arith}
 use Rattle.std.specs.Prelude.{unwrap_or}
 use Rattle.std.proofs.lemmas.Bool.{false≢true}
 use Rattle.std.specs.FinMap as map
 use Rattle.std.specs.List.{sum_by, AllByRecursion}
+use Rattle.std.proofs.lemmas.List.{nil_from_length}
 use Rattle.iso8583.specs.declared.account_id.AccountId.{AccountId}
 use Rattle.iso8583.specs.declared.pan.Pan.{Pan}
 use Rattle.issuer_rows.specs.Backing.{stays, stay_if, kept_in, is_from_account, backing_of_account, available_in}
@@ -117,12 +118,8 @@ no_accounts Three h = absurd (false≢true h)
 
 -- ---- the empty book
 
-no_length : {A : Type 0} (es : List A) → length es ≡ 0 → es ≡ []
-no_length [] h = refl
-no_length (e ∷ es) h = absurd (omega arith)
-
 no_entries : map.entries (map.empty {X = RowVal} {R = key_cmp}) ≡ []
-no_entries = no_length (map.entries (map.empty {X = RowVal} {R = key_cmp})) (sym (map.len-entries map.empty) ∙ map.len-empty key_cmp RowVal)
+no_entries = nil_from_length (map.entries (map.empty {X = RowVal} {R = key_cmp})) (sym (map.len-entries map.empty) ∙ map.len-empty key_cmp RowVal)
 
 -- ---- all lists
 

@@ -1,6 +1,7 @@
 -- Originals of versions 1 and 2: what stays paid from a card stays paid from its own account.
-use Rattle.std.proofs.Common.{◌≡◌, ℕ, ◌==◌, Bool, true, false, cond, ◌&&◌, nat_le, Option, Some, None, option_and_then, option_map, refl, sym, ap, ◌∙◌, rules}
-use Rattle.std.specs.Bool.{Decides}
+use Rattle.std.proofs.Common.{◌≡◌, ℕ, ◌==◌, Bool, true, false, cond, ◌&&◌, nat_le, Option, Some, None, option_and_then, option_map, refl, sym, ap, ◌∙◌}
+use Rattle.std.proofs.lemmas.Option.{cond_some, same_Some}
+use Rattle.std.proofs.lemmas.Bool.Decides.{Decides-eqb}
 use Rattle.iso8583.specs.declared.account_id.AccountId.{AccountId}
 use Rattle.iso8583.specs.declared.approval.Approval.{Approval}
 use Rattle.iso8583.specs.declared.identity.Identity.{Identity}
@@ -22,9 +23,6 @@ use Rattle.book_laws.specs.declared.paid.Paid.{Paid}
 use Rattle.book_laws.specs.declared.paid.Paid.TheVariants as paid
 use Rattle.book_changes.specs.Migration.{is_card}
 
-numbers : (m n : ℕ) → Decides (m == n) (m ≡ n)
-numbers m n = search rules
-
 -- a value that is there behind two steps
 both_there : {A B : Type 0} (o : Option A) (f : A → Option B) (y : B) → option_and_then f o ≡ Some y → (x : A) × (o ≡ Some x) × (f x ≡ Some y)
 both_there (Some x) f y h = (x, refl, h)
@@ -34,24 +32,17 @@ there_mapped : {A B : Type 0} (o : Option A) (f : A → B) (y : B) → option_ma
 there_mapped (Some x) f y h = (x, refl, cc)
 there_mapped None f y h = absurd cc
 
-if_then : {A : Type 0} (b : Bool) (x y : A) → cond b (Some x) None ≡ Some y → (b ≡ true) × (x ≡ y)
-if_then true x y h = (refl, cc)
-if_then false x y h = absurd cc
-
 if_else : {A : Type 0} (b : Bool) (x y : A) → cond b None (Some x) ≡ Some y → x ≡ y
 if_else true x y h = absurd cc
 if_else false x y h = cc
 
-some_same : {A : Type 0} (x y : A) → Some x ≡ Some y → x ≡ y
-some_same x y h = cc
-
 -- ---- payments
 
 posted_so : (k : OriginalKind) (action : ℕ) (approval : Option Approval) (payment : Payment) (o : OriginalOutcome) → posted k action approval payment ≡ Some o → payment_of_outcome o ≡ Some payment
-posted_so kind.Request action (Some code) payment o h = sym (ap payment_of_outcome (if_then (action == 0) _ o h).1)
+posted_so kind.Request action (Some code) payment o h = sym (ap payment_of_outcome (cond_some (action == 0) _ o h).1)
 posted_so kind.Request action None payment o h = absurd cc
 posted_so kind.Advice action (Some code) payment o h = absurd cc
-posted_so kind.Advice action None payment o h = sym (ap payment_of_outcome (if_then (action == 901) _ o h).1)
+posted_so kind.Advice action None payment o h = sym (ap payment_of_outcome (cond_some (action == 901) _ o h).1)
 
 unposted_so : (k : OriginalKind) (action : ℕ) (approval : Option Approval) (reversed : Option Identity) (o : OriginalOutcome) → unposted k action approval reversed ≡ Some o → payment_of_outcome o ≡ None
 unposted_so kind.Request action (Some code) reversed o h = absurd cc
@@ -68,10 +59,10 @@ outcome_so e (Some payment) o h = posted_so e.kind e.action e.approval payment o
 paid_so : (by : Payer) (amount stay : ℕ) (reversed : Option Identity) (p : Payment) → payment_by by amount stay (settlement_of stay reversed) ≡ Some p
     → (p.payer ≡ by) × (stay_of_settlement amount p.settlement ≡ stay)
 paid_so by amount stay None p h =
-    let q = if_then (stay == amount) _ p h in
-    (sym (ap (λ (x : Payment). x.payer) q.1), sym (ap (λ (x : Payment). stay_of_settlement amount x.settlement) q.1) ∙ sym ((numbers stay amount).0 q.0))
+    let q = cond_some (stay == amount) _ p h in
+    (sym (ap (λ (x : Payment). x.payer) q.1), sym (ap (λ (x : Payment). stay_of_settlement amount x.settlement) q.1) ∙ sym ((Decides-eqb stay amount).0 q.0))
 paid_so by amount stay (Some reversal) p h =
-    let q = if_then (nat_le stay amount) _ p h in
+    let q = cond_some (nat_le stay amount) _ p h in
     (sym (ap (λ (x : Payment). x.payer) q.1), sym (ap (λ (x : Payment). stay_of_settlement amount x.settlement) q.1))
 
 -- ---- what stays of an original, by what paid
@@ -91,8 +82,8 @@ from_card pan card amount stay reversed payment h =
     ∙ ap (λ n. cond (text_eq card.0 pan.0) n 0) s.1
 
 budget_paid : (amount stay : ℕ) (settlement : Option Settlement) (p : Payment) → payment_by payer.Budget amount stay settlement ≡ Some p → p.payer ≡ payer.Budget
-budget_paid amount stay None p h = sym (ap (λ (x : Payment). x.payer) (if_then (stay == amount) _ p h).1)
-budget_paid amount stay (Some s) p h = sym (ap (λ (x : Payment). x.payer) (if_then (nat_le s.stay amount) _ p h).1)
+budget_paid amount stay None p h = sym (ap (λ (x : Payment). x.payer) (cond_some (stay == amount) _ p h).1)
+budget_paid amount stay (Some s) p h = sym (ap (λ (x : Payment). x.payer) (cond_some (nat_le s.stay amount) _ p h).1)
 
 from_budget : (pan : Pan) (amount stay : ℕ) (settlement : Option Settlement) (payment : Option Payment)
     → payment_of (Some payer.Budget) amount stay settlement ≡ Some payment → from_account (own_account pan) amount payment ≡ 0
@@ -103,19 +94,19 @@ from_budget pan amount stay settlement payment h =
 
 from_nothing : (pan : Pan) (amount stay : ℕ) (settlement : Option Settlement) (payment : Option Payment)
     → payment_of None amount stay settlement ≡ Some payment → from_account (own_account pan) amount payment ≡ 0
-from_nothing pan amount stay settlement payment h = sym (ap (from_account (own_account pan) amount) (if_then (stay == 0) None payment h).1)
+from_nothing pan amount stay settlement payment h = sym (ap (from_account (own_account pan) amount) (cond_some (stay == 0) None payment h).1)
 
 -- by the word for what paid, where no account is named
 stays_so : (word : Paid) (account : Option AccountId) (card pan : Pan) (amount stay : ℕ) (reversed : Option Identity) (by : Option Payer) (payment : Option Payment)
     → account ≡ None → payer_of word account card ≡ Some by → payment_of by amount stay (settlement_of stay reversed) ≡ Some payment
     → from_account (own_account pan) amount payment ≡ cond (is_card word && text_eq card.0 pan.0) stay 0
 stays_so paid.Nothing None card pan amount stay reversed by payment none h g =
-    from_nothing pan amount stay (settlement_of stay reversed) payment (ap (λ (b : Option Payer). payment_of b amount stay (settlement_of stay reversed)) (some_same None by h) ∙ g)
+    from_nothing pan amount stay (settlement_of stay reversed) payment (ap (λ (b : Option Payer). payment_of b amount stay (settlement_of stay reversed)) (same_Some None by h) ∙ g)
 stays_so paid.Card None card pan amount stay reversed by payment none h g =
-    from_card pan card amount stay reversed payment (ap (λ (b : Option Payer). payment_of b amount stay (settlement_of stay reversed)) (some_same (Some (payer.Account (own_account card))) by h) ∙ g)
+    from_card pan card amount stay reversed payment (ap (λ (b : Option Payer). payment_of b amount stay (settlement_of stay reversed)) (same_Some (Some (payer.Account (own_account card))) by h) ∙ g)
 stays_so paid.Account None card pan amount stay reversed by payment none h g = absurd cc
 stays_so paid.Budget None card pan amount stay reversed by payment none h g =
-    from_budget pan amount stay (settlement_of stay reversed) payment (ap (λ (b : Option Payer). payment_of b amount stay (settlement_of stay reversed)) (some_same (Some payer.Budget) by h) ∙ g)
+    from_budget pan amount stay (settlement_of stay reversed) payment (ap (λ (b : Option Payer). payment_of b amount stay (settlement_of stay reversed)) (same_Some (Some payer.Budget) by h) ∙ g)
 stays_so word (Some id) card pan amount stay reversed by payment none h g = absurd cc
 
 -- what stays paid of an original that is kept

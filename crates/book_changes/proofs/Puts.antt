@@ -1,6 +1,5 @@
 -- Rows that are written one after another: what becomes of what is available, of accounts and of what stays paid.
 use Rattle.std.proofs.Common.{◌≡◌, ℕ, ◌+◌, true, false, cond, List, [], ◌∷◌, Some, None, Result, Ok, Err, Less, Equal, Greater, is_eq, is_some, refl, sym, ap, subst, ◌∙◌, arith}
-use Rattle.std.proofs.lemmas.Cmp.{tied_itself}
 use Rattle.std.proofs.lemmas.List.Sums.{sum_by-cons}
 use Rattle.std.proofs.lemmas.Option.{none-some}
 use Rattle.std.specs.FinMap as map
@@ -29,6 +28,7 @@ use Rattle.book_laws.specs.declared.text_fault.TextFault.{TextFault}
 use Rattle.book_laws.specs.declared.text_fault.TextFault.TheVariants.{Shape}
 use Rattle.book_laws.specs.Parts.{list_part}
 use Rattle.book_changes.specs.Migration.{with_read, read_all, available_of, all_available}
+use Rattle.issuer_laws.proofs.Keys.{get-put}
 
 abbrev pub Row : Type 0
 Row = RowKey × RowVal
@@ -50,9 +50,6 @@ same_ok x y h = cc
 
 get_other : (rows : Rows) (k : RowKey) (v : RowVal) (q : RowKey) → eq_by_cmp key_cmp q k ≡ false → map.get (map.insert rows k v) q ≡ map.get rows q
 get_other rows k v q other = map.get-insert key_cmp_total rows k v q ∙ ap (λ b. cond b (Some v) (map.get rows q)) other
-
-get_same : (rows : Rows) (k : RowKey) (v : RowVal) → map.get (map.insert rows k v) k ≡ Some v
-get_same rows k v = map.get-insert key_cmp_total rows k v k ∙ ap (λ o. cond (is_eq o) (Some v) (map.get rows k)) (tied_itself key_cmp_total k)
 
 added_to : (f : Row → ℕ) (rows : Rows) (k : RowKey) (v : RowVal) → map.get rows k ≡ None → sum_by f (map.entries (map.insert rows k v)) ≡ f (k, v) + sum_by f (map.entries rows)
 added_to f rows k v none =
@@ -173,7 +170,7 @@ card_put rows card own none =
             | true ↦ λ e. absurd cc
             | false ↦ λ e. own pan e
           ] there;
-      has = (get_same first ak av, tt);
+      has = (get-put first ak av, tt);
       keeps = λ id v h.
           let before : map.get first (key.Account id) ≡ Some v = get_other rows ck cv (key.Account id) refl ∙ h in
           map.get-insert key_cmp_total first ak av (key.Account id)

@@ -1,6 +1,6 @@
 -- On a book whose accounts, days and budgets have what it takes, a right reversal is answered 400.
 use Rattle.std.proofs.Common.{◌≡◌, ℕ, ◌+◌, ◌^◌, ◌≤◌, Bool, true, false, if◌then◌else◌, ◌&&◌, ◌||◌, ◌==◌, not, nat_lt, List, [], ◌∷◌, Option, Some, None, is_some, is_none, option_and_then, option_map, refl, sym, ap, ◌∙◌, subst, arith}
-use Rattle.std.proofs.lemmas.Bool.{false≢true}
+use Rattle.std.proofs.lemmas.Bool.{false≢true, and_right, and_left}
 use Rattle.std.proofs.lemmas.Bool.Decides.{nat_tests}
 use Rattle.std.specs.FinMap as map
 use Rattle.std.specs.List.{AllByRecursion, sum_by}
@@ -12,8 +12,8 @@ use Rattle.issuer_rows.specs.Backing.{is_account, is_budget, account_paid, budge
 use Rattle.issuer_rows.specs.Facts.{day_of, prefix_of, identity_of, is_same_identity, is_same_kind}
 use Rattle.issuer_rows.specs.Fold.{Rows, reply_of, rows_after}
 use Rattle.issuer_rows.specs.Funds.{balance_of}
-use Rattle.issuer_rows.specs.Kept.{KeptOriginal, kind_of_outcome, payment_of_outcome, reversal_of_outcome, stay_of, stay_of_payment, stay_of_settlement}
-use Rattle.issuer_rows.specs.Plan.{Plan, Lookup, Writes}
+use Rattle.issuer_rows.specs.Kept.{KeptOriginal, kind_of_outcome, payment_of_outcome, reversal_of_outcome, stay_of, stay_of_payment}
+use Rattle.issuer_rows.specs.Plan.{Writes}
 use Rattle.issuer_rows.specs.ReversalTable.{given_back, greatest_balance, is_named, is_wrong_part, takes_approval, day_key}
 use Rattle.issuer_rows.specs.RowKey.{text_eq}
 use Rattle.issuer_rows.specs.Typed.{velocity_in, budget_in, original_in, account_in, spent_in}
@@ -26,7 +26,6 @@ use Rattle.issuer_rows.specs.declared.payment.Payment.{Payment}
 use Rattle.issuer_rows.specs.declared.reply_body.ReplyBody.{ReplyBody}
 use Rattle.issuer_rows.specs.declared.row_key.RowKey.{RowKey}
 use Rattle.issuer_rows.specs.declared.row_val.RowVal.{RowVal}
-use Rattle.issuer_rows.specs.declared.settlement.Settlement.{Settlement}
 use Rattle.issuer_rows.specs.declared.velocity_row.VelocityRow.{VelocityRow}
 use Rattle.issuer_laws.proofs.Covered.{open_before, back_within, stays_covered}
 use Rattle.issuer_laws.proofs.Keys.{same_text}
@@ -34,12 +33,14 @@ use Rattle.issuer_laws.proofs.ReversalRules.{reversal_decided}
 use Rattle.issuer_laws.proofs.Sums.{part, sum-insert}
 use Rattle.issuer_laws.specs.Covered.{is_open_request, open_in, AreDaysCovered}
 use Rattle.issuer_laws.specs.Messages.{reversal_frame, HasAction}
-use Rattle.issuer_laws.specs.Rules.{Conditions, first_of, has, comes_to, row_of_payer, row_that_paid, day_of_row, reversal_facts_of, is_mark, is_kept_so, is_request, is_reversed_by, gives_back, reversal_conditions, EndsGivenBack, ReversalEnds}
+use Rattle.issuer_laws.specs.Rules.{Conditions, first_of, has, row_of_payer, row_that_paid, day_of_row, reversal_facts_of, is_mark, is_kept_so, is_request, is_reversed_by, gives_back, reversal_conditions, ReversalEnds}
 use Rattle.issuer_laws.specs.declared.decision_rule.DecisionRule.{DecisionRule}
 use Rattle.book_laws.specs.CheckBook.{has_payer, is_backed}
 use Rattle.book_changes.proofs.Reversible.{budgets_stay}
 use Rattle.book_changes.proofs.Sound.{is_kept, kept_backed, stays_sound}
 use Rattle.book_changes.specs.Reversible.{has_budget, is_budget_there, CanReverse, IsRightReversal, IsDone}
+use Rattle.issuer_laws.proofs.Balanced.{no_settlement}
+use Rattle.issuer_laws.proofs.Again.{gives_400}
 
 -- where no condition holds, the last rule decides
 pub none_holds : (cs : Conditions) (last : DecisionRule) → AllByRecursion (λ c. c.1 ≡ false) cs → first_of cs last ≡ last
@@ -55,15 +56,10 @@ no_day = record { count = 0; sum = 0 }
 
 -- ---- what paid
 
--- all of a posted original stays paid until it is reversed
-unsettled : (amount : ℕ) (s : Option Settlement) → option_map (λ (x : Settlement). x.reversal) s ≡ None → stay_of_settlement amount s ≡ amount
-unsettled amount None e = refl
-unsettled amount (Some s) e = absurd (cc)
-
 all_stays : (k : KeptOriginal) (o : OriginalOutcome) (payment : Payment) → payment_of_outcome o ≡ Some payment → reversal_of_outcome o ≡ None → stay_of_payment k.amount (payment_of_outcome o) ≡ k.amount
-all_stays k (OriginalOutcome.Approved code paid) payment p r = unsettled k.amount paid.settlement r
+all_stays k (OriginalOutcome.Approved code paid) payment p r = no_settlement k.amount paid.settlement r
 all_stays k (OriginalOutcome.Declined action other) payment p r = absurd (cc)
-all_stays k (OriginalOutcome.Accepted paid) payment p r = unsettled k.amount paid.settlement r
+all_stays k (OriginalOutcome.Accepted paid) payment p r = no_settlement k.amount paid.settlement r
 all_stays k (OriginalOutcome.Acknowledged action other) payment p r = absurd (cc)
 
 -- what paid has a row, and room for the whole amount
@@ -146,21 +142,14 @@ not_short (ReversalScope.Partial claimed) count sum given c s = grind (arith, na
 not_over : (balance amount given : ℕ) → balance + amount ≤ 10 ^ 15 → given ≤ amount → nat_lt greatest_balance (balance + given) ≡ false
 not_over balance amount given h g = let enough : balance + given ≤ 1000000000000000 = omega (arith, h, g) in grind (arith, nat_tests)
 
-none_and : (b c : Bool) → b ≡ false → (b && c) ≡ false
-none_and b c e = ap (λ (x : Bool). x && c) e
-
-and_none : (b c : Bool) → c ≡ false → (b && c) ≡ false
-and_none true c e = e
-and_none false c e = refl
-
 -- the conditions on a day, by the kind of the original
 day_conditions : (rows : Rows) → AreDaysCovered rows → (v : Reversal) (k : KeptOriginal) (payment : Payment) → map.get rows (RowKey.Original v.original.identity) ≡ Some (RowVal.Kept k) → payment_of_outcome k.outcome ≡ Some payment → reversal_of_outcome k.outcome ≡ None → (kind : OriginalKind) → kind_of_outcome k.outcome ≡ kind → ((is_request k && is_none (velocity_in (map.get rows (day_key v k)))) ≡ false) × ((is_request k && has (λ (d : VelocityRow). (takes_approval v.scope && (d.count == 0)) || nat_lt d.sum (given_back v k)) (velocity_in (map.get rows (day_key v k)))) ≡ false)
 day_conditions rows days v k payment at posted unreversed OriginalKind.Advice e =
-    (none_and (is_request k) _ (ap (λ (o : OriginalKind). is_same_kind o OriginalKind.Request) e), none_and (is_request k) _ (ap (λ (o : OriginalKind). is_same_kind o OriginalKind.Request) e))
+    (and_left (is_request k) _ (ap (λ (o : OriginalKind). is_same_kind o OriginalKind.Request) e), and_left (is_request k) _ (ap (λ (o : OriginalKind). is_same_kind o OriginalKind.Request) e))
 day_conditions rows days v k payment at posted unreversed OriginalKind.Request e =
     let spent = has_spent rows days v k at (open_before k.outcome payment e posted unreversed) in (
-      and_none (is_request k) _ (ap is_none spent.found),
-      and_none (is_request k) _ (ap (has (λ (d : VelocityRow). (takes_approval v.scope && (d.count == 0)) || nat_lt d.sum (given_back v k))) spent.found
+      and_right (is_request k) _ (ap is_none spent.found),
+      and_right (is_request k) _ (ap (has (λ (d : VelocityRow). (takes_approval v.scope && (d.count == 0)) || nat_lt d.sum (given_back v k))) spent.found
           ∙ not_short v.scope spent.day.count spent.day.sum (given_back v k) spent.count (omega (arith, spent.sum, back_within v k))),
     )
 
@@ -179,7 +168,7 @@ conditions_fail rows h v r =
         (
           ap (has (is_kept_so (λ (x : KeptOriginal). not (is_named v x)))) r.stands ∙ ap not r.named,
           (
-            none_and _ v.repeat (ap (has (is_kept_so (is_reversed_by v))) r.stands ∙ ap (has (λ (by : Identity). is_same_identity by (identity_of v.transaction))) r.unreversed),
+            and_left _ v.repeat (ap (has (is_kept_so (is_reversed_by v))) r.stands ∙ ap (has (λ (by : Identity). is_same_identity by (identity_of v.transaction))) r.unreversed),
             (
               ap (has (is_kept_so (λ (x : KeptOriginal). is_some (reversal_of_outcome x.outcome)))) r.stands ∙ ap is_some r.unreversed,
               (
@@ -209,17 +198,12 @@ conditions_fail rows h v r =
       ),
     )
 
-given_is_400 : (v : Reversal) (kind : OriginalKind) (k : KeptOriginal) (paid : Funds) (day : Option VelocityRow) (end : Plan) (look : Lookup) → EndsGivenBack kind v k paid day end → HasAction 400 (comes_to end look).0
-given_is_400 v OriginalKind.Request k paid None end look h = absurd h
-given_is_400 v OriginalKind.Request k paid (Some day) end look h = subst (λ (p : Plan). HasAction 400 (comes_to p look).0) (sym h) refl
-given_is_400 v OriginalKind.Advice k paid day end look h = subst (λ (p : Plan). HasAction 400 (comes_to p look).0) (sym h) refl
-
 reversal_done : (rows : Rows) (v : Reversal) → CanReverse rows → IsRightReversal rows v → HasAction 400 (reply_of rows (reversal_frame v))
 reversal_done rows v h r =
     let decided = reversal_decided rows v in
     let rule = none_holds (reversal_conditions v (reversal_facts_of rows v)) DecisionRule.GivenBack (conditions_fail rows h v r) in
     let ends = subst (λ (x : DecisionRule). ReversalEnds v (reversal_facts_of rows v) x decided.0) rule decided.1 in
-    subst (HasAction 400) (sym (ap (λ (p : ReplyBody × Writes). p.0) decided.2)) (given_is_400 v (kind_of_outcome ends.0.outcome) ends.0 ends.1 _ decided.0 (map.get rows) ends.4)
+    subst (HasAction 400) (sym (ap (λ (p : ReplyBody × Writes). p.0) decided.2)) (gives_400 v (kind_of_outcome ends.0.outcome) ends.0 ends.1 _ decided.0 (map.get rows) ends.4)
 
 pub can_still : (frames : List Frame) (rows : Rows) → CanReverse rows → CanReverse (rows_after rows frames)
 can_still frames rows h = record { sound = stays_sound frames rows h.sound; days = stays_covered frames rows h.days; budgets = budgets_stay frames rows h.budgets }

@@ -1,6 +1,6 @@
 -- Every decision leaves a sound book sound.
 use Rattle.std.proofs.Common.{◌≡◌, ℕ, ◌^◌, ◌≤◌, Bool, true, false, if◌then◌else◌, ◌&&◌, List, [], ◌∷◌, ◌++◌, Option, Some, None, is_some, inl, inr, refl, sym, ap, ◌∙◌, subst, arith}
-use Rattle.std.proofs.lemmas.Bool.{false≢true}
+use Rattle.std.proofs.lemmas.Bool.{false≢true, and_parts}
 use Rattle.std.proofs.lemmas.List.Sums.{sum_by-cons}
 use Rattle.std.specs.Cmp.Derive.{both_true}
 use Rattle.std.specs.FinMap as map
@@ -29,8 +29,6 @@ use Rattle.issuer_rows.specs.declared.funds.Funds.{Funds}
 use Rattle.issuer_rows.specs.declared.mark.Mark.{Mark}
 use Rattle.issuer_rows.specs.declared.original_outcome.OriginalOutcome.{OriginalOutcome}
 use Rattle.issuer_rows.specs.declared.original_row.OriginalRow.{OriginalRow}
-use Rattle.issuer_rows.specs.declared.payer.Payer.{Payer}
-use Rattle.issuer_rows.specs.declared.payment.Payment.{Payment}
 use Rattle.issuer_rows.specs.declared.row_key.RowKey.{RowKey}
 use Rattle.issuer_rows.specs.declared.row_val.RowVal.{RowVal}
 use Rattle.issuer_rows.specs.declared.velocity_row.VelocityRow.{VelocityRow}
@@ -42,8 +40,9 @@ use Rattle.issuer_laws.proofs.RequestWays as request
 use Rattle.issuer_laws.proofs.ReversalWays.{day_put, reversal_ways}
 use Rattle.issuer_laws.proofs.Sums.{sum-insert}
 use Rattle.book_laws.proofs.BackingLaws.{found_in}
-use Rattle.book_laws.specs.CheckBook.{has_right_number, has_account, has_payer, is_backed, has_paying_account, has_second, has_accounts, IsSound}
+use Rattle.book_laws.specs.CheckBook.{has_right_number, has_account, has_payer, is_backed, has_paying_account, has_accounts, IsSound}
 use Rattle.book_changes.specs.Runs.{StaysSound}
+use Rattle.book_laws.proofs.AccountsKept.{KeepsAllAccounts, paying_stays, accounts_stay}
 
 abbrev Row : Type 0
 Row = RowKey × RowVal
@@ -78,8 +77,8 @@ all_behind_one : (test : Row → Bool) (rows : Rows) (k : RowKey) (v : RowVal) �
 all_behind_one test rows k v all one =
     let before = none_fails test (map.entries rows) all in
     let written = passes test (k, v) one in
-    let both = sum-insert (failure test) rows k v in
-    all_pass test (map.entries (map.insert rows k v)) (omega (arith, before, written, both))
+    let and_parts = sum-insert (failure test) rows k v in
+    all_pass test (map.entries (map.insert rows k v)) (omega (arith, before, written, and_parts))
 
 all_behind : (test : Row → Bool) (rows : Rows) (ws : Writes) → list_all test (map.entries rows) ≡ true → AllByRecursion (λ w. test w ≡ true) ws → list_all test (map.entries (overlay rows ws)) ≡ true
 all_behind test rows [] all each = all
@@ -125,44 +124,6 @@ account_behind rows (w ∷ ws) id each h =
           ∙ subst (λ (k : RowKey). IsAccountRow k w.1) (sym same) each.0
       | inr other ↦ ap (λ (o : Option RowVal). is_some (account_in o)) (get-other rows w.0 w.1 (RowKey.Account id) other) ∙ h
     ])
-
--- no account goes away
-abbrev KeepsAllAccounts : Rows → Rows → Type 0
-KeepsAllAccounts rows after = (id : AccountId) → has_account rows id ≡ true → has_account after id ≡ true
-
-payer_stays : (rows after : Rows) → KeepsAllAccounts rows after → (p : Payer) → has_payer rows p ≡ true → has_payer after p ≡ true
-payer_stays rows after keeps (Payer.Account id) h = keeps id h
-payer_stays rows after keeps Payer.Budget h = refl
-
-backed_stays : (rows after : Rows) → KeepsAllAccounts rows after → (p : Option Payment) → is_backed rows p ≡ true → is_backed after p ≡ true
-backed_stays rows after keeps None h = refl
-backed_stays rows after keeps (Some payment) h = payer_stays rows after keeps payment.payer h
-
-paying_stays : (rows after : Rows) → KeepsAllAccounts rows after → (v : RowVal) → has_paying_account rows v ≡ true → has_paying_account after v ≡ true
-paying_stays rows after keeps (RowVal.Card row) h = refl
-paying_stays rows after keeps (RowVal.Velocity row) h = refl
-paying_stays rows after keeps (RowVal.Budget row) h = refl
-paying_stays rows after keeps (RowVal.Kept k) h = backed_stays rows after keeps (payment_of_outcome k.outcome) h
-paying_stays rows after keeps (RowVal.Ahead mark) h = refl
-paying_stays rows after keeps (RowVal.Account row) h = refl
-
-both : (a b : Bool) → (a && b) ≡ true → (a ≡ true) × (b ≡ true)
-both true b h = (refl, h)
-both false b h = absurd (false≢true h)
-
-second_stays : (rows after : Rows) → KeepsAllAccounts rows after → (first : AccountId) (second : Option AccountId) → has_second rows first second ≡ true → has_second after first second ≡ true
-second_stays rows after keeps first None h = refl
-second_stays rows after keeps first (Some second) h = let x = both _ _ h in both_true (keeps second x.0) x.1
-
-accounts_stay : (rows after : Rows) → KeepsAllAccounts rows after → (v : RowVal) → has_accounts rows v ≡ true → has_accounts after v ≡ true
-accounts_stay rows after keeps (RowVal.Card row) h =
-    let x = both (has_account rows row.accounts.first) (has_second rows row.accounts.first row.accounts.second) h in
-    both_true (keeps row.accounts.first x.0) (second_stays rows after keeps row.accounts.first row.accounts.second x.1)
-accounts_stay rows after keeps (RowVal.Velocity row) h = refl
-accounts_stay rows after keeps (RowVal.Budget row) h = refl
-accounts_stay rows after keeps (RowVal.Kept k) h = refl
-accounts_stay rows after keeps (RowVal.Ahead mark) h = refl
-accounts_stay rows after keeps (RowVal.Account row) h = refl
 
 -- ---- rows that are written
 

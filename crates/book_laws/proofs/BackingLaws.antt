@@ -1,7 +1,7 @@
 -- Backings over all accounts and prefixes, by what is asked of one row after another.
-use Rattle.std.proofs.Common.{◌≡◌, ◌+◌, ◌≤◌, ◌^◌, ◌↔◌, Bool, true, false, ◌&&◌, List, [], ◌∷◌, Option, Some, None, if◌then◌else◌, Less, Equal, Greater, IsTrue, IfSome, is_some, ◌⊎◌, inl, inr, sym, ap, refl, ◌∙◌, subst, lit≤, arith}
+use Rattle.std.proofs.Common.{◌≡◌, ◌+◌, ◌≤◌, ◌^◌, ◌↔◌, true, false, ◌&&◌, List, [], ◌∷◌, Option, Some, None, if◌then◌else◌, Less, Equal, Greater, IsTrue, IfSome, is_some, ◌⊎◌, inl, inr, sym, ap, refl, ◌∙◌, subst, lit≤, arith}
 use Rattle.std.specs.List.{sum_by, list_all, AllByRecursion}
-use Rattle.std.proofs.lemmas.Bool.{false≢true}
+use Rattle.std.proofs.lemmas.Bool.{false≢true, and_parts}
 use Rattle.std.proofs.lemmas.List.Sums.{sum_by-cons}
 use Rattle.std.proofs.lemmas.Option.{same_Some}
 use Rattle.std.specs.FinMap as map
@@ -89,14 +89,10 @@ no_stay_of rows id (key.Budget prefix) v e h = refl
 no_stay_of rows id (key.Original identity) v e h = no_stay rows id identity v e h
 no_stay_of rows id (key.Account other) v e h = refl
 
-split : (a b : Bool) → (a && b) ≡ true → (a ≡ true) × (b ≡ true)
-split true b h = (refl, h)
-split false b h = absurd (false≢true h)
-
 no_stays : (rows : Rows) (id : AccountId) (es : List (RowKey × RowVal)) → map.get rows (key.Account id) ≡ None → list_all (λ row. has_paying_account rows row.1) es ≡ true → sum_by (λ row. stay_if (is_from_account id) (kept_in row.0 row.1)) es ≡ 0
 no_stays rows id [] e h = refl
 no_stays rows id (row ∷ es) e h =
-    let both = split (has_paying_account rows row.1) (list_all (λ row. has_paying_account rows row.1) es) h in
+    let both = and_parts (has_paying_account rows row.1) (list_all (λ row. has_paying_account rows row.1) es) h in
     sum_by-cons (λ (row : RowKey × RowVal). stay_if (is_from_account id) (kept_in row.0 row.1)) row es
     ∙ (λ i. no_stay_of rows id row.0 row.1 e both.0 i + no_stays rows id es e both.1 i)
 

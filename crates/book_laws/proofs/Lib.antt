@@ -10,3 +10,4 @@ pub mod RoundTrip
 pub mod RowsAgain
 pub mod RowsPlain
 pub mod WrittenTokens
+pub mod AccountsKept

@@ -1,6 +1,6 @@
 -- A list is determined by its part's number.
-use Rattle.std.proofs.Common.{◌≡◌, ℕ, ◌==◌, true, cond, refl, ap, sym, ◌∙◌, rules}
-use Rattle.std.specs.Bool.{Decides}
+use Rattle.std.proofs.Common.{◌≡◌, ℕ, ◌==◌, true, cond, refl, ap, sym, ◌∙◌}
+use Rattle.std.proofs.lemmas.Bool.Decides.{Decides-eqb}
 use Rattle.issuer_rows.specs.declared.row_val.RowVal.{RowVal}
 use Rattle.book_laws.specs.Parts.{part_number, list_part, list_of, is_in}
 use Rattle.book_laws.specs.declared.row_list.RowList.{RowList}
@@ -18,9 +18,6 @@ its_name Originals = refl
 its_name Ahead = refl
 its_name Accounts = refl
 
-numbers : (m n : ℕ) → Decides (m == n) (m ≡ n)
-numbers m n = search rules
-
 -- the list that a row stands in is the one by what it holds
 pub list_told : (list : RowList) (held : RowVal) → is_in list held ≡ true → list_of held ≡ list
-list_told list held is = sym (its_name (list_of held)) ∙ ap named (sym ((numbers _ _).0 is)) ∙ its_name list
+list_told list held is = sym (its_name (list_of held)) ∙ ap named (sym ((Decides-eqb _ _).0 is)) ∙ its_name list

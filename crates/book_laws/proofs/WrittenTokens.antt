@@ -3,7 +3,7 @@ use Rattle.json.specs.Print.{ends, print, print_from}
 use Rattle.serde_json.specs.Data.{Data}
 use Rattle.serde_json.specs.Written.{compact_text}
 use Rattle.serde_json.proofs.Texts.{print-outline}
-use Rattle.std.proofs.Common.{◌≡◌, ℕ, [], List, ◌++◌, Bool, false, ap, sym, ◌∙◌, append_assoc, Result, Ok, Err, IsOk, MatchResult, refl}
+use Rattle.std.proofs.Common.{◌≡◌, ℕ, [], List, ◌++◌, Bool, false, ap, sym, ◌∙◌, append_assoc}
 use Rattle.json.proofs.Printed.Tokens.{print_from-append}
 use Rattle.json.specs.Token.{Token}
 use Rattle.std.proofs.lemmas.List.Sums.{fold-append}
@@ -36,8 +36,3 @@ text_of_written {ts = ts} text is adds empty = is ∙ adds.written ∙ ap (λ (b
 pub printed : {before after : JsonText} (text : List ℕ) (d : Data) → text ≡ after.text → Adds before after (tokens_of d) → before ≡ record { text = []; after_value = false }
     → text ≡ compact_text d
 printed text d is adds empty = text_of_written text is adds empty ∙ print-outline d
-
--- a call that fails only where the fact fails
-pub is_ok_from_cases : {X Y P : Type 0} (r : Result X Y) (Q : X → Type 0) (N : Y → Type 0) → ((y : Y) → N y → ¬ P) → MatchResult r Q N → P → IsOk r
-is_ok_from_cases (Ok x) Q N h m p = refl
-is_ok_from_cases (Err y) Q N h m p = absurd (h y m p)

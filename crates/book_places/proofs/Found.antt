@@ -1,5 +1,5 @@
 -- What is found in a list is found in the lists, and what is found in a book in the top object.
-use Rattle.std.proofs.Common.{◌≡◌, ℕ, suc, ◌<◌, List, take, drop, get_or, length, Option, Some, None, Result, Ok, Err, inl, inr, subst}
+use Rattle.std.proofs.Common.{◌≡◌, ℕ, suc, ◌<◌, List, take, drop, get_or, length, Option, Some, None, Result, Ok, Err, inr, subst}
 use Rattle.std.specs.Prelude.{IfNone, IfOk, IfSome}
 use Rattle.std.specs.FinMap as map
 use Rattle.std.proofs.Math.Seq.{split_at}

@@ -1,5 +1,5 @@
 -- What is wrong with a book, in words.
-use Rattle.std.specs.Prelude.{ℕ, List, [], ◌∷◌, ◌++◌, codes, decimal}
+use Rattle.std.specs.Prelude.{ℕ, List, [], ◌++◌, codes, decimal}
 use Rattle.iso_shown.specs.Masked.{masked}
 use Rattle.book_laws.specs.Parts.{list_key}
 use Rattle.book_laws.specs.declared.row_list.RowList.{RowList}

@@ -1,12 +1,13 @@
 -- Texts that need no escapes.
-use Rattle.std.proofs.Common.{◌≡◌, ℕ, ◌≤◌, Bool, true, false, ◌&&◌, ◌||◌, ◌==◌, List, [], ◌∷◌, ◌++◌, refl, sym, arith, true≢false, nat_le}
+use Rattle.std.proofs.Common.{◌≡◌, ℕ, Bool, true, ◌||◌, ◌==◌, List, [], ◌∷◌, ◌++◌, refl, arith, All}
 use Rattle.std.proofs.lemmas.Bool.Decides.{nat_tests}
-use Rattle.std.proofs.lemmas.Bool.{or_parts, eqb-false}
-use Rattle.std.specs.List.{list_all, list_any}
+use Rattle.std.proofs.lemmas.Bool.{and_parts}
+use Rattle.std.specs.List.{list_all, AllByRecursion}
 use Rattle.std.specs.Char.{is_ascii_digit, is_ascii_alphanumeric}
+use Rattle.std.proofs.lemmas.List.Elements.{recursion_from_All}
 use Rattle.json.specs.Print.{escape, escape_byte}
 use Rattle.json.proofs.Printed.Strings.{escape_byte_plain}
-use Rattle.iso8583.specs.Class.{IsDigits, IsAlphanumeric, IsPrintable, is_printable}
+use Rattle.iso8583.specs.Class.{IsDigits, IsAlphanumeric}
 use Rattle.iso8583.specs.declared.original_kind.OriginalKind.{OriginalKind}
 use Rattle.iso8583.specs.declared.original_kind.OriginalKind.TheVariants as kind
 use Rattle.issuer_rows.specs.declared.budget_mode.BudgetMode.{BudgetMode}
@@ -19,15 +20,12 @@ use Rattle.book_laws.specs.declared.paid.Paid.TheVariants as paid
 use Rattle.book_text.specs.Members.{name_of}
 use Rattle.book_text.specs.declared.member.Member.{Member}
 use Rattle.book_text.specs.declared.member.Member.TheVariants as member
-
-both : (a b : Bool) → (a && b) ≡ true → (a ≡ true) × (b ≡ true)
-both true b h = (refl, h)
-both false b h = absurd (true≢false (sym h))
+use Rattle.book_text.specs.Escapes.{IsPlainByte}
 
 -- a text of which each byte needs none
 plain_by : (p : ℕ → Bool) → ((x : ℕ) → p x ≡ true → escape_byte x ≡ x ∷ []) → (text : List ℕ) → list_all p text ≡ true → escape text ≡ text
 plain_by p one [] h = refl
-plain_by p one (x ∷ xs) h = let q = both (p x) (list_all p xs) h in λ i. one x q.0 i ++ plain_by p one xs q.1 i
+plain_by p one (x ∷ xs) h = let q = and_parts (p x) (list_all p xs) h in λ i. one x q.0 i ++ plain_by p one xs q.1 i
 
 plain_digit : (x : ℕ) → is_ascii_digit x ≡ true → escape_byte x ≡ x ∷ []
 plain_digit x h = escape_byte_plain x (λ e. grind (arith, nat_tests, h, e)) (λ e. grind (arith, nat_tests, h, e)) (grind (arith, nat_tests, h))
@@ -41,17 +39,13 @@ digits_plain text h = plain_by is_ascii_digit plain_digit text h
 pub alphanumeric_plain : (text : List ℕ) → IsAlphanumeric text → escape text ≡ text
 alphanumeric_plain text h = plain_by (λ c. is_ascii_alphanumeric c || c == 32) plain_alphanumeric text h
 
-printable : (c : ℕ) → (nat_le 32 c && nat_le c 126) ≡ true → 32 ≤ c
-printable c h = grind (arith, nat_tests, h)
+plain_each : (text : List ℕ) → AllByRecursion IsPlainByte text → escape text ≡ text
+plain_each [] all = refl
+plain_each (x ∷ xs) all = λ i. escape_byte_plain x all.0.1 all.0.2 all.0.0 i ++ plain_each xs all.1 i
 
--- a printable text without quotes and backslashes
-pub printable_plain : (text : List ℕ) → IsPrintable text → list_any (λ c. c == 34) text ≡ false → list_any (λ c. c == 92) text ≡ false → escape text ≡ text
-printable_plain [] h quotes backslashes = refl
-printable_plain (c ∷ cs) h quotes backslashes =
-    let class = both (nat_le 32 c && nat_le c 126) (is_printable cs) h in
-    let q = or_parts (c == 34) (list_any (λ x. x == 34) cs) quotes in
-    let b = or_parts (c == 92) (list_any (λ x. x == 92) cs) backslashes in
-    λ i. escape_byte_plain c (eqb-false c 34 q.0) (eqb-false c 92 b.0) (printable c class.0) i ++ printable_plain cs class.1 q.1 b.1 i
+-- one of bytes that stand for themselves
+pub plain_text : (text : List ℕ) → All IsPlainByte text → escape text ≡ text
+plain_text text all = plain_each text (recursion_from_All IsPlainByte text all)
 
 -- ---- names and words
 

@@ -1,5 +1,6 @@
 pub mod Back
 pub mod Digest
+pub mod Escapes
 pub mod Top
 pub mod Left
 pub mod Pieces

@@ -1,14 +1,13 @@
 //! Members of an entry, as they are written. They are inlined, so that a name is stored and not copied.
 
-ghost use Rattle.std.specs.Prelude.{◌≡◌, ◌∷◌, [], decimal, OnOk, IsTrue};
-ghost use Rattle.iso8583.specs.Class.{IsPrintable};
+ghost use Rattle.std.specs.Prelude.{◌≡◌, ◌∷◌, [], decimal, OnOk};
 ghost use Rattle.iso8583.specs.Number.{fixed_digits};
-ghost use Rattle.json.specs.Print.{escape};
 ghost use Rattle.json.specs.Token.{key as key_token, string as string_token, number as number_token};
 ghost use Rattle.book_laws.specs.Text.{Adds, tokens_of, optional_data, account_id_data, approval_data, identity_data};
 ghost use Rattle.book_laws.specs.Words.{status_word, mode_word, kind_word, paid_word};
 ghost use Rattle.book_text.specs.Members.{name_of};
 
+use crate::escapes::is_plain;
 use crate::json_writer::JsonWriter;
 use crate::member::Member;
 use book_laws::Paid;
@@ -155,14 +154,6 @@ pub fn acquirer_field(
     ensures { OnOk result (Adds out.old out.new (key_token (name_of member) ∷ string_token acquirer.0 ∷ [])) }
 {
     out.text_member(member, acquirer.as_slice())
-}
-
-// Whether a printable text needs no escapes.
-fn is_plain(text: &[u8]) -> bool
-    requires { IsPrintable text.now }
-    ensures { IsTrue result → escape text.now ≡ text.now }
-{
-    !text.contains(&b'"') && !text.contains(&b'\\')
 }
 
 #[inline(always)]

@@ -1,9 +1,10 @@
 ghost use Rattle.std.specs.Prelude.{◌≡◌, ◌&&◌, ◌+◌, ◌*◌, ◌≤◌, ◌∷◌, ◌++◌, [], length, decimal, true, false, cond, codes, IfOk, OnOk};
-ghost use Rattle.json.specs.Print.{escape, quoted};
+ghost use Rattle.json.specs.Print.{escape, quoted, separator};
 ghost use Rattle.json.specs.Token.{begin_object as begin_object_token, end_object as end_object_token, begin_array as begin_array_token, end_array as end_array_token, null as null_token, key as key_token, string as string_token, number as number_token, boolean as boolean_token};
 ghost use Rattle.book_laws.specs.Text.{Adds};
 ghost use Rattle.book_text.specs.Members.{name_of};
 
+use crate::escapes::is_plain;
 use crate::member::Member;
 use crate::text_buffer::TextBuffer;
 use json::Writer;
@@ -87,8 +88,19 @@ impl JsonWriter {
         Ok(())
     }
 
+    // Stores a text in quotes, with the escapes that it needs, which begins a value or a member. It is told whether a value ends with it.
+    fn put_quoted(&mut self, text: &str, ends: bool) -> Result<(), AllocError>
+        ensures { OnOk result (self.new ≡ record { text = self.old.text ++ (separator self.old.after_value (string_token text.now) ++ quoted text.now); after_value = ends }) }
+    {
+        if is_plain(text.as_bytes()) {
+            return self.put(true, b"", b"\"", text.as_bytes(), ends);
+        }
+        self.put(true, b"", b"", b"", ends)?;
+        self.put_escaped(text)
+    }
+
     // Appends a text in quotes, with the escapes that it needs.
-    fn put_quoted(&mut self, text: &str) -> Result<(), AllocError>
+    fn put_escaped(&mut self, text: &str) -> Result<(), AllocError>
         ensures text { OnOk result (self.new.text ≡ self.old.text ++ quoted text.now) }
         ensures after { self.new.after_value ≡ self.old.after_value }
     {
@@ -132,8 +144,7 @@ impl JsonWriter {
     pub fn key(&mut self, name: &str) -> Result<(), AllocError>
         ensures { OnOk result (Adds self.old self.new (key_token name.now ∷ [])) }
     {
-        self.put(true, b"", b"", b"", false)?;
-        self.put_quoted(name)?;
+        self.put_quoted(name, false)?;
         self.put(false, b":", b"", b"", false)
     }
 
@@ -141,8 +152,7 @@ impl JsonWriter {
     pub fn string(&mut self, text: &str) -> Result<(), AllocError>
         ensures { OnOk result (Adds self.old self.new (string_token text.now ∷ [])) }
     {
-        self.put(true, b"", b"", b"", true)?;
-        self.put_quoted(text)
+        self.put_quoted(text, true)
     }
 
     /// Writes a number.

@@ -2,6 +2,7 @@
 #![tactic(auto)]
 
 mod digest;
+mod escapes;
 mod field_writers;
 mod json_writer;
 mod listed_row;

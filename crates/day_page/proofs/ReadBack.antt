@@ -1,7 +1,6 @@
 -- What escaped texts are read as.
-use Rattle.std.proofs.Common.{◌≡◌, ◌≢◌, ◌⊎◌, ℕ, ◌==◌, Bool, true, false, List, [], ◌∷◌, ◌++◌, codes, inl, inr, refl, arith, cond}
+use Rattle.std.proofs.Common.{◌≡◌, ◌≢◌, ℕ, ◌==◌, Bool, true, false, List, [], ◌∷◌, ◌++◌, codes, inl, inr, refl, arith, cond}
 use Rattle.std.proofs.lemmas.Bool.Decides.{nat_tests}
-use Rattle.std.specs.List.{AllByRecursion}
 use Rattle.day_page.specs.Escaped.{BeginsWith, IsPlain, IsReadAs, escaped, escaped_byte}
 
 plain_append : (a b : List ℕ) → IsPlain a → IsPlain b → IsPlain (a ++ b)

@@ -1,5 +1,5 @@
 -- How a day went: what is counted and summed over the bodies of a batch and the replies to them.
-use Rattle.std.specs.Prelude.{◌≡◌, ℕ, ◌-◌, ◌<◌, Bool, true, false, ◌==◌, if◌then◌else◌, List, length, map, take, drop, sum_by, Option, Some, None, codes, is_some, unwrap_or, option_map, String, string_bytes}
+use Rattle.std.specs.Prelude.{◌≡◌, ℕ, ◌-◌, Bool, true, false, ◌==◌, if◌then◌else◌, List, map, take, drop, sum_by, Option, Some, None, codes, is_some, unwrap_or, option_map, String, string_bytes}
 use Rattle.std.specs.BTreeMap.{get_by_text, BTreeMap}
 use Rattle.std.specs.Cmp.Lexicographic.{slice_cmp}
 use Rattle.std.specs.List.{list_any}
@@ -17,14 +17,12 @@ use Rattle.iso8583.specs.declared.reversal.Reversal.{Reversal}
 use Rattle.iso8583.specs.declared.reversal_scope.ReversalScope.{ReversalScope}
 use Rattle.iso8583.specs.declared.reversal_scope.ReversalScope.TheVariants.{Full, Partial}
 use Rattle.iso8583.specs.declared.transaction.Transaction.{Transaction}
-use Rattle.iso8583.specs.declared.verdict.Verdict.{Verdict}
 use Rattle.iso8583.specs.declared.verdict.Verdict.TheVariants as verdict
 use Rattle.iso_shown.specs.Masked.{masked}
 use Rattle.issuer_rows.specs.declared.frame.Frame.{Frame}
 use Rattle.issuer_rows.specs.declared.frame.Frame.TheVariants.{Good, Bad}
 use Rattle.issuer_rows.specs.declared.reply_body.ReplyBody.{ReplyBody}
 use Rattle.issuer_rows.specs.declared.reply_body.ReplyBody.TheVariants.{Reply, Fault}
-use Rattle.day_totals.specs.declared.counted.Counted.{Counted}
 use Rattle.day_totals.specs.declared.exchange.Exchange.{Exchange}
 use Rattle.day_totals.specs.declared.figure.Figure.{Figure}
 use Rattle.day_totals.specs.declared.figure.Figure.TheVariants as figure

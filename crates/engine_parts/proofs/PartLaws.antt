@@ -1,8 +1,8 @@
 -- One part that is decided alone: which rows it writes, and what they are.
-use Rattle.std.proofs.Common.{◌≡◌, ◌≢◌, ℕ, ◌==◌, true, false, if◌then◌else◌, List, [], ◌∷◌, None, ◌⊎◌, inl, inr, refl, sym, ap, ◌∙◌, subst, arith}
-use Rattle.std.proofs.lemmas.Bool.Decides.{nat_tests}
+use Rattle.std.proofs.Common.{◌≡◌, ◌≢◌, ℕ, ◌==◌, true, false, if◌then◌else◌, List, [], ◌∷◌, None, ◌⊎◌, inl, inr, refl, sym, ap, ◌∙◌, subst}
 use Rattle.std.specs.FinMap as map
 use Rattle.std.specs.List.{AllByRecursion}
+use Rattle.std.proofs.lemmas.Bool.{eqb-true, eqb-false}
 use Rattle.issuer_laws.proofs.Keys.{get-other, same_or_other}
 use Rattle.issuer_laws.proofs.Needed.{IsFollowing, follows_itself, follows_one, written_needed}
 use Rattle.issuer_laws.proofs.Parts.{decided_alone, each_of, unwritten}
@@ -10,12 +10,6 @@ use Rattle.issuer_laws.specs.Parts.{IsIn, may_need, Parted, bodies, of_part, IsO
 use Rattle.issuer_view.specs.Words.{Frame, RowKey, Rows, Writes, key_cmp, overlay, rows_after, rows_after_one, writes_of}
 use Rattle.engine_parts.proofs.JoinLaws.{joined_nothing, joined_overlay}
 use Rattle.engine_parts.specs.TwoBooks.{joined, rows_written, rows_of_part}
-
-is_part : (n p : ℕ) → (n == p) ≡ true → n ≡ p
-is_part n p e = grind (arith, nat_tests)
-
-not_part : (n p : ℕ) → (n == p) ≡ false → n ≢ p
-not_part n p e same = grind (arith, nat_tests)
 
 -- ---- of a part or not
 
@@ -25,7 +19,7 @@ part_each opening [] p k P own = tt
 part_each opening (m ∷ ms) p k P own =
     let rest = part_each opening ms p k P (λ h. own (h.0, inr h.1, h.2, h.3)) in
     elim (m.0 == p) as (λ b. (m.0 == p) ≡ b → AllByRecursion (λ f. IsIn k (may_need opening f) → P) (if b then m.1 ∷ of_part p ms else of_part p ms)) [
-      | true ↦ λ e. (λ needed. own (m, inl refl, is_part m.0 p e, needed), rest)
+      | true ↦ λ e. (λ needed. own (m, inl refl, eqb-true m.0 p e, needed), rest)
       | false ↦ λ _. rest
     ] refl
 
@@ -60,10 +54,10 @@ of_or_not opening (m ∷ ms) p k =
       | inl there ↦ inl (there.0, inr there.1, there.2, there.3)
       | inr none ↦ elim (m.0 == p) as (λ b. (m.0 == p) ≡ b → IsOfPart opening (m ∷ ms) p k ⊎ (IsOfPart opening (m ∷ ms) p k → ⊥)) [
         | true ↦ λ e. elim (in_or_not k (may_need opening m.1)) [
-          | inl needed ↦ inl (m, inl refl, is_part m.0 p e, needed)
+          | inl needed ↦ inl (m, inl refl, eqb-true m.0 p e, needed)
           | inr not_needed ↦ inr (not_first opening m ms p k (λ _. not_needed) none)
         ]
-        | false ↦ λ e. inr (not_first opening m ms p k (λ same _. not_part m.0 p e same) none)
+        | false ↦ λ e. inr (not_first opening m ms p k (λ same _. eqb-false m.0 p e same) none)
       ] refl
     ]
 

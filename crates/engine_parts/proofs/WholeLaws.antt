@@ -85,7 +85,7 @@ all_merged opening ms apart (own ∷ owns) from each book k so =
     all_merged opening ms apart owns (suc from) (λ i p o e at. each (suc i) p o (omega (arith, e)) at) (joined book own) k
     (one_merged opening ms apart from (length owns) own (each 0 from own (omega arith) refl) book k so)
 
-below_in : (count : ℕ) (ms : Parted) → AllByRecursion (λ (m : ℕ × Frame). m.0 < count) ms → (m : ℕ × Frame) → IsIn m ms → m.0 < count
+pub below_in : (count : ℕ) (ms : Parted) → AllByRecursion (λ (m : ℕ × Frame). m.0 < count) ms → (m : ℕ × Frame) → IsIn m ms → m.0 < count
 below_in count [] all m h = absurd h
 below_in count (n ∷ ms) all m (inl e) = subst (λ (o : ℕ × Frame). o.0 < count) (sym e) all.0
 below_in count (n ∷ ms) all m (inr h) = below_in count ms all.1 m h

@@ -12,13 +12,13 @@ use Rattle.file_batch.specs.InOrder.{texts_of, HasReplies}
 use Rattle.file_batch.specs.Pieces.{HasCounted, frames_in, replies_in}
 use Rattle.file_batch.specs.declared.decider.Decider.{Decider}
 use Rattle.file_batch.specs.declared.piece.Piece.{Piece}
-use Rattle.file_batch.proofs.Pieces.{each_more}
 use Rattle.rtrb.specs.Ring.{SameProducer, SameConsumer, received}
 use Rattle.rtrb.specs.declared.producer.Producer.{Producer}
 use Rattle.rtrb.specs.declared.consumer.Consumer.{Consumer}
 use Rattle.issuer_fold.proofs.FoldLaws.{rows_after-append, replies_to-append}
 use Rattle.issuer_rows.specs.Fold.{Rows, rows_after, replies_to}
 use Rattle.issuer_rows.specs.declared.reply_body.ReplyBody.{ReplyBody}
+use Rattle.file_batch_laws.proofs.Lists.{each_more}
 
 one_more : {A : Type 0} (part : Piece → List A) (pieces : List Piece) (piece : Piece) → flat_map part (pieces ++ piece ∷ []) ≡ flat_map part pieces ++ part piece
 one_more {A = A} part pieces piece = flat_map-append part pieces (piece ∷ []) ∙ ap (λ (x : List A). flat_map part pieces ++ x) (append-nil (part piece))

@@ -3,8 +3,6 @@ pub mod ReadBodies
 pub mod Pieces
 pub mod Lengths
 pub mod Folds
-pub mod FaultTexts
 pub mod ReadReplies
-pub mod Puts
 pub mod Handed
 pub mod Counting

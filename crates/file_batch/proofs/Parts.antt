@@ -1,23 +1,15 @@
 -- A part of a piece is its front and the rest.
-use Rattle.std.proofs.Common.{◌≡◌, ℕ, ◌+◌, ◌-◌, ◌≤◌, ◌<◌, List, ◌++◌, length, take, drop, Ok, refl, sym, ap, ◌∙◌, append_assoc, arith}
-use Rattle.std.proofs.lemmas.List.{length-take, length-drop, take-append-drop, take-take, drop-take, drop-drop, length-append, take_at, drop_at}
+use Rattle.std.proofs.Common.{◌≡◌, ℕ, ◌+◌, ◌-◌, ◌≤◌, ◌<◌, List, ◌++◌, length, take, drop, Ok, refl, sym, ap, ◌∙◌, append_assoc, arith, take-add}
+use Rattle.std.proofs.lemmas.List.{length-take, length-drop, drop-drop, length-append, take_at, drop_at}
 use Rattle.std.proofs.lemmas.Bool.{le-ltb}
 use Rattle.file_batch_laws.specs.Reading.{field_at}
 use Rattle.file_batch.specs.Window.{part}
-
--- a front of a sum of lengths
-pub take_sum : (c m : ℕ) (ys : List ℕ) → take (c + m) ys ≡ take c ys ++ take m (drop c ys)
-take_sum c m ys =
-    let e : take c (take (c + m) ys) ≡ take c ys = take-take c (c + m) ys (omega arith) in
-    let d : drop c (take (c + m) ys) ≡ take m (drop c ys) = drop-take c m ys in
-    let both : take c (take (c + m) ys) ++ drop c (take (c + m) ys) ≡ take c ys ++ take m (drop c ys) = cc in
-    sym (take-append-drop c (take (c + m) ys)) ∙ both
 
 pub part_split : (xs : List ℕ) (s c e : ℕ) → s + c ≤ e → part xs s e ≡ part xs s (s + c) ++ part xs (s + c) e
 part_split xs s c e le =
     let n : e - s ≡ c + (e - (s + c)) = omega arith in
     let front : (s + c) - s ≡ c = omega arith in
-    let both = take_sum c (e - (s + c)) (drop s xs) in
+    let both = take-add c (e - (s + c)) (drop s xs) in
     let rest : drop c (drop s xs) ≡ drop (s + c) xs = drop-drop c s xs in
     rw (n, front, ← rest) both
 

@@ -5,6 +5,7 @@ use Rattle.std.proofs.lemmas.List.{append-nil, take-append-drop, take_more, take
 use Rattle.std.proofs.lemmas.List.Concat.{flat_map-append}
 use Rattle.file_batch_laws.specs.Files.{framed}
 use Rattle.file_batch.specs.Writing.{AppendsPart, Moves}
+use Rattle.file_batch_laws.proofs.Lists.{each_more}
 
 -- what was written since the beginning, and what is about to be written, are the text so far
 abbrev pub Progress : List ℕ → List ℕ → List ℕ → List ℕ → Type 0
@@ -63,11 +64,6 @@ one_more_at {A = A} text head items i item lt is =
 
 pub all_of_them : {A : Type 0} (text : A → List ℕ) (head : List ℕ) (items : List A) (i : ℕ) → length items ≤ i → so_many text head items i ≡ head ++ flat_map text items
 all_of_them {A = A} text head items i le = ap (λ (xs : List A). head ++ flat_map text xs) (take_all i items le)
-
--- what holds of some and of others holds of all of them
-pub each_more : {A : Type 0} (P : A → Type 0) (some more : List A) → AllByRecursion P some → AllByRecursion P more → AllByRecursion P (some ++ more)
-each_more P [] more h k = k
-each_more P (item ∷ some) more h k = (h.0, each_more P some more h.1 k)
 
 -- what holds of the first of these, and of the next one
 pub one_more_holds : {A : Type 0} (P : A → Type 0) (items : List A) (i : ℕ) (item : A) → i < length items → item ≡ get_or items i item → P item

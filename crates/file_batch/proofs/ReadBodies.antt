@@ -1,9 +1,8 @@
 -- Bodies that are read one after the other, or several at once, and the items that stand for them.
-use Rattle.std.proofs.Common.{◌≡◌, ℕ, zero, suc, ◌+◌, ◌<◌, List, [], ◌∷◌, ◌++◌, length, Result, Ok, Err, refl, sym, ap, ◌∙◌, arith}
+use Rattle.std.proofs.Common.{◌≡◌, ℕ, zero, suc, ◌+◌, List, [], ◌∷◌, ◌++◌, Result, Ok, Err, refl, sym, ap, ◌∙◌, arith}
 use Rattle.std.specs.List.{AllZip}
 use Rattle.file_batch_laws.specs.Reading.{◌>>=◌, head_at, body_at, bodies_at, bodies_of, ended}
 use Rattle.file_batch_laws.specs.declared.batch_fault.BatchFault.{BatchFault}
-use Rattle.file_batch_laws.specs.declared.batch_fault.BatchFault.TheVariants.{Trailing}
 
 abbrev pub Bodies : Type 0
 Bodies = List (List ℕ)
@@ -94,11 +93,6 @@ pub fails : {A : Type 0} (is : List ℕ → A → Type 0) (k m n : ℕ) (bytes m
     → ItemsAt is k bytes items mid → bodies_at m mid ≡ Err e → bodies_at n bytes ≡ Err e
 fails is k m n bytes mid items e sum so_far next =
     rw sum (in_two k m bytes ∙ ap (λ (read : Read). read >>= behind_them m) so_far.1 ∙ ap (with_front so_far.0) next)
-
--- a byte too many
-pub ended_more : (bytes : List ℕ) → 0 < length bytes → ended bytes ≡ Err Trailing
-ended_more [] more = absurd (omega (arith, more))
-ended_more (b ∷ bytes) more = refl
 
 -- a head, so many bodies, and nothing behind them
 pub is_whole : (magic bytes : List ℕ) (count : ℕ) (behind : List ℕ) (bodies : Bodies) (left : List ℕ) → head_at magic bytes ≡ Ok (count, behind) → bodies_at count behind ≡ Ok (bodies, left) → ended left ≡ Ok tt

@@ -1,14 +1,17 @@
 -- What is framed is read again.
-use Rattle.std.proofs.Common.{◌≡◌, ℕ, suc, ◌<◌, ◌≤◌, true, false, ltb, eqb, List, [], ◌∷◌, ◌++◌, length, Ok, refl, sym, ap, ◌∙◌, append_assoc, arith}
+use Rattle.std.proofs.Common.{◌≡◌, ℕ, suc, ◌<◌, ◌≤◌, true, false, ltb, eqb, List, [], ◌∷◌, ◌++◌, length, Ok, refl, sym, ap, ◌∙◌, append_assoc, arith, Result}
 use Rattle.std.specs.List.{flat_map, AllByRecursion}
 use Rattle.std.proofs.lemmas.Bool.{le-ltb, ne_eqb}
 use Rattle.std.specs.Str.{bytes_eq}
 use Rattle.std.proofs.lemmas.List.{take_at, drop_at, length-append, append-nil}
+use Rattle.std.proofs.lemmas.List.Concat.{flat_map-append}
 use Rattle.byteorder.specs.Endian.{big_number, big_bytes}
 use Rattle.file_batch_laws.specs.Files.{framed, head_text, IsBody, AreBodies, IsBatch}
 use Rattle.file_batch_laws.specs.Reading.{field_at, number_at, magic_at, version_at, count_at, head_at, length_at, body_at, bodies_at, bodies_of, batch_magic}
+use Rattle.file_batch_laws.specs.declared.batch_fault.BatchFault.{BatchFault}
+use Rattle.file_batch_laws.proofs.Steps.{ok_is}
 
-field_again : (text rest : List ℕ) (size : ℕ) → length text ≡ size → field_at size (text ++ rest) ≡ Ok (text, rest)
+pub field_again : (text rest : List ℕ) (size : ℕ) → length text ≡ size → field_at size (text ++ rest) ≡ Ok (text, rest)
 field_again text rest size len =
     let long : ltb (length (text ++ rest)) size ≡ false = le-ltb _ _ (omega (arith, length-append text rest, len)) in
     rw (long, take_at text rest size len, drop_at text rest size len) refl
@@ -75,3 +78,21 @@ file_again magic bodies len same are =
 
 pub batch_again : (bytes : List ℕ) (bodies : List (List ℕ)) → IsBatch bytes bodies → bodies_of batch_magic bytes ≡ Ok bodies
 batch_again bytes bodies is = ap (bodies_of batch_magic) is.1 ∙ file_again batch_magic bodies refl refl is.0
+
+-- ---- bodies one behind another
+
+pub framed_more : (bodies : List (List ℕ)) (body : List ℕ) → flat_map framed (bodies ++ body ∷ []) ≡ flat_map framed bodies ++ framed body
+framed_more bodies body = flat_map-append framed bodies (body ∷ []) ∙ ap (λ (x : List ℕ). flat_map framed bodies ++ x) (append-nil (framed body))
+
+head_is : (x y : List ℕ) → x ∷ [] ≡ y ∷ [] → x ≡ y
+head_is x y e = cc
+
+-- what one framed body begins is told apart
+pub framed_apart : (body other rest more : List ℕ) → IsBody body → IsBody other → framed body ++ rest ≡ framed other ++ more → (body ≡ other) × (rest ≡ more)
+framed_apart body other rest more is is' e =
+    let one : flat_map framed (body ∷ []) ++ rest ≡ flat_map framed (other ∷ []) ++ more =
+    ap (λ (x : List ℕ). x ++ rest) (append-nil (framed body)) ∙ e ∙ ap (λ (x : List ℕ). x ++ more) (sym (append-nil (framed other))) in
+    let read : Path (Result (List (List ℕ) × List ℕ) BatchFault) (Ok (body ∷ [], rest)) (Ok (other ∷ [], more)) =
+    sym (bodies_again (body ∷ []) rest (is, tt)) ∙ ap (bodies_at 1) one ∙ bodies_again (other ∷ []) more (is', tt) in
+    let both = ok_is (body ∷ [], rest) (other ∷ [], more) read in
+    (head_is body other (ap (λ (p : List (List ℕ) × List ℕ). p.0) both), ap (λ (p : List (List ℕ) × List ℕ). p.1) both)

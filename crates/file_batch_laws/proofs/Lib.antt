@@ -4,3 +4,7 @@ pub mod Once
 pub mod ReadBack
 pub mod ReadBackBlocks
 pub mod FrameLaws
+pub mod Steps
+pub mod InTurn
+pub mod Lists
+pub mod FaultTexts

@@ -1,5 +1,5 @@
 -- What is read is the text of what was read.
-use Rattle.std.proofs.Common.{◌≡◌, ℕ, zero, suc, ◌<◌, ◌≤◌, Bool, true, false, cond, ltb, eqb, List, [], ◌∷◌, ◌++◌, length, take, drop, Result, Ok, Err, refl, sym, ap, subst, ◌∙◌, append_assoc, arith}
+use Rattle.std.proofs.Common.{◌≡◌, ℕ, zero, suc, ◌<◌, ◌≤◌, false, cond, ltb, eqb, List, [], ◌∷◌, ◌++◌, length, take, drop, Result, Ok, Err, refl, sym, ap, subst, ◌∙◌, append_assoc, arith}
 use Rattle.std.specs.Prelude.{◌||◌}
 use Rattle.std.specs.List.{flat_map, All, AllByRecursion}
 use Rattle.std.specs.Str.{bytes_eq}
@@ -13,6 +13,7 @@ use Rattle.file_batch_laws.specs.Files.{framed, head_text, IsBody, AreBodies, Is
 use Rattle.file_batch_laws.specs.Reading.{◌>>=◌, field_at, number_at, magic_at, version_at, count_at, head_at, length_at, body_at, bodies_at, bodies_of, ended, batch_magic}
 use Rattle.file_batch_laws.specs.declared.batch_fault.BatchFault.{BatchFault}
 use Rattle.file_batch_laws.specs.declared.batch_fault.BatchFault.TheVariants.{Ended, Magic, Version, Count, Length}
+use Rattle.file_batch_laws.proofs.Steps.{bind_ok, ok_is, passed, clean, nothing_left}
 
 abbrev pub AreBytes : List ℕ → Type 0
 AreBytes bytes = AllByRecursion (λ byte. byte < 256) bytes
@@ -23,29 +24,11 @@ pub record Taken (bytes front rest : List ℕ) : Type 0 where
   pub read : AreBytes front
   pub left : AreBytes rest
 
--- the value of a step that did not fail
-bind_ok : {A B : Type 0} (r : Result A BatchFault) (f : A → Result B BatchFault) (y : B) → (r >>= f) ≡ Ok y → (x : A) × (r ≡ Ok x) × (f x ≡ Ok y)
-bind_ok (Ok x) f y e = (x, refl, e)
-bind_ok (Err d) f y e = absurd cc
-
-ok_is : {A : Type 0} (x y : A) → Path (Result A BatchFault) (Ok x) (Ok y) → x ≡ y
-ok_is x y e = cc
-
--- a test that a value passed
-passed : {A : Type 0} (b : Bool) (d : BatchFault) (x y : A) → cond b (Ok x) (Err d) ≡ Ok y → (b ≡ true) × (x ≡ y)
-passed true d x y h = (refl, cc)
-passed false d x y h = absurd cc
-
--- a test for a fault that was not found
-clean : {A : Type 0} (b : Bool) (d : BatchFault) (x y : A) → cond b (Err d) (Ok x) ≡ Ok y → (b ≡ false) × (x ≡ y)
-clean true d x y h = absurd cc
-clean false d x y h = (refl, cc)
-
-front_of : (xs ys : List ℕ) → AreBytes (xs ++ ys) → AreBytes xs
+pub front_of : (xs ys : List ℕ) → AreBytes (xs ++ ys) → AreBytes xs
 front_of [] ys all = tt
 front_of (x ∷ xs) ys all = (all.0, front_of xs ys all.1)
 
-rest_of : (xs ys : List ℕ) → AreBytes (xs ++ ys) → AreBytes ys
+pub rest_of : (xs ys : List ℕ) → AreBytes (xs ++ ys) → AreBytes ys
 rest_of [] ys all = all
 rest_of (x ∷ xs) ys all = rest_of xs ys all.1
 
@@ -183,10 +166,6 @@ bodies_taken (suc n) bytes bodies rest all read =
       (first.1, others.1),
       ap suc others.2,
     )
-
-nothing_left : (left : List ℕ) → ended left ≡ Ok tt → left ≡ []
-nothing_left [] e = refl
-nothing_left (b ∷ bytes) e = absurd cc
 
 unit_is : (u : Unit {0}) → u ≡ tt
 unit_is u = refl

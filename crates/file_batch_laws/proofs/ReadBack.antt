@@ -1,5 +1,5 @@
 -- Replies that were written are read back.
-use Rattle.std.proofs.Common.{◌≡◌, ℕ, zero, suc, ◌+◌, ◌/◌, ◌%◌, ◌^◌, ◌<◌, ◌≤◌, true, false, cond, List, [], ◌∷◌, ◌++◌, length, get_or, take, drop, map, Option, Some, None, Result, Ok, refl, sym, ap, subst, ◌∙◌, arith}
+use Rattle.std.proofs.Common.{◌≡◌, ℕ, zero, suc, ◌+◌, ◌/◌, ◌%◌, ◌^◌, ◌<◌, ◌≤◌, true, false, cond, List, [], ◌∷◌, ◌++◌, length, get_or, take, drop, map, Option, Some, None, Ok, refl, sym, ap, subst, ◌∙◌, arith}
 use Rattle.std.specs.Prelude.{◌==◌, IfSome}
 use Rattle.std.specs.List.{flat_map, AllByRecursion}
 use Rattle.std.specs.Int.{w64, to_be_bytes}
@@ -26,8 +26,8 @@ use Rattle.issuer_rows.specs.declared.reply_body.ReplyBody.TheVariants.{Reply, F
 use Rattle.file_batch_laws.specs.Files.{framed, head_text, IsBody, AreBodies, reply_text, replies_text}
 use Rattle.file_batch_laws.specs.Reading.{bodies_of, replies_magic}
 use Rattle.file_batch_laws.specs.Replies.{IsReplyText, AreRepliesOf, IsReplyFileOf, IsReplyBody, AreReplyBodies}
-use Rattle.file_batch_laws.specs.declared.batch_fault.BatchFault.{BatchFault}
 use Rattle.file_batch_laws.proofs.Again.{file_again}
+use Rattle.file_batch_laws.proofs.Steps.{ok_is}
 
 -- ---- a reply is no longer than a body
 
@@ -173,9 +173,6 @@ file_of_texts replies are =
 
 pub replies_again : (replies : List ReplyBody) → AreReplyBodies replies → IsReplyFileOf (replies_text replies) replies
 replies_again replies are = (texts_of replies, file_of_texts replies are, are_texts replies are.1)
-
-pub ok_is : {A : Type 0} (x y : A) → Path (Result A BatchFault) (Ok x) (Ok y) → x ≡ y
-ok_is x y e = cc
 
 pub replies_alone : (replies others : List ReplyBody) → AreReplyBodies replies → IsReplyFileOf (replies_text replies) others → others ≡ replies
 replies_alone replies others are file =

@@ -11,9 +11,10 @@ use Rattle.file_batch_laws.specs.Files.{framed, head_text, reply_text}
 use Rattle.file_batch_laws.specs.Reading.{bodies_at}
 use Rattle.file_batch_laws.specs.Replies.{AreReplyBodies, AreRepliesOf}
 use Rattle.file_batch_laws.proofs.Again.{number_4, magic_again, version_again, count_again, bodies_again}
-use Rattle.file_batch_laws.proofs.ReadBack.{texts_of, all_bodies, are_texts, framed_texts, same_replies, ok_is}
+use Rattle.file_batch_laws.proofs.ReadBack.{texts_of, all_bodies, are_texts, framed_texts, same_replies}
+use Rattle.file_batch_laws.proofs.Steps.{ok_is}
 
-block_count_again : (n : ℕ) (rest : List ℕ) → n ≤ 1000 → block_count_at (big_bytes 4 n ++ rest) ≡ Ok (n, rest)
+pub block_count_again : (n : ℕ) (rest : List ℕ) → n ≤ 1000 → block_count_at (big_bytes 4 n ++ rest) ≡ Ok (n, rest)
 unfolding block_count_at
 block_count_again n rest le =
     let few : ltb 1000 n ≡ false = le-ltb 1000 n le in

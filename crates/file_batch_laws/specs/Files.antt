@@ -40,3 +40,7 @@ reply_text (Fault fault) = fault_body fault
 -- a reply file of these replies
 abbrev pub replies_text : List ReplyBody → List ℕ
 replies_text replies = head_text replies_magic (length replies) ++ flat_map (λ reply. framed (reply_text reply)) replies
+
+-- the bodies of lists of bodies, in order
+abbrev pub all_bodies : List (List (List ℕ)) → List (List ℕ)
+all_bodies lists = flat_map (λ bodies. bodies) lists

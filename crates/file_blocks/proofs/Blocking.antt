@@ -1,47 +1,24 @@
 -- Blocks one after another.
-use Rattle.std.proofs.Common.{◌≡◌, ◌⊎◌, ℕ, suc, ◌+◌, ◌<◌, ◌≤◌, List, [], ◌∷◌, ◌++◌, length, Ok, Err, refl, sym, ap, subst, ◌∙◌, append_assoc, arith, inl, inr}
-use Rattle.std.specs.List.{AllByRecursion}
+use Rattle.std.proofs.Common.{◌≡◌, ◌⊎◌, ℕ, ◌+◌, ◌<◌, ◌≤◌, List, [], ◌∷◌, ◌++◌, length, Ok, Err, refl, sym, ap, subst, ◌∙◌, append_assoc, arith, inl, inr}
 use Rattle.std.specs.Prelude.{IsTrue}
 use Rattle.std.proofs.lemmas.List.{append-nil, length-append}
-use Rattle.std.proofs.lemmas.List.Concat.{flat_map-append}
 use Rattle.issuer_rows.specs.Fold.{Rows, rows_after, replies_to}
 use Rattle.issuer_rows.specs.declared.frame.Frame.{Frame}
 use Rattle.file_batch_laws.specs.BatchFault.{is_of_bytes}
-use Rattle.file_batch_laws.specs.Blocks.{IsBlock, AreBlocks, block_at, block_head_at, blocks_magic, block_replies_magic, block_text, blocks_text, rows_after_blocks, replies_to_blocks, all_messages}
+use Rattle.file_batch_laws.specs.Blocks.{IsBlock, AreBlocks, block_at, block_head_at, blocks_magic, block_replies_magic, block_text, blocks_text, replies_to_blocks}
 use Rattle.file_batch_laws.specs.Files.{head_text}
 use Rattle.file_batch_laws.specs.Reading.{ended}
 use Rattle.file_batch_laws.specs.Replies.{AreReplyBodies}
 use Rattle.file_batch_laws.specs.declared.batch_fault.BatchFault.{BatchFault}
 use Rattle.file_blocks.specs.Blocks.{AreDecided, AreAllDecided, BeginsBlock, StopsBehind, StopsBefore, StopsInHead, StopsInBlocks, IsAnswered}
-use Rattle.file_batch.proofs.Counting.{count_of-append}
 use Rattle.file_batch.specs.Counting.{count_of, plus}
 use Rattle.file_batch.specs.Writing.{AppendsPart}
 use Rattle.file_batch.specs.declared.body_count.BodyCount.{BodyCount}
-use Rattle.file_blocks.proofs.ReadBlocks.{nothing_left, one_more}
 use Rattle.file_blocks.specs.declared.kept_blocks.KeptBlocks.{KeptBlocks}
-
-one_more_rows : (rows : Rows) (blocks : List (List Frame)) (block : List Frame) → rows_after_blocks rows (blocks ++ block ∷ []) ≡ rows_after (rows_after_blocks rows blocks) block
-one_more_rows rows [] block = refl
-one_more_rows rows (b ∷ blocks) block = one_more_rows (rows_after rows b) blocks block
-
-one_more_text : (rows : Rows) (blocks : List (List Frame)) (block : List Frame)
-    → blocks_text (replies_to_blocks rows (blocks ++ block ∷ [])) ≡ blocks_text (replies_to_blocks rows blocks) ++ block_text (replies_to (rows_after_blocks rows blocks) block)
-one_more_text rows [] block = append-nil (block_text (replies_to rows block))
-one_more_text rows (b ∷ blocks) block =
-    ap (λ (x : List ℕ). block_text (replies_to rows b) ++ x) (one_more_text (rows_after rows b) blocks block)
-    ∙ sym (append_assoc (block_text (replies_to rows b)) (blocks_text (replies_to_blocks (rows_after rows b) blocks)) (block_text (replies_to (rows_after_blocks (rows_after rows b) blocks) block)))
-
--- what is known of the replies of blocks, and of those of one more
-one_more_holds : (rows : Rows) (blocks : List (List Frame)) (block : List Frame) → AllByRecursion AreReplyBodies (replies_to_blocks rows blocks)
-    → AreReplyBodies (replies_to (rows_after_blocks rows blocks) block) → AllByRecursion AreReplyBodies (replies_to_blocks rows (blocks ++ block ∷ []))
-one_more_holds rows [] block h k = (k, tt)
-one_more_holds rows (b ∷ blocks) block h k = (h.0, one_more_holds (rows_after rows b) blocks block h.1 k)
-
-one_more_list : (blocks : List (List Frame)) (block : List Frame) → all_messages (blocks ++ block ∷ []) ≡ all_messages blocks ++ block
-one_more_list blocks block = flat_map-append (λ (b : List Frame). b) blocks (block ∷ []) ∙ ap (λ (x : List Frame). all_messages blocks ++ x) (append-nil block)
-
-one_more_count : (blocks : List (List Frame)) (block : List Frame) → count_of (all_messages (blocks ++ block ∷ [])) ≡ plus (count_of (all_messages blocks)) (count_of block)
-one_more_count blocks block = ap count_of (one_more_list blocks block) ∙ count_of-append (all_messages blocks) block
+use Rattle.file_batch_laws.proofs.Steps.{nothing_left}
+use Rattle.file_batch_laws.proofs.FoldedBlocks.{one_more_rows, one_more_text, one_more_holds, blocks_replied}
+use Rattle.file_batch.proofs.Counting.{one_more_count}
+use Rattle.file_batch_laws.proofs.InTurn.{one_more}
 
 pub starts : (opening : Rows) (reads : Type 0) (bytes : List ℕ) (puts : Type 0) (old : List ℕ) → AreDecided opening opening 0 (count_of []) reads bytes bytes puts old old
 starts opening reads bytes puts old =
@@ -101,17 +78,13 @@ halts_behind total opening rows count messages reads reads' bytes left puts old 
   begun = inl (λ known. refl);
 }
 
-as_many : (rows : Rows) (blocks : List (List Frame)) → length (replies_to_blocks rows blocks) ≡ length blocks
-as_many rows [] = refl
-as_many rows (block ∷ blocks) = ap suc (as_many (rows_after rows block) blocks)
-
 pub finishes : (opening rows : Rows) (count : ℕ) (messages : BodyCount) (total : ℕ) (reads : Type 0) (bytes behind left : List ℕ) (puts : Type 0) (old mid new : List ℕ)
     → AreDecided opening rows count messages reads behind left puts mid new → count ≡ total → total ≤ 1000 → (reads → block_head_at blocks_magic bytes ≡ Ok (total, behind)) → (reads → ended left ≡ Ok tt)
     → (puts → mid ≡ old ++ head_text block_replies_magic total) → AreAllDecided opening rows count messages reads bytes puts old new
 finishes opening rows count messages total reads bytes behind left puts old mid new so_far same few head end heading =
     let blocks = so_far.blocks in
     let number : total ≡ length blocks = sym same ∙ sym so_far.number in
-    let replies : length (replies_to_blocks opening blocks) ≡ total = as_many opening blocks ∙ sym number in
+    let replies : length (replies_to_blocks opening blocks) ≡ total = blocks_replied opening blocks ∙ sym number in
     record {
       blocks = blocks;
       number = sym so_far.number;

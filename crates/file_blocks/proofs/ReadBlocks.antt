@@ -1,18 +1,11 @@
 -- Reading blocks one after the other, as a loop does.
-use Rattle.std.proofs.Common.{◌≡◌, ℕ, List, [], ◌∷◌, ◌++◌, length, map, Ok, refl, sym, subst, ◌∙◌}
+use Rattle.std.proofs.Common.{◌≡◌, ℕ, List, [], ◌∷◌, ◌++◌, length, map, Ok, sym, subst, ◌∙◌}
 use Rattle.std.specs.Global.{Vec}
 use Rattle.std.proofs.lemmas.List.{length-map, map-append}
 use Rattle.file_batch_laws.specs.Blocks.{InTurn, IsFileInTurn, block_head_at}
 use Rattle.file_batch_laws.specs.Reading.{ended}
-
-pub nothing_left : (left : List ℕ) → ended left ≡ Ok tt → left ≡ []
-nothing_left [] e = refl
-nothing_left (b ∷ bytes) e = absurd cc
-
-pub one_more : {A : Type 0} (is : List ℕ → A → List ℕ → Type 0) (bytes : List ℕ) (blocks : List A) (left : List ℕ) (block : A) (after : List ℕ)
-    → InTurn is bytes blocks left → is left block after → InTurn is bytes (blocks ++ block ∷ []) after
-one_more is bytes [] left block after are next = (after, subst (λ (b : List ℕ). is b block after) (sym are) next, refl)
-one_more is bytes (b ∷ blocks) left block after are next = (are.0, are.1, one_more is are.0 blocks left block after are.2 next)
+use Rattle.file_batch_laws.proofs.InTurn.{one_more}
+use Rattle.file_batch_laws.proofs.Steps.{nothing_left}
 
 -- the items of each block
 abbrev pub items_of : {A : Type 0} → List (Vec A) → List (List A)

@@ -13,13 +13,14 @@ use Rattle.file_batch_laws.specs.Reading.{◌>>=◌, batch_magic, bodies_at, bod
 use Rattle.file_batch_laws.specs.declared.batch_fault.BatchFault.{BatchFault}
 use Rattle.file_batch_laws.specs.declared.batch_fault.BatchFault.TheVariants.{Blocks, Magic}
 use Rattle.file_batch_laws.proofs.Again.{bodies_again, magic_again, version_again}
-use Rattle.file_batch_laws.proofs.Once.{batch_taken}
+use Rattle.file_batch_laws.proofs.Once.{batch_taken, AreBytes, front_of, rest_of}
 use Rattle.file_listing.specs.Bodies as listing
 use Rattle.file_bodies.specs.BlockLines.{ArePackedFrom, AreTextsOf, HasBlock}
 use Rattle.file_bodies.specs.BlockText.{block_text}
 use Rattle.file_bodies.specs.BodyLines.{body_lines}
-use Rattle.file_bodies.proofs.Fronts.{bind_ok, block_front, clean, counted_at, counted_front, field_taken, passed}
-use Rattle.file_bodies.proofs.PackedAgain.{AreBytes, bodies_are_bytes, front_of, read_lines, rest_of}
+use Rattle.file_bodies.proofs.Fronts.{block_front, counted_at, counted_front, field_taken}
+use Rattle.file_bodies.proofs.PackedAgain.{bodies_are_bytes, read_lines}
+use Rattle.file_batch_laws.proofs.Steps.{bind_ok, clean, passed}
 
 abbrev Block : Type 0
 Block = List (List ℕ)

@@ -1,13 +1,15 @@
 -- What reads from the left takes a front of the bytes, and reads the same whatever stands behind it.
-use Rattle.std.proofs.Common.{◌≡◌, ℕ, zero, suc, Bool, true, false, cond, ltb, eqb, List, [], ◌∷◌, ◌++◌, length, take, drop, Result, Ok, Err, refl, sym, ap, ◌∙◌, append_assoc, arith}
+use Rattle.std.proofs.Common.{◌≡◌, ℕ, zero, suc, Bool, true, false, cond, ltb, eqb, List, [], ◌∷◌, ◌++◌, length, take, drop, Result, Ok, Err, refl, sym, ap, ◌∙◌, append_assoc}
 use Rattle.std.specs.Prelude.{◌||◌}
-use Rattle.std.proofs.lemmas.Bool.{le-ltb, ltb-false}
-use Rattle.std.proofs.lemmas.List.{take-append-drop, length-take-le, take_at, drop_at, length-append}
+use Rattle.std.proofs.lemmas.Bool.{ltb-false}
+use Rattle.std.proofs.lemmas.List.{take-append-drop, length-take-le}
 use Rattle.byteorder.specs.Endian.{big_number}
 use Rattle.file_batch_laws.specs.Blocks.{block_at}
 use Rattle.file_batch_laws.specs.Reading.{◌>>=◌, field_at, number_at, version_at, count_at, length_at, body_at, bodies_at}
 use Rattle.file_batch_laws.specs.declared.batch_fault.BatchFault.{BatchFault}
 use Rattle.file_batch_laws.specs.declared.batch_fault.BatchFault.TheVariants.{Ended, Version, Count, Length}
+use Rattle.file_batch_laws.proofs.Steps.{bind_ok, ok_is, clean}
+use Rattle.file_batch_laws.proofs.Again.{field_again}
 
 abbrev Read : Type 0 → Type 0
 Read A = Result (A × List ℕ) BatchFault
@@ -20,24 +22,6 @@ pub record Takes {A : Type 0} (read : List ℕ → Read A) (bytes : List ℕ) (x
 
 abbrev pub TakesFront : {A : Type 0} → (List ℕ → Read A) → Type 0
 TakesFront {A} read = (bytes : List ℕ) (x : A) (rest : List ℕ) → read bytes ≡ Ok (x, rest) → Takes read bytes x rest
-
--- the value of a step that did not fail
-pub bind_ok : {A B : Type 0} (r : Result A BatchFault) (f : A → Result B BatchFault) (y : B) → (r >>= f) ≡ Ok y → (x : A) × (r ≡ Ok x) × (f x ≡ Ok y)
-bind_ok (Ok x) f y e = (x, refl, e)
-bind_ok (Err d) f y e = absurd cc
-
-pub ok_is : {A : Type 0} (x y : A) → Path (Result A BatchFault) (Ok x) (Ok y) → x ≡ y
-ok_is x y e = cc
-
--- a test for a fault that was not found
-pub clean : {A : Type 0} (b : Bool) (d : BatchFault) (x y : A) → cond b (Err d) (Ok x) ≡ Ok y → (b ≡ false) × (x ≡ y)
-clean true d x y h = absurd cc
-clean false d x y h = (refl, cc)
-
--- a test that a value passed
-pub passed : {A : Type 0} (b : Bool) (d : BatchFault) (x y : A) → cond b (Ok x) (Err d) ≡ Ok y → (b ≡ true) × (x ≡ y)
-passed true d x y h = (refl, cc)
-passed false d x y h = absurd cc
 
 -- nothing is read
 nothing_front : {A : Type 0} (x : A) → TakesFront (λ bytes. let r : Read A = Ok (x, bytes) in r)
@@ -72,11 +56,6 @@ then_front {A = A} {B = B} read next first second bytes y rest e =
     }
 
 -- ---- of a file
-
-field_again : (text rest : List ℕ) (size : ℕ) → length text ≡ size → field_at size (text ++ rest) ≡ Ok (text, rest)
-field_again text rest size len =
-    let long : ltb (length (text ++ rest)) size ≡ false = le-ltb _ _ (omega (arith, length-append text rest, len)) in
-    rw (long, take_at text rest size len, drop_at text rest size len) refl
 
 pub field_taken : (size : ℕ) (bytes field rest : List ℕ) → field_at size bytes ≡ Ok (field, rest) → (bytes ≡ field ++ rest) × (length field ≡ size)
 field_taken size bytes field rest e =

@@ -7,23 +7,12 @@ use Rattle.hex.specs.Hex.{IsBytes, encode_lower, encode_with, hex_digit_value, l
 use Rattle.hex.proofs.HexLemmas.{IsDigits-lower_digits, decode_of-encode_lower}
 use Rattle.file_batch_laws.specs.Files.{IsBody, batch_text, framed, head_text}
 use Rattle.file_batch_laws.specs.Reading.{batch_magic}
-use Rattle.file_batch_laws.proofs.Once.{batch_taken}
+use Rattle.file_batch_laws.proofs.Once.{batch_taken, AreBytes, front_of, rest_of}
 use Rattle.byteorder.specs.Endian.{big_bytes}
 use Rattle.file_listing.specs.Bodies.{alone, behind, bodies_from, bodies_of, body_of, fitting, line_bodies, lines_of, then_bodies, with_first}
 use Rattle.file_bodies.specs.BodyLines.{IsPackedFrom, IsTextOf, body_lines}
 
 -- ---- bytes
-
-abbrev pub AreBytes : List ℕ → Type 0
-AreBytes bytes = AllByRecursion (λ byte. byte < 256) bytes
-
-pub front_of : (xs ys : List ℕ) → AreBytes (xs ++ ys) → AreBytes xs
-front_of [] ys all = tt
-front_of (x ∷ xs) ys all = (all.0, front_of xs ys all.1)
-
-pub rest_of : (xs ys : List ℕ) → AreBytes (xs ++ ys) → AreBytes ys
-rest_of [] ys all = all
-rest_of (x ∷ xs) ys all = rest_of xs ys all.1
 
 indexed : (xs : List ℕ) → AreBytes xs → IsBytes xs
 indexed [] all i = omega arith

@@ -4,6 +4,7 @@ use Rattle.std.specs.List.{AllByRecursion, flat_map}
 use Rattle.byteorder.specs.Endian.{big_bytes}
 use Rattle.file_batch_laws.specs.Blocks.{blocks_magic}
 use Rattle.file_batch_laws.specs.Files.{AreBodies, framed, head_text}
+pub use Rattle.file_batch_laws.specs.Files.{all_bodies}
 
 -- how many bodies, and the bodies
 abbrev pub block_text : List (List ℕ) → List ℕ
@@ -16,7 +17,3 @@ block_file_text blocks = head_text blocks_magic (length blocks) ++ flat_map bloc
 -- the blocks that a file can have
 abbrev pub AreBlocksOfBodies : List (List (List ℕ)) → Type 0
 AreBlocksOfBodies blocks = (length blocks ≤ 1000) × AllByRecursion AreBodies blocks
-
--- all bodies, in order
-abbrev pub all_bodies : List (List (List ℕ)) → List (List ℕ)
-all_bodies blocks = flat_map (λ block. block) blocks

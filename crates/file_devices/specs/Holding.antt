@@ -1,5 +1,5 @@
 -- Which file holds which bytes, and what of that stays.
-use Rattle.std.specs.Prelude.{◌≡◌, ◌≢◌, ◌⊎◌, ⊤, ℕ, List, [], ◌∷◌, string_bytes}
+use Rattle.std.specs.Prelude.{◌≢◌, ◌⊎◌, ⊤, ℕ, List, [], ◌∷◌, string_bytes}
 use Rattle.file_devices.specs.declared.written.Written.{Written}
 
 -- which file holds which bytes

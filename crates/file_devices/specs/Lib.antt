@@ -1,3 +1,4 @@
+pub mod Appending
 pub mod BatchNames
 pub mod Claims
 pub mod Devices

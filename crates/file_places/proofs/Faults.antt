@@ -1,11 +1,10 @@
 -- What the places say of reading.
-use Rattle.std.proofs.Common.{◌⊎◌, ◌≡◌, ℕ, zero, suc, ◌+◌, ◌-◌, ◌<◌, List, [], ◌∷◌, ◌++◌, length, drop, Ok, Err, refl, sym, ap, subst, ◌∙◌, arith, inl, inr}
+use Rattle.std.proofs.Common.{◌⊎◌, ◌≡◌, ℕ, zero, suc, ◌+◌, ◌-◌, ◌<◌, List, [], ◌∷◌, ◌++◌, length, drop, Ok, Err, refl, ap, ◌∙◌, arith, inl, inr}
 use Rattle.std.specs.Prelude.{IsOk}
 use Rattle.std.specs.List.{AllByRecursion}
 use Rattle.std.proofs.lemmas.List.{length-append, length-drop}
 use Rattle.std.proofs.Math.Seq.{drop-length}
 use Rattle.issuer_rows.specs.declared.reply_body.ReplyBody.{ReplyBody}
-use Rattle.file_batch_laws.specs.Blocks.{InTurn}
 use Rattle.file_batch_laws.specs.Reading.{◌>>=◌, body_at, bodies_at, bodies_of, ended, replies_magic}
 use Rattle.file_batch_laws.specs.Replies.{AreRepliesOf, IsReplyFileOf, FailsAsReplies, IsNoReply}
 use Rattle.file_batch_laws.specs.declared.batch_fault.BatchFault.{BatchFault}
@@ -18,13 +17,10 @@ use Rattle.file_places.specs.declared.body_kind.BodyKind.{BodyKind}
 use Rattle.file_places.specs.declared.body_kind.BodyKind.TheVariants.{Message, Reply}
 use Rattle.file_places.specs.declared.wrong_body.WrongBody.{WrongBody}
 use Rattle.file_places.specs.declared.wrong_body.WrongBody.TheVariants as wrong
+use Rattle.file_batch_laws.proofs.Steps.{ended_more}
+use Rattle.file_batch_laws.proofs.InTurn.{one_more}
 
 -- ---- blocks
-
-in_turn_and_one : {A : Type 0} (is : List ℕ → A → List ℕ → Type 0) (bytes : List ℕ) (blocks : List A) (left : List ℕ) (block : A) (after : List ℕ)
-    → InTurn is bytes blocks left → is left block after → InTurn is bytes (blocks ++ block ∷ []) after
-in_turn_and_one is bytes [] left block after are next = (after, subst (λ (b : List ℕ). is b block after) (sym are) next, refl)
-in_turn_and_one is bytes (b ∷ blocks) left block after are next = (are.0, are.1, in_turn_and_one is are.0 blocks left block after are.2 next)
 
 pub one_more_block : (kind : BodyKind) (file : List ℕ) (from n m mid end : ℕ) → AreBlocks kind file from n mid → IsBlockAt kind file mid end → m ≡ suc n
     → AreBlocks kind file from m end
@@ -32,7 +28,7 @@ one_more_block kind file from n m mid end so_far next one = record {
   inside = next.0;
   blocks = so_far.blocks ++ next.1.0 ∷ [];
   number = omega (arith, length-append so_far.blocks (next.1.0 ∷ []), so_far.number, one);
-  read = in_turn_and_one (IsBlockOf kind) (drop from file) so_far.blocks (drop mid file) next.1.0 (drop end file) so_far.read next.1.1;
+  read = one_more (IsBlockOf kind) (drop from file) so_far.blocks (drop mid file) next.1.0 (drop end file) so_far.read next.1.1;
 }
 
 -- ---- bodies that can't be read
@@ -55,12 +51,8 @@ fails_among : (n count : ℕ) (bytes : List ℕ) (bodies : List (List ℕ)) (lef
 fails_among n count bytes bodies left e within so_far next =
     fails_behind n (count - suc n) bytes bodies left e so_far next count (omega (arith, within))
 
-some_left : (bytes : List ℕ) → 0 < length bytes → ended bytes ≡ Err Trailing
-some_left [] more = absurd (omega (arith, more))
-some_left (b ∷ bytes) more = refl
-
 pub ended_behind : (file : List ℕ) (end more : ℕ) → 0 < more → end + more ≡ length file → ended (drop end file) ≡ Err Trailing
-ended_behind file end more some all = some_left (drop end file) (omega (arith, length-drop end file, some, all))
+ended_behind file end more some all = ended_more (drop end file) (omega (arith, length-drop end file, some, all))
 
 all_read : (file : List ℕ) → ended (drop (length file) file) ≡ Ok tt
 all_read file = rw drop-length refl

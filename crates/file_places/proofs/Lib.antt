@@ -1,3 +1,2 @@
-pub mod FaultTexts
 pub mod Faults
 pub mod OneMore

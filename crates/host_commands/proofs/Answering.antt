@@ -1,7 +1,6 @@
 -- What serving a link on a log comes to, by the files.
-use Rattle.std.proofs.Common.{◌≡◌, ◌≢◌, ◌⊎◌, ℕ, List, [], ◌++◌, inl, inr, refl, sym, ap, subst, ◌∙◌, arith}
+use Rattle.std.proofs.Common.{◌≡◌, ◌≢◌, ◌⊎◌, ℕ, List, [], ◌++◌, inl, inr, refl, ap, subst, ◌∙◌, arith}
 use Rattle.std.specs.Prelude.{⊤}
-use Rattle.std.proofs.lemmas.List.{append-nil}
 use Rattle.issuer_rows.specs.Fold.{Rows, rows_after}
 use Rattle.file_batch_laws.specs.Frames.{AreFramesOf}
 use Rattle.link_frames.specs.Replies.{AppendsPart}
@@ -14,10 +13,7 @@ use Rattle.host_serving.specs.declared.host_fault.HostFault.{HostFault}
 use Rattle.host_serving.specs.declared.host_fault.HostFault.TheVariants.{Link, Log, OutOfMemory}
 use Rattle.host_opening.specs.Opening.{book_digest, HoldsEntries, IsOpened}
 use Rattle.host_commands.specs.Served.{IsAnswered, IsServed}
-
--- all of a text is a beginning of it
-whole : (before after text : List ℕ) → after ≡ before ++ text → AppendsPart before after text
-whole before after text is = (text, [], is, sym (append-nil text))
+use Rattle.host_serving.proofs.Servings.{whole}
 
 -- what was written after a fault is a beginning of the replies
 begun : (fault : HostFault) (before after text : List ℕ) → AnsweredAfter fault before after text → AppendsPart before after text

@@ -3,7 +3,8 @@ use Rattle.std.proofs.Common.{◌≡◌, ◌^◌, ◌-◌, ℕ, true, false, Lis
 use Rattle.std.proofs.lemmas.List.{nil_from_length}
 use Rattle.std.specs.Str.{bytes_eq}
 use Rattle.host_commands.specs.Links.{AddsLink, LinkOptions, SayMore, nothing}
-use Rattle.host_commands.specs.Settings.{IsNumberTo, number_of}
+use Rattle.host_commands.specs.Settings.{IsNumberTo}
+use Rattle.app_words.specs.Numbers.{number_of}
 
 module _ (all rest : List (List ℕ)) (option first : List ℕ) (before mid after : LinkOptions) where
   pub max_said : all ≡ option ∷ first ∷ rest → bytes_eq option (codes "--max-batch") ≡ true

@@ -1,5 +1,5 @@
 -- What serving a link that is read ahead comes to is what serving the link comes to.
-use Rattle.std.proofs.Common.{◌≡◌, ℕ, List, Result, Ok, Err, OnOk, IfErr, subst}
+use Rattle.std.proofs.Common.{◌≡◌, ℕ, List, subst}
 use Rattle.issuer_rows.specs.declared.frame.Frame.{Frame}
 use Rattle.link_frames.specs.Incoming.{frames_of}
 use Rattle.link_frames.specs.Link.{AreFrames}
@@ -11,15 +11,6 @@ use Rattle.host_serving.specs.declared.decider.Decider.{Decider}
 use Rattle.host_serving.specs.declared.host.Host.{Host}
 use Rattle.host_serving.specs.declared.host_fault.HostFault.{HostFault}
 use Rattle.host_serving.specs.declared.host_fault.HostFault.TheVariants.{Link, Log, OutOfMemory}
-
--- what follows from it holds of a result, too
-pub on_ok : {X E P Q : Type 0} (result : Result X E) → (P → Q) → OnOk result P → OnOk result Q
-on_ok (Ok x) f p = f p
-on_ok (Err e) f p = tt
-
-pub if_err : {X E : Type 0} {P Q : E → Type 0} (result : Result X E) → ((e : E) → P e → Q e) → IfErr result P → IfErr result Q
-if_err (Ok x) f p = tt
-if_err (Err e) f p = f e p
 
 -- the same book, where less is known of the link
 book_for : (fault : HostFault) (old new : Decider) (messages : List Frame) (reads others : Type 0) (left : List ℕ) → (others → reads)

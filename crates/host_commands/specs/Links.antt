@@ -2,10 +2,11 @@
 use Rattle.std.specs.Prelude.{◌≡◌, ◌<◌, ℕ, ◌^◌, ◌-◌, Bool, false, ◌||◌, MatchBool, IsFalse, List, [], ◌∷◌, ◌++◌, Option, Some, None, codes, drop, length, map, slice_get}
 use Rattle.std.specs.Str.{bytes_eq}
 use Rattle.app_words.specs.Words.{IsCommand}
-use Rattle.host_commands.specs.Settings.{IsNumberTo, number_of}
+use Rattle.host_commands.specs.Settings.{IsNumberTo}
 use Rattle.host_commands.specs.declared.choices.Choices.{Choices}
 use Rattle.host_commands.specs.declared.link_names.LinkNames.{LinkNames}
 use Rattle.host_commands.specs.declared.settings.Settings.{Settings}
+use Rattle.app_words.specs.Numbers.{number_of}
 
 -- what options say: how many frames in one turn at most and after how many bodies it is told how it goes, each if it is said; and the two
 -- names of each link, in order

@@ -1,15 +1,12 @@
 -- How a host is to serve, as words say it.
 use Rattle.std.specs.Prelude.{◌≡◌, ◌⊎◌, ℕ, ◌+◌, ◌-◌, ◌^◌, ◌≤◌, List, Some, None, codes, length, slice_get}
-use Rattle.std.specs.Str.Parse.{IsNumeral, digits_value, without_leading_plus}
+use Rattle.std.specs.Str.Parse.{IsNumeral, without_leading_plus}
+use Rattle.app_words.specs.Numbers.{number_of}
 use Rattle.host_commands.specs.declared.settings.Settings.{Settings}
 
 -- where nothing is said: 65,536 frames in one turn at most, and it isn't told how it goes
 abbrev pub plain : Settings
 plain = record { max_batch = 65536; stats = None }
-
--- the number that a word stands for
-abbrev pub number_of : List ℕ → ℕ
-number_of word = digits_value 10 (without_leading_plus word)
 
 -- a word is a number in decimal digits, from 1 to this one
 abbrev pub IsNumberTo : ℕ → List ℕ → Type 0

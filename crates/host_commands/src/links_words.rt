@@ -3,7 +3,8 @@
 ghost use Rattle.std.specs.Prelude.{◌≡◌, ◌≢◌, ◌^◌, ◌-◌, ◌++◌, ◌∷◌, [], Bool, true, false, Ok, IfOk, IfSome, IfNone, IsFalse, IsTrue, None, Some, codes, drop, length, map, slice_get, string_bytes};
 ghost use Rattle.app_words.specs.Words.{IsCommand};
 ghost use Rattle.host_commands.specs.Links.{AddsLink, AskLinks, LinkOptions, NoneAsks, SayMore, options_of, is_named, names_of};
-ghost use Rattle.host_commands.specs.Settings.{IsNumberTo, number_of};
+ghost use Rattle.host_commands.specs.Settings.{IsNumberTo};
+ghost use Rattle.app_words.specs.Numbers.{number_of};
 
 use crate::asked_links::AskedLinks;
 use crate::choices::Choices;

@@ -2,7 +2,8 @@
 
 ghost use Rattle.std.specs.Prelude.{◌≡◌, ◌+◌, ◌<◌, ◌≤◌, ◌-◌, ◌^◌, ℕ, IfSome, IfNone, OnSome, length, map, string_bytes};
 ghost use Rattle.std.specs.Option.{SomeIff};
-ghost use Rattle.host_commands.specs.Settings.{IsNumberTo, number_of, SaySettings, SaysMaxBatch, SaysStats};
+ghost use Rattle.app_words.specs.Numbers.{number_of};
+ghost use Rattle.host_commands.specs.Settings.{IsNumberTo, SaySettings, SaysMaxBatch, SaysStats};
 ghost use Rattle.host_commands.specs.declared.settings.Settings.{Settings as Said};
 
 use crate::settings::Settings;

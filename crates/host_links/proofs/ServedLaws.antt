@@ -1,6 +1,7 @@
 -- One link's turns, one after another.
-use Rattle.std.proofs.Common.{◌≡◌, ◌∙◌, ℕ, List, [], ◌++◌, ap, refl, sym, subst, append_assoc, Result, Ok, Err, OnErr, OnOk}
+use Rattle.std.proofs.Common.{◌≡◌, ◌∙◌, ℕ, List, [], ◌++◌, ap, refl, sym, subst, append_assoc, Result, Err}
 use Rattle.std.proofs.lemmas.List.{append-nil}
+use Rattle.std.proofs.lemmas.Result.{on_ok_weaker, on_err_weaker}
 use Rattle.issuer_rows.specs.Fold.{Rows}
 use Rattle.link_frames.specs.Replies.{AppendsPart}
 use Rattle.host_serving.specs.declared.host_fault.HostFault.{HostFault}
@@ -99,15 +100,6 @@ opened_stopped link opening turns reads reads' bytes bytes' puts puts' had had' 
   given = λ known. subst (λ (x : List ℕ). AppendsPart x has (given_to link opening turns)) (put known) (s.given (p known));
 }
 
--- what follows holds of a result, too
-on_ok : {X E P Q : Type 0} (result : Result X E) → (P → Q) → OnOk result P → OnOk result Q
-on_ok (Ok x) f p = f p
-on_ok (Err e) f p = tt
-
-on_err : {X E P Q : Type 0} (result : Result X E) → (P → Q) → OnErr result P → OnErr result Q
-on_err (Ok x) f p = tt
-on_err (Err e) f p = f p
-
 module _ {I O : Type 0} (is_known : I → Type 0) (remaining : I → List ℕ) (puts : O → Type 0) (written : O → List ℕ) where
   -- nothing was served, and a fault met
   pub none_serves : (link : ℕ) (opening : Rows) (turns : List LinkTurn) (own : ℕ) (source : I) (old new : O) (fault : HostFault) → turns ≡ [] → own ≡ 0 → (puts old → puts new)
@@ -125,8 +117,8 @@ module _ {I O : Type 0} (is_known : I → Type 0) (remaining : I → List ℕ) (
   opened_serves link opening turns own source source' old old' new result r read p put s = record {
     count = s.count;
     sink = λ known. s.sink (p known);
-    ok = on_ok result (opened_served link opening turns _ _ _ _ _ _ _ _ _ _ r read p put) s.ok;
-    stopped = on_err result (opened_stopped link opening turns _ _ _ _ _ _ _ _ _ r read p put) s.stopped;
+    ok = on_ok_weaker result (opened_served link opening turns _ _ _ _ _ _ _ _ _ _ r read p put) s.ok;
+    stopped = on_err_weaker result (opened_stopped link opening turns _ _ _ _ _ _ _ _ _ r read p put) s.stopped;
   }
 
 -- closing the sink leaves what was written

@@ -1,16 +1,9 @@
 -- What a turn comes to, as an entry of the history.
-use Rattle.std.proofs.Common.{◌≡◌, ◌≢◌, inl, ◌∙◌, ℕ, List, [], ◌∷◌, ◌++◌, length, Err, ap, refl, sym, subst}
-use Rattle.iso8583.specs.declared.message.Message.{Message}
-use Rattle.iso8583.specs.declared.codec_fault.CodecFault.{CodecFault}
-use Rattle.iso_laws.specs.Reading.{reading}
-use Rattle.iso_laws.specs.Types.{taken_in}
-use Rattle.iso_laws.proofs.Messages.{message_are, message_taken, messages_apart}
-use Rattle.iso_laws.proofs.Whole.{reading_again}
+use Rattle.std.proofs.Common.{◌≡◌, ◌≢◌, inl, ◌∙◌, ℕ, List, [], ◌∷◌, ◌++◌, length, ap, refl, sym, subst}
 use Rattle.issuer_rows.specs.Fold.{rows_after, replies_to}
 use Rattle.issuer_rows.specs.declared.frame.Frame.{Frame}
-use Rattle.issuer_rows.specs.declared.frame.Frame.TheVariants.{Good, Bad}
 use Rattle.issuer_fold.proofs.FoldLaws.{length-replies_to}
-use Rattle.file_batch_laws.specs.Frames.{AreFramesOf, IsFrameOf}
+use Rattle.file_batch_laws.specs.Frames.{AreFramesOf}
 use Rattle.link_frames.specs.Incoming.{Incoming, bodies_of, requests_behind, answers_of, merged}
 use Rattle.link_frames.specs.declared.network_request.NetworkRequest.{NetworkRequest}
 use Rattle.link_frames.proofs.InOrder.{in_order}
@@ -27,34 +20,7 @@ use Rattle.link_frames.specs.declared.link_fault.LinkFault.{LinkFault}
 use Rattle.log_file.specs.declared.log_writer.LogWriter.{LogWriter}
 use Rattle.host_links.specs.Turning.{Turns, of_all}
 use Rattle.host_links.specs.Turns.{messages_at}
-
--- a message has no fault
-no_fault : (body : List ℕ) (m : Message) (fault : CodecFault) → IsFrameOf body (Good m) → IsFrameOf body (Bad fault) → ⊥
-no_fault body m fault good bad =
-    let read = reading_again taken_in _ _ (message_are m good.0) (message_taken m) in
-    let none = sym read ∙ (ap (reading taken_in) (sym good.1) ∙ bad) in
-    absurd cc
-
-same_fault : (fault other : CodecFault) (body : List ℕ) → reading taken_in body ≡ Err fault → reading taken_in body ≡ Err other → fault ≡ other
-same_fault fault other body a b =
-    let both = sym a ∙ b in
-    cc
-
--- a body is one frame at most
-same_frame : (body : List ℕ) (frame other : Frame) → IsFrameOf body frame → IsFrameOf body other → frame ≡ other
-same_frame body (Good m) (Good n) a b = ap (λ (x : Message). Good x) (messages_apart m n [] [] a.0 b.0 (ap (λ (text : List ℕ). text ++ []) (sym a.1 ∙ b.1))).0
-same_frame body (Good m) (Bad fault) a b = absurd (no_fault body m fault a b)
-same_frame body (Bad fault) (Good m) a b = absurd (no_fault body m fault b a)
-same_frame body (Bad fault) (Bad other) a b = ap (λ (x : CodecFault). Bad x) (same_fault fault other body a b)
-
-same_frames : (bodies : List (List ℕ)) (frames others : List Frame) → AreFramesOf bodies frames → AreFramesOf bodies others → frames ≡ others
-same_frames [] [] [] a b = refl
-same_frames [] [] (other ∷ others) a b = absurd b
-same_frames [] (frame ∷ frames) others a b = absurd a
-same_frames (body ∷ bodies) [] others a b = absurd a
-same_frames (body ∷ bodies) (frame ∷ frames) [] a b = absurd b
-same_frames (body ∷ bodies) (frame ∷ frames) (other ∷ others) a b =
-    rw (same_frame body frame other a.0 b.0, same_frames bodies frames others a.1 b.1) refl
+use Rattle.file_batch_laws.proofs.FrameLaws.{same_frames}
 
 -- the messages of the bodies are those at hand
 at_hand : (bodies : List (List ℕ)) (messages frames : List Frame) → AreFramesOf bodies messages → (bodies ≢ [] → AreFramesOf bodies frames) → messages ≡ messages_at bodies frames

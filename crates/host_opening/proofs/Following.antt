@@ -1,7 +1,5 @@
 -- One entry more, decided behind others.
 use Rattle.std.proofs.Common.{◌≡◌, ℕ, List, [], ◌∷◌, ◌++◌, Result, Ok, Err, IfOk, IfErr, IsTrue, inl, refl, subst, sym, ap, ◌∙◌}
-use Rattle.std.proofs.lemmas.List.{append-nil}
-use Rattle.std.proofs.lemmas.List.Concat.{flat_map-append}
 use Rattle.issuer_rows.specs.Fold.{Rows, rows_after}
 use Rattle.book_laws.specs.Reading.{reading}
 use Rattle.file_batch_laws.specs.Frames.{AreFramesOf}
@@ -19,11 +17,7 @@ use Rattle.host_opening.specs.OpeningFault.{IsLogFault, IsOpeningFault}
 use Rattle.host_opening.specs.declared.opened.Opened.{Opened}
 use Rattle.host_opening.specs.declared.opening_fault.OpeningFault.{OpeningFault}
 use Rattle.host_opening.specs.declared.opening_fault.OpeningFault.TheVariants.{Unreadable, Book, Log, OutOfMemory}
-
--- the bodies of entries, and those of one more
-bodies_more : (entries : List (List (List ℕ))) (bodies : List (List ℕ)) → all_bodies (entries ++ bodies ∷ []) ≡ all_bodies entries ++ bodies
-bodies_more entries bodies =
-    flat_map-append (λ (entry : List (List ℕ)). entry) entries (bodies ∷ []) ∙ ap (λ last. all_bodies entries ++ last) (append-nil bodies)
+use Rattle.file_batch_laws.proofs.Lists.{bodies_more}
 
 -- the messages of entries, and those of one more
 pub messages_of_more : (entries : List (List (List ℕ))) (bodies : List (List ℕ)) (old middle new : Decider)

@@ -1,5 +1,5 @@
 -- The messages of a log, decided again.
-use Rattle.std.specs.Prelude.{◌≡◌, ℕ, List, ◌++◌}
+use Rattle.std.specs.Prelude.{ℕ, List, ◌++◌}
 use Rattle.issuer_rows.specs.declared.frame.Frame.{Frame}
 use Rattle.log_laws.specs.Reading.{IsLogOf}
 use Rattle.log_file.specs.Reads.{EndsAs, HasRead}

@@ -6,7 +6,6 @@ use Rattle.file_devices.specs.declared.read_fault.ReadFault.{ReadFault}
 use Rattle.file_devices.specs.declared.read_fault.ReadFault.TheVariants as read
 use Rattle.log_laws.specs.LogFault.{is_of_bytes}
 use Rattle.log_laws.specs.Reading.{IsReading}
-use Rattle.log_laws.specs.declared.log_fault.LogFault.{LogFault}
 use Rattle.host_opening.specs.Opening.{book_digest}
 use Rattle.host_opening.specs.declared.opening_fault.OpeningFault.{OpeningFault}
 use Rattle.host_opening.specs.declared.opening_fault.OpeningFault.TheVariants.{Unreadable, Book, Log, OutOfMemory}

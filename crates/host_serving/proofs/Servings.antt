@@ -30,8 +30,9 @@ use Rattle.host_serving.specs.declared.host_fault.HostFault.{HostFault}
 use Rattle.host_serving.specs.declared.host_fault.HostFault.TheVariants.{Link, Log, OutOfMemory}
 use Rattle.host_serving.specs.declared.turn.Turn.{Turn}
 use Rattle.host_serving.proofs.Appendings.{breaks_more, grows_more, grows_none, may_enter, may_enter_more}
-use Rattle.host_serving.proofs.Takes.{frames_more, both_are, each_more, as_many}
+use Rattle.host_serving.proofs.Takes.{frames_more, both_are, as_many}
 use Rattle.host_serving.proofs.Turns.{bodies_entered, has_body, some_entry}
+use Rattle.file_batch_laws.proofs.Lists.{each_more}
 
 abbrev Entries : Type 0
 Entries = List (List (List ℕ))
@@ -71,7 +72,7 @@ part_more before mid after book other some more messages others read here so_far
     )
 
 -- all that was answered
-whole : (before after text : List ℕ) → after ≡ before ++ text → AppendsPart before after text
+pub whole : (before after text : List ℕ) → after ≡ before ++ text → AppendsPart before after text
 whole before after text is = (text, [], is, sym (append-nil text))
 
 -- where all was answered

@@ -1,23 +1,19 @@
 -- Bodies that are taken out of frames, one after another.
-use Rattle.std.proofs.Common.{◌≡◌, ℕ, suc, ◌+◌, ◌-◌, ◌<◌, List, [], ◌∷◌, ◌++◌, length, Result, Ok, Err, Bor, inl, inr, refl, sym, ap, subst, ◌∙◌, append_assoc, arith}
+use Rattle.std.proofs.Common.{◌≡◌, ℕ, suc, ◌+◌, ◌-◌, ◌<◌, List, [], ◌∷◌, ◌++◌, length, Bor, inl, inr, refl, sym, ap, subst, ◌∙◌, append_assoc, arith}
 use Rattle.std.specs.List.{flat_map, AllByRecursion}
 use Rattle.std.proofs.lemmas.List.{append-nil}
 use Rattle.std.proofs.lemmas.List.Concat.{flat_map-append}
 use Rattle.file_batch_laws.specs.Files.{framed, IsBody}
-use Rattle.file_batch_laws.specs.Reading.{bodies_at}
-use Rattle.file_batch_laws.specs.declared.batch_fault.BatchFault.{BatchFault}
 use Rattle.file_batch_laws.specs.Frames.{AreFramesOf}
-use Rattle.file_batch_laws.proofs.Again.{bodies_again}
+use Rattle.file_batch_laws.proofs.Again.{framed_apart}
 use Rattle.issuer_rows.specs.declared.frame.Frame.{Frame as Message}
 use Rattle.link_frames.specs.Front.{IsFront}
 use Rattle.link_frames.specs.Link.{AreFrames, AreSoMany, HasFrame}
 use Rattle.link_frames.specs.declared.front.Front.{Front}
 use Rattle.link_frames.specs.declared.front.Front.TheVariants.{Frame, Part, Wrong}
 use Rattle.link_frames.proofs.Fronts.{not_none}
+use Rattle.file_batch_laws.proofs.Lists.{each_more}
 pub use Rattle.file_batch_laws.proofs.FrameLaws.{as_many}
-
-abbrev Read : Type 0
-Read = Result (List (List ℕ) × List ℕ) BatchFault
 
 -- of one or more frames the first stands first
 first_of : (n : ℕ) (bytes : List ℕ) (bodies : List (List ℕ)) → length bodies ≡ suc n → AllByRecursion IsBody bodies → bytes ≡ flat_map framed bodies → HasFrame bytes
@@ -27,33 +23,15 @@ first_of n bytes (body ∷ bodies) e all is = (body, flat_map framed bodies, all
 some_frame : (n : ℕ) (bytes : List ℕ) → AreSoMany (suc n) bytes → HasFrame bytes
 some_frame n bytes many = first_of n bytes many.0 many.1 many.2 many.3
 
-abbrev left_in : Read → List ℕ
-left_in (Ok read) = read.1
-left_in (Err e) = []
-
-one_framed : (body rest : List ℕ) → flat_map framed (body ∷ []) ++ rest ≡ framed body ++ rest
-one_framed body rest = ap (λ (x : List ℕ). x ++ rest) (append-nil (framed body))
-
--- a frame is of one body alone
-alone : (body other behind rest : List ℕ) → IsBody body → IsBody other → framed body ++ behind ≡ framed other ++ rest → behind ≡ rest
-alone body other behind rest is is_other same =
-    let both : flat_map framed (body ∷ []) ++ behind ≡ flat_map framed (other ∷ []) ++ rest = one_framed body behind ∙ same ∙ sym (one_framed other rest) in
-    let reads : Path Read (Ok (body ∷ [], behind)) (Ok (other ∷ [], rest)) = sym (bodies_again (body ∷ []) behind (is, tt)) ∙ ap (bodies_at 1) both ∙ bodies_again (other ∷ []) rest (is_other, tt) in
-    ap (λ (read : Read). left_in read) reads
-
 left_of : (n : ℕ) (bytes body behind : List ℕ) (bodies : List (List ℕ)) → length bodies ≡ suc n → AllByRecursion IsBody bodies → bytes ≡ flat_map framed bodies
     → IsBody body → bytes ≡ framed body ++ behind → AreSoMany n behind
 left_of n bytes body behind [] e all is is_body first = absurd (omega (arith, e))
 left_of n bytes body behind (b ∷ bodies) e all is is_body first =
-    (bodies, omega (arith, e), all.1, alone body b behind (flat_map framed bodies) is_body all.0 (sym first ∙ is))
+    (bodies, omega (arith, e), all.1, (framed_apart body b behind (flat_map framed bodies) is_body all.0 (sym first ∙ is)).1)
 
 -- behind the first of them there is one less
 pub one_taken : (n : ℕ) (bytes body behind : List ℕ) → AreSoMany (suc n) bytes → IsBody body → bytes ≡ framed body ++ behind → AreSoMany n behind
 one_taken n bytes body behind many is first = left_of n bytes body behind many.0 many.1 many.2 many.3 is first
-
-pub each_more : {A : Type 0} (P : A → Type 0) (some more : List A) → AllByRecursion P some → AllByRecursion P more → AllByRecursion P (some ++ more)
-each_more P [] more h k = k
-each_more P (item ∷ some) more h k = (h.0, each_more P some more h.1 k)
 
 -- frames, and frames behind them
 pub frames_more : (bytes left rest : List ℕ) (some more : List (List ℕ)) → AreFrames bytes some left → AreFrames left more rest → AreFrames bytes (some ++ more) rest

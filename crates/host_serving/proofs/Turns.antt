@@ -12,7 +12,8 @@ use Rattle.link_network.specs.declared.network_message.NetworkMessage.{NetworkMe
 use Rattle.host_serving.specs.Entries.{all_bodies, HasBody}
 use Rattle.host_serving.specs.Turn.{IsTurn, HasTaken, entry_of}
 use Rattle.host_serving.specs.declared.turn.Turn.{Turn}
-use Rattle.host_serving.proofs.Takes.{each_more, one_more}
+use Rattle.host_serving.proofs.Takes.{one_more}
+use Rattle.file_batch_laws.proofs.Lists.{each_more}
 
 -- what follows from three facts of a result that is `Ok`
 pub on_all : {X E A B C D : Type 0} (result : Result X E) → OnOk result A → OnOk result B → OnOk result C → (A → B → C → D) → OnOk result D

@@ -14,7 +14,7 @@ use Rattle.host_serving.specs.declared.host_fault.HostFault.{HostFault}
 use Rattle.host_serving.specs.declared.host_fault.HostFault.TheVariants.{Link, Log, OutOfMemory}
 use Rattle.host_serving.specs.declared.tally.Tally.{Tally}
 use Rattle.host_serving.proofs.Appendings.{breaks_more, grows_more, grows_none, may_enter_more}
-use Rattle.host_serving.proofs.Takes.{each_more}
+use Rattle.file_batch_laws.proofs.Lists.{each_more}
 
 abbrev Entries : Type 0
 Entries = List (List (List ℕ))

@@ -12,7 +12,7 @@ use log_laws::LogFault;
 use std::alloc::{AllocError, Global};
 use std::thread::{Threads, join_mut};
 
-// So few messages are decided sooner than a thread begins.
+// Fewer messages than so many are decided sooner than a thread begins.
 const FEW_BODIES: u32 = 4;
 
 /// Decides the messages of these bodies, and appends their entry to the log and syncs it: beside one another, but where they are few. What

@@ -1,6 +1,6 @@
 -- A batch that is sent once more writes nothing, where none of its reversals may be done later.
 use Rattle.std.proofs.Common.{◌≡◌, Bool, true, false, if◌then◌else◌, ◌&&◌, not, List, [], ◌∷◌, ◌++◌, map, Option, Some, None, is_some, is_none, ◌⊎◌, inl, inr, refl, sym, ap, ◌∙◌, subst}
-use Rattle.std.proofs.lemmas.Bool.{false≢true}
+use Rattle.std.proofs.lemmas.Bool.{false≢true, and_left}
 use Rattle.std.specs.FinMap as finite
 use Rattle.std.specs.List.{AllByRecursion}
 use Rattle.iso8583.specs.declared.advice.Advice.{Advice}
@@ -180,9 +180,6 @@ none_passing false false true short e = not_refused e
 none_passing false false false true e = not_refused e
 none_passing false false false false e = refl
 
-none_and : (b c : Bool) → b ≡ false → (b && c) ≡ false
-none_and b c e = ap (λ (x : Bool). x && c) e
-
 -- a posted original without a reversal, of the reversal's card and kind, and a part of its amount
 record IsRight (rows : Rows) (v : Reversal) (k : KeptOriginal) : Type 0 where
   stands : original_of rows v ≡ Some (OriginalRow.Kept k)
@@ -200,7 +197,7 @@ lasting_fail rows v k r = (
     (
       ap (has (is_kept_so (λ (x : KeptOriginal). not (is_named v x)))) r.stands ∙ ap not r.named,
       (
-        none_and _ v.repeat (ap (has (is_kept_so (is_reversed_by v))) r.stands ∙ ap (has (λ (by : Identity). is_same_identity by (identity_of v.transaction))) r.unreversed),
+        and_left _ v.repeat (ap (has (is_kept_so (is_reversed_by v))) r.stands ∙ ap (has (λ (by : Identity). is_same_identity by (identity_of v.transaction))) r.unreversed),
         (
           ap (has (is_kept_so (λ (x : KeptOriginal). is_some (reversal_of_outcome x.outcome)))) r.stands ∙ ap is_some r.unreversed,
           (
@@ -213,7 +210,7 @@ lasting_fail rows v k r = (
   ),
 )
 
-gives_400 : (v : Reversal) (kind : OriginalKind) (k : KeptOriginal) (paid : Funds) (day : Option VelocityRow) (end : Plan) (look : Lookup) → EndsGivenBack kind v k paid day end → HasAction 400 (comes_to end look).0
+pub gives_400 : (v : Reversal) (kind : OriginalKind) (k : KeptOriginal) (paid : Funds) (day : Option VelocityRow) (end : Plan) (look : Lookup) → EndsGivenBack kind v k paid day end → HasAction 400 (comes_to end look).0
 gives_400 v OriginalKind.Request k paid None end look h = absurd h
 gives_400 v OriginalKind.Request k paid (Some day) end look h = subst (λ (p : Plan). HasAction 400 (comes_to p look).0) (sym h) refl
 gives_400 v OriginalKind.Advice k paid day end look h = subst (λ (p : Plan). HasAction 400 (comes_to p look).0) (sym h) refl

@@ -195,7 +195,7 @@ advice_balanced h look a (Some (original.Kept k)) e =
     either h look (a.repeat && is_of_same k a.transaction kind.Advice) _ _ (nothing_put h look [] refl) (nothing_put h look [] refl)
 
 -- what stays of an original that has no reversal: its amount
-no_settlement : (amount : ℕ) (s : Option Settlement) → option_map (λ (x : Settlement). x.reversal) s ≡ None → stay_of_settlement amount s ≡ amount
+pub no_settlement : (amount : ℕ) (s : Option Settlement) → option_map (λ (x : Settlement). x.reversal) s ≡ None → stay_of_settlement amount s ≡ amount
 no_settlement amount None f = refl
 no_settlement amount (Some s) f = absurd (cc)
 
@@ -220,7 +220,7 @@ unposted_payment n by (outcome.Accepted p) e = absurd (cc)
 unposted_payment n by (outcome.Acknowledged action other) e = refl
 
 -- no more is given back than the original's amount
-difference_within : (s : ReversalScope) (own amount : ℕ) → difference s own amount ≤ amount
+pub difference_within : (s : ReversalScope) (own amount : ℕ) → difference s own amount ≤ amount
 difference_within scope.Full own amount = omega arith
 difference_within (scope.Partial claimed) own amount = omega arith
 

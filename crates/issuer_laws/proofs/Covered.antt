@@ -1,6 +1,6 @@
 -- Each day keeps what reversals of its requests may take from it.
 use Rattle.std.proofs.Common.{◌≡◌, ◌≢◌, ℕ, ◌+◌, ◌-◌, ◌≤◌, Bool, true, false, ◌&&◌, ◌==◌, not, if◌then◌else◌, List, [], ◌∷◌, ◌++◌, Option, Some, None, is_none, option_map, IsTrue, inl, inr, refl, sym, ap, ◌∙◌, subst, arith}
-use Rattle.std.proofs.lemmas.Bool.{false≢true}
+use Rattle.std.proofs.lemmas.Bool.{and_parts, and_right}
 use Rattle.std.specs.FinMap as map
 use Rattle.std.specs.List.{sum_by}
 use Rattle.iso8583.specs.declared.advice.Advice.{Advice}
@@ -20,7 +20,7 @@ use Rattle.issuer_rows.specs.Funds.{paid_by}
 use Rattle.issuer_rows.specs.Kept.{KeptOriginal, kind_of_outcome, payment_of_outcome, reversal_of_outcome, settled, settled_outcome}
 use Rattle.issuer_rows.specs.Plan.{Plan, Writes, carried_out}
 use Rattle.issuer_rows.specs.RequestTable.{on_original, kept_of_request, spent_more}
-use Rattle.issuer_rows.specs.ReversalTable.{reversal_plan, reversed_original, refunded, given_back, difference, count_left, spent_less}
+use Rattle.issuer_rows.specs.ReversalTable.{reversal_plan, reversed_original, refunded, given_back, count_left, spent_less}
 use Rattle.issuer_rows.specs.RowKey.{kind_of, text_eq}
 use Rattle.issuer_rows.specs.Typed.{velocity_in, original_in, spent_in}
 use Rattle.issuer_rows.specs.declared.frame.Frame.{Frame}
@@ -41,6 +41,7 @@ use Rattle.issuer_laws.proofs.ReversalWays.{SettlesPosted, IsDayFound, day_put, 
 use Rattle.issuer_laws.proofs.Sums.{part, sum-insert}
 use Rattle.issuer_laws.proofs.Written.{WritesOne, value_there, value_other}
 use Rattle.issuer_laws.specs.Covered.{is_open_request, is_open_on, open_in, open_count, open_sum, AreDaysCovered}
+use Rattle.issuer_laws.proofs.Balanced.{difference_within}
 
 -- ---- sums over originals
 
@@ -132,22 +133,14 @@ neutral rows identity v rest writes e fresh days before behind = record {
       omega (arith, s, a, b);
 }
 
-and_false : (a b : Bool) → b ≡ false → (a && b) ≡ false
-and_false true b e = e
-and_false false b e = refl
-
 closed : (weight : Weight) (pan : Pan) (day : List ℕ) (identity : Identity) (k : KeptOriginal) → is_open_request k.outcome ≡ false → counts weight pan day identity (Some (OriginalRow.Kept k)) ≡ 0
 closed weight pan day identity k e =
-    ap (λ (b : Bool). if◌then◌else◌ {A = ℕ} b (weight k) 0) (and_false (is_same_card k.card pan) _ (and_false (text_eq (day_of identity.stamp) day) _ e))
+    ap (λ (b : Bool). if◌then◌else◌ {A = ℕ} b (weight k) 0) (and_right (is_same_card k.card pan) _ (and_right (text_eq (day_of identity.stamp) day) _ e))
 
 -- ---- requests
 
 none_before : (row : Option OriginalRow) → row ≡ None → (identity : Identity) (weight : Weight) (pan : Pan) (day : List ℕ) → counts weight pan day identity row ≡ 0
 none_before row e identity weight pan day = ap (counts weight pan day identity) e
-
-both : (a b : Bool) → (a && b) ≡ true → (a ≡ true) × (b ≡ true)
-both true b h = (refl, h)
-both false b h = absurd (false≢true h)
 
 same_pan : (a b : Pan) → is_same_card a b ≡ true → a ≡ b
 same_pan a b e = let digits = texts_same a.0 b.0 e in λ i. record { 0 = digits i }
@@ -166,8 +159,8 @@ no_match : (p pan : Pan) (d day : List ℕ) (o : Bool) → RowKey.Velocity pan d
 no_match p pan d day o other =
     elim (is_same_card p pan && (text_eq d day && o)) as (λ b. (is_same_card p pan && (text_eq d day && o)) ≡ b → b ≡ false) [
       | true ↦ λ e.
-          let x = both (is_same_card p pan) (text_eq d day && o) e in
-          let y = both (text_eq d day) o x.1 in
+          let x = and_parts (is_same_card p pan) (text_eq d day && o) e in
+          let y = and_parts (text_eq d day) o x.1 in
           let pans = same_pan p pan x.0 in
           let days = texts_same d day y.0 in
           absurd (other (λ i. RowKey.Velocity (sym pans i) (sym days i)))
@@ -178,7 +171,7 @@ at_most : (b : Bool) (x : ℕ) → (if b then x else 0) ≤ x
 at_most true x = omega arith
 at_most false x = omega arith
 
-nothing_if : (b : Bool) (x : ℕ) → b ≡ false → (if b then x else 0) ≡ 0
+pub nothing_if : (b : Bool) (x : ℕ) → b ≡ false → (if b then x else 0) ≡ 0
 nothing_if b x e = ap (λ (y : Bool). if◌then◌else◌ {A = ℕ} y x 0) e
 
 all_if : (b : Bool) (x : ℕ) → b ≡ true → (if b then x else 0) ≡ x
@@ -300,11 +293,7 @@ kept_counts weight pan day identity row k e shut = ap (counts weight pan day ide
 
 -- no more goes back than the amount
 pub back_within : (v : Reversal) (k : KeptOriginal) → given_back v k ≤ k.amount
-back_within v k = within v.scope v.transaction.amount k.amount
-  where
-    within : (s : ReversalScope) (own amount : ℕ) → difference s own amount ≤ amount
-    within ReversalScope.Full own amount = omega arith
-    within (ReversalScope.Partial claimed) own amount = omega arith
+back_within v k = difference_within v.scope v.transaction.amount k.amount
 
 one_at_most : (s : ReversalScope) (n : ℕ) → n ≤ count_left s n + 1
 one_at_most ReversalScope.Full n = omega arith

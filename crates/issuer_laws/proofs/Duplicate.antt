@@ -1,6 +1,6 @@
 -- An original that has a reversal stays as it is, so another reversal of it is a duplicate.
 use Rattle.std.proofs.Common.{◌≡◌, ◌≢◌, ℕ, Bool, true, false, if◌then◌else◌, ◌&&◌, ◌-◌, List, [], ◌∷◌, Option, Some, inl, inr, refl, sym, ap, ◌∙◌, subst, arith}
-use Rattle.std.proofs.lemmas.Bool.{false≢true}
+use Rattle.std.proofs.lemmas.Bool.{and_parts, and_right}
 use Rattle.std.specs.FinMap as map
 use Rattle.iso8583.specs.declared.identity.Identity.{Identity}
 use Rattle.iso8583.specs.declared.original_kind.OriginalKind.{OriginalKind}
@@ -47,14 +47,10 @@ stays frames rows identity k by h =
 still_named : (v : Reversal) (k : KeptOriginal) (by : Identity) (n : ℕ) → is_named v k ≡ true → is_named v (settled k by n) ≡ true
 still_named v k by n e = ap (λ (o : OriginalKind). is_same_card k.card v.transaction.pan && is_same_kind o v.original.kind) (same_kind k.outcome by n) ∙ e
 
-both : (a b : Bool) → (a && b) ≡ true → (a ≡ true) × (b ≡ true)
-both true b h = (refl, h)
-both false b h = absurd (false≢true h)
-
 same_identity : (a b : Identity) → is_same_identity a b ≡ true → a ≡ b
 same_identity a b h =
-    let h1 = both (text_eq a.acquirer.0 b.acquirer.0) (text_eq a.stan.0 b.stan.0 && text_eq a.stamp b.stamp) h in
-    let h2 = both (text_eq a.stan.0 b.stan.0) (text_eq a.stamp b.stamp) h1.1 in
+    let h1 = and_parts (text_eq a.acquirer.0 b.acquirer.0) (text_eq a.stan.0 b.stan.0 && text_eq a.stamp b.stamp) h in
+    let h2 = and_parts (text_eq a.stan.0 b.stan.0) (text_eq a.stamp b.stamp) h1.1 in
     let acquirers = texts_same a.acquirer.0 b.acquirer.0 h1.0 in
     let stans = texts_same a.stan.0 b.stan.0 h2.0 in
     let stamps = texts_same a.stamp b.stamp h2.1 in
@@ -98,16 +94,12 @@ was_reversed rows v reply writes (inr (inr (inr (inr s)))) h =
 named_again : (v w : Reversal) (k : KeptOriginal) → IsAnotherReversal v w → is_named v k ≡ true → is_named w k ≡ true
 named_again v w k h e = ap (λ (p : Pan). is_same_card k.card p && is_same_kind (kind_of_outcome k.outcome) w.original.kind) h.card ∙ ap (λ (o : OriginalKind). is_same_card k.card v.transaction.pan && is_same_kind (kind_of_outcome k.outcome) o) h.kind ∙ e
 
-no_repeat : (b c : Bool) → c ≡ false → (b && c) ≡ false
-no_repeat true c e = e
-no_repeat false c e = refl
-
 duplicate_comes : (look : Lookup) (w : Reversal) (k : KeptOriginal) (by : Identity) → original_in (look (key.Original w.original.identity)) ≡ Some (original.Kept k) → reversal_of_outcome k.outcome ≡ Some by → is_named w k ≡ true → is_same_identity by (identity_of w.transaction) ≡ false → comes_to (reversal_plan w) look ≡ (reply_to_reversal w 913, [])
 duplicate_comes look w k by stands reversal named other =
     ap (λ (o : Option OriginalRow). comes_to (on_reversed w o) look) stands
     ∙ ap (λ (b : Bool). comes_to (if b then on_reversal w k (reversal_of_outcome k.outcome) else unchanged w 914) look) named
     ∙ ap (λ (o : Option Identity). comes_to (on_reversal w k o) look) reversal
-    ∙ ap (λ (b : Bool). comes_to (if b then unchanged w 400 else unchanged w 913) look) (no_repeat w.repeat (is_same_identity by (identity_of w.transaction)) other)
+    ∙ ap (λ (b : Bool). comes_to (if b then unchanged w 400 else unchanged w 913) look) (and_right w.repeat (is_same_identity by (identity_of w.transaction)) other)
 
 duplicate_there : (rows : Rows) (v w : Reversal) (k : KeptOriginal) → IsAnotherReversal v w → HasReversal rows v.original.identity k (identity_of v.transaction) → is_named v k ≡ true → IsDuplicate rows w
 unfolding decision

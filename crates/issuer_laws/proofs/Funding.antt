@@ -1,6 +1,6 @@
 -- What pays for a message: its row was found, has as much, and is of its card's prefix.
-use Rattle.std.proofs.Common.{◌≡◌, ℕ, ◌<◌, ◌≤◌, true, false, if◌then◌else◌, nat_lt, nat_le, ◌&&◌, ◌||◌, Bool, Option, Some, None, Result, Ok, Err, ◌⊎◌, inl, inr, refl, sym, ap, subst, arith}
-use Rattle.std.proofs.lemmas.Bool.{false≢true}
+use Rattle.std.proofs.Common.{◌≡◌, ℕ, ◌<◌, ◌≤◌, true, false, if◌then◌else◌, nat_lt, nat_le, ◌&&◌, ◌||◌, Bool, Option, Some, None, Result, Ok, Err, inl, inr, refl, sym, ap, subst, arith}
+use Rattle.std.proofs.lemmas.Bool.{false≢true, or_cases}
 use Rattle.std.proofs.lemmas.Bool.Decides.{nat_tests}
 use Rattle.iso8583.specs.declared.account_id.AccountId.{AccountId}
 use Rattle.iso8583.specs.declared.pan.Pan.{Pan}
@@ -105,11 +105,7 @@ pub advice_cover : (look : Lookup) (t : Transaction) (id : AccountId) (account :
 advice_cover look t id account None own e f = account_cover look t id account own e
 advice_cover look t id account (Some budget) own e f = mode_cover look budget.mode t budget (account_if_covered t id account) f (account_cover look t id account own e)
 
-both_known : (a b : Bool) → (a || b) ≡ true → (a ≡ true) ⊎ (b ≡ true)
-both_known true b e = inl refl
-both_known false b e = inr e
-
-same_account : (a b : AccountId) → is_same_account a b ≡ true → a ≡ b
+pub same_account : (a b : AccountId) → is_same_account a b ≡ true → a ≡ b
 same_account a b e = let texts = texts_same a.0 b.0 e in λ i. record { 0 = texts i }
 
 second_own : (second : Option AccountId) (id : AccountId) → is_second second id ≡ true → IsIn (key.Account id) (second_key second)
@@ -119,7 +115,7 @@ second_own (Some second) id e = inl (ap (λ (a : AccountId). key.Account a) (sam
 named_own : (card : CardRow) (id found : AccountId) (b : Bool) → (is_same_account id card.accounts.first || is_second card.accounts.second id) ≡ b → (if b then Some id else None) ≡ Some found → IsIn (key.Account found) (account_keys (Some card))
 named_own card id found true own e =
     let same : id ≡ found = cc in
-    subst (λ (a : AccountId). IsIn (key.Account a) (account_keys (Some card))) same (elim (both_known _ _ own) [
+    subst (λ (a : AccountId). IsIn (key.Account a) (account_keys (Some card))) same (elim (or_cases _ _ own) [
       | inl first ↦ inl (ap (λ (a : AccountId). key.Account a) (same_account id card.accounts.first first))
       | inr second ↦ inr (second_own card.accounts.second id second)
     ])

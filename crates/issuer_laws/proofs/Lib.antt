@@ -26,3 +26,4 @@ pub mod Reversing
 pub mod Sums
 pub mod Undone
 pub mod Written
+pub mod RepliesAt

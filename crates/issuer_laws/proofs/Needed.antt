@@ -1,6 +1,6 @@
 -- What a message needs and writes, whatever was decided before it, is among the rows that the opening book says it may need.
 use Rattle.std.proofs.Common.{◌≡◌, ◌≢◌, ℕ, Bool, true, false, if◌then◌else◌, ◌&&◌, ◌==◌, List, [], ◌∷◌, ◌++◌, Option, Some, None, Result, Ok, Err, ◌⊎◌, inl, inr, refl, sym, ap, ◌∙◌, subst}
-use Rattle.std.proofs.lemmas.Bool.{false≢true}
+use Rattle.std.proofs.lemmas.Bool.{and_parts}
 use Rattle.std.specs.FinMap as map
 use Rattle.std.specs.List.{AllByRecursion}
 use Rattle.iso8583.specs.declared.account_id.AccountId.{AccountId}
@@ -221,13 +221,8 @@ advice_own opening rows h a (Some (OriginalRow.Ahead mark)) =
 advice_own opening rows h a (Some (OriginalRow.Kept k)) =
     either opening (map.get rows) _ (a.repeat && is_of_same k a.transaction OriginalKind.Advice) _ _ tt tt
 
--- the card of the original that a reversal names is the reversal's
-both : (a b : Bool) → (a && b) ≡ true → (a ≡ true) × (b ≡ true)
-both true b h = (refl, h)
-both false b h = absurd (false≢true h)
-
 same_card : (v : Reversal) (k : KeptOriginal) → is_named v k ≡ true → k.card ≡ v.transaction.pan
-same_card v k named = let digits = texts_same k.card.0 v.transaction.pan.0 ((both (is_same_card k.card v.transaction.pan) _ named).0) in λ i. record { 0 = digits i }
+same_card v k named = let digits = texts_same k.card.0 v.transaction.pan.0 ((and_parts (is_same_card k.card v.transaction.pan) _ named).0) in λ i. record { 0 = digits i }
 
 -- a reversal leaves who paid
 settled_keys : (o : OriginalOutcome) (by : Identity) (n : ℕ) → payment_keys (payment_of_outcome (settled_outcome o by n)) ≡ payment_keys (payment_of_outcome o)

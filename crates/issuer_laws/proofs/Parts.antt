@@ -1,8 +1,8 @@
 -- Parts of a batch that share no row are decided alone as they are decided together.
-use Rattle.std.proofs.Common.{◌≡◌, ◌≢◌, ℕ, true, false, if◌then◌else◌, ◌==◌, List, [], ◌∷◌, Option, None, ◌⊎◌, inl, inr, refl, sym, ap, ◌∙◌, subst, arith}
-use Rattle.std.proofs.lemmas.Bool.Decides.{nat_tests}
+use Rattle.std.proofs.Common.{◌≡◌, ◌≢◌, ℕ, true, false, if◌then◌else◌, ◌==◌, List, [], ◌∷◌, Option, None, ◌⊎◌, inl, inr, refl, sym, ap, ◌∙◌, subst}
 use Rattle.std.specs.FinMap as map
 use Rattle.std.specs.List.{AllByRecursion}
+use Rattle.std.proofs.lemmas.Bool.{eqb-true, eqb-false}
 use Rattle.issuer_rows.specs.Decision.{decision, plan_of}
 use Rattle.issuer_rows.specs.Fold.{Rows, overlay, reply_of, writes_of, rows_after_one, replies_to, rows_after}
 use Rattle.issuer_rows.specs.Plan.{Plan, Lookup, Writes, Decided, Answer, Look, after_look, carried_out}
@@ -94,12 +94,6 @@ other_rows opening ms p m apart here other whole h k (inl own) =
 other_rows opening ms p m apart here other whole h k (inr none) =
     no_budget_stays opening (rows_after_one whole m.1) (follows_one opening whole h m.1) k none ∙ sym (no_budget_stays opening whole h k none)
 
-is_part : (n p : ℕ) → (n == p) ≡ true → n ≡ p
-is_part n p e = grind (arith, nat_tests)
-
-not_part : (n p : ℕ) → (n == p) ≡ false → n ≢ p
-not_part n p e same = grind (arith, nat_tests)
-
 -- replies and rows of the messages that are left
 record GoesOn (opening : Rows) (ms : Parted) (p : ℕ) (left : Parted) (whole alone : Rows) : Type 0 where
   replies : replies_to alone (of_part p left) ≡ of_part p (with_parts left (replies_to whole (bodies left)))
@@ -114,12 +108,12 @@ goes_on opening ms p apart (m ∷ left) within whole alone h agree =
     let both =
     elim (m.0 == p) as (λ b. (m.0 == p) ≡ b → (replies_to alone (if b then m.1 ∷ of_part p left else of_part p left) ≡ (if b then reply_of whole m.1 ∷ of_part p (with_parts left (replies_to (rows_after_one whole m.1) (bodies left))) else of_part p (with_parts left (replies_to (rows_after_one whole m.1) (bodies left))))) × Agree opening ms p (rows_after (rows_after_one whole m.1) (bodies left)) (rows_after alone (if b then m.1 ∷ of_part p left else of_part p left))) [
       | true ↦ λ e.
-          let same = own_decision opening ms p m here (is_part m.0 p e) whole alone h agree in
+          let same = own_decision opening ms p m here (eqb-true m.0 p e) whole alone h agree in
           let reply = sym (ap (λ (d : Decided). d.reply) same) in
           let rest = goes_on opening ms p apart left later (rows_after_one whole m.1) (rows_after_one alone m.1) next (own_rows opening ms p m.1 whole alone same agree) in
           ((λ i. reply i ∷ rest.replies i), rest.rows)
       | false ↦ λ e.
-          let agrees : Agree opening ms p (rows_after_one whole m.1) alone = λ k shared. other_rows opening ms p m apart here (not_part m.0 p e) whole h k shared ∙ agree k shared in
+          let agrees : Agree opening ms p (rows_after_one whole m.1) alone = λ k shared. other_rows opening ms p m apart here (eqb-false m.0 p e) whole h k shared ∙ agree k shared in
           let rest = goes_on opening ms p apart left later (rows_after_one whole m.1) alone next agrees in
           (rest.replies, rest.rows)
     ] refl

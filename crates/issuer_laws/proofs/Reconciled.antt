@@ -33,12 +33,13 @@ use Rattle.issuer_rows.specs.declared.row_key.RowKey.{RowKey}
 use Rattle.issuer_rows.specs.declared.row_val.RowVal.{RowVal}
 use Rattle.issuer_rows.specs.declared.velocity_row.VelocityRow.{VelocityRow}
 use Rattle.issuer_laws.proofs.AdviceWays as advice
-use Rattle.issuer_laws.proofs.Funding.{IsFound}
-use Rattle.issuer_laws.proofs.Keys.{get-fresh, texts_same, texts_apart, funds_other, original_stands}
+use Rattle.issuer_laws.proofs.Funding.{IsFound, same_account}
+use Rattle.issuer_laws.proofs.Keys.{get-fresh, texts_apart, funds_other, original_stands}
 use Rattle.issuer_laws.proofs.RequestWays as request
 use Rattle.issuer_laws.proofs.ReversalWays.{SettlesPosted, day_put, reversal_ways}
 use Rattle.issuer_laws.proofs.Written.{WritesOne, value_behind, value_there}
 use Rattle.issuer_laws.specs.Reconciled.{available, original_at, is_answered, is_paid_from, taken, returned_of, returned, IsReconciled}
+use Rattle.issuer_laws.proofs.Covered.{nothing_if}
 
 -- ---- the row that pays
 
@@ -46,9 +47,6 @@ use Rattle.issuer_laws.specs.Reconciled.{available, original_at, is_answered, is
 abbrev WritesFunds : Writes → Funds → ℕ → Type 0
 WritesFunds ws (Funds.Account id row) n = WritesOne 4 ws (RowKey.Account id) (RowVal.Account (record row { available = n }))
 WritesFunds ws (Funds.Budget prefix row) n = IsFresh 4 ws
-
-same_account : (a b : AccountId) → is_same_account a b ≡ true → a ≡ b
-same_account a b e = let texts = texts_same a.0 b.0 e in λ i. record { 0 = texts i }
 
 other_account : (a b : AccountId) → is_same_account a b ≡ false → RowKey.Account b ≢ RowKey.Account a
 other_account a b e same = let one : b ≡ a = cc in texts_apart a.0 b.0 e (ap (λ (x : AccountId). x.0) (sym one))
@@ -201,9 +199,6 @@ still before after x e f = omega (arith, e, f)
 back : (before after x g : ℕ) → before + g ≡ after → x ≡ g → before + x ≡ after + 0
 back before after x g e f = omega (arith, e, f)
 
-no_answer : (b : Bool) (n : ℕ) → b ≡ false → (if b then n else 0) ≡ 0
-no_answer b n e = ap (λ (x : Bool). if◌then◌else◌ {A = ℕ} x n 0) e
-
 answer_of : (b : Bool) (n m : ℕ) → b ≡ true → n ≡ m → (if b then n else 0) ≡ m
 answer_of b n m e f = ap (λ (x : Bool). if◌then◌else◌ {A = ℕ} x n 0) e ∙ f
 
@@ -242,9 +237,9 @@ reversal_balances : (id : AccountId) (rows : Rows) (v : Reversal) → Balances i
 unfolding decision
 reversal_balances id rows v =
     elim (reversal_ways v (map.get rows)) [
-      | inl w ↦ still _ _ _ (untouched rows _ id (subst (IsFresh 4) (sym w.writes) tt)) (no_answer _ _ (ap (is_answered 400) w.reply ∙ not_400 w.action w.refused))
+      | inl w ↦ still _ _ _ (untouched rows _ id (subst (IsFresh 4) (sym w.writes) tt)) (nothing_if _ _ (ap (is_answered 400) w.reply ∙ not_400 w.action w.refused))
       | inr w1 ↦ elim w1 [
-        | inl w ↦ still _ _ _ (untouched rows _ id (subst (IsFresh 4) (sym w.writes) (refl, tt))) (no_answer _ _ (ap (is_answered 400) w.reply))
+        | inl w ↦ still _ _ _ (untouched rows _ id (subst (IsFresh 4) (sym w.writes) (refl, tt))) (nothing_if _ _ (ap (is_answered 400) w.reply))
         | inr w2 ↦ elim w2 [
           | inl w ↦
               still _ _ _ (untouched rows _ id (subst (IsFresh 4) (sym w.writes) tt))

@@ -1,6 +1,6 @@
 -- What becomes of a reversal.
 use Rattle.std.proofs.Common.{◌≡◌, ◌≢◌, ℕ, Bool, true, false, if◌then◌else◌, ◌&&◌, [], ◌∷◌, ◌++◌, Option, Some, None, option_map, ◌⊎◌, inl, inr, refl, sym, arith}
-use Rattle.std.proofs.lemmas.Bool.{false≢true}
+use Rattle.std.proofs.lemmas.Bool.{and_parts}
 use Rattle.iso8583.specs.declared.identity.Identity.{Identity}
 use Rattle.iso8583.specs.declared.original_kind.OriginalKind.{OriginalKind}
 use Rattle.iso8583.specs.declared.original_kind.OriginalKind.TheVariants as kind
@@ -107,10 +107,6 @@ either_way : (v : Reversal) (look : Lookup) (b : Bool) (p q : Plan) → (b ≡ t
 either_way v look true p q h k = h refl
 either_way v look false p q h k = k refl
 
-second : (a b : Bool) → (a && b) ≡ true → b ≡ true
-second true b h = h
-second false b h = absurd (false≢true h)
-
 -- what is known where the row that paid was looked at
 record IsPaid (v : Reversal) (look : Lookup) (k : KeptOriginal) (paid : Funds) : Type 0 where
   names : Names v look k None
@@ -179,7 +175,7 @@ ways_of_reversal : (v : Reversal) (look : Lookup) (k : KeptOriginal) (by : Optio
 ways_of_reversal v look k None h = ways_of_payment v look k (payment_of_outcome k.outcome) h refl
 ways_of_reversal v look k (Some by) h =
     either_way v look (v.repeat && is_same_identity by (identity_of v.transaction)) _ _
-    (λ again. inr (inr (inl (record { kept = k; by = by; names = h; own = second v.repeat _ again; reply = refl; writes = refl }))))
+    (λ again. inr (inr (inl (record { kept = k; by = by; names = h; own = (and_parts v.repeat _ again).1; reply = refl; writes = refl }))))
     (λ other. refusing v look 913 (λ e. absurd (omega arith)))
 
 ways_of_row : (v : Reversal) (look : Lookup) (row : Option OriginalRow) → original_in (look (key.Original v.original.identity)) ≡ row → IsWay v look (on_reversed v row)

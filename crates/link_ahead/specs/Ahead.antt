@@ -1,6 +1,7 @@
 -- What is handed over of a link that is read ahead.
 use Rattle.std.specs.Prelude.{◌≡◌, ◌⊎◌, ◌-◌, ◌^◌, ◌<◌, ⊤, ℕ, List, [], ◌++◌, length, true, false, Option, Some, None}
 use Rattle.rtrb.specs.Ring.{sent, received}
+use Rattle.file_devices.specs.Appending.{Begins}
 use Rattle.link_ahead.specs.declared.ahead.Ahead.{Ahead}
 use Rattle.link_ahead.specs.declared.last.Last.{Last}
 use Rattle.link_ahead.specs.declared.reading.Reading.{Reading}
@@ -8,10 +9,6 @@ use Rattle.link_ahead.specs.declared.reading.Reading.{Reading}
 -- how far a count goes
 abbrev pub most : ℕ
 most = 2 ^ 64 - 1
-
--- the bytes begin with this front
-abbrev pub IsBeginning : List ℕ → List ℕ → Type 0
-IsBeginning front bytes = (rest : List ℕ) × (bytes ≡ front ++ rest)
 
 -- over a source
 module _ {S : Type 0} (is_known : S → Type 0) (remaining : S → List ℕ) (may_fail : S → Type 0) where
@@ -40,7 +37,7 @@ MayFail fails None = fails
 -- the bytes of the link are known, and those that were taken are a beginning of them
 pub record IsReadAhead (reads : Type 0) (all taken : List ℕ) (last : Option Last) : Type 0 where
   pub known : reads
-  pub beginning : IsBeginning taken all
+  pub beginning : Begins taken all
   pub end : FitsEnd all last
 
 -- nothing was taken of the link yet

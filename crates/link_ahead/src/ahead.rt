@@ -27,7 +27,8 @@ pub struct Ahead<R, L: Link> {
 impl<R, L: Link> Ahead<R, L> {
     ghost use Rattle.std.specs.Prelude.{◌≡◌, ◌≤◌, ◌<◌, ◌++◌, [], length, take, Some, IfSome};
     ghost use Rattle.rtrb.specs.Ring.{received};
-    ghost use Rattle.link_ahead.specs.Ahead.{most, IsBeginning, FitsEnd, MayFail, IsFresh};
+    ghost use Rattle.file_devices.specs.Appending.{Begins};
+    ghost use Rattle.link_ahead.specs.Ahead.{most, FitsEnd, MayFail, IsFresh};
 
     /// A link of which no byte was taken, read by this thread.
     pub(crate) fn new(
@@ -55,7 +56,7 @@ impl<R, L: Link> Ahead<R, L> {
         ensures within { result ≤ length buffer.old }
         ensures size { length buffer.new ≡ length buffer.old }
         ensures received { received self.new.inbound ≡ received self.old.inbound ++ take result buffer.new }
-        ensures beginning { L.is_known → IsBeginning (received self.old.inbound) L.bytes → IsBeginning (received self.new.inbound) L.bytes }
+        ensures beginning { L.is_known → Begins (received self.old.inbound) L.bytes → Begins (received self.new.inbound) L.bytes }
         ensures kept { (self.new.has_failed ≡ self.old.has_failed) × (self.new.last ≡ self.old.last) }
     {
         let count = self.inbound.pop_partial_slice(buffer);

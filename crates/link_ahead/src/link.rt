@@ -1,5 +1,6 @@
 ghost use Rattle.std.specs.Prelude.{ℕ, List, [], ◌∷◌, ◌++◌};
-ghost use Rattle.link_ahead.specs.Ahead.{IsBeginning, IsLast};
+ghost use Rattle.file_devices.specs.Appending.{Begins};
+ghost use Rattle.link_ahead.specs.Ahead.{IsLast};
 
 use crate::last::Last;
 use rtrb::Protocol;
@@ -30,7 +31,7 @@ pub struct InOrder<L> {
 }
 
 impl<L: Link> Protocol<u8> for InOrder<L> {
-    ghost allows = { λ before byte. L.is_known → IsBeginning (before ++ byte ∷ []) L.bytes };
+    ghost allows = { λ before byte. L.is_known → Begins (before ++ byte ∷ []) L.bytes };
 }
 
 impl<L: Link> Protocol<Last> for InOrder<L> {

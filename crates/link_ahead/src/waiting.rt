@@ -1,6 +1,6 @@
 ghost use Rattle.std.specs.Prelude.{◌≡◌, ◌++◌, IsTrue};
 ghost use Rattle.rtrb.specs.Ring.{sent};
-ghost use Rattle.link_ahead.specs.Ahead.{IsBeginning};
+ghost use Rattle.file_devices.specs.Appending.{Begins};
 
 use crate::link::{InOrder, Link};
 use crate::signals::Signals;
@@ -15,7 +15,7 @@ pub(crate) fn hand_over<W: Wait, L: Link>(
     bytes: &[u8],
     signals: &Signals,
 ) -> bool
-    requires { L.is_known → IsBeginning (sent outbound.old ++ bytes.now) L.bytes }
+    requires { L.is_known → Begins (sent outbound.old ++ bytes.now) L.bytes }
     ensures { IsTrue result → sent outbound.new ≡ sent outbound.old ++ bytes.now }
 {
     let mut rest = bytes;

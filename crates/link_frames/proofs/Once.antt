@@ -1,44 +1,17 @@
 -- A link is read in one way.
-use Rattle.std.proofs.Common.{◌≡◌, ℕ, List, [], ◌∷◌, ◌++◌, Result, Ok, Err, refl, sym, ap, subst, ◌∙◌, append_assoc}
+use Rattle.std.proofs.Common.{◌≡◌, ℕ, List, [], ◌∷◌, ◌++◌, refl, sym, ap, subst, ◌∙◌, append_assoc}
 use Rattle.std.specs.List.{flat_map}
 use Rattle.std.proofs.lemmas.List.{append-nil}
-use Rattle.file_batch_laws.specs.Files.{framed, IsBody}
-use Rattle.file_batch_laws.specs.Reading.{bodies_at}
-use Rattle.file_batch_laws.specs.declared.batch_fault.BatchFault.{BatchFault}
-use Rattle.file_batch_laws.proofs.Again.{bodies_again}
+use Rattle.file_batch_laws.specs.Files.{framed}
+use Rattle.file_batch_laws.proofs.Again.{framed_apart}
 use Rattle.link_frames.specs.Link.{AreFrames, IsNoFrame}
 use Rattle.link_frames.proofs.Fronts.{not_none}
-
-abbrev Read : Type 0
-Read = Result (List (List ℕ) × List ℕ) BatchFault
-
-abbrev left_in : Read → List ℕ
-left_in (Ok read) = read.1
-left_in (Err e) = []
-
-abbrev first : List (List ℕ) → List ℕ
-first [] = []
-first (body ∷ bodies) = body
-
-abbrev first_in : Read → List ℕ
-first_in (Ok read) = first read.0
-first_in (Err e) = []
-
-one_framed : (body rest : List ℕ) → flat_map framed (body ∷ []) ++ rest ≡ framed body ++ rest
-one_framed body rest = ap (λ (x : List ℕ). x ++ rest) (append-nil (framed body))
-
--- a frame is of one body alone
-same_frame : (body other behind rest : List ℕ) → IsBody body → IsBody other → framed body ++ behind ≡ framed other ++ rest → (body ≡ other) × (behind ≡ rest)
-same_frame body other behind rest is is_other same =
-    let both : flat_map framed (body ∷ []) ++ behind ≡ flat_map framed (other ∷ []) ++ rest = one_framed body behind ∙ same ∙ sym (one_framed other rest) in
-    let reads : Path Read (Ok (body ∷ [], behind)) (Ok (other ∷ [], rest)) = sym (bodies_again (body ∷ []) behind (is, tt)) ∙ ap (bodies_at 1) both ∙ bodies_again (other ∷ []) rest (is_other, tt) in
-    (ap first_in reads, ap left_in reads)
 
 -- a body and those behind it, on both sides
 both_begin : (bytes left rest body other : List ℕ) (bodies others : List (List ℕ)) → AreFrames bytes (body ∷ bodies) left → AreFrames bytes (other ∷ others) rest
     → (body ≡ other) × (flat_map framed bodies ++ left ≡ flat_map framed others ++ rest)
 both_begin bytes left rest body other bodies others here there =
-    same_frame body other (flat_map framed bodies ++ left) (flat_map framed others ++ rest) here.0.0 there.0.0
+    framed_apart body other (flat_map framed bodies ++ left) (flat_map framed others ++ rest) here.0.0 there.0.0
     (sym (append_assoc (framed body) (flat_map framed bodies) left) ∙ sym here.1 ∙ there.1 ∙ append_assoc (framed other) (flat_map framed others) rest)
 
 pub begins : (bytes left rest : List ℕ) (bodies others : List (List ℕ)) → AreFrames bytes bodies left → AreFrames bytes others rest → IsNoFrame rest

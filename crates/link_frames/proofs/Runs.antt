@@ -1,20 +1,12 @@
 -- Frames that are found one behind another.
 use Rattle.std.proofs.Common.{◌≡◌, ℕ, ◌+◌, ◌<◌, List, [], ◌∷◌, ◌++◌, length, refl, sym, ap, subst, ◌∙◌, append_assoc, arith}
-use Rattle.std.specs.List.{flat_map, AllByRecursion}
-use Rattle.std.proofs.lemmas.List.{append-nil, length-append}
-use Rattle.std.proofs.lemmas.List.Concat.{flat_map-append}
+use Rattle.std.specs.List.{flat_map}
+use Rattle.std.proofs.lemmas.List.{length-append}
 use Rattle.file_batch_laws.specs.Files.{framed, IsBody}
 use Rattle.link_frames.specs.Link.{AreSoMany, HasFrame, IsNoFrame}
 use Rattle.link_frames.proofs.Fronts.{not_none}
-
--- what holds of some and of others holds of all of them
-pub each_more : {A : Type 0} (P : A → Type 0) (some more : List A) → AllByRecursion P some → AllByRecursion P more → AllByRecursion P (some ++ more)
-each_more P [] more h k = k
-each_more P (item ∷ some) more h k = (h.0, each_more P some more h.1 k)
-
--- one frame more
-framed_more : (bodies : List (List ℕ)) (body : List ℕ) → flat_map framed (bodies ++ body ∷ []) ≡ flat_map framed bodies ++ framed body
-framed_more bodies body = flat_map-append framed bodies (body ∷ []) ∙ ap (λ (x : List ℕ). flat_map framed bodies ++ x) (append-nil (framed body))
+use Rattle.file_batch_laws.proofs.Lists.{each_more}
+use Rattle.file_batch_laws.proofs.Again.{framed_more}
 
 pub one_more : (count : ℕ) (bytes front rest body behind : List ℕ) → AreSoMany count front → bytes ≡ front ++ rest → IsBody body → rest ≡ framed body ++ behind
     → (x : List ℕ) × AreSoMany (count + 1) x × (bytes ≡ x ++ behind)

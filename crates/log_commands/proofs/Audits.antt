@@ -1,5 +1,5 @@
 -- Faults of the parts of an audit of a log, and the sizes of blocks.
-use Rattle.std.proofs.Common.{◌≡◌, ◌⊎◌, ◌≤◌, ℕ, List, [], ◌∷◌, length, map, inl, inr, refl, arith}
+use Rattle.std.proofs.Common.{◌≡◌, ◌≤◌, ℕ, List, [], ◌∷◌, length, map, refl, arith}
 use Rattle.std.specs.Global.{Vec}
 use Rattle.std.specs.List.{All, AllByRecursion}
 use Rattle.std.proofs.lemmas.List.Elements.{All-from_recursion}
@@ -16,7 +16,7 @@ use Rattle.log_replay.specs.Blocks.{AreCut}
 use Rattle.log_commands.specs.Audited.{IsLogUnread, IsUnread}
 use Rattle.log_commands.specs.CommandFault.{fault_of_open}
 use Rattle.log_commands.specs.declared.command_fault.CommandFault.{CommandFault}
-use Rattle.log_commands.specs.declared.command_fault.CommandFault.TheVariants.{Usage, Job, Log}
+use Rattle.log_commands.specs.declared.command_fault.CommandFault.TheVariants.{Job, Log}
 
 few_in_each : (blocks : List (Vec Frame)) → AreCut (map (λ (block : Vec Frame). block.items) blocks) → AllByRecursion (λ (block : Vec Frame). length block.items ≤ 65536) blocks
 few_in_each [] cut = tt

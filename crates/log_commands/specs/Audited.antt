@@ -1,5 +1,5 @@
 -- What an audit of a log finds, and why there is none.
-use Rattle.std.specs.Prelude.{◌≡◌, ◌⊎◌, ◌<◌, ℕ, List, Err}
+use Rattle.std.specs.Prelude.{◌⊎◌, ℕ, List}
 use Rattle.app_audit.specs.Blocks.{FindsInBlocks}
 use Rattle.app_audit.specs.declared.block_audit.BlockAudit.{BlockAudit}
 use Rattle.app_audit.specs.declared.block_audit.BlockAudit.TheVariants.{Same, CountDiffers, ReplyDiffers, BookDiffers}
@@ -22,7 +22,7 @@ use Rattle.log_replay.specs.Faults.{IsReadingFault}
 use Rattle.log_replay.specs.Logged.{IsLogOfMessages, book_digest}
 use Rattle.log_commands.specs.Faults.{HasTooMany, IsClaimFault, IsLogFault}
 use Rattle.log_commands.specs.declared.command_fault.CommandFault.{CommandFault}
-use Rattle.log_commands.specs.declared.command_fault.CommandFault.TheVariants.{Usage, Job, Log}
+use Rattle.log_commands.specs.declared.command_fault.CommandFault.TheVariants.{Job, Log}
 
 -- The replies and the new book that files hold are compared with what deciding the messages of the log on its book, which the file held, one
 -- after another, comes to: their replies in blocks of 65,536, and the book after them.

@@ -1,6 +1,7 @@
 -- The names of a log's files.
-use Rattle.std.specs.Prelude.{◌≡◌, ◌≢◌, ◌⊎◌, ⊤, ℕ, List, [], ◌∷◌}
+use Rattle.std.specs.Prelude.{ℕ, List, [], ◌∷◌}
 use Rattle.file_devices.specs.BatchNames.{Names}
+pub use Rattle.app_jobs.specs.Apart.{AreApart, HasOneFile}
 use Rattle.log_commands.specs.declared.log_names.LogNames.{LogNames}
 
 -- as texts; the log stands where a batch would
@@ -11,13 +12,3 @@ names_of names = record { book = names.book.now; batch = names.log.now; replies 
 -- book, which is kept as long as the log is.
 abbrev pub log_apart : Names → List (List ℕ × List ℕ)
 log_apart names = (names.replies, names.new_book) ∷ (names.replies, names.book) ∷ (names.replies, names.batch) ∷ (names.new_book, names.book) ∷ (names.new_book, names.batch) ∷ []
-
--- of each pair the names differ
-abbrev pub AreApart : List (List ℕ × List ℕ) → Type 0
-AreApart [] = ⊤
-AreApart (pair ∷ pairs) = (pair.0 ≢ pair.1) × AreApart pairs
-
--- of some pair both names are one
-abbrev pub HasOneFile : List (List ℕ × List ℕ) → Type 0
-HasOneFile [] = ⊥
-HasOneFile (pair ∷ pairs) = (pair.0 ≡ pair.1) ⊎ HasOneFile pairs

@@ -1,12 +1,11 @@
-ghost use Rattle.std.specs.Prelude.{◌≡◌, [], ◌∷◌, IfOk};
 ghost use Rattle.app_jobs.specs.Deciding.{PutsAnswer};
 ghost use Rattle.app_jobs.specs.Faults.{MayBeRefused};
 ghost use Rattle.log_commands.specs.Names.{names_of};
 
 use crate::log_names::LogNames;
-use app_jobs::{JobFault, written};
-use file_devices::{Files, Written};
-use std::alloc::{AllocError, Global};
+use app_jobs::{JobFault, both, written};
+use file_devices::Files;
+use std::alloc::Global;
 
 /// Puts replies and the book after them in place, replies first. After a fault all files are as they were.
 pub(crate) fn put_answer<F: Files>(
@@ -24,18 +23,4 @@ pub(crate) fn put_answer<F: Files>(
     let new_book = written(alloc, names.new_book, new_book)?;
     let answer = both(alloc, replies, new_book)?;
     Ok(files.put_in_place(answer)?)
-}
-
-// Two files that were written, in this order.
-fn both<O: Drop>(
-    alloc: Global,
-    first: Written<O>,
-    second: Written<O>,
-) -> Result<Vec<Written<O>>, AllocError>
-    ensures { IfOk result (λ files. files.items ≡ first ∷ second ∷ []) }
-{
-    let mut files = Vec::new(alloc);
-    files.push(first)?;
-    files.push(second)?;
-    Ok(files)
 }

@@ -1,14 +1,12 @@
 -- Bodies in one text, each behind its length.
-use Rattle.std.proofs.Common.{◌≡◌, ◌≢◌, ℕ, zero, suc, ◌+◌, ◌-◌, ◌<◌, ◌≤◌, List, [], ◌∷◌, ◌++◌, length, drop, Bool, true, false, Result, Ok, refl, sym, ap, subst, ◌∙◌, append_assoc, arith}
+use Rattle.std.proofs.Common.{◌≡◌, ◌≢◌, ℕ, ◌+◌, ◌-◌, ◌<◌, ◌≤◌, List, [], ◌∷◌, ◌++◌, length, drop, Bool, true, false, Ok, refl, sym, ap, subst, ◌∙◌, append_assoc, arith}
 use Rattle.std.proofs.lemmas.List.{append-nil, length-append}
-use Rattle.std.proofs.lemmas.List.Concat.{flat_map-append}
 use Rattle.std.specs.List.{flat_map, AllByRecursion}
 use Rattle.byteorder.specs.Endian.{big_bytes, big_number}
 use Rattle.log_laws.specs.Texts.{payload_text}
 use Rattle.file_batch_laws.specs.Files.{framed, AreBodies, IsBody}
 use Rattle.file_batch_laws.specs.Reading.{bodies_at}
-use Rattle.file_batch_laws.specs.declared.batch_fault.BatchFault.{BatchFault}
-use Rattle.file_batch_laws.proofs.Again.{bodies_again}
+use Rattle.file_batch_laws.proofs.Again.{bodies_again, framed_more, framed_apart}
 use Rattle.log_file.specs.Bodies.{bodies_in, bodies_read, IsFramed}
 
 again : (bodies : List (List ℕ)) → AllByRecursion IsBody bodies → bodies_at (length bodies) (flat_map framed bodies) ≡ Ok (bodies, [])
@@ -28,29 +26,10 @@ texts bodies count text are number is =
       framed_is = record { text_is = is ∙ ap (flat_map framed) (sym seen); are = subst AreBodies (sym seen) are; number = ap length seen ∙ number };
     }
 
-head_is : (x y : List ℕ) → x ∷ [] ≡ y ∷ [] → x ≡ y
-head_is x y e = cc
-
-ok_is : {A E : Type 0} (x y : A) → Path (Result A E) (Ok x) (Ok y) → x ≡ y
-ok_is x y e = cc
-
--- what one framed body begins is told apart
-pub framed_apart : (body other rest more : List ℕ) → IsBody body → IsBody other → framed body ++ rest ≡ framed other ++ more → (body ≡ other) × (rest ≡ more)
-framed_apart body other rest more is is' e =
-    let one : flat_map framed (body ∷ []) ++ rest ≡ flat_map framed (other ∷ []) ++ more =
-    ap (λ (x : List ℕ). x ++ rest) (append-nil (framed body)) ∙ e ∙ ap (λ (x : List ℕ). x ++ more) (sym (append-nil (framed other))) in
-    let read : Path (Result (List (List ℕ) × List ℕ) BatchFault) (Ok (body ∷ [], rest)) (Ok (other ∷ [], more)) =
-    sym (bodies_again (body ∷ []) rest (is, tt)) ∙ ap (bodies_at 1) one ∙ bodies_again (other ∷ []) more (is', tt) in
-    let both = ok_is (body ∷ [], rest) (other ∷ [], more) read in
-    (head_is body other (ap (λ (p : List (List ℕ) × List ℕ). p.0) both), ap (λ (p : List (List ℕ) × List ℕ). p.1) both)
-
 -- one more body behind others
 all_more : (bodies : List (List ℕ)) (body : List ℕ) → AllByRecursion IsBody bodies → IsBody body → AllByRecursion IsBody (bodies ++ body ∷ [])
 all_more [] body all is = (is, tt)
 all_more (b ∷ bodies) body all is = (all.0, all_more bodies body all.1 is)
-
-framed_more : (bodies : List (List ℕ)) (body : List ℕ) → flat_map framed (bodies ++ body ∷ []) ≡ flat_map framed bodies ++ framed body
-framed_more bodies body = flat_map-append framed bodies (body ∷ []) ∙ ap (λ (x : List ℕ). flat_map framed bodies ++ x) (append-nil (framed body))
 
 pub pushed : (count : ℕ) (text text' body : List ℕ) → IsFramed count text → IsBody body → count < 65536 → text' ≡ text ++ framed body → Texts (count + 1) text' (bodies_in count text ++ body ∷ [])
 pushed count text text' body is fits few e =

@@ -1,16 +1,12 @@
 -- Logs that are written.
-use Rattle.std.proofs.Common.{◌≡◌, ◌≢◌, ◌⊎◌, inl, inr, ℕ, Bool, true, false, ◌+◌, ◌<◌, ◌≤◌, List, [], ◌∷◌, ◌++◌, length, take, drop, refl, sym, ap, subst, ◌∙◌, append_assoc, arith}
+use Rattle.std.proofs.Common.{◌≡◌, ◌≢◌, inl, inr, ℕ, Bool, true, false, ◌+◌, ◌<◌, ◌≤◌, List, [], ◌∷◌, ◌++◌, length, take, drop, refl, sym, ap, subst, ◌∙◌, arith}
 use Rattle.std.proofs.lemmas.List.{append-nil, length-append, take_at, take-append-drop, nil_from_length}
-use Rattle.std.specs.List.{All, AllByRecursion}
-use Rattle.log_devices.specs.Growing.{AddsPart, Begins}
-use Rattle.log_laws.specs.Reading.{AreEntries, IsUnbegun}
-use Rattle.log_laws.specs.Tails.{AreZeros}
-use Rattle.log_laws.specs.Texts.{entry_text, first_digest, header_text, last_digest, log_text, next_digest}
-use Rattle.log_laws.proofs.Apart.{length-header}
-use Rattle.log_file.proofs.Ahead.{all_held}
+use Rattle.std.specs.List.{All}
+use Rattle.log_laws.specs.Reading.{IsUnbegun}
+use Rattle.log_laws.specs.Texts.{entry_text, header_text, last_digest, log_text}
 use Rattle.std.proofs.lemmas.List.Elements.{All-from_recursion, recursion_from_All}
 use Rattle.log_file.proofs.Framing.{clash}
-use Rattle.log_file.proofs.Stepping.{are_more, first_is, log_one_more, text_of_none}
+use Rattle.log_file.proofs.Stepping.{log_one_more, text_of_none}
 
 -- nothing is left behind what was cut to nothing
 pub header_alone : (book synced unsynced synced' : List ℕ) (whole : List ℕ) → synced ≡ take 0 whole → unsynced ≡ [] → synced' ≡ synced ++ unsynced ++ header_text book → synced' ≡ log_text book []

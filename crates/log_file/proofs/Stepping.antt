@@ -1,8 +1,7 @@
 -- A log that is read entry by entry.
-use Rattle.std.proofs.Common.{◌≡◌, ◌≢◌, ◌⊎◌, inl, inr, ℕ, ◌+◌, ◌<◌, ◌≤◌, List, [], ◌∷◌, ◌++◌, length, take, drop, refl, sym, ap, subst, ◌∙◌, append_assoc, arith}
+use Rattle.std.proofs.Common.{◌≡◌, inl, ℕ, ◌+◌, ◌<◌, List, [], ◌∷◌, ◌++◌, length, drop, sym, ap, subst, ◌∙◌, append_assoc, arith}
 use Rattle.std.proofs.lemmas.List.{append-nil, length-append}
 use Rattle.sha2.specs.Sha256.{sha256}
-use Rattle.std.specs.List.{AllByRecursion}
 use Rattle.file_batch_laws.specs.Files.{AreBodies}
 use Rattle.std.specs.Prelude.{IsTrue}
 use Rattle.log_laws.specs.LogFault.{is_of_bytes}
@@ -10,9 +9,9 @@ use Rattle.log_laws.specs.declared.log_fault.LogFault.{LogFault}
 use Rattle.log_laws.specs.declared.log_fault.LogFault.TheVariants.{Failed}
 use Rattle.log_laws.specs.Reading.{AreEntries, IsBrokenAt, IsLogOf, IsNoLog, Stands}
 use Rattle.log_laws.specs.Tails.{BeginsWith, IsBroken, IsTorn}
-use Rattle.log_laws.specs.Texts.{digest_after, entries_text, entry_text, first_digest, header_text, last_digest, log_letters, log_text, log_version, next_digest}
-use Rattle.log_laws.proofs.Apart.{behind_header, length-header}
-use Rattle.log_laws.proofs.Chain.{digest_one_more}
+use Rattle.log_laws.specs.Texts.{digest_after, entries_text, entry_text, first_digest, header_text, last_digest, log_text, next_digest}
+use Rattle.log_laws.proofs.Apart.{length-header}
+use Rattle.log_laws.proofs.Chain.{digest_one_more, digest_of_none}
 use Rattle.log_file.proofs.Ahead.{at_most}
 
 pub no_log_short : (bytes held left : List ℕ) → held ++ left ≡ bytes → left ≡ [] → length held < 38 → IsNoLog bytes
@@ -21,10 +20,6 @@ no_log_short bytes held left e none few = inl (at_most bytes held left 38 e none
 pub text_of_none : (book : List ℕ) → log_text book [] ≡ header_text book
 unfolding entries_text
 text_of_none book = append-nil (header_text book)
-
-digest_of_none : (book : List ℕ) → last_digest book [] ≡ sha256 (header_text book)
-unfolding digest_after
-digest_of_none book = refl
 
 pub record Opened (book bytes next digest : List ℕ) : Type 0 where
   pub stands : Stands book bytes [] next

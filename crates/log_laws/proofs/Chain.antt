@@ -30,7 +30,7 @@ unfolding digest_after
 digest_one_more before [] bodies = refl
 digest_one_more before (e ∷ front) bodies = digest_one_more (next_digest before e) front bodies
 
-digest_of_none : (book : List ℕ) → last_digest book [] ≡ sha256 (header_text book)
+pub digest_of_none : (book : List ℕ) → last_digest book [] ≡ sha256 (header_text book)
 unfolding digest_after
 digest_of_none book = refl
 

@@ -1,12 +1,12 @@
 -- What stands next behind the whole entries of a log.
 use Rattle.std.proofs.Common.{◌≡◌, ◌≢◌, inl, inr, ℕ, zero, suc, ◌<◌, ◌≤◌, ◌+◌, ◌^◌, List, [], ◌++◌, length, take, drop, replicate, refl, sym, ap, subst, ◌∙◌, arith, append_assoc}
 use Rattle.std.proofs.lemmas.List.{take_at, drop_at, length-append, append-nil, nil_from_length, take-append-le}
+use Rattle.std.proofs.lemmas.Bool.{cases_lt}
 use Rattle.sha2.specs.Sha256.{sha256}
 use Rattle.sha2.proofs.Facts256.{length-sha256}
 use Rattle.file_batch_laws.specs.Files.{AreBodies}
 use Rattle.log_laws.specs.Tails.{AreZeros, BeginsWith, IsBroken, IsCutShort, IsTorn, IsUnmatched}
 use Rattle.log_laws.specs.Texts.{entry_head, entry_text, next_digest, payload_text}
-use Rattle.log_laws.proofs.Choices.{less_or_not}
 use Rattle.log_laws.proofs.Heads.{length-head, numbers_apart, rests_apart, no_zeros, front_of_head, behind_head}
 use Rattle.log_laws.proofs.Payloads.{payloads_apart, payload_fits}
 
@@ -185,7 +185,7 @@ beginning_torn before bodies front rest are some e =
     let len = ap length e in
     let more : length rest ≢ 0 = λ none. some (nil_from_length rest none) in
     omega (arith, len, length-append front rest, length-entry before bodies, more) in
-    elim (less_or_not (length front) 8) [
+    elim (cases_lt (length front) 8) [
       | inl short ↦ inl short
       | inr long ↦
           let same : take 8 front ≡ entry_head size =

@@ -3,6 +3,7 @@ use Rattle.std.proofs.Common.{◌≡◌, ◌≢◌, ◌⊎◌, inl, inr, ℕ, ze
 use Rattle.std.specs.List.{All}
 use Rattle.std.proofs.lemmas.List.{length-append, length-drop, length-take-le, take-append-drop, drop-drop}
 use Rattle.std.proofs.lemmas.List.Elements.{recursion_from_All}
+use Rattle.std.proofs.lemmas.Bool.{cases_lt}
 use Rattle.sha2.specs.Sha256.{sha256}
 use Rattle.byteorder.specs.Endian.{big_number}
 use Rattle.file_batch_laws.specs.Files.{AreBodies}
@@ -12,10 +13,11 @@ use Rattle.log_laws.specs.Tails.{AreZeros, BeginsWith, IsBroken, IsTorn}
 use Rattle.log_laws.specs.Texts.{digest_after, entries_text, entry_head, entry_text, first_digest, header_text, log_letters, log_text, log_version, next_digest, payload_text}
 use Rattle.log_laws.specs.declared.log_fault.LogFault.{LogFault}
 use Rattle.log_laws.specs.declared.log_fault.LogFault.TheVariants.{NoLog, Version, OtherBook, Broken}
-use Rattle.log_laws.proofs.Choices.{less_or_not, same_or_not, some_or_none}
+use Rattle.log_laws.proofs.Choices.{same_or_not, some_or_none}
 use Rattle.log_laws.proofs.Heads.{behind_head, number_in_head}
 use Rattle.log_laws.proofs.Payloads.{AreBytes, payload_again, payload_read, payload_taken}
 use Rattle.log_laws.proofs.Steps.{Parts, all_zeros, cut_short, entry_here, length-entry, no_head, no_payload, other_digest, too_short, unmatched}
+use Rattle.file_batch_laws.proofs.Once.{rest_of}
 
 -- what stands next
 data Next (before left : List ℕ) : Type 0 where
@@ -85,7 +87,7 @@ parts_at left size fits head long =
 
 next_behind_head : (before left : List ℕ) (size : ℕ) → AreBytes left → size < 2 ^ 32 → take 8 left ≡ entry_head size → Next before left
 next_behind_head before left size all fits head =
-    elim (less_or_not (length left) (8 + size + 32)) [
+    elim (cases_lt (length left) (8 + size + 32)) [
       | inl short ↦ Torn (cut_short before left size fits head short)
       | inr long ↦ next_of_parts before left (take size (drop 8 left)) (take 32 (drop size (drop 8 left))) (drop 32 (drop size (drop 8 left)))
           (bytes_before size (drop 8 left) (bytes_behind 8 left all)) (parts_at left size fits head long)
@@ -115,7 +117,7 @@ next_of_eight before left all long =
     ]
 
 next : (before left : List ℕ) → AreBytes left → Next before left
-next before left all = elim (less_or_not (length left) 8) [ inl short ↦ Torn (too_short before left short) | inr long ↦ next_of_eight before left all long ]
+next before left all = elim (cases_lt (length left) 8) [ inl short ↦ Torn (too_short before left short) | inr long ↦ next_of_eight before left all long ]
 
 -- entries, and what stands behind them
 record Found (before bytes : List ℕ) : Type 0 where
@@ -139,10 +141,6 @@ one_found before bytes bodies rest begins found = record {
   ends = found.ends;
 }
 
-bytes_left : (xs ys : List ℕ) → AreBytes (xs ++ ys) → AreBytes ys
-bytes_left [] ys all = all
-bytes_left (x ∷ xs) ys all = bytes_left xs ys all.1
-
 find : (fuel : ℕ) (before bytes : List ℕ) → length bytes < fuel → AreBytes bytes → Found before bytes
 find zero before bytes few all = absurd (omega (arith, few))
 find (suc fuel) before bytes few all =
@@ -151,7 +149,7 @@ find (suc fuel) before bytes few all =
       | Broken_here broken ↦ none_found before bytes (inr broken)
       | Entry_here bodies rest begins ↦
           let fewer : length rest < fuel = omega (arith, few, ap length begins.is, length-append (entry_text before bodies) rest, length-entry before bodies) in
-          one_found before bytes bodies rest begins (find fuel (next_digest before bodies) rest fewer (bytes_left (entry_text before bodies) rest (subst AreBytes begins.is all)))
+          one_found before bytes bodies rest begins (find fuel (next_digest before bodies) rest fewer (rest_of (entry_text before bodies) rest (subst AreBytes begins.is all)))
     ]
 
 abbrev HasReading : List ℕ → List ℕ → Type 0
@@ -198,7 +196,7 @@ with_header book bytes all long =
 
 pub some_reading : (book bytes : List ℕ) → length book ≡ 32 → All (λ byte. byte < 256) bytes → HasReading book bytes
 some_reading book bytes len all =
-    elim (less_or_not (length bytes) 38) [
+    elim (cases_lt (length bytes) 38) [
       | inl short ↦ (Err NoLog, inl short)
       | inr long ↦ with_header book bytes (recursion_from_All (λ byte. byte < 256) bytes all) long
     ]

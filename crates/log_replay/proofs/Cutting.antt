@@ -1,14 +1,9 @@
 -- Blocks that are full, and those behind them.
-use Rattle.std.proofs.Common.{◌≡◌, ℕ, ◌+◌, ◌*◌, ◌<◌, ◌≤◌, List, [], ◌∷◌, ◌++◌, length, refl, ap, sym, ◌∙◌, append_assoc, arith}
+use Rattle.std.proofs.Common.{◌≡◌, ◌+◌, ◌*◌, ◌<◌, ◌≤◌, List, [], ◌∷◌, ◌++◌, length, ap, arith}
 use Rattle.std.specs.List.{AllByRecursion}
 use Rattle.std.proofs.lemmas.List.{append-nil, length-append}
-use Rattle.std.proofs.lemmas.List.Concat.{flat_map-append}
-use Rattle.issuer_rows.specs.Fold.{Rows, rows_after, replies_to}
 use Rattle.issuer_rows.specs.declared.frame.Frame.{Frame}
-use Rattle.file_batch.proofs.Counting.{count_of-append}
-use Rattle.file_batch.specs.Counting.{count_of, plus}
-use Rattle.file_batch_laws.specs.Blocks.{all_messages, block_text, blocks_text, replies_to_blocks, rows_after_blocks}
-use Rattle.file_batch_laws.specs.Replies.{AreReplyBodies}
+use Rattle.file_batch_laws.specs.Blocks.{all_messages}
 use Rattle.log_replay.specs.Blocks.{AreCut}
 
 -- full blocks
@@ -40,25 +35,3 @@ length-cut (block ∷ next ∷ blocks) cut =
     let all : length (all_messages (block ∷ next ∷ blocks)) ≡ length block + length (all_messages (next ∷ blocks)) = length-append block (all_messages (next ∷ blocks)) in
     let rest = length-cut (next ∷ blocks) cut.1 in
     (omega (arith, all, cut.0, rest.0), omega (arith, all, cut.0, rest.1))
-
-pub one_more_rows : (rows : Rows) (blocks : List (List Frame)) (block : List Frame) → rows_after_blocks rows (blocks ++ block ∷ []) ≡ rows_after (rows_after_blocks rows blocks) block
-one_more_rows rows [] block = refl
-one_more_rows rows (b ∷ blocks) block = one_more_rows (rows_after rows b) blocks block
-
-pub one_more_text : (rows : Rows) (blocks : List (List Frame)) (block : List Frame)
-    → blocks_text (replies_to_blocks rows (blocks ++ block ∷ [])) ≡ blocks_text (replies_to_blocks rows blocks) ++ block_text (replies_to (rows_after_blocks rows blocks) block)
-one_more_text rows [] block = append-nil (block_text (replies_to rows block))
-one_more_text rows (b ∷ blocks) block =
-    ap (λ (x : List ℕ). block_text (replies_to rows b) ++ x) (one_more_text (rows_after rows b) blocks block)
-    ∙ sym (append_assoc (block_text (replies_to rows b)) (blocks_text (replies_to_blocks (rows_after rows b) blocks)) (block_text (replies_to (rows_after_blocks (rows_after rows b) blocks) block)))
-
-pub one_more_holds : (rows : Rows) (blocks : List (List Frame)) (block : List Frame) → AllByRecursion AreReplyBodies (replies_to_blocks rows blocks)
-    → AreReplyBodies (replies_to (rows_after_blocks rows blocks) block) → AllByRecursion AreReplyBodies (replies_to_blocks rows (blocks ++ block ∷ []))
-one_more_holds rows [] block h k = (k, tt)
-one_more_holds rows (b ∷ blocks) block h k = (h.0, one_more_holds (rows_after rows b) blocks block h.1 k)
-
-pub one_more_list : (blocks : List (List Frame)) (block : List Frame) → all_messages (blocks ++ block ∷ []) ≡ all_messages blocks ++ block
-one_more_list blocks block = flat_map-append (λ (b : List Frame). b) blocks (block ∷ []) ∙ ap (λ (x : List Frame). all_messages blocks ++ x) (append-nil block)
-
-pub one_more_count : (blocks : List (List Frame)) (block : List Frame) → count_of (all_messages (blocks ++ block ∷ [])) ≡ plus (count_of (all_messages blocks)) (count_of block)
-one_more_count blocks block = ap count_of (one_more_list blocks block) ∙ count_of-append (all_messages blocks) block

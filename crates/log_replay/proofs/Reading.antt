@@ -1,6 +1,6 @@
 -- A log that is read entry by entry, and its size.
 use Rattle.std.proofs.Common.{inl, inr, ◌≡◌, ℕ, ◌≤◌, List, [], ◌∷◌, ◌++◌, length, Result, Ok, Err, refl, ap, subst, ◌∙◌, arith}
-use Rattle.std.proofs.lemmas.List.{append-nil, length-append}
+use Rattle.std.proofs.lemmas.List.{length-append}
 use Rattle.std.proofs.lemmas.List.Concat.{flat_map-append}
 use Rattle.issuer_rows.specs.declared.frame.Frame.{Frame}
 use Rattle.file_batch_laws.specs.Frames.{AreFramesOf}
@@ -19,15 +19,11 @@ use Rattle.log_laws.proofs.Readings.{one_reading, read_first}
 use Rattle.log_laws.proofs.Steps.{torn_no_entry}
 use Rattle.log_replay.specs.Logged.{IsLogOfSize, all_bodies}
 
--- the bodies of entries, and those of one more
-pub bodies_more : (entries : List (List (List ℕ))) (bodies : List (List ℕ)) → all_bodies (entries ++ bodies ∷ []) ≡ all_bodies entries ++ bodies
-bodies_more entries bodies = flat_map-append (λ (entry : List (List ℕ)). entry) entries (bodies ∷ []) ∙ ap (λ (last : List (List ℕ)). all_bodies entries ++ last) (append-nil bodies)
-
-abbrev Read : Type 0
+abbrev pub Read : Type 0
 Read = List (List (List ℕ)) × List ℕ
 
 -- the entries that were read
-abbrev entries_of : Result Read LogFault → List (List (List ℕ))
+abbrev pub entries_of : Result Read LogFault → List (List (List ℕ))
 entries_of (Ok read) = read.0
 entries_of (Err fault) = []
 

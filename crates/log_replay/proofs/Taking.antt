@@ -10,7 +10,9 @@ use Rattle.file_batch_laws.specs.Blocks.{all_messages, block_text, blocks_text, 
 use Rattle.file_batch_laws.specs.Replies.{AreReplyBodies}
 use Rattle.log_replay.specs.Answering.{AnswersBlock, Finishes, HasTaken, Takes, taken}
 use Rattle.log_replay.specs.declared.answering.Answering.{Answering}
-use Rattle.log_replay.proofs.Cutting.{full_cut, last_cut, one_more_count, one_more_full, one_more_holds, one_more_list, one_more_rows, one_more_text}
+use Rattle.log_replay.proofs.Cutting.{full_cut, last_cut, one_more_full}
+use Rattle.file_batch.proofs.Counting.{one_more_count}
+use Rattle.file_batch_laws.proofs.FoldedBlocks.{one_more_holds, one_more_list, one_more_rows, one_more_text}
 
 -- what follows from a result that is none of a fault
 pub on_ok : {X E P Q : Type 0} → (P → Q) → (result : Result X E) → OnOk result P → OnOk result Q
@@ -152,11 +154,6 @@ last_answered old new puts had has some few next rows messages text so_far =
 pub taken_all : (rows : Rows) (messages : List Frame) (text : List ℕ) (answering : Answering) → HasTaken rows messages text answering → taken answering ≡ length messages
 taken_all rows messages text answering has =
     omega (arith, ap (λ (c : BodyCount). c.bodies) has.count, ap length has.are, length-append (all_messages has.blocks) answering.block.items)
-
--- as many blocks of replies as of messages
-pub blocks_replied : (rows : Rows) (blocks : List (List Frame)) → length (replies_to_blocks rows blocks) ≡ length blocks
-blocks_replied rows [] = refl
-blocks_replied rows (block ∷ blocks) = ap suc (blocks_replied (rows_after rows block) blocks)
 
 -- a head was written, and two texts behind it
 pub all_written : (had first second has head one two : List ℕ) → first ≡ had ++ head → second ≡ first ++ one → has ≡ second ++ two → has ≡ had ++ (head ++ (one ++ two))

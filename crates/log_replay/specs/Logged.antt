@@ -1,15 +1,11 @@
 -- The messages of a log.
 use Rattle.std.specs.Prelude.{◌≡◌, ℕ, List, length}
-use Rattle.std.specs.List.{flat_map}
 use Rattle.issuer_rows.specs.declared.frame.Frame.{Frame}
 pub use Rattle.book_text.specs.Digest.{book_digest}
+pub use Rattle.file_batch_laws.specs.Files.{all_bodies}
 use Rattle.file_batch_laws.specs.Frames.{AreFramesOf}
 use Rattle.log_laws.specs.Reading.{IsLogOf}
 use Rattle.log_replay.specs.declared.log_size.LogSize.{LogSize}
-
--- the bodies of all entries, in order
-abbrev pub all_bodies : List (List (List ℕ)) → List (List ℕ)
-all_bodies entries = flat_map (λ bodies. bodies) entries
 
 -- The bytes are a log of the book that has this digest, with a torn tail behind it perhaps. These are the messages that its bodies spell,
 -- in order, or the fault of a body that spells none.

@@ -1,19 +1,11 @@
 -- A log is read as one list of messages.
-use Rattle.std.proofs.Common.{◌≡◌, ◌++◌, ◌∙◌, ◌<◌, ℕ, List, [], ◌∷◌, length, Result, Ok, Err, ap, inl, refl, sym, subst, arith}
+use Rattle.std.proofs.Common.{◌≡◌, ◌∙◌, ℕ, List, [], length, Result, Ok, ap, inl, sym, subst, arith}
 use Rattle.std.proofs.lemmas.List.{append-nil}
-use Rattle.sha2.specs.Sha256.{sha256}
-use Rattle.iso8583.specs.declared.message.Message.{Message}
-use Rattle.iso8583.specs.declared.codec_fault.CodecFault.{CodecFault}
-use Rattle.iso_laws.specs.Reading.{reading}
-use Rattle.iso_laws.specs.Types.{taken_in}
-use Rattle.iso_laws.proofs.Messages.{message_are, message_taken, messages_apart}
-use Rattle.iso_laws.proofs.Whole.{reading_again}
 use Rattle.issuer_rows.specs.Fold.{Rows, replies_to, rows_after}
 use Rattle.issuer_rows.specs.declared.frame.Frame.{Frame}
-use Rattle.issuer_rows.specs.declared.frame.Frame.TheVariants.{Good, Bad}
 use Rattle.issuer_rows.specs.declared.reply_body.ReplyBody.{ReplyBody}
 use Rattle.file_batch_laws.specs.Blocks.{all_messages, all_replies, replies_to_blocks}
-use Rattle.file_batch_laws.specs.Frames.{AreFramesOf, IsFrameOf}
+use Rattle.file_batch_laws.specs.Frames.{AreFramesOf}
 use Rattle.file_batch_laws.proofs.FoldedBlocks.{one_book, one_list}
 use Rattle.link_frames.specs.Incoming.{answers_of}
 use Rattle.log_laws.specs.Reading.{IsLogOf}
@@ -25,42 +17,8 @@ use Rattle.host_serving.specs.declared.host.Host.{Host}
 use Rattle.log_replay.specs.Blocks.{AreBlocksOf}
 use Rattle.log_replay.specs.Logged.{IsLogOfMessages, all_bodies, book_digest}
 use Rattle.log_replay_laws.specs.GivenAgain.{AreGivenAgain}
-
--- a message has no fault
-no_fault : (body : List ℕ) (m : Message) (fault : CodecFault) → IsFrameOf body (Good m) → IsFrameOf body (Bad fault) → ⊥
-no_fault body m fault good bad =
-    let read = reading_again taken_in _ _ (message_are m good.0) (message_taken m) in
-    let none = sym read ∙ (ap (reading taken_in) (sym good.1) ∙ bad) in
-    absurd cc
-
-same_fault : (fault other : CodecFault) (body : List ℕ) → reading taken_in body ≡ Err fault → reading taken_in body ≡ Err other → fault ≡ other
-same_fault fault other body a b =
-    let both = sym a ∙ b in
-    cc
-
--- a body is one frame at most
-same_frame : (body : List ℕ) (frame other : Frame) → IsFrameOf body frame → IsFrameOf body other → frame ≡ other
-same_frame body (Good m) (Good n) a b = ap (λ (x : Message). Good x) (messages_apart m n [] [] a.0 b.0 (ap (λ (text : List ℕ). text ++ []) (sym a.1 ∙ b.1))).0
-same_frame body (Good m) (Bad fault) a b = absurd (no_fault body m fault a b)
-same_frame body (Bad fault) (Good m) a b = absurd (no_fault body m fault b a)
-same_frame body (Bad fault) (Bad other) a b = ap (λ (x : CodecFault). Bad x) (same_fault fault other body a b)
-
-same_frames : (bodies : List (List ℕ)) (frames others : List Frame) → AreFramesOf bodies frames → AreFramesOf bodies others → frames ≡ others
-same_frames [] [] [] a b = refl
-same_frames [] [] (other ∷ others) a b = absurd b
-same_frames [] (frame ∷ frames) others a b = absurd a
-same_frames (body ∷ bodies) [] others a b = absurd a
-same_frames (body ∷ bodies) (frame ∷ frames) [] a b = absurd b
-same_frames (body ∷ bodies) (frame ∷ frames) (other ∷ others) a b =
-    rw (same_frame body frame other a.0 b.0, same_frames bodies frames others a.1 b.1) refl
-
-abbrev Read : Type 0
-Read = List (List (List ℕ)) × List ℕ
-
--- the entries that were read
-abbrev entries_of : Result Read LogFault → List (List (List ℕ))
-entries_of (Ok read) = read.0
-entries_of (Err fault) = []
+use Rattle.file_batch_laws.proofs.FrameLaws.{same_frames}
+use Rattle.log_replay.proofs.Reading.{Read, entries_of}
 
 same_entries : (digest bytes : List ℕ) (entries others : List (List (List ℕ))) (tail rest : List ℕ) → length digest ≡ 32 → IsLogOf digest bytes entries tail
     → IsLogOf digest bytes others rest → entries ≡ others

@@ -1,5 +1,5 @@
 -- A batch as the one part: its messages need no row but those for them.
-use Rattle.std.proofs.Common.{◌≡◌, ◌≢◌, ℕ, zero, suc, List, [], ◌∷◌, length, map, Option, Some, None, ◌⊎◌, inl, inr, refl, sym, ap, ◌∙◌, subst, zip, arith}
+use Rattle.std.proofs.Common.{◌≡◌, ℕ, List, [], ◌∷◌, length, map, Option, Some, None, ◌⊎◌, inl, inr, refl, sym, ap, ◌∙◌, subst, arith}
 use Rattle.std.proofs.lemmas.Option.{none-some}
 use Rattle.std.specs.FinMap as finite
 use Rattle.issuer_rows.proofs.KeyLaws.{key_cmp_total, key_cmp_antisymmetric}
@@ -15,9 +15,10 @@ use Rattle.engine_parts.proofs.PartLaws.{of_or_not}
 use Rattle.engine_parts.specs.TwoBooks.{first_of, joined}
 use Rattle.parts_books.proofs.Listed.{same_or_gone}
 use Rattle.parts_books.proofs.Places.{has_part}
-use Rattle.parts_books.proofs.Whole.{as_many, guest_stays, still_there}
+use Rattle.parts_books.proofs.Whole.{guest_stays, still_there}
 use Rattle.parts_books.specs.PartBooks.{is_for_one, part_rows, rows_for}
 use Rattle.parts_books.specs.Together.{AreEnough}
+use Rattle.issuer_fold.proofs.FoldLaws.{length-replies_to}
 
 -- all messages in part 0
 abbrev one_part : List Frame → Parted
@@ -62,7 +63,7 @@ same_replies rows frames =
     (λ i. replies_to (rows_for rows (sym (all_its_own frames) i)) (sym (all_its_own frames) i))
     ∙ alone
     ∙ ap (λ (fs : List Frame). of_part 0 (with_parts ms (replies_to rows fs))) (its_bodies frames)
-    ∙ its_replies frames (replies_to rows frames) (as_many rows frames)
+    ∙ its_replies frames (replies_to rows frames) (length-replies_to rows frames)
 
 over_own : (whole below : Option RowVal) → (whole ≡ None → below ≡ None) → first_of whole below ≡ whole
 over_own None below gone = gone refl

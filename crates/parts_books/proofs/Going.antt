@@ -13,7 +13,7 @@ use Rattle.issuer_rows.specs.declared.row_key.RowKey.{RowKey}
 use Rattle.issuer_rows.specs.declared.row_val.RowVal.{RowVal}
 use Rattle.issuer_laws.specs.Parts.{may_need}
 use Rattle.issuer_laws.specs.Rules.{has}
-use Rattle.book_archive.proofs.Splitting.{any_at, get_retained, none_within, put_seen}
+use Rattle.book_archive.proofs.Splitting.{any_at, get_retained, none_within, put_seen, step, both_put}
 use Rattle.engine_parts.proofs.JoinLaws.{get_joined}
 use Rattle.engine_parts.specs.TwoBooks.{first_of, joined}
 use Rattle.parts_books.specs.PartBooks.{accounts_of, each_from, is_among, is_as_in_rest, is_for, is_for_one, is_of_account, lent_keys, may_need_one, own_rows, rest_rows, rows_for}
@@ -31,12 +31,6 @@ IsGoing test left brings so_far all = (q : RowKey) → cond (list_any (test q) l
 -- what a thing left under each key
 abbrev pub HasGone : (RowKey → Bool) → (RowKey → Option RowVal) → Rows → Rows → Type 0
 HasGone test brings before after = (q : RowKey) → map.get after q ≡ cond (test q) (brings q) (map.get before q)
-
-step : (a b : Bool) (brought before after all : Option RowVal) → cond (a || b) brought before ≡ all → after ≡ cond a brought before → cond b brought after ≡ all
-step true true brought before after all h e = h
-step true false brought before after all h e = e ∙ h
-step false true brought before after all h e = h
-step false false brought before after all h e = e ∙ h
 
 pub goes_on : {A : Type 0} (test : RowKey → A → Bool) (x : A) (left : List A) (brings : RowKey → Option RowVal) (before after all : Rows) → IsGoing test (x ∷ left) brings before all → HasGone (λ q. test q x) brings before after → IsGoing test left brings after all
 goes_on test x left brings before after all h gone q = step (test q x) (list_any (test q) left) _ _ _ _ (h q) (gone q)
@@ -69,12 +63,6 @@ module _ {A : Type 0} where
   any_next t xs i x within at =
       ap (λ (n : ℕ). list_any t (take n xs)) (add-one i) ∙ ap (list_any t) (take-suc xs i x within ∙ ap (λ (y : A). take i xs ++ y ∷ []) at) ∙ any_last t (take i xs) x
 
-pub both : (a b : Bool) (brought before between after : Option RowVal) → between ≡ cond a brought before → after ≡ cond b brought between → after ≡ cond (a || b) brought before
-both true true brought before between after one two = two
-both true false brought before between after one two = two ∙ one
-both false true brought before between after one two = two
-both false false brought before between after one two = two ∙ one
-
 spread : (a b c : Bool) → ((a && b) || (a && c)) ≡ (a && (b || c))
 spread true b c = refl
 spread false b c = refl
@@ -84,7 +72,7 @@ pub goes_again : (test : RowKey → Bool) (ks : List RowKey) (i : ℕ) (k : RowK
     → HasGone (λ q. test q && is_among q (take i ks)) brings before between → HasGone (λ q. test q && key_eq q k) brings between after
     → HasGone (λ q. test q && is_among q (take (i + 1) ks)) brings before after
 goes_again test ks i k brings before between after within at one two q =
-    both (test q && is_among q (take i ks)) (test q && key_eq q k) (brings q) (map.get before q) (map.get between q) (map.get after q) (one q) (two q)
+    both_put (test q && is_among q (take i ks)) (test q && key_eq q k) (brings q) (map.get before q) (map.get between q) (map.get after q) (one q) (two q)
     ∙ ap (λ (b : Bool). cond b (brings q) (map.get before q)) (spread (test q) (is_among q (take i ks)) (key_eq q k) ∙ ap (λ (b : Bool). test q && b) (sym (any_next (key_eq q) ks i k within at)))
 
 -- ---- lent accounts

@@ -1,6 +1,6 @@
 -- Keys among others, messages of a part, and rows that are left of a book.
 use Rattle.std.proofs.Common.{◌≡◌, ◌≢◌, ℕ, Bool, true, false, ◌==◌, ◌||◌, cond, if◌then◌else◌, List, [], ◌∷◌, ◌++◌, Option, Some, None, IfSome, ◌⊎◌, inl, inr, refl, sym, ap, ◌∙◌, subst, arith}
-use Rattle.std.proofs.lemmas.Bool.{false≢true}
+use Rattle.std.proofs.lemmas.Bool.{false≢true, or_right, or_cases, eqb-true}
 use Rattle.std.proofs.lemmas.Bool.Decides.{nat_tests}
 use Rattle.std.specs.FinMap as map
 use Rattle.std.specs.List.{list_any}
@@ -12,27 +12,19 @@ use Rattle.issuer_rows.specs.declared.frame.Frame.{Frame}
 use Rattle.issuer_rows.specs.declared.row_key.RowKey.{RowKey}
 use Rattle.issuer_rows.specs.declared.row_val.RowVal.{RowVal}
 use Rattle.issuer_laws.specs.Parts.{IsIn, Parted, bodies, of_part}
-use Rattle.book_archive.proofs.Splitting.{get_retained}
+use Rattle.book_archive.proofs.Splitting.{get_retained, own_value}
 use Rattle.parts_books.specs.PartBooks.{is_among}
 
 -- ---- keys
 
-or_true : (a b : Bool) → b ≡ true → (a || b) ≡ true
-or_true true b h = refl
-or_true false b h = h
-
-either : (a b : Bool) → (a || b) ≡ true → (a ≡ true) ⊎ (b ≡ true)
-either true b h = inl refl
-either false b h = inr h
-
 pub among_in : (k : RowKey) (ks : List RowKey) → IsIn k ks → is_among k ks ≡ true
 among_in k [] h = absurd h
 among_in k (x ∷ ks) (inl same) = ap (λ (b : Bool). b || is_among k ks) ((key_eq_decides k x).1 same)
-among_in k (x ∷ ks) (inr h) = or_true (key_eq k x) (is_among k ks) (among_in k ks h)
+among_in k (x ∷ ks) (inr h) = or_right (key_eq k x) (is_among k ks) (among_in k ks h)
 
 pub in_among : (k : RowKey) (ks : List RowKey) → is_among k ks ≡ true → IsIn k ks
 in_among k [] h = absurd (false≢true h)
-in_among k (x ∷ ks) h = elim (either (key_eq k x) (is_among k ks) h) [ inl same ↦ inl ((key_eq_decides k x).0 same) | inr more ↦ inr (in_among k ks more) ]
+in_among k (x ∷ ks) h = elim (or_cases (key_eq k x) (is_among k ks) h) [ inl same ↦ inl ((key_eq_decides k x).0 same) | inr more ↦ inr (in_among k ks more) ]
 
 module _ {A : Type 0} where
   pub in_front : (x : A) (xs ys : List A) → IsIn x xs → IsIn x (xs ++ ys)
@@ -51,9 +43,6 @@ module _ {A : Type 0} where
 
 -- ---- messages
 
-is_part : (n p : ℕ) → (n == p) ≡ true → n ≡ p
-is_part n p e = grind (arith, nat_tests)
-
 of_part_no : (n p : ℕ) → n ≡ p → (n == p) ≡ false → ⊥
 of_part_no n p e h = grind (arith, nat_tests)
 
@@ -64,7 +53,7 @@ any_of_part test p (n ∷ ms) m h of_p passes =
     elim (n.0 == p) as (λ b. (n.0 == p) ≡ b → list_any test (if b then n.1 ∷ of_part p ms else of_part p ms) ≡ true) [
       | true ↦ λ e. elim h [
         | inl same ↦ ap (λ (b : Bool). b || list_any test (of_part p ms)) (ap (λ (o : ℕ × Frame). test o.1) (sym same) ∙ passes)
-        | inr more ↦ or_true (test n.1) (list_any test (of_part p ms)) (any_of_part test p ms m more of_p passes)
+        | inr more ↦ or_right (test n.1) (list_any test (of_part p ms)) (any_of_part test p ms m more of_p passes)
       ]
       | false ↦ λ e. elim h [
         | inl same ↦ absurd (of_part_no n.0 p (ap (λ (o : ℕ × Frame). o.0) (sym same) ∙ of_p) e)
@@ -87,8 +76,8 @@ pub of_part_any : (test : Frame → Bool) (p : ℕ) (ms : Parted) → list_any t
 of_part_any test p [] h = absurd (false≢true h)
 of_part_any test p (n ∷ ms) h =
     elim (n.0 == p) as (λ b. (n.0 == p) ≡ b → list_any test (if b then n.1 ∷ of_part p ms else of_part p ms) ≡ true → HasOneOfPart test (n ∷ ms) p) [
-      | true ↦ λ e passes. elim (either (test n.1) (list_any test (of_part p ms)) passes) [
-        | inl own ↦ (n, inl refl, is_part n.0 p e, own)
+      | true ↦ λ e passes. elim (or_cases (test n.1) (list_any test (of_part p ms)) passes) [
+        | inl own ↦ (n, inl refl, eqb-true n.0 p e, own)
         | inr more ↦ later test p n ms (of_part_any test p ms more)
       ]
       | false ↦ λ e passes. later test p n ms (of_part_any test p ms passes)
@@ -97,21 +86,17 @@ of_part_any test p (n ∷ ms) h =
 pub any_of_bodies : (test : Frame → Bool) (ms : Parted) (m : ℕ × Frame) → IsIn m ms → test m.1 ≡ true → list_any test (bodies ms) ≡ true
 any_of_bodies test [] m h passes = absurd h
 any_of_bodies test (n ∷ ms) m (inl same) passes = ap (λ (b : Bool). b || list_any test (bodies ms)) (ap (λ (o : ℕ × Frame). test o.1) (sym same) ∙ passes)
-any_of_bodies test (n ∷ ms) m (inr more) passes = or_true (test n.1) (list_any test (bodies ms)) (any_of_bodies test ms m more passes)
+any_of_bodies test (n ∷ ms) m (inr more) passes = or_right (test n.1) (list_any test (bodies ms)) (any_of_bodies test ms m more passes)
 
 pub of_bodies_any : (test : Frame → Bool) (ms : Parted) → list_any test (bodies ms) ≡ true → HasOne test ms
 of_bodies_any test [] h = absurd (false≢true h)
 of_bodies_any test (n ∷ ms) h =
-    elim (either (test n.1) (list_any test (bodies ms)) h) [
+    elim (or_cases (test n.1) (list_any test (bodies ms)) h) [
       | inl own ↦ (n, inl refl, own)
       | inr more ↦ let one = of_bodies_any test ms more in (one.0, inr one.1, one.2)
     ]
 
 -- ---- rows that are left of a book
-
-own_value : (o : Option RowVal) → IfSome o (λ v. o ≡ Some v)
-own_value (Some v) = refl
-own_value None = tt
 
 pub within_retained : (rows : Rows) (test : RowKey → Bool) → IsWithin (map.retain_keys rows test) rows
 within_retained rows test k =

@@ -1,6 +1,6 @@
 -- Where the rows of a book are.
 use Rattle.std.proofs.Common.{◌≡◌, ◌≢◌, ℕ, Bool, true, false, ◌&&◌, ◌||◌, not, List, [], ◌∷◌, Option, Some, None, ◌⊎◌, inl, inr, refl, sym, ap}
-use Rattle.std.proofs.lemmas.Bool.{false≢true}
+use Rattle.std.proofs.lemmas.Bool.{false≢true, and_parts, or_cases, or_left}
 use Rattle.std.specs.FinMap as map
 use Rattle.iso8583.specs.declared.account_id.AccountId.{AccountId}
 use Rattle.issuer_rows.specs.Fold.{Rows}
@@ -56,18 +56,6 @@ lent_account rows (n ∷ needs) k h =
 
 -- ---- the book of a part
 
-or_first : (a b : Bool) → a ≡ true → (a || b) ≡ true
-or_first true b h = refl
-or_first false b h = absurd (false≢true h)
-
-either : (a b : Bool) → (a || b) ≡ true → (a ≡ true) ⊎ (b ≡ true)
-either true b h = inl refl
-either false b h = inr h
-
-both : (a b : Bool) → (a && b) ≡ true → (a ≡ true) × (b ≡ true)
-both true b h = (refl, h)
-both false b h = absurd (false≢true h)
-
 -- an account that stands in the book
 abbrev pub IsAccountThere : Rows → RowKey → Type 0
 IsAccountThere rows k = IsOfAccount k × (has_account_at rows k ≡ true)
@@ -77,15 +65,15 @@ pub of_part_or_account : (rows : Rows) (ms : Parted) (p : ℕ) (k : RowKey) → 
 of_part_or_account rows ms p k h =
     let one = of_part_any (is_for rows k) p ms h in
     let needs = may_need rows one.0.1 in
-    elim (either (is_among k needs) (has_account_at rows k && is_among k (lent_keys rows needs)) one.3) [
+    elim (or_cases (is_among k needs) (has_account_at rows k && is_among k (lent_keys rows needs)) one.3) [
       | inl needed ↦ inl (one.0, one.1, one.2, in_among k needs needed)
-      | inr lent ↦ let two = both (has_account_at rows k) (is_among k (lent_keys rows needs)) lent in inr (lent_account rows needs k (in_among k (lent_keys rows needs) two.1), two.0)
+      | inr lent ↦ let two = and_parts (has_account_at rows k) (is_among k (lent_keys rows needs)) lent in inr (lent_account rows needs k (in_among k (lent_keys rows needs) two.1), two.0)
     ]
 
 pub needed_is_there : (rows : Rows) (ms : Parted) (p : ℕ) (k : RowKey) → IsOfPart rows ms p k → is_for_one rows (of_part p ms) k ≡ true
 needed_is_there rows ms p k own =
     any_of_part (is_for rows k) p ms own.0 own.1 own.2
-    (or_first (is_among k (may_need rows own.0.1)) (has_account_at rows k && is_among k (lent_keys rows (may_need rows own.0.1))) (among_in k (may_need rows own.0.1) own.3))
+    (or_left (is_among k (may_need rows own.0.1)) (has_account_at rows k && is_among k (lent_keys rows (may_need rows own.0.1))) (among_in k (may_need rows own.0.1) own.3))
 
 -- it is a book of the part
 pub has_part : (rows : Rows) (ms : Parted) (p : ℕ) → HasPart rows ms p (part_rows rows ms p)

@@ -1,6 +1,6 @@
 -- The parts' books and the rest are sound where the book is.
 use Rattle.std.proofs.Common.{◌≡◌, Bool, true, false, ◌&&◌, ◌||◌, not, List, [], ◌∷◌, Option, Some, None, is_some, inl, inr, refl, sym, ap, ◌∙◌, subst}
-use Rattle.std.proofs.lemmas.Bool.{false≢true}
+use Rattle.std.proofs.lemmas.Bool.{false≢true, and_parts, or_right}
 use Rattle.std.specs.Cmp.Derive.{both_true}
 use Rattle.std.specs.FinMap as map
 use Rattle.std.specs.List.{list_any}
@@ -15,16 +15,13 @@ use Rattle.issuer_rows.specs.declared.payment.Payment.{Payment}
 use Rattle.issuer_rows.specs.declared.row_key.RowKey.{RowKey}
 use Rattle.issuer_rows.specs.declared.row_val.RowVal.{RowVal}
 use Rattle.issuer_laws.specs.Parts.{IsIn, second_key, payer_keys, payment_keys, may_need, Parted, bodies, of_part}
-use Rattle.book_archive.proofs.Sound.{KeepsAllAccounts, accounts_stay, all_retained, in_range, paying_stays, right_numbers}
+use Rattle.book_archive.proofs.Sound.{all_retained, in_range, right_numbers}
 use Rattle.book_laws.specs.CheckBook.{has_account, has_payer, is_backed, has_paying_account, has_second, are_accounts, has_accounts, IsSound}
 use Rattle.parts_books.proofs.Listed.{among_in, in_among, in_front, in_back, passes_left}
 use Rattle.parts_books.proofs.Places.{is_left}
 use Rattle.parts_books.specs.PartBooks.{accounts_of, has_account_at, is_among, is_for, is_for_one, lent_keys, rows_for, rest_rows}
 use Rattle.parts_books.specs.Together.{LeavesPartsSound}
-
-both : (a b : Bool) → (a && b) ≡ true → (a ≡ true) × (b ≡ true)
-both true b h = (refl, h)
-both false b h = absurd (false≢true h)
+use Rattle.book_laws.proofs.AccountsKept.{KeepsAllAccounts, accounts_stay, paying_stays}
 
 -- ---- the rest, which has all accounts
 
@@ -55,12 +52,8 @@ any_implies one other [] implies h = h
 any_implies one other (f ∷ frames) implies h =
     elim (one f) as (λ b. one f ≡ b → (b || list_any one frames) ≡ true → (other f || list_any other frames) ≡ true) [
       | true ↦ λ own _. ap (λ (b : Bool). b || list_any other frames) (implies f own)
-      | false ↦ λ _ more. or_later (other f) (list_any other frames) (any_implies one other frames implies more)
+      | false ↦ λ _ more. or_right (other f) (list_any other frames) (any_implies one other frames implies more)
     ] refl h
-  where
-    or_later : (a b : Bool) → b ≡ true → (a || b) ≡ true
-    or_later true b h = refl
-    or_later false b h = h
 
 -- an account has none
 account_alone : (v : RowVal) (a : RowKey) → is_some (account_in (Some v)) ≡ true → IsIn a (accounts_of (Some v)) → ⊥
@@ -78,14 +71,10 @@ brings_accounts rows k v a frame at own there h =
     elim (is_among k needs) as (λ b. is_among k needs ≡ b → (b || (has_account_at rows k && is_among k (lent_keys rows needs))) ≡ true → is_for rows a frame ≡ true) [
       | true ↦ λ needed _.
           let lent = among_in a (lent_keys rows needs) (lent_in rows needs k a (in_among k needs needed) (subst (λ (o : Option RowVal). IsIn a (accounts_of o)) (sym at) own)) in
-          or_later (is_among a needs) (has_account_at rows a && is_among a (lent_keys rows needs)) (both_true there lent)
+          or_right (is_among a needs) (has_account_at rows a && is_among a (lent_keys rows needs)) (both_true there lent)
       | false ↦ λ _ lent.
-          absurd (account_alone v a (ap (λ (o : Option RowVal). is_some (account_in o)) (sym at) ∙ (both (has_account_at rows k) (is_among k (lent_keys rows needs)) lent).0) own)
+          absurd (account_alone v a (ap (λ (o : Option RowVal). is_some (account_in o)) (sym at) ∙ (and_parts (has_account_at rows k) (is_among k (lent_keys rows needs)) lent).0) own)
     ] refl h
-  where
-    or_later : (a b : Bool) → b ≡ true → (a || b) ≡ true
-    or_later true b h = refl
-    or_later false b h = h
 
 -- ---- the rows for messages
 
@@ -118,11 +107,11 @@ paying_brought rows after (RowVal.Account row) brought h = refl
 second_brought : (rows after : Rows) (first : AccountId) (o : Option AccountId) → ((a : RowKey) → IsIn a (second_key o) → has_account_at rows a ≡ true → has_account_at after a ≡ true) → has_second rows first o ≡ true → has_second after first o ≡ true
 second_brought rows after first None brought h = refl
 second_brought rows after first (Some second) brought h =
-    let two = both (has_account rows second) (not (is_same_account second first)) h in both_true (brought (RowKey.Account second) (inl refl) two.0) two.1
+    let two = and_parts (has_account rows second) (not (is_same_account second first)) h in both_true (brought (RowKey.Account second) (inl refl) two.0) two.1
 
 card_brought : (rows after : Rows) (accounts : AccountsOfCard) → ((a : RowKey) → IsIn a (RowKey.Account accounts.first ∷ second_key accounts.second) → has_account_at rows a ≡ true → has_account_at after a ≡ true) → are_accounts rows accounts ≡ true → are_accounts after accounts ≡ true
 card_brought rows after accounts brought h =
-    let two = both (has_account rows accounts.first) (has_second rows accounts.first accounts.second) h in
+    let two = and_parts (has_account rows accounts.first) (has_second rows accounts.first accounts.second) h in
     both_true (brought (RowKey.Account accounts.first) (inl refl) two.0) (second_brought rows after accounts.first accounts.second (λ a own. brought a (inr own)) two.1)
 
 accounts_kept : (rows after : Rows) (v : RowVal) → HasAccountsOf rows after v → has_accounts rows v ≡ true → has_accounts after v ≡ true

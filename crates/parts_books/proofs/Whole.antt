@@ -1,6 +1,6 @@
 -- Parts that are decided alone, put together: the whole batch.
-use Rattle.std.proofs.Common.{◌≡◌, ◌≢◌, ℕ, zero, suc, ◌+◌, ◌<◌, ◌≤◌, ◌==◌, Bool, true, false, ◌&&◌, not, cond, if◌then◌else◌, List, [], ◌∷◌, ◌++◌, length, map, Option, Some, None, is_some, ◌⊎◌, inl, inr, refl, sym, ap, ◌∙◌, subst, arith}
-use Rattle.std.proofs.lemmas.Bool.{false≢true}
+use Rattle.std.proofs.Common.{◌≡◌, ◌≢◌, ℕ, zero, suc, ◌+◌, ◌<◌, ◌≤◌, ◌==◌, Bool, true, false, not, cond, if◌then◌else◌, List, [], ◌∷◌, ◌++◌, map, Option, Some, None, is_some, ◌⊎◌, inl, inr, refl, sym, ap, ◌∙◌, subst, arith}
+use Rattle.std.proofs.lemmas.Bool.{false≢true, and_parts, eqb-true, and_from, cases_lt}
 use Rattle.std.proofs.lemmas.Bool.Decides.{nat_tests}
 use Rattle.std.proofs.lemmas.List.{length-map}
 use Rattle.std.proofs.lemmas.Option.{none-some}
@@ -31,6 +31,8 @@ use Rattle.parts_books.proofs.Listed.{in_front, in_back, in_either, passes_left,
 use Rattle.parts_books.proofs.Places.{account_is_left, has_part, is_left, left_in_rest, of_part_or_account}
 use Rattle.parts_books.specs.PartBooks.{each_from, each_part, is_as_in_rest, is_for_one, is_same_account_row, joined_books, own_rows, part_replies, part_rows, part_rows_after, rest_rows}
 use Rattle.parts_books.specs.Together.{MakeTheWhole}
+use Rattle.engine_parts.proofs.WholeLaws.{below_in}
+use Rattle.issuer_fold.proofs.FoldLaws.{length-replies_to}
 
 -- ---- a part's book asks for no more than the book
 
@@ -91,11 +93,7 @@ guest_stays rows ms p k none =
 
 same_account : (o : Option AccountRow) → is_some o ≡ true → is_same_account_row o o ≡ true
 same_account None h = absurd (false≢true h)
-same_account (Some row) h = both_same (row.available == row.available) (is_same_currency row.currency row.currency) (grind (arith, nat_tests)) (same_text row.currency.0)
-  where
-    both_same : (a b : Bool) → a ≡ true → b ≡ true → (a && b) ≡ true
-    both_same true b x y = y
-    both_same false b x y = x
+same_account (Some row) h = and_from (row.available == row.available) (is_same_currency row.currency row.currency) (grind (arith, nat_tests)) (same_text row.currency.0)
 
 as_in_rest : (rest book : Rows) (k : RowKey) (o : Option RowVal) → finite.get rest k ≡ o → finite.get book k ≡ o → is_some (account_in o) ≡ true → is_as_in_rest rest book k ≡ true
 as_in_rest rest book k o in_rest in_book account =
@@ -127,17 +125,10 @@ guest_brings rows ms p k none =
 
 -- ---- the same account
 
-both : (a b : Bool) → (a && b) ≡ true → (a ≡ true) × (b ≡ true)
-both true b h = (refl, h)
-both false b h = absurd (false≢true h)
-
-same_number : (a b : ℕ) → (a == b) ≡ true → a ≡ b
-same_number a b h = grind (arith, nat_tests)
-
 same_account_row : (one other : AccountRow) → is_same_account_row (Some one) (Some other) ≡ true → one ≡ other
 same_account_row one other h =
-    let two = both (one.available == other.available) (is_same_currency one.currency other.currency) h in
-    let money = same_number one.available other.available two.0 in
+    let two = and_parts (one.available == other.available) (is_same_currency one.currency other.currency) h in
+    let money = eqb-true one.available other.available two.0 in
     let currency = texts_same one.currency.0 other.currency.0 two.1 in
     λ i. record { available = money i; currency = record { 0 = currency i } }
 
@@ -258,11 +249,6 @@ all_merged rows ms apart zero from book k so =
     ]
 all_merged rows ms apart (suc count) from book k so = all_merged rows ms apart count (suc from) (joined book (brought rows ms from)) k (one_merged rows ms apart from count book k so)
 
-below_in : (count : ℕ) (ms : Parted) → AllByRecursion (λ (m : ℕ × Frame). m.0 < count) ms → (m : ℕ × Frame) → IsIn m ms → m.0 < count
-below_in count [] all m h = absurd h
-below_in count (n ∷ ms) all m (inl e) = subst (λ (o : ℕ × Frame). o.0 < count) (sym e) all.0
-below_in count (n ∷ ms) all m (inr h) = below_in count ms all.1 m h
-
 whole_book : (rows : Rows) (ms : Parted) (count : ℕ) → AreApart rows ms → AllByRecursion (λ (m : ℕ × Frame). m.0 < count) ms → joined_books (rest_rows rows (bodies ms)) (each_part (part_rows_after rows ms) count) ≡ rows_after rows (bodies ms)
 whole_book rows ms count apart below =
     finite.same_map key_cmp_total key_cmp_antisymmetric _ _ (λ k.
@@ -270,10 +256,6 @@ whole_book rows ms count apart below =
     (inr (refl, λ p of_p. (let high : p < count = subst (λ (q : ℕ). q < count) of_p.2 (below_in count ms below of_p.0 of_p.1) in (omega arith, omega arith)))))
 
 -- ---- all replies
-
-pub as_many : (rows : Rows) (frames : List Frame) → length (replies_to rows frames) ≡ length frames
-as_many rows [] = refl
-as_many rows (f ∷ frames) = ap suc (as_many (rows_after_one rows f) frames)
 
 listed : {A : Type 0} (of : ℕ → List A) (count from p : ℕ) → p < count → list_at (each_from of from count) p ≡ of (from + p)
 listed of zero from p h = absurd (omega (arith, h))
@@ -299,7 +281,7 @@ own_replies : (rows : Rows) (ms : Parted) (count : ℕ) → AreApart rows ms →
     → list_at (each_part (part_replies rows ms) count) p ≡ of_part p (with_parts ms (replies_to rows (bodies ms)))
 own_replies rows ms count apart below p =
     let alone : part_replies rows ms p ≡ of_part p (with_parts ms (replies_to rows (bodies ms))) = (decided_alone rows ms p (part_rows rows ms p) apart (has_part rows ms p)).replies in
-    elim (below_or_not p count) [
+    elim (cases_lt p count) [
       | inl low ↦ listed (part_replies rows ms) count 0 p low ∙ ap (part_replies rows ms) (from_zero p) ∙ alone
       | inr high ↦ not_listed (part_replies rows ms) count 0 p high ∙ sym (ap (replies_to (part_rows rows ms p)) (none_above count p ms high below)) ∙ alone
     ]
@@ -307,16 +289,10 @@ own_replies rows ms count apart below p =
     from_zero : (p : ℕ) → 0 + p ≡ p
     from_zero p = omega arith
 
-    below_or_not : (p n : ℕ) → (p < n) ⊎ (n ≤ p)
-    below_or_not zero zero = inr (omega arith)
-    below_or_not zero (suc n) = inl (omega arith)
-    below_or_not (suc p) zero = inr (omega arith)
-    below_or_not (suc p) (suc n) = elim (below_or_not p n) [ inl low ↦ inl (omega (arith, low)) | inr high ↦ inr (omega (arith, high)) ]
-
 pub the_whole : (rows : Rows) (ms : Parted) (count : ℕ) → MakeTheWhole rows ms count
 the_whole rows ms count apart below = record {
   replies = record {
-    each = as_many rows (bodies ms) ∙ length-map ms (λ (m : ℕ × Frame). m.1) ∙ sym (length-map ms (λ (m : ℕ × Frame). m.0));
+    each = length-replies_to rows (bodies ms) ∙ length-map ms (λ (m : ℕ × Frame). m.1) ∙ sym (length-map ms (λ (m : ℕ × Frame). m.0));
     own = own_replies rows ms count apart below;
   };
   book = whole_book rows ms count apart below;

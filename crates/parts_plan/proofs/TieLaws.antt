@@ -12,6 +12,7 @@ use Rattle.parts_plan.specs.Ties.{Numbers, number_in, number_is, tie_of, HasNumb
 use Rattle.parts_plan.specs.declared.key_number.KeyNumber.{KeyNumber}
 use Rattle.parts_plan.specs.declared.key_number.KeyNumber.TheVariants.{Known, New}
 use Rattle.parts_plan.specs.declared.link.Link.{Link}
+use Rattle.issuer_laws.proofs.Parts.{each_of}
 
 -- ---- lists
 
@@ -25,10 +26,6 @@ in_front x (y ∷ xs) ys (inr h) = inr (in_front x xs ys h)
 pub in_last : {A : Type 0} (x : A) (xs : List A) → IsIn x (xs ++ x ∷ [])
 in_last x [] = inl refl
 in_last x (y ∷ xs) = inr (in_last x xs)
-
-pub each_of : {A : Type 0} (P Q : A → Type 0) (xs : List A) → ((x : A) → P x → Q x) → AllByRecursion P xs → AllByRecursion Q xs
-each_of P Q [] f h = tt
-each_of P Q (x ∷ xs) f h = (f x h.0, each_of P Q xs f h.1)
 
 -- what holds of all of a list holds of each that stands in it
 pub of_each : {A : Type 0} (P : A → Type 0) (x : A) (xs : List A) → AllByRecursion P xs → IsIn x xs → P x

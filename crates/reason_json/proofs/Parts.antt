@@ -1,7 +1,8 @@
 -- Arrays of rows, and objects, as they are written.
-use Rattle.std.proofs.Common.{◌≡◌, ℕ, zero, suc, ◌+◌, List, [], ◌∷◌, ◌++◌, take, map, Option, Some, None, slice_get, refl, sym, ap, ◌∙◌, append_assoc, add-one, subst}
+use Rattle.std.proofs.Common.{◌≡◌, ℕ, zero, suc, ◌+◌, List, [], ◌∷◌, ◌++◌, take, map, Some, slice_get, refl, sym, ap, ◌∙◌, append_assoc, add-one, subst}
 use Rattle.std.proofs.lemmas.List.{append-nil}
 use Rattle.std.specs.List.{flat_map}
+use Rattle.std.proofs.lemmas.Option.{same_Some, none-some}
 use Rattle.json.specs.Token.{Token, begin_array, begin_object, end_array, end_object}
 use Rattle.json.specs.Tree.{items_tokens}
 use Rattle.serde_json.specs.Data.{Data, array, object}
@@ -14,16 +15,10 @@ use Rattle.reason_json.specs.Lines.{items}
 
 -- ---- one item after another
 
-some_is : {X : Type 0} (x y : X) → Path (Option X) (Some x) (Some y) → x ≡ y
-some_is x y e = cc
-
-none_is : {X : Type 0} (x : X) → Path (Option X) None (Some x) → ⊥
-none_is x e = cc
-
 so_far : {X : Type 0} (f : X → List Token) (xs : List X) (i : ℕ) (x : X) → slice_get xs i ≡ Some x
     → flat_map f (take (suc i) xs) ≡ flat_map f (take i xs) ++ f x
-so_far f [] i x at = absurd (none_is x at)
-so_far f (y ∷ xs) zero x at = append-nil (f y) ∙ ap f (some_is y x at)
+so_far f [] i x at = absurd (none-some x at)
+so_far f (y ∷ xs) zero x at = append-nil (f y) ∙ ap f (same_Some y x at)
 so_far f (y ∷ xs) (suc i) x at = ap (λ rest. f y ++ rest) (so_far f xs i x at) ∙ sym (append_assoc (f y) (flat_map f (take i xs)) (f x))
 
 -- the next item is written behind the first ones

@@ -1,17 +1,12 @@
 -- Lines of the first items of a list.
-use Rattle.std.proofs.Common.{◌≡◌, ℕ, zero, suc, ◌+◌, List, [], ◌∷◌, ◌++◌, take, Option, Some, None, slice_get, sym, ap, ◌∙◌, append_assoc, add-one}
+use Rattle.std.proofs.Common.{◌≡◌, ℕ, zero, suc, ◌+◌, List, [], ◌∷◌, ◌++◌, take, Some, slice_get, sym, ap, ◌∙◌, append_assoc, add-one}
 use Rattle.std.proofs.lemmas.List.{append-nil}
 use Rattle.std.specs.List.{flat_map}
-
-some_is : {X : Type 0} (x y : X) → Path (Option X) (Some x) (Some y) → x ≡ y
-some_is x y e = cc
-
-none_is : {X : Type 0} (x : X) → Path (Option X) None (Some x) → ⊥
-none_is x e = cc
+use Rattle.std.proofs.lemmas.Option.{same_Some, none-some}
 
 so_far : {X : Type 0} (f : X → List ℕ) (xs : List X) (i : ℕ) (x : X) → slice_get xs i ≡ Some x → flat_map f (take (suc i) xs) ≡ flat_map f (take i xs) ++ f x
-so_far f [] i x at = absurd (none_is x at)
-so_far f (y ∷ xs) zero x at = append-nil (f y) ∙ ap f (some_is y x at)
+so_far f [] i x at = absurd (none-some x at)
+so_far f (y ∷ xs) zero x at = append-nil (f y) ∙ ap f (same_Some y x at)
 so_far f (y ∷ xs) (suc i) x at = ap (λ rest. f y ++ rest) (so_far f xs i x at) ∙ sym (append_assoc (f y) (flat_map f (take i xs)) (f x))
 
 -- the lines of the first items, and that of the next one

@@ -1,5 +1,5 @@
 -- Each call of the core is a step.
-use Rattle.std.proofs.Common.{◌≡◌, ◌≢◌, ℕ, ◌<◌, ◌≤◌, ◌+◌, ◌^◌, min, Bool, true, false, not, ◌&&◌, ◌||◌, nat_lt, nat_eq, if◌then◌else◌, List, [], ◌∷◌, ◌++◌, ◌⊎◌, inl, inr, length, map, max, replicate, take, filter_map, option_to_list, set, get_or, slice_get, option_map, refl, sym, ap, ap₂, ◌∙◌, subst, Option, Some, None, Ok, IsTrue, IsFalse, arith, eq-eqb}
+use Rattle.std.proofs.Common.{◌≡◌, ◌≢◌, ℕ, ◌<◌, ◌≤◌, ◌+◌, ◌^◌, min, Bool, true, false, not, ◌&&◌, nat_lt, nat_eq, if◌then◌else◌, List, [], ◌∷◌, ◌++◌, ◌⊎◌, inl, inr, length, map, max, replicate, take, filter_map, option_to_list, set, get_or, slice_get, option_map, refl, sym, ap, ap₂, ◌∙◌, subst, Option, Some, None, Ok, IsTrue, IsFalse, arith, eq-eqb}
 use Rattle.std.proofs.lemmas.Bool.{cases_lt, cases_eq, false≢true}
 use Rattle.std.proofs.lemmas.List.{get_or_read, set-get_or, take_more}
 use Rattle.std.proofs.lemmas.List.Elements.{filter_map-append}
@@ -21,7 +21,6 @@ use Rattle.stm_core_laws.specs.declared.validation.Validation.{Validation}
 use Rattle.stm_scheduler.proofs.Choices.{Chooses-allowed}
 use Rattle.stm_scheduler.specs.Board.{Board, mark, aborted_as, finished, lowered, passed, aborted, committed_more, IsFresh, IsRunning, IsOpen, IsWaitedFor}
 use Rattle.stm_scheduler.specs.Cursors.{Schedule, Claims, IsLoweredToWaiting, open_schedule}
-use Rattle.stm_scheduler.specs.declared.status.Status.{Status}
 use Rattle.stm_scheduler.specs.declared.status.Status.TheVariants as status
 use Rattle.stm_scheduler.specs.declared.task.Task.{Task}
 use Rattle.stm_scheduler.specs.declared.task.Task.TheVariants.{Execute, Validate, Idle, Done}

@@ -12,7 +12,7 @@ use Rattle.stm_memory.specs.declared.version.Version.{Version}
 use Rattle.stm_scheduler.specs.declared.task.Task.TheVariants as task
 use Rattle.stm_core_laws.proofs.Validations.{one_at}
 use Rattle.stm_core_laws.proofs.Reached.{Holds-reached}
-use Rattle.stm_core_laws.specs.declared.core_fault.CoreFault.TheVariants.{NotRunning, OtherReads, Outdated, OutOfMemory, Exhausted}
+use Rattle.stm_core_laws.specs.declared.core_fault.CoreFault.TheVariants.{NotRunning, OtherReads, OutOfMemory}
 use Rattle.stm_core_laws.specs.declared.got.Got.TheVariants as got
 use Rattle.stm_journal_text.specs.declared.event.Event.TheVariants.{Claim, Read, Finish}
 use Rattle.stm_journal_text.proofs.Decided.{undecided}

@@ -13,7 +13,7 @@ use Rattle.stm_core.specs.Unread.{got_of}
 use Rattle.stm_core.specs.declared.unread.Unread.{Unread}
 use Rattle.stm_core.specs.declared.unread.Unread.TheVariants as unread
 use Rattle.stm_core_laws.specs.Run as call
-use Rattle.stm_core_laws.specs.declared.core_fault.CoreFault.TheVariants.{NotRunning, OtherReads, Outdated, OutOfMemory, Exhausted}
+use Rattle.stm_core_laws.specs.declared.core_fault.CoreFault.TheVariants.{NotRunning, OtherReads, OutOfMemory, Exhausted}
 use Rattle.stm_journal.specs.Answered.{was_read, validated, ended}
 use Rattle.stm_journal.specs.Finished.{IsFinished}
 use Rattle.stm_journal.specs.SomePlay.{IsSomePlay}

@@ -11,9 +11,9 @@ use Rattle.stm_journal_text.specs.declared.event.Event.TheVariants.{Claim, Read,
 use Rattle.stm_memory.specs.declared.version.Version.{Version}
 use Rattle.stm_scheduler.specs.Board.{IsRunning}
 use Rattle.stm_core_laws.specs.Run as call
-use Rattle.stm_core_laws.specs.declared.core_fault.CoreFault.TheVariants.{NotRunning, OtherReads, Outdated, OutOfMemory, Exhausted}
+use Rattle.stm_core_laws.specs.declared.core_fault.CoreFault.TheVariants.{NotRunning, OtherReads, OutOfMemory, Exhausted}
 pub use Rattle.stm_journal_text.proofs.Decided.{get_logged}
-use Rattle.stm_journal_text.specs.declared.core_answer.CoreAnswer.TheVariants.{Claimed, Got, Blocked, Finished, Validating, Ended, Committed, Refused}
+use Rattle.stm_journal_text.specs.declared.core_answer.CoreAnswer.TheVariants.{Finished, Refused}
 
 -- a finish that is played again
 pub finished_again : (p : Play) (seat : ℕ) (v : Version) (x : Executed) (handed : Bool) (t : Play) → PlayStep p (call.Finish v x (Ok handed)) t → EntryStep p (record { seat = seat; event = Finish v }) t

@@ -1,4 +1,4 @@
-use Rattle.std.proofs.Common.{◌≡◌, IsTrue, inl, inr, refl, string_bytes}
+use Rattle.std.proofs.Common.{◌≡◌, IsTrue, inl, inr}
 use Rattle.file_devices.specs.BatchNames.{names_of}
 use Rattle.app_jobs.proofs.BlockFaults.{stopped}
 use Rattle.app_jobs.proofs.FirstBlocks.{before_head, behind_head, device_alone, from_three, in_head}

@@ -6,15 +6,8 @@ use Rattle.issuer_rows.specs.Fold.{Rows}
 use Rattle.issuer_rows.specs.RowKey.{key_eq}
 use Rattle.issuer_rows.specs.declared.row_val.RowVal.{RowVal}
 use Rattle.book_archive.specs.Archive.{has_paid}
-use Rattle.book_archive.proofs.Splitting.{put_seen, none_within}
+use Rattle.book_archive.proofs.Splitting.{put_seen, none_within, both_put}
 use Rattle.book_archive.proofs.archiving.put_past.Goals as goal
-
--- the row, and then its payer
-both_put : (own paid : Bool) (whole before between after : Option RowVal) → between ≡ cond own whole before → after ≡ cond paid whole between → after ≡ cond (own || paid) whole before
-both_put true true whole before between after one two = two
-both_put true false whole before between after one two = two ∙ one
-both_put false true whole before between after one two = two
-both_put false false whole before between after one two = two ∙ one
 
 pub returns-in_ok-put_copy : goal.returns-in_ok-put_copy
 returns-in_ok-put_copy c q =

@@ -1,4 +1,4 @@
-use Rattle.std.proofs.Common.{◌≡◌, ap, sym, ◌∙◌}
+use Rattle.std.proofs.Common.{ap, sym, ◌∙◌}
 use Rattle.issuer_rows.specs.Fold.{Rows}
 use Rattle.serde_json.specs.View.{view}
 use Rattle.book_laws.specs.Reading.{add_lists, all_lists}

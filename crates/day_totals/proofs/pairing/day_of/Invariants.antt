@@ -1,4 +1,4 @@
-use Rattle.std.proofs.Common.{◌≡◌, take}
+use Rattle.std.proofs.Common.{take}
 use Rattle.day_totals.specs.Totals.{IsDayOf}
 use Rattle.day_totals.proofs.pairing.day_of.Given as goal
 

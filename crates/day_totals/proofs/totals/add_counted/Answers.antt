@@ -1,4 +1,4 @@
-use Rattle.std.proofs.Common.{◌≡◌, ◌≤◌, ◌+◌, ◌^◌, ℕ, List, string_bytes, unwrap_or, arith}
+use Rattle.std.proofs.Common.{◌≤◌, ◌^◌, string_bytes, unwrap_or, arith}
 use Rattle.std.proofs.lemmas.Grind.{text_counts}
 use Rattle.std.proofs.lemmas.Map.Text.{text_keys}
 use Rattle.std.specs.BTreeMap.{get_by_text}

@@ -1,4 +1,4 @@
-use Rattle.std.proofs.Common.{◌≡◌, ◌≤◌, ◌+◌, ◌*◌, ◌^◌, ℕ, List, String, take, unwrap_or}
+use Rattle.std.proofs.Common.{◌≤◌, ◌*◌, ◌^◌, ℕ, List, String, take, unwrap_or}
 use Rattle.std.specs.BTreeMap.{get_by_text, BTreeMap}
 use Rattle.day_totals.specs.Day.{AreTallied}
 use Rattle.day_totals.specs.declared.exchange.Exchange.{Exchange}

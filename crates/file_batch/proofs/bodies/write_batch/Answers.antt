@@ -4,7 +4,7 @@ use Rattle.file_batch_laws.specs.Files.{batch_text}
 use Rattle.std.proofs.Common.{arith, refl}
 use Rattle.std.proofs.lemmas.List.{length-map}
 use Rattle.std.proofs.lemmas.Result.{err_from_is_err_and, on_ok_weaker}
-use Rattle.file_batch.proofs.FaultTexts.{clash}
+use Rattle.file_batch_laws.proofs.FaultTexts.{clash}
 use Rattle.file_batch.proofs.Lengths.{are_bodies, are_vecs, all_are_bodies, text_of_vecs}
 use Rattle.file_batch.proofs.bodies.write_batch.Goals as goal
 

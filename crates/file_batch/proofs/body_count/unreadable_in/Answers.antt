@@ -1,4 +1,4 @@
-use Rattle.std.proofs.Common.{◌≡◌, ◌+◌, ◌≤◌, ◌∙◌, ℕ, count_by, length, sym, ap, take, arith}
+use Rattle.std.proofs.Common.{◌≤◌, ◌∙◌, count_by, length, sym, ap, take, arith}
 use Rattle.std.proofs.lemmas.List.{length-take-le}
 use Rattle.std.proofs.lemmas.List.Sums.{count_by-le-length, count_by_more_no, count_by_more_yes}
 use Rattle.file_batch.specs.Counting.{is_unreadable}

@@ -1,7 +1,8 @@
 use Rattle.std.proofs.Common.{ℕ, List, length, drop, ap}
+use Rattle.std.proofs.lemmas.Result.{on_ok_weaker, IfErr-weaker}
 use Rattle.rtrb.specs.Ring.{received}
 use Rattle.link_ahead.proofs.Fronts.{none_taken}
-use Rattle.host_commands.proofs.SameLink.{on_ok, if_err, served_for, stopped_for, stopped_at_once}
+use Rattle.host_commands.proofs.SameLink.{served_for, stopped_for, stopped_at_once}
 use Rattle.host_commands.proofs.ahead.serve_named.Goals as goal
 
 pub returns-in_default-clause-stopped : goal.returns-in_default-clause-stopped
@@ -14,7 +15,7 @@ pub returns-in-Some-clause-ok : goal.returns-in-Some-clause-ok
 returns-in-Some-clause-ok g c =
     let ahead = c.in-Ok-ends_of_link.ahead in
     let fresh = c.in-Ok-ends_of_link.ensures.fresh in
-    on_ok c.in-Some.served
+    on_ok_weaker c.in-Some.served
     (served_for _ _ _ c.args.host.now c.serve_together-has_read.new.host _ g.L.Link.is_known _ g.L.Link.bytes _ _ _ _
     (none_taken g.L.Link.is_known g.L.Link.bytes (received ahead.inbound) ahead.last fresh.none fresh.last)
     (λ known. ap (λ (x : List ℕ). drop (length x) g.L.Link.bytes) fresh.none))
@@ -24,7 +25,7 @@ pub returns-in-Some-clause-stopped : goal.returns-in-Some-clause-stopped
 returns-in-Some-clause-stopped g c =
     let ahead = c.in-Ok-ends_of_link.ahead in
     let fresh = c.in-Ok-ends_of_link.ensures.fresh in
-    if_err c.in-Some.served
+    IfErr-weaker c.in-Some.served _ _
     (λ e. stopped_for _ _ _ e c.args.host.now c.serve_together-has_read.new.host _ g.L.Link.is_known _ g.L.Link.bytes _ _ _
     (none_taken g.L.Link.is_known g.L.Link.bytes (received ahead.inbound) ahead.last fresh.none fresh.last)
     (λ known. ap (λ (x : List ℕ). drop (length x) g.L.Link.bytes) fresh.none))
@@ -39,7 +40,7 @@ pub returns-clause-ok : goal.returns-clause-ok
 returns-clause-ok g c =
     let none = rw c.in_default-served.is at c.serve_together-has_read.ensures.none in
     let unread = c.serve_together-has_read.ensures.unread c.if-has_read.false in
-    on_ok c.serve_link-served.result
+    on_ok_weaker c.serve_link-served.result
     (served_for _ _ _ c.args.host.now c.serve_link-served.new.self _ g.L.Link.is_known _ g.L.Link.bytes _ _ _ _
     (λ known. (c.requires.known known).0) (λ known. (c.requires.known known).1))
     (rw (none.0, none.1, unread) at c.serve_link-served.ensures.ok)
@@ -48,7 +49,7 @@ pub returns-clause-stopped : goal.returns-clause-stopped
 returns-clause-stopped g c =
     let none = rw c.in_default-served.is at c.serve_together-has_read.ensures.none in
     let unread = c.serve_together-has_read.ensures.unread c.if-has_read.false in
-    if_err c.serve_link-served.result
+    IfErr-weaker c.serve_link-served.result _ _
     (λ e. stopped_for _ _ _ e c.args.host.now c.serve_link-served.new.self _ g.L.Link.is_known _ g.L.Link.bytes _ _ _
     (λ known. (c.requires.known known).0) (λ known. (c.requires.known known).1))
     (rw (none.0, none.1, unread) at c.serve_link-served.ensures.stopped)

@@ -1,4 +1,4 @@
-use Rattle.std.proofs.Common.{◌≡◌, ℕ, List, []}
+use Rattle.std.proofs.Common.{ℕ, List, []}
 use Rattle.log_file.specs.Reads.{HasRead}
 use Rattle.host_opening.specs.Again.{IsUnderWay}
 use Rattle.host_opening.proofs.again.decide_again.Given as goal

@@ -1,10 +1,10 @@
-use Rattle.std.proofs.Common.{◌≡◌, ◌≢◌, ◌+◌, Option, OnOk, None, drop, sym, ap, subst, ◌∙◌}
+use Rattle.std.proofs.Common.{◌≡◌, ◌+◌, Option, OnOk, drop, subst, ◌∙◌}
 use Rattle.std.specs.FinMap as map
 use Rattle.issuer_fold.proofs.FoldLaws.{overlay-drop, overlay-last}
 use Rattle.issuer_fold.proofs.ThereLaws.{overlay-after, stays_there}
 use Rattle.issuer_fold.proofs.UndoLaws.{undone}
 use Rattle.issuer_fold.specs.Former.{with_former}
-use Rattle.issuer_view.specs.Words.{RowVal, Rows, overlay}
+use Rattle.issuer_view.specs.Words.{RowVal, Rows}
 use Rattle.issuer_fold.proofs.putting.+put_from.Goals as goal
 
 pub returns-then-index-len-2-clause-ok : goal.returns-then-index-len-2-clause-ok

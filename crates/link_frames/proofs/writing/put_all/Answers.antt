@@ -1,5 +1,5 @@
 use Rattle.std.proofs.Common.{◌∙◌}
-use Rattle.link_frames.proofs.Puts.{none_failed, puts_more, all_put}
+use Rattle.file_devices.proofs.Puts.{none_failed, puts_more, all_put}
 use Rattle.link_frames.proofs.writing.put_all.Goals as goal
 
 pub loop-rest-preserved : goal.loop-rest-preserved

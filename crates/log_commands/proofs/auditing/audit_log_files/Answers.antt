@@ -1,4 +1,4 @@
-use Rattle.std.proofs.Common.{◌≡◌, ◌∙◌, ℕ, List, inl, inr, map, ap, subst, Err}
+use Rattle.std.proofs.Common.{◌∙◌, inl, inr, map, ap, subst, Err}
 use Rattle.std.proofs.lemmas.Result.{err_from_is_err_and}
 use Rattle.std.specs.Global.{Vec}
 use Rattle.app_audit.specs.Blocks.{FindsInBlocks}

@@ -1,8 +1,8 @@
 use Rattle.std.proofs.Common.{◌≡◌, length}
-use Rattle.log_file.proofs.Puts.{IsPut}
 use Rattle.log_file.specs.Device.{UsesFile}
 use Rattle.std.specs.Prelude.{Ok}
 use Rattle.log_file.proofs.appending.put_all.Given as goal
+use Rattle.file_devices.proofs.Puts.{IsPut}
 
 -- what was written, and the rest
 abbrev pub invariant-loop-rest : goal.invariant-loop-rest

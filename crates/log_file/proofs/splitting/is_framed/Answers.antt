@@ -1,8 +1,8 @@
 use Rattle.std.proofs.Common.{◌≡◌, ◌∙◌, ℕ, List, length, sym, ap, subst, arith}
 use Rattle.std.specs.Bool.{◌==◌}
 use Rattle.log_file.proofs.Framing.{Split, no_next, nothing_left, split_all, split_more}
-use Rattle.log_file.proofs.Puts.{nothing}
 use Rattle.log_file.proofs.splitting.is_framed.Goals as goal
+use Rattle.file_devices.proofs.Puts.{nothing}
 
 pub returns-in_default-clause-none : goal.returns-in_default-clause-none
 returns-in_default-clause-none c = λ bodies are number is.

@@ -1,4 +1,4 @@
-use Rattle.std.proofs.Common.{ap, sym}
+use Rattle.std.proofs.Common.{sym}
 use Rattle.std.proofs.lemmas.List.{append-nil}
 use Rattle.book_laws.proofs.WrittenTokens.{then}
 use Rattle.reason_json.specs.Lines.{head_members, reply_member, row_members}

@@ -1,5 +1,5 @@
 use Rattle.std.proofs.Common.{◌≡◌, ℕ, List, [], ◌∷◌, ◌++◌, ◌&&◌, false, cond, ap, ◌∙◌}
-use Rattle.std.proofs.lemmas.List.{append-nil, append_assoc}
+use Rattle.std.proofs.lemmas.List.{append_assoc}
 use Rattle.std.proofs.lemmas.Result.{on_ok_weaker}
 use Rattle.json.specs.Print.{quoted, separator}
 use Rattle.json.specs.Token.{key}
@@ -12,12 +12,13 @@ returns c =
     let old = c.args.self.now in
     let comma = separator old.after_value (key c.args.name.now) in
     let name = quoted c.args.name.now in
-    let begun = ap (λ (now : JsonText). now.text) c.in_ok-put.ensures ∙ ap (λ (text : List ℕ). old.text ++ text) (append-nil comma) in
-    let still : c.put_quoted.new.self.after_value ≡ false = c.put_quoted.ensures.after ∙ ap (λ (now : JsonText). now.after_value) c.in_ok-put.ensures in
-    let whole = c.in_ok-put_quoted.ensures.text ∙ ap (λ (text : List ℕ). text ++ name) begun in
+    let whole = ap (λ (now : JsonText). now.text) c.in_ok-put_quoted.ensures in
+    let still = ap (λ (now : JsonText). now.after_value) c.in_ok-put_quoted.ensures in
+    let grouped : (old.text ++ (comma ++ name)) ++ 58 ∷ [] ≡ old.text ++ (comma ++ (name ++ 58 ∷ []))
+    = append_assoc old.text (comma ++ name) (58 ∷ []) ∙ ap (λ (text : List ℕ). old.text ++ text) (append_assoc comma name (58 ∷ [])) in
     on_ok_weaker _
     (λ put. one_token (key c.args.name.now)
     (put
     ∙ (λ i. record { text = whole i ++ (cond (still i && false) (44 ∷ []) [] ++ 58 ∷ []); after_value = false })
-    ∙ ap (λ (text : List ℕ). record { text = text; after_value = false }) (append_assoc (old.text ++ comma) name (58 ∷ []) ∙ append_assoc old.text comma (name ++ 58 ∷ []))))
-    c.put-2.ensures
+    ∙ ap (λ (text : List ℕ). record { text = text; after_value = false }) grouped))
+    c.put.ensures

@@ -1,6 +1,5 @@
-use Rattle.std.proofs.Common.{◌≡◌, ◌≢◌, ◌∷◌, ◌∙◌, ap, sym, ℕ, List, rules, arith}
+use Rattle.std.proofs.Common.{◌∙◌, sym, rules, arith}
 use Rattle.std.proofs.lemmas.List.{nil_from_length}
-use Rattle.file_devices.specs.Held.{held}
 use Rattle.file_devices.proofs.Placing.{by_names, front_and_rest, none_named, none_placed, placed_first}
 use Rattle.file_devices.proofs.memory.MemoryFiles.+put_all.Goals as goal
 

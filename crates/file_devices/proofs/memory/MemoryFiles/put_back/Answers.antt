@@ -1,6 +1,5 @@
-use Rattle.std.proofs.Common.{◌≡◌, ◌≢◌, ℕ, List, arith}
+use Rattle.std.proofs.Common.{arith}
 use Rattle.std.proofs.lemmas.Map.Text.{text_keys}
-use Rattle.file_devices.specs.Held.{held}
 use Rattle.file_devices.proofs.memory.MemoryFiles.put_back.Goals as goal
 
 pub returns-in-None-clause-others : goal.returns-in-None-clause-others

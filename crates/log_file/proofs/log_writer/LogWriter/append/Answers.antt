@@ -1,4 +1,4 @@
-use Rattle.std.proofs.Common.{◌∙◌, ◌∷◌, [], List, ℕ, sym, ap, subst, arith}
+use Rattle.std.proofs.Common.{◌∙◌, ◌∷◌, [], List, ℕ, sym, ap, arith}
 use Rattle.std.proofs.lemmas.List.{length-append}
 use Rattle.file_batch_laws.specs.Files.{AreBodies}
 use Rattle.log_laws.specs.Texts.{first_digest, next_digest}

@@ -1,4 +1,4 @@
-use Rattle.std.proofs.Common.{rules, arith}
+use Rattle.std.proofs.Common.{rules}
 use Rattle.file_devices.proofs.Placing.{one_named}
 use Rattle.file_devices.proofs.host.files.HostFilesFiles.put_in_place.Goals as goal
 

@@ -21,7 +21,7 @@ puts_more old new new' bytes rest count put more =
       rw left (put.2 ∙ ap (λ (x : List ℕ). put.0 ++ x) (sym (take-append-drop count rest)) ∙ sym (append_assoc put.0 (take count rest) (drop count rest))),
     )
 
-nothing : (xs : List ℕ) → true ≡ (length xs == 0) → xs ≡ []
+pub nothing : (xs : List ℕ) → true ≡ (length xs == 0) → xs ≡ []
 nothing xs e = nil_from_length xs (grind (arith, e))
 
 -- all was written

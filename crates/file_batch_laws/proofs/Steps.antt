@@ -1,0 +1,32 @@
+-- What a step of reading that did not fail gives.
+use Rattle.std.proofs.Common.{◌≡◌, ◌<◌, ℕ, Bool, true, false, cond, List, [], ◌∷◌, length, Result, Ok, Err, refl, arith}
+use Rattle.file_batch_laws.specs.Reading.{◌>>=◌, ended}
+use Rattle.file_batch_laws.specs.declared.batch_fault.BatchFault.{BatchFault}
+use Rattle.file_batch_laws.specs.declared.batch_fault.BatchFault.TheVariants.{Trailing}
+
+-- the value of a step that did not fail
+pub bind_ok : {A B : Type 0} (r : Result A BatchFault) (f : A → Result B BatchFault) (y : B) → (r >>= f) ≡ Ok y → (x : A) × (r ≡ Ok x) × (f x ≡ Ok y)
+bind_ok (Ok x) f y e = (x, refl, e)
+bind_ok (Err d) f y e = absurd cc
+
+pub ok_is : {A : Type 0} (x y : A) → Path (Result A BatchFault) (Ok x) (Ok y) → x ≡ y
+ok_is x y e = cc
+
+-- a test that a value passed
+pub passed : {A : Type 0} (b : Bool) (d : BatchFault) (x y : A) → cond b (Ok x) (Err d) ≡ Ok y → (b ≡ true) × (x ≡ y)
+passed true d x y h = (refl, cc)
+passed false d x y h = absurd cc
+
+-- a test for a fault that was not found
+pub clean : {A : Type 0} (b : Bool) (d : BatchFault) (x y : A) → cond b (Err d) (Ok x) ≡ Ok y → (b ≡ false) × (x ≡ y)
+clean true d x y h = absurd cc
+clean false d x y h = (refl, cc)
+
+pub nothing_left : (left : List ℕ) → ended left ≡ Ok tt → left ≡ []
+nothing_left [] e = refl
+nothing_left (b ∷ bytes) e = absurd cc
+
+-- a byte too many
+pub ended_more : (bytes : List ℕ) → 0 < length bytes → ended bytes ≡ Err Trailing
+ended_more [] more = absurd (omega (arith, more))
+ended_more (b ∷ bytes) more = refl
