@@ -1,9 +1,9 @@
 ghost use Rattle.std.specs.Prelude.{◌≡◌, ◌≤◌, [], length, vec_len, IfOk, OnOk};
 ghost use Rattle.file_batch.specs.Device.{UsesDevice};
-ghost use Rattle.file_batch_laws.specs.Reading.{GivesWhole, bodies_at, ended};
+ghost use Rattle.file_batch_laws.specs.Reading.{GivesWhole, body_at, bodies_at, ended};
 ghost use Rattle.file_batch_laws.specs.Frames.{IsFrameOf, GivesFrames, GivesBatch};
 ghost use Rattle.file_batch.specs.InOrder.{GivesInto};
-ghost use Rattle.file_batch.specs.Window.{ahead};
+ghost use Rattle.file_batch.specs.Window.{ahead, GivesFrame};
 
 use crate::window::Window;
 use file_batch_laws::BatchFault;
@@ -39,6 +39,23 @@ impl Window {
         }
     }
 
+    // The frame of the next body. A body that was taken whole is read where it stands, without a copy.
+    #[inline(always)]
+    fn read_frame<R: Source>(&mut self, source: &mut R) -> Result<Frame, BatchFault>
+        ensures device { UsesDevice R.is_known R.has_failed R.may_fail source.old source.new result }
+        ensures gives { R.is_known source.old → GivesFrame result
+            (ahead self.new (R.remaining source.new)) (body_at (ahead self.old (R.remaining source.old))) }
+    {
+        if let Some(size) = self.body_there() {
+            let begin = self.start + 2;
+            let frame = frame_of(&self.piece[begin..begin + size]);
+            self.start = begin + size;
+            return Ok(frame);
+        }
+        self.read_body(source)?;
+        Ok(frame_of(&self.field))
+    }
+
     /// Reads the frames of the next bodies, so many, over the memory of others.
     pub(crate) fn read_into<R: Source>(
         &mut self,
@@ -52,9 +69,9 @@ impl Window {
             (ahead self.new (R.remaining source.new)) (bodies_at count (ahead self.old (R.remaining source.old))) }
     {
         frames.clear();
+        frames.reserve(count as usize)?;
         for _ in 0..count {
-            self.read_body(source)?;
-            frames.push(frame_of(&self.field))?;
+            frames.push_reserved(self.read_frame(source)?);
         }
         Ok(())
     }

@@ -1,5 +1,6 @@
 ghost use Rattle.std.specs.Prelude.{◌<◌, ◌≤◌, length};
 
+use byteorder::{BigEndian, ByteOrder};
 use file_batch_laws::BatchFault;
 use file_devices::Source;
 use std::alloc::{AllocError, Global};
@@ -12,9 +13,9 @@ const PIECE: usize = 65_536;
 /// source failed, and `OutOfMemory`.
 #[derive(Drop)]
 pub struct Window {
-    piece: Vec<u8>,
-    start: usize,
-    end: usize,
+    pub(crate) piece: Vec<u8>,
+    pub(crate) start: usize,
+    pub(crate) end: usize,
     /// The bytes of the field that was read last, as far as it was read.
     pub field: Vec<u8>,
     ghost in_order: { start ≤ end },
@@ -23,11 +24,11 @@ pub struct Window {
 }
 
 impl Window {
-    ghost use Rattle.std.specs.Prelude.{◌≡◌, ◌+◌, ◌<◌, ◌≤◌, ◌++◌, [], length, OnOk, OnErr, IfOk, IfErr, IsTrue};
+    ghost use Rattle.std.specs.Prelude.{◌≡◌, ◌+◌, ◌<◌, ◌≤◌, ◌++◌, [], length, OnOk, OnErr, IfOk, IfErr, IfSome, IsTrue};
     ghost use Rattle.file_batch_laws.specs.BatchFault.{is_of_bytes};
     ghost use Rattle.file_batch.specs.Device.{UsesDevice};
     ghost use Rattle.file_batch_laws.specs.Reading.{Gives, field_at};
-    ghost use Rattle.file_batch.specs.Window.{part, ahead};
+    ghost use Rattle.file_batch.specs.Window.{part, ahead, HasBody};
 
     /// A window of which nothing was taken yet. Memory can run out.
     pub fn new(alloc: Global) -> Result<Window, AllocError>
@@ -77,6 +78,19 @@ impl Window {
             self.refill(source)?;
         }
         Ok(())
+    }
+
+    /// How many bytes the next body has, where all of it was taken from the source already and its length is one of a body.
+    #[inline(always)]
+    pub(crate) fn body_there(&self) -> Option<usize>
+        ensures { IfSome result (HasBody self.now) }
+    {
+        let (length, rest) = self.piece[self.start..self.end].split_first_chunk::<2>()?;
+        let size = BigEndian::read_u16(length) as usize;
+        if size == 0 || size > 512 || rest.len() < size {
+            return None;
+        }
+        Some(size)
     }
 
     // Moves at most so many of the bytes that are there into the field.

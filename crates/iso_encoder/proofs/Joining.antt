@@ -1,7 +1,7 @@
 -- What is written piece by piece is the whole spelling.
 use Rattle.std.proofs.Common.{◌≡◌, ℕ, ◌+◌, ◌-◌, ◌/◌, ◌%◌, ◌^◌, false, cond, eqb, List, ◌++◌, Option, Some, None, refl, sym, ap, ◌∙◌, append_assoc, arith}
 use Rattle.std.specs.Prelude.{is_some, option_map}
-use Rattle.std.specs.Global.{Vec}
+use Rattle.arrayvec.specs.ArrayVec.{ArrayVec}
 use Rattle.std.specs.Int.{w64, to_be_bytes}
 use Rattle.std.specs.List.{flat_map}
 use Rattle.std.proofs.lemmas.Grind.{flat_map-append}
@@ -33,7 +33,7 @@ extended_written o0 o1 o2 a b bitmap some first second h k =
     left ∙ (append_assoc o0 a b ∙ ap (λ (z : List ℕ). o0 ++ z) (sym both))
 
 -- some elements, and those behind them
-pub both : {x : Parts} {es ds : List Element} {a b c : Vec ℕ} {m n : ℕ} → Writes x es a b m → Writes x ds b c n → Writes x (es ++ ds) a c (m + n)
+pub both : {x : Parts} {es ds : List Element} {a b c : ArrayVec ℕ} {m n : ℕ} → Writes x es a b m → Writes x ds b c n → Writes x (es ++ ds) a c (m + n)
 both {x} {es} {ds} {a} {b} {c} first second =
     let text = written_texts x in
     let xs = flat_map field (fields_among es (written_texts x)) in
@@ -44,5 +44,4 @@ both {x} {es} {ds} {a} {b} {c} first second =
     record {
       items = items ∙ (append_assoc a.items xs ys ∙ ap (λ (z : List ℕ). a.items ++ z) (sym joined));
       len = omega (arith, first.len, second.len);
-      capacity = omega (arith, first.capacity, second.capacity);
     }

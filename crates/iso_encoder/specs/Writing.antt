@@ -1,6 +1,6 @@
 -- What is written of a message or a reply.
-use Rattle.std.specs.Prelude.{◌≡◌, ℕ, ◌+◌, ◌≤◌, Bool, List, ◌++◌, vec_len, vec_capacity, option_map, if◌then◌else◌}
-use Rattle.std.specs.Global.{Vec}
+use Rattle.std.specs.Prelude.{◌≡◌, ℕ, ◌+◌, ◌≤◌, Bool, List, ◌++◌, option_map, if◌then◌else◌}
+use Rattle.arrayvec.specs.ArrayVec.{ArrayVec, array_vec_len}
 use Rattle.std.specs.List.{flat_map}
 use Rattle.iso8583.specs.Number.{fixed_digits}
 use Rattle.iso_encoder.specs.declared.parts.Parts.{Parts}
@@ -22,10 +22,9 @@ written_texts x element.Account = account_text x.account
 written_texts x e = transaction_texts x.transaction.now e
 
 -- of these elements those that are there were appended, in at most so many bytes
-pub record Writes (x : Parts) (es : List Element) (old new : Vec ℕ) (most : ℕ) : Type 0 where
+pub record Writes (x : Parts) (es : List Element) (old new : ArrayVec ℕ) (most : ℕ) : Type 0 where
   pub items : new.items ≡ old.items ++ flat_map field (fields_among es (written_texts x))
-  pub len : vec_len new ≤ vec_len old + most
-  pub capacity : vec_capacity old ≤ vec_capacity new
+  pub len : array_vec_len new ≤ array_vec_len old + most
 
 -- the bit of an element, if it is there
 abbrev pub bit_if : Bool → ℕ → ℕ

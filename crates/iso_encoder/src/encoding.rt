@@ -1,4 +1,5 @@
 ghost use Rattle.std.specs.Prelude.{◌≡◌, ℕ, ◌+◌, ◌-◌, ◌^◌, ◌≤◌, ◌<◌, [], ◌∷◌, ◌++◌, length, is_some, vec_len, vec_capacity, OnOk, OnErr, IfErr, IsOk};
+ghost use Rattle.arrayvec.specs.ArrayVec.{array_vec_len};
 ghost use Rattle.iso_encoder.specs.Writing.{bit_if, written_texts, Writes};
 ghost use Rattle.iso_laws.specs.Elements.{element_number, elements, original_text, original_type};
 ghost use Rattle.iso_laws.specs.Types.{mti_text};
@@ -7,12 +8,9 @@ ghost use Rattle.iso_laws.specs.Messages.{Spells, message_spelling};
 ghost use Rattle.iso_laws.specs.Replies.{SpellsReply, reply_spelling};
 
 use crate::parts::{Parts, parts_of, reply_parts};
-use crate::writer::{put, put_field};
+use crate::writer::{Line, ROOM, put, put_field};
 use iso_laws::{COMMON, Element, Mti};
 use iso8583::{CodecFault, Digits, Message, OriginalKind, OriginalRef, Reply};
-
-/// Bytes of capacity with which every message and every reply can be written without allocating. The longest has 179.
-pub const ROOM: usize = 256;
 
 /// The text of a type.
 fn mti_text(mti: Mti) -> &'static [u8]
@@ -57,12 +55,11 @@ fn bitmap_of(parts: &Parts) -> u128
 
 /// Appends the bytes of the bitmap: eight, or sixteen with bit 1 set where an element from 65 on is there.
 #[tactic(auto, unfolding(iso_laws::specs::Spelling::bitmap_bytes))]
-fn put_bitmap(out: &mut Vec<u8>, bitmap: u128)
+fn put_bitmap(out: &mut Line, bitmap: u128)
     requires fits { bitmap < 2 ^ 127 }
-    requires room { vec_len out.old + 16 ≤ vec_capacity out.old }
+    requires room { array_vec_len out.old + 16 ≤ ROOM }
     ensures items { out.new.items ≡ out.old.items ++ bitmap_bytes bitmap }
-    ensures len { vec_len out.new ≤ vec_len out.old + 16 }
-    ensures capacity { vec_capacity out.old ≤ vec_capacity out.new }
+    ensures len { array_vec_len out.new ≤ array_vec_len out.old + 16 }
 {
     let primary = (bitmap >> 64) as u64;
     let secondary = (bitmap % (1 << 64)) as u64;
@@ -78,8 +75,8 @@ fn put_bitmap(out: &mut Vec<u8>, bitmap: u128)
 const BIT_1: u64 = 1 << 63;
 
 /// Appends the elements that all begin with.
-fn put_front(out: &mut Vec<u8>, parts: &Parts)
-    requires { vec_len out.old + 77 ≤ vec_capacity out.old }
+fn put_front(out: &mut Line, parts: &Parts)
+    requires { array_vec_len out.old + 77 ≤ ROOM }
     ensures { Writes parts.now (Element.Pan ∷ Element.Processing ∷ Element.Amount ∷ Element.Transmission ∷ Element.Stan ∷ Element.Stamp ∷ []) out.old out.new 77 }
 {
     let transaction = parts.transaction;
@@ -100,8 +97,8 @@ fn put_front(out: &mut Vec<u8>, parts: &Parts)
 }
 
 /// Appends element 24, if it is there.
-fn put_function(out: &mut Vec<u8>, parts: &Parts)
-    requires { vec_len out.old + 5 ≤ vec_capacity out.old }
+fn put_function(out: &mut Line, parts: &Parts)
+    requires { array_vec_len out.old + 5 ≤ ROOM }
     ensures { Writes parts.now (Element.Function ∷ []) out.old out.new 5 }
 {
     if let Some(function) = &parts.function {
@@ -110,8 +107,8 @@ fn put_function(out: &mut Vec<u8>, parts: &Parts)
 }
 
 /// Appends element 30, if it is there.
-fn put_original_amount(out: &mut Vec<u8>, parts: &Parts)
-    requires { vec_len out.old + 26 ≤ vec_capacity out.old }
+fn put_original_amount(out: &mut Line, parts: &Parts)
+    requires { array_vec_len out.old + 26 ≤ ROOM }
     ensures { Writes parts.now (Element.OriginalAmount ∷ []) out.old out.new 26 }
 {
     if let Some(amount) = &parts.original_amount {
@@ -121,8 +118,8 @@ fn put_original_amount(out: &mut Vec<u8>, parts: &Parts)
 }
 
 /// Appends element 32, and 37 if it is there.
-fn put_references(out: &mut Vec<u8>, parts: &Parts)
-    requires { vec_len out.old + 27 ≤ vec_capacity out.old }
+fn put_references(out: &mut Line, parts: &Parts)
+    requires { array_vec_len out.old + 27 ≤ ROOM }
     ensures { Writes parts.now (Element.Acquirer ∷ Element.Retrieval ∷ []) out.old out.new 27 }
 {
     let transaction = parts.transaction;
@@ -133,8 +130,8 @@ fn put_references(out: &mut Vec<u8>, parts: &Parts)
 }
 
 /// Appends element 38, if it is there.
-fn put_approval(out: &mut Vec<u8>, parts: &Parts)
-    requires { vec_len out.old + 8 ≤ vec_capacity out.old }
+fn put_approval(out: &mut Line, parts: &Parts)
+    requires { array_vec_len out.old + 8 ≤ ROOM }
     ensures { Writes parts.now (Element.Approval ∷ []) out.old out.new 8 }
 {
     if let Some(approval) = &parts.approval {
@@ -143,8 +140,8 @@ fn put_approval(out: &mut Vec<u8>, parts: &Parts)
 }
 
 /// Appends element 39, if it is there.
-fn put_action(out: &mut Vec<u8>, parts: &Parts)
-    requires { vec_len out.old + 5 ≤ vec_capacity out.old }
+fn put_action(out: &mut Line, parts: &Parts)
+    requires { array_vec_len out.old + 5 ≤ ROOM }
     ensures { Writes parts.now (Element.Action ∷ []) out.old out.new 5 }
 {
     if let Some(action) = &parts.action {
@@ -153,8 +150,8 @@ fn put_action(out: &mut Vec<u8>, parts: &Parts)
 }
 
 /// Appends elements 41 and 49.
-fn put_ends(out: &mut Vec<u8>, parts: &Parts)
-    requires { vec_len out.old + 15 ≤ vec_capacity out.old }
+fn put_ends(out: &mut Line, parts: &Parts)
+    requires { array_vec_len out.old + 15 ≤ ROOM }
     ensures { Writes parts.now (Element.Terminal ∷ Element.Currency ∷ []) out.old out.new 15 }
 {
     let transaction = parts.transaction;
@@ -187,12 +184,11 @@ fn original_type(kind: &OriginalKind, repeat: bool) -> &'static [u8]
 
 /// Appends the text of a reference, without its length.
 #[tactic(auto, unfolding(iso_laws::specs::Elements::original_text))]
-fn put_reference(out: &mut Vec<u8>, original: &OriginalRef)
-    requires { vec_len out.old + 35 ≤ vec_capacity out.old }
+fn put_reference(out: &mut Line, original: &OriginalRef)
+    requires { array_vec_len out.old + 35 ≤ ROOM }
     ensures items { out.new.items ≡ out.old.items ++ original_text original.now }
     ensures size { length (original_text original.now) ≡ 24 + length original.now.identity.acquirer.0 }
-    ensures len { vec_len out.new ≤ vec_len out.old + 35 }
-    ensures capacity { vec_capacity out.old ≤ vec_capacity out.new }
+    ensures len { array_vec_len out.new ≤ array_vec_len out.old + 35 }
 {
     let acquirer = original.identity.acquirer.0.as_slice();
     put(out, original_type(&original.kind, original.repeat));
@@ -206,8 +202,8 @@ fn put_reference(out: &mut Vec<u8>, original: &OriginalRef)
 }
 
 /// Appends element 56, if it is there.
-fn put_original(out: &mut Vec<u8>, parts: &Parts)
-    requires { vec_len out.old + 37 ≤ vec_capacity out.old }
+fn put_original(out: &mut Line, parts: &Parts)
+    requires { array_vec_len out.old + 37 ≤ ROOM }
     ensures { Writes parts.now (Element.Original ∷ []) out.old out.new 37 }
 {
     if let Some(original) = &parts.original {
@@ -218,8 +214,8 @@ fn put_original(out: &mut Vec<u8>, parts: &Parts)
 }
 
 /// Appends element 102, if it is there.
-fn put_account(out: &mut Vec<u8>, parts: &Parts)
-    requires { vec_len out.old + 30 ≤ vec_capacity out.old }
+fn put_account(out: &mut Line, parts: &Parts)
+    requires { array_vec_len out.old + 30 ≤ ROOM }
     ensures { Writes parts.now (Element.Account ∷ []) out.old out.new 30 }
 {
     if let Some(account) = &parts.account {
@@ -228,8 +224,8 @@ fn put_account(out: &mut Vec<u8>, parts: &Parts)
 }
 
 /// Appends the elements.
-fn put_elements(out: &mut Vec<u8>, parts: &Parts)
-    requires { vec_len out.old + 230 ≤ vec_capacity out.old }
+fn put_elements(out: &mut Line, parts: &Parts)
+    requires { array_vec_len out.old + 230 ≤ ROOM }
     ensures { Writes parts.now elements out.old out.new 230 }
 {
     put_front(out, parts);
@@ -243,25 +239,20 @@ fn put_elements(out: &mut Vec<u8>, parts: &Parts)
     put_account(out, parts);
 }
 
-/// Appends the spelling.
-fn put_spelling(out: &mut Vec<u8>, parts: &Parts)
-    requires { vec_len out.old + ROOM ≤ vec_capacity out.old }
-    ensures items { out.new.items ≡ out.old.items ++ spelling parts.now.mti (fields (written_texts parts.now)) }
-    ensures len { vec_len out.new ≤ vec_len out.old + ROOM }
-{
-    put(out, mti_text(parts.mti));
-    put_bitmap(out, bitmap_of(parts));
-    put_elements(out, parts);
-}
-
-/// Makes room for the longest spelling.
-fn make_room(out: &mut Vec<u8>) -> Result<(), CodecFault>
-    ensures ok { OnOk result (vec_len out.new + ROOM ≤ vec_capacity out.new) }
-    ensures items { out.new.items ≡ out.old.items }
+/// Appends the spelling. It is written into a line of its own first, which has room for it. The only fault is `OutOfMemory`, and then
+/// nothing is appended.
+fn put_spelling(out: &mut Vec<u8>, parts: &Parts) -> Result<(), CodecFault>
+    ensures ok { OnOk result (out.new.items ≡ out.old.items ++ spelling parts.now.mti (fields (written_texts parts.now))) }
     ensures memory { IfErr result (λ e. e ≡ CodecFault.OutOfMemory) }
+    ensures err { OnErr result (out.new.items ≡ out.old.items) }
     ensures room { vec_len out.old + ROOM ≤ vec_capacity out.old → IsOk result }
+    ensures length { OnOk result (vec_len out.new ≤ vec_len out.old + ROOM) }
 {
-    if out.reserve(ROOM).is_err() {
+    let mut line = Line::new();
+    put(&mut line, mti_text(parts.mti));
+    put_bitmap(&mut line, bitmap_of(parts));
+    put_elements(&mut line, parts);
+    if out.extend_from_slice(line.as_slice()).is_err() {
         return Err(CodecFault::OutOfMemory);
     }
     Ok(())
@@ -281,9 +272,7 @@ pub fn encode(message: &Message, out: &mut Vec<u8>) -> Result<(), CodecFault>
     ensures spells { Spells (message_spelling message.now) message.now }
 {
     let parts = parts_of(message);
-    make_room(out)?;
-    put_spelling(out, &parts);
-    Ok(())
+    put_spelling(out, &parts)
 }
 
 /// Appends the one spelling of the reply (ISO 8583:1993: 1110, 1130 or 1430). The only fault is `OutOfMemory`, and then nothing is
@@ -300,7 +289,5 @@ pub fn encode_reply(reply: &Reply, out: &mut Vec<u8>) -> Result<(), CodecFault>
     ensures spells { SpellsReply (reply_spelling reply.now) reply.now }
 {
     let parts = reply_parts(reply);
-    make_room(out)?;
-    put_spelling(out, &parts);
-    Ok(())
+    put_spelling(out, &parts)
 }

@@ -6,4 +6,5 @@ mod parts;
 mod values;
 mod writer;
 
-pub use encoding::{ROOM, encode, encode_reply};
+pub use encoding::{encode, encode_reply};
+pub use writer::ROOM;

@@ -11,7 +11,7 @@ use Rattle.iso8583.specs.declared.transaction.Transaction.{Transaction}
 use Rattle.issuer_rows.specs.Facts.{identity_of, day_of, prefix_of}
 use Rattle.issuer_rows.specs.Funds.{balance_of, with_balance, key_of_funds, row_of_funds, payer_of, paid_by}
 use Rattle.issuer_rows.specs.Kept.{KeptOriginal, kind_of_outcome, reversal_of_outcome}
-use Rattle.issuer_rows.specs.Plan.{Plan, Lookup, Writes, Answer, carried_out}
+use Rattle.issuer_rows.specs.Plan.{Plan, Lookup, Writes, Answer}
 use Rattle.issuer_rows.specs.RequestTable.{spent_more}
 use Rattle.issuer_rows.specs.ReversalTable.{reply_to_reversal, unchanged, greatest_balance, reversed_original, refunded, spent_less, day_is_short, is_overfull, day_key, on_original_day, by_kind, on_paid, by_payer, on_reversal, on_reversed, reversal_plan, is_named}
 use Rattle.issuer_rows.specs.Typed.{account_in, budget_in, original_in, velocity_in}
@@ -30,6 +30,7 @@ use Rattle.issuer_rows.specs.declared.velocity_row.VelocityRow.{VelocityRow}
 use Rattle.issuer_laws.proofs.Funding.{IsOfCard}
 use Rattle.issuer_laws.proofs.Keys.{same_text}
 use Rattle.issuer_laws.proofs.Repeated.{kept_with}
+use Rattle.issuer_laws.specs.Rules.{comes_to}
 use Rattle.issuer_laws.specs.Undone.{IsFullReversal}
 
 -- the full reversal of this message
@@ -39,10 +40,6 @@ full v k t = record v { scope = scope.Full; original = record { kind = k; repeat
 -- a full reversal of a message is that
 pub is_full : (v : Reversal) (k : OriginalKind) (t : Transaction) → IsFullReversal v k t → v ≡ full v k t
 is_full v k t h = λ i. record { repeat = v.repeat; scope = h.scope i; original = record { kind = h.kind i; repeat = v.original.repeat; identity = h.identity i }; transaction = record v.transaction { pan = h.card i } }
-
--- what a plan comes to: the reply, and the rows that are written
-abbrev pub comes_to : Plan → Lookup → ReplyBody × Writes
-comes_to p look = ((carried_out p look).reply, (carried_out p look).writes)
 
 balance_back : (f : Funds) (n : ℕ) → balance_of (with_balance f n) ≡ n
 balance_back (funds.Account id row) n = refl

@@ -34,8 +34,9 @@ use Rattle.issuer_laws.proofs.Funding.{IsFound, CanPay}
 use Rattle.issuer_laws.proofs.Keys.{get-put, get-other, other_key, same_or_other, funds_other, original_stands}
 use Rattle.issuer_laws.proofs.Repeated.{kept_with, request_unseen, advice_unseen}
 use Rattle.issuer_laws.proofs.RequestWays as request
-use Rattle.issuer_laws.proofs.Reversing.{full, is_full, comes_to, put_back, request_put_back, advice_put_back}
+use Rattle.issuer_laws.proofs.Reversing.{full, is_full, put_back, request_put_back, advice_put_back}
 use Rattle.issuer_laws.specs.Messages.{request_frame, advice_frame, HasAction}
+use Rattle.issuer_laws.specs.Rules.{comes_to}
 use Rattle.issuer_laws.specs.Undone.{spent_on, IsMoneyAsBefore, IsWithinRange, RequestIsUndone, RequestIsReversed, AdviceIsUndone, AdviceIsReversed}
 
 -- the key is none of those that are written

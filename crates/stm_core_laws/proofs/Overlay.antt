@@ -1,5 +1,5 @@
 -- A row of a book under what was written, and what one more message writes.
-use Rattle.std.proofs.Common.{◌≡◌, ℕ, suc, ◌<◌, ◌≤◌, ◌+◌, Bool, true, false, cond, List, [], ◌∷◌, ◌++◌, refl, sym, ap, ap₂, ◌∙◌, subst, Option, Some, None, option_map, filter_map, arith, ◌⊎◌, inl, inr}
+use Rattle.std.proofs.Common.{◌≡◌, ℕ, ◌+◌, Bool, true, false, cond, List, [], ◌∷◌, ◌++◌, refl, sym, ap, ◌∙◌, Option, Some, None, option_map, filter_map, arith, inl, inr}
 use Rattle.std.proofs.lemmas.Bool.{cases_lt}
 use Rattle.std.proofs.lemmas.Option.{same_Some, none-some}
 use Rattle.std.specs.FinMap as finite
@@ -8,7 +8,6 @@ use Rattle.std.specs.Ordering.{eq_by_cmp}
 use Rattle.issuer_rows.proofs.KeyLaws.{key_cmp_total}
 use Rattle.issuer_view.specs.Words.{Frame, ReplyBody, RowKey, RowVal, Rows, Writes, key_cmp}
 use Rattle.issuer_view.specs.Words.{overlay, replies_to, reply_of, rows_after, rows_after_one}
-use Rattle.issuer_view.specs.Words.{writes_of}
 use Rattle.stm_memory.specs.Words.{Held, Resolves, Shelf, row_under, value_at, written}
 use Rattle.stm_core_laws.specs.Words.{ExecutionSlot, Follows}
 use Rattle.stm_memory.specs.declared.seen.Seen.{Seen}

@@ -1,5 +1,5 @@
 -- A call with its answer leads from a state to one state.
-use Rattle.std.proofs.Common.{◌≡◌, ◌≢◌, ℕ, zero, suc, ◌<◌, Bool, true, false, inl, inr, refl, sym, ap, ap₂, ◌∙◌, subst, Option, Some, None, Result, Ok, Err, option_map, arith}
+use Rattle.std.proofs.Common.{◌≡◌, ℕ, zero, suc, ◌<◌, Bool, true, false, inl, inr, refl, sym, ap, ap₂, ◌∙◌, subst, Option, Some, None, Result, Ok, Err, option_map, arith}
 use Rattle.std.proofs.lemmas.Bool.{cases_eq, cases_lt}
 use Rattle.std.proofs.lemmas.Option.{same_Some, none-some}
 use Rattle.std.specs.FinMap as finite
@@ -9,7 +9,7 @@ use Rattle.stm_memory.specs.Resolves.{Resolves}
 use Rattle.stm_scheduler.specs.Board.{finished, lowered, passed}
 use Rattle.stm_core_laws.specs.Log.{ResolvesAs, logged_of}
 use Rattle.stm_core_laws.specs.Run.{Begin, Block, Call, Claim, Commit, End, Finish, Read, Step, ValidateOne}
-use Rattle.stm_core_laws.specs.State.{State, seats, shelf, slot, validation_of, with_validation}
+use Rattle.stm_core_laws.specs.State.{State, shelf, slot, validation_of, with_validation}
 use Rattle.stm_core_laws.specs.Step.{BeginStep, BlockStep, ClaimStep, CommitStep, EndStep, FinishStep, ReadStep, Validated, ValidationStep, with_execution, with_read, without_execution}
 use Rattle.stm_core_laws.specs.declared.core_fault.CoreFault.{CoreFault}
 use Rattle.stm_core_laws.specs.declared.got.Got.{Got}

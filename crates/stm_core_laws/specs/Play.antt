@@ -4,7 +4,7 @@ use Rattle.std.specs.Coded.{Coded, code_by, coded×, coded_ℕ}
 use Rattle.issuer_view.specs.Words.{Frame, Rows}
 use Rattle.stm_scheduler.specs.Words.{Claims, IsLoweredToWaiting, IsWaitedFor, Schedule}
 use Rattle.stm_memory.specs.Entries.{IsNewLocation}
-use Rattle.stm_core_laws.specs.Run.{Call, Claim, Read, Block, Finish, Begin, ValidateOne, End, Commit, Step}
+use Rattle.stm_core_laws.specs.Run.{Call, Claim, Block, Finish, End, Step}
 use Rattle.stm_core_laws.specs.State.{State, validation_of, start}
 use Rattle.stm_core_laws.specs.declared.validation.Validation.{Validation}
 use Rattle.stm_core_laws.specs.declared.limits.Limits.{Limits}

@@ -1,5 +1,5 @@
 -- What a core holds.
-use Rattle.std.specs.Prelude.{◌≡◌, ℕ, ◌<◌, max, List, [], length, map, replicate, slice_index_or, slice_set, Option, Some, None, refl}
+use Rattle.std.specs.Prelude.{◌≡◌, ℕ, ◌<◌, max, List, [], length, map, replicate, slice_index_or, slice_set, Option, None, refl}
 use Rattle.std.specs.Coded.{Coded, code_by, coded×, coded_list, coded_option}
 use Rattle.std.specs.FinMap as finite
 use Rattle.issuer_view.specs.Words.{Frame, ReplyBody, RowKey, Rows}

@@ -1,13 +1,12 @@
 -- What the decision table gives on what was logged, and that a finish leads to one core.
-use Rattle.std.proofs.Common.{◌≡◌, ◌≢◌, ℕ, List, [], ◌∷◌, inl, inr, refl, sym, ap, ◌∙◌, subst, Option, Some, None, option_map, Bool, true, false, cond, Contains, zero, suc, arith, ◌⊎◌, Ok, Err}
-use Rattle.std.proofs.lemmas.Bool.{false≢true}
+use Rattle.std.proofs.Common.{◌≡◌, ◌≢◌, List, [], ◌∷◌, inl, inr, refl, sym, ap, ◌∙◌, subst, Option, Some, None, option_map, Bool, true, false, cond, Contains, zero, suc, arith, ◌⊎◌, Ok, Err}
 use Rattle.std.proofs.lemmas.List.Elements.{All-from_recursion, recursion_from_All}
 use Rattle.std.proofs.lemmas.Option.{none-some}
 use Rattle.std.specs.FinMap as finite
 use Rattle.std.specs.List.{AllByRecursion}
 use Rattle.std.specs.Option.{option_flatten}
 use Rattle.std.specs.Ordering.{eq_by_cmp}
-use Rattle.issuer_view.specs.Words.{Frame, ReplyBody, RowKey, RowVal, Rows, Writes, decision}
+use Rattle.issuer_view.specs.Words.{Frame, RowKey, RowVal, Rows, decision}
 use Rattle.issuer_view.specs.Words.{key_cmp, key_eq, value_in}
 use Rattle.stm_memory.specs.Entries.{IsNewLocation}
 use Rattle.stm_core_laws.specs.Words.{AreLogged, FinishStep, IsAt, IsOfVersion, Log, Play, PlayStep}
@@ -15,13 +14,12 @@ use Rattle.stm_core_laws.specs.Words.{State, Version, logged_in, slot}
 use Rattle.stm_core_laws.specs.declared.logged.Logged.{Logged}
 use Rattle.issuer_rows.proofs.KeyLaws.{key_cmp_total, same_test}
 use Rattle.issuer_rows.specs.Agreement.{Executed, IsTrueExecution, Reads, Agrees, AreRead, ComesTo, keys_read}
-use Rattle.stm_scheduler.specs.Board.{IsRunning}
 use Rattle.stm_core_laws.proofs.Validations.{one_at}
 use Rattle.stm_core_laws.proofs.Members.{Contains-nil}
 use Rattle.stm_core_laws.specs.Run as call
-use Rattle.stm_core_laws.specs.declared.core_fault.CoreFault.TheVariants.{NotRunning, OtherReads, Exhausted}
+use Rattle.stm_core_laws.specs.declared.core_fault.CoreFault.TheVariants.{OtherReads, Exhausted}
 use Rattle.stm_journal_text.specs.Logged.{log_rows, logged_book, IsLogged, IsUndecided, IsUnlogged}
-use Rattle.stm_journal_text.proofs.OneCall.{same_play, one_call}
+use Rattle.stm_journal_text.proofs.OneCall.{one_call}
 
 -- one read more in the book of the logged rows
 book_more : (rows : Rows) (row q : RowKey) (origin : Option Version) (value : Option RowVal) (rest : Option Logged) (t : Bool) → eq_by_cmp key_cmp q row ≡ t → finite.get rows q ≡ option_flatten (option_map (λ (l : Logged). l.value) rest)

@@ -2,13 +2,13 @@
 use Rattle.std.proofs.Common.{◌≡◌, ℕ, ◌<◌, List, [], ◌∷◌, ◌++◌, inl, inr, length, refl, sym, ap, ◌∙◌, subst, true, arith}
 use Rattle.std.proofs.lemmas.Bool.{cases_lt, false≢true}
 use Rattle.issuer_rows.specs.declared.frame.Frame.{Frame}
-use Rattle.stm_core_laws.specs.Words.{Play, State, slot}
-use Rattle.stm_journal_text.specs.Words.{Answers, EntryStep, IsFirstUnlogged, IsUndecided}
+use Rattle.stm_core_laws.specs.Words.{Play, slot}
+use Rattle.stm_journal_text.specs.Words.{Answers, IsFirstUnlogged, IsUndecided}
 use Rattle.stm_journal_text.specs.Words.{IsUnloggedEvent, Plays, stands}
 use Rattle.stm_journal_text.specs.declared.core_answer.CoreAnswer.{CoreAnswer}
 use Rattle.stm_journal_text.specs.declared.entry.Entry.{Entry}
 use Rattle.stm_journal_text.specs.declared.event.Event.{Event}
-use Rattle.stm_journal_text.specs.declared.event.Event.TheVariants.{Claim, Read, Block, Finish, BeginValidation, ValidateOne, EndValidation, Commit}
+use Rattle.stm_journal_text.specs.declared.event.Event.TheVariants.{Finish}
 use Rattle.stm_core_laws.proofs.Validations.{one_at}
 use Rattle.stm_core_laws.specs.declared.core_fault.CoreFault.TheVariants.{NotRunning, OtherReads, Outdated, OutOfMemory, Exhausted}
 use Rattle.stm_journal_text.specs.declared.core_answer.CoreAnswer.TheVariants.{Finished, Refused}

@@ -1,5 +1,5 @@
 -- A call of a core has one answer, but where memory ran out.
-use Rattle.std.proofs.Common.{◌≡◌, ◌≢◌, ℕ, inl, inr, refl, sym, ap, ◌∙◌, subst, Option, Some, None, Result, Ok, Err, Bool, true, false, rules}
+use Rattle.std.proofs.Common.{◌≡◌, ◌≢◌, ℕ, inl, inr, refl, sym, ap, ◌∙◌, subst, Option, Some, Result, Ok, Err, Bool, true, false, rules}
 use Rattle.std.proofs.lemmas.Bool.{false≢true}
 use Rattle.std.proofs.lemmas.Option.{none-some, same_Some}
 use Rattle.issuer_view.specs.Words.{RowKey, RowVal}
@@ -16,7 +16,7 @@ use Rattle.stm_memory.specs.declared.seen.Seen.TheVariants as seen
 use Rattle.stm_scheduler.proofs.Choices.{choice-unique}
 use Rattle.stm_scheduler.specs.declared.task.Task.TheVariants.{Execute, Validate, Idle, Done}
 use Rattle.stm_core_laws.proofs.Unique.{Resolves-unique, Validated-unique, one_validation}
-use Rattle.stm_core_laws.specs.declared.core_fault.CoreFault.TheVariants.{NotRunning, OtherReads, Outdated, OutOfMemory, Exhausted}
+use Rattle.stm_core_laws.specs.declared.core_fault.CoreFault.TheVariants.{NotRunning, Outdated, OutOfMemory, Exhausted}
 use Rattle.stm_core_laws.specs.declared.got.Got.TheVariants as got
 
 -- one task is chosen

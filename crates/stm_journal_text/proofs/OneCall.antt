@@ -1,9 +1,9 @@
 -- A call with its answer leads a core to one core.
-use Rattle.std.proofs.Common.{◌≡◌, ℕ, ◌+◌, ◌≤◌, min, List, inl, inr, sym, ap, ◌∙◌, subst, Bool, true, false, Ok, Err, arith}
+use Rattle.std.proofs.Common.{◌≡◌, ℕ, ◌+◌, ◌≤◌, min, List, inl, inr, sym, ap, ◌∙◌, subst, false, Ok, arith}
 use Rattle.stm_scheduler.proofs.Choices.{choice-unique}
 use Rattle.stm_scheduler.specs.Cursors.{Claims, IsLoweredToWaiting, Schedule}
-use Rattle.stm_core_laws.specs.Words.{Begin, Block, Call, Claim, Commit, End, Finish}
-use Rattle.stm_core_laws.specs.Words.{MessageProgress, Read, State, Step, Task, ValidateOne}
+use Rattle.stm_core_laws.specs.Words.{Block, Call, Claim, End, Finish}
+use Rattle.stm_core_laws.specs.Words.{MessageProgress, Step, Task}
 use Rattle.stm_core_laws.specs.declared.validation.Validation.{Validation}
 use Rattle.stm_scheduler.specs.declared.task.Task.TheVariants.{Execute, Validate, Idle, Done}
 use Rattle.stm_core_laws.proofs.Unique.{unique-Step, one_validation}

@@ -1,8 +1,8 @@
 -- An entry leads to one core, and so do the entries of a journal.
 use Rattle.std.proofs.Common.{◌≡◌, ◌≢◌, ℕ, List, [], ◌∷◌, refl, sym, ◌∙◌, subst, Result, Ok, Err, Bool, true}
 use Rattle.std.proofs.lemmas.Bool.{false≢true}
-use Rattle.stm_core_laws.specs.Words.{IsReached, Play, PlayStep, State}
-use Rattle.stm_journal_text.specs.Words.{Answers, EntryStep, Plays, stands}
+use Rattle.stm_core_laws.specs.Words.{IsReached, Play, PlayStep}
+use Rattle.stm_journal_text.specs.Words.{Answers, Plays, stands}
 use Rattle.stm_core_laws.specs.declared.core_fault.CoreFault.{CoreFault}
 use Rattle.stm_journal_text.specs.declared.core_answer.CoreAnswer.{CoreAnswer}
 use Rattle.stm_journal_text.specs.declared.entry.Entry.{Entry}

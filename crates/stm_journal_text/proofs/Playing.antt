@@ -1,17 +1,16 @@
 -- A play goes on by the entry of each answer.
-use Rattle.std.proofs.Common.{◌≡◌, ℕ, List, [], ◌∷◌, ◌++◌, refl, sym, ap, ◌∙◌, subst, ◌<◌, ◌+◌, length, take, drop, get_or, arith, true, false, Ok, Err, inl, inr}
+use Rattle.std.proofs.Common.{◌≡◌, ℕ, List, [], ◌∷◌, ◌++◌, refl, sym, ap, ◌∙◌, subst, ◌<◌, ◌+◌, length, take, drop, get_or, arith, true, false, Ok, Err}
 use Rattle.std.proofs.lemmas.List.{take_more, at_drop_more, take-append-drop, length-take-le}
 use Rattle.issuer_view.specs.Words.{Frame, Rows}
-use Rattle.stm_core_laws.specs.Words.{Call, Play, PlayStep, State, opening_play}
+use Rattle.stm_core_laws.specs.Words.{Play, PlayStep, State, opening_play}
 use Rattle.stm_journal_text.specs.Words.{Answers, EntryStep, IsFirstUnlogged, IsPlayed}
 use Rattle.stm_journal_text.specs.Words.{IsUnloggedEvent, Plays, enters, stands}
-use Rattle.stm_core_laws.specs.declared.core_fault.CoreFault.{CoreFault}
 use Rattle.stm_core_laws.specs.declared.limits.Limits.{Limits}
 use Rattle.stm_journal_text.specs.declared.core_answer.CoreAnswer.{CoreAnswer}
 use Rattle.stm_journal_text.specs.declared.entry.Entry.{Entry}
 use Rattle.stm_journal_text.specs.declared.event.Event.{Event}
 use Rattle.stm_journal_text.specs.declared.event.Event.TheVariants.{Claim, Read, Block, Finish, BeginValidation, ValidateOne, EndValidation, Commit}
-use Rattle.stm_scheduler.specs.declared.task.Task.TheVariants.{Execute, Validate, Idle, Done}
+use Rattle.stm_scheduler.specs.declared.task.Task.TheVariants.{Idle}
 use Rattle.stm_core_laws.proofs.Reached.{IsOfSame, same-Step, bounded_again}
 use Rattle.stm_core_laws.specs.Run as call
 use Rattle.stm_core_laws.specs.declared.core_fault.CoreFault.TheVariants.{NotRunning, OtherReads, Outdated, OutOfMemory, Exhausted}

@@ -1,5 +1,5 @@
 -- A schedule stays sound where the message of one of its versions changes, and its highest floor stays the highest.
-use Rattle.std.proofs.Common.{◌≡◌, ◌≢◌, ℕ, ◌≤◌, ◌<◌, ◌+◌, max, min, List, Option, Some, None, inl, inr, length, get_or, set, map, replicate, refl, sym, ap, ◌∙◌, subst, arith, length-set, get_or-set_other, get_or-set_same}
+use Rattle.std.proofs.Common.{◌≡◌, ◌≢◌, ℕ, ◌≤◌, ◌<◌, ◌+◌, max, List, Option, None, inl, inr, length, get_or, set, map, replicate, refl, sym, ap, ◌∙◌, subst, arith, length-set, get_or-set_other, get_or-set_same}
 use Rattle.std.proofs.lemmas.Bool.{cases_lt, cases_eq}
 use Rattle.std.proofs.lemmas.List.{get_or_past, get_or-replicate}
 use Rattle.std.proofs.Math.ListN.{length-replicate}

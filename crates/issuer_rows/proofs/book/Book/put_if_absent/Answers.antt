@@ -1,4 +1,4 @@
-use Rattle.std.proofs.Common.{Result, Ok, Err, OnErr, IsFalse, refl, sym}
+use Rattle.std.proofs.Common.{Result, Ok, Err, OnErr, refl, sym}
 use Rattle.std.proofs.lemmas.Map.Entries.{lookup_from_place}
 use Rattle.std.proofs.lemmas.Option.{none-some}
 use Rattle.issuer_rows.proofs.BookLaws.{get_seen, insert_seen, key_eq_equivalence}

@@ -1,4 +1,4 @@
-use Rattle.std.proofs.Common.{◌≡◌, List, Option, None, get_or, option_map, ◌∙◌, ap, sym, subst}
+use Rattle.std.proofs.Common.{◌≡◌, List, None, get_or, option_map, ◌∙◌, ap, sym, subst}
 use Rattle.stm_memory.proofs.ChainLaws.{estimated_own, set_other, insert_new, written_over}
 use Rattle.stm_memory.specs.Words.{Chain, FitsAt, StandsAt, estimate_of, found}
 use Rattle.stm_memory.specs.declared.link.Link.{Link}
