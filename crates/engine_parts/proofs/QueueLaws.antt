@@ -5,7 +5,7 @@ use Rattle.std.proofs.lemmas.Bool.Decides.{nat_tests}
 use Rattle.std.specs.List.{AllByRecursion}
 use Rattle.issuer_view.specs.Words.{ReplyBody}
 use Rattle.engine_parts.specs.declared.decided_part.DecidedPart.{DecidedPart}
-use Rattle.issuer_fold.proofs.FoldLaws.{left_at}
+use Rattle.issuer_rows.proofs.OverlayLaws.{left_at}
 use Rattle.issuer_laws.specs.Parts.{of_part}
 use Rattle.engine_parts.proofs.OrderLaws.{part_other, part_own, zip_left}
 use Rattle.engine_parts.specs.Decided.{AreInOrder, HaveParts, list_at, replies_of, with_next}

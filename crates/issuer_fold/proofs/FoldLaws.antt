@@ -1,30 +1,13 @@
--- One more row that is written, and one more body that is decided.
-use Rattle.std.proofs.Common.{◌≡◌, ℕ, suc, ◌+◌, ◌-◌, ◌<◌, List, [], ◌∷◌, ◌++◌, take, drop, length, get_or, slice_get, Some, refl, sym, ap, ◌∙◌, add-one, take-append-drop, arith}
-use Rattle.std.proofs.lemmas.List.{drop_all, take_all, length-drop}
+-- One more body that is decided.
+use Rattle.std.proofs.Common.{◌≡◌, ℕ, suc, ◌+◌, ◌-◌, ◌<◌, List, [], ◌∷◌, ◌++◌, take, drop, length, get_or, refl, sym, ap, ◌∙◌, add-one, take-append-drop, arith}
+use Rattle.std.proofs.lemmas.List.{take_all, length-drop}
 use Rattle.std.proofs.Math.Seq.{drop-cons, take-suc}
-use Rattle.std.proofs.lemmas.Option.{slice_get_within, get_or_from_slice_get}
-use Rattle.std.specs.FinMap as map
-use Rattle.issuer_view.specs.Words.{Frame, RowKey, RowVal, Rows, Writes, overlay, replies_to}
+use Rattle.issuer_view.specs.Words.{Frame, Rows, replies_to}
 use Rattle.issuer_view.specs.Words.{reply_of, rows_after, rows_after_one}
 
--- what is left begins with the item at this place
-pub left_at : {X : Type 0} (xs : List X) (i : ℕ) (x : X) → slice_get xs i ≡ Some x → drop i xs ≡ x ∷ drop (i + 1) xs
-left_at xs i x at = rw add-one (drop-cons xs i x (slice_get_within xs i x at) ∙ ap (λ y. y ∷ drop (suc i) xs) (get_or_from_slice_get xs i x x at))
-
--- the same of an item that a loop is at
+-- what is left begins with the item that a loop is at
 pub left_in_turn : {X : Type 0} (xs : List X) (i : ℕ) (x : X) → i < length xs → x ≡ get_or xs i x → drop i xs ≡ x ∷ drop (i + 1) xs
 left_in_turn xs i x lt at = rw add-one (drop-cons xs i x lt ∙ ap (λ y. y ∷ drop (suc i) xs) (sym at))
-
--- the rows that are left are written after the one at this place
-pub overlay-drop : (rows : Rows) (writes : Writes) (i : ℕ) (w : RowKey × RowVal) → slice_get writes i ≡ Some w
-    → overlay (map.insert rows w.0 w.1) (drop (i + 1) writes) ≡ overlay rows (drop i writes)
-overlay-drop rows writes i w at = sym (ap (overlay rows) (left_at writes i w at))
-
--- the last row is all that is left
-pub overlay-last : (rows : Rows) (writes : Writes) (i : ℕ) (w : RowKey × RowVal) → slice_get writes i ≡ Some w → i + 1 ≡ length writes
-    → map.insert rows w.0 w.1 ≡ overlay rows (drop i writes)
-overlay-last rows writes i w at last =
-    sym (ap (overlay (map.insert rows w.0 w.1)) (drop_all (i + 1) writes (omega (arith, last)))) ∙ overlay-drop rows writes i w at
 
 -- what is behind this place, as a slice's rest says it
 pub rest_is : {X : Type 0} (xs : List X) (i : ℕ) → take (length xs - i) (drop i xs) ≡ drop i xs

@@ -1,3 +1,2 @@
 pub mod FoldLaws
-pub mod ThereLaws
 pub mod UndoLaws

@@ -4,7 +4,6 @@
 mod frames;
 mod plain_rows;
 mod prefix;
-mod putting;
 mod run_outcome;
 mod serial;
 

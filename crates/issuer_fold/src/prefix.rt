@@ -2,7 +2,6 @@ ghost use Rattle.std.specs.Prelude.{◌≡◌, ◌+◌, ◌<◌, ◌^◌, [], �
 ghost use Rattle.issuer_rows.specs.Agreement.{IsLocal};
 ghost use Rattle.issuer_view.specs.Words.{AgreesWithBook, overlay, reply_of, rows_after_one};
 
-use crate::putting::put_all_or_none;
 use issuer_rows::{Book, CardPlaces, Frame, Places, ReplyBody};
 use issuer_view::{Execution, ReadSet, Stop, WriteSet};
 use std::alloc::{AllocError, Global};
@@ -81,7 +80,7 @@ impl Prefix {
         ensures kept { OnErr result ((self.new.count ≡ self.old.count) × (self.new.book ≡ self.old.book) × (self.new.replies.items ≡ self.old.replies.items)) }
     {
         self.replies.reserve(1)?;
-        put_all_or_none(&mut self.book, execution.writes(), places)?;
+        self.book.put_all(execution.writes(), places)?;
         push_copy(&mut self.replies, execution.reply());
         self.cards.note(execution.frame(), places);
         self.count += 1;
@@ -113,7 +112,7 @@ impl Prefix {
         match decided {
             Ok(reply) => {
                 self.replies.reserve(1)?;
-                put_all_or_none(&mut self.book, writes, places)?;
+                self.book.put_all(writes, places)?;
                 push_copy(&mut self.replies, reply);
                 self.cards.note(frame, places);
                 self.count += 1;

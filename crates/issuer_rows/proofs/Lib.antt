@@ -2,4 +2,5 @@ pub mod BookLaws
 pub mod ExpiryLaws
 pub mod KeyLaws
 pub mod ListedRows
+pub mod OverlayLaws
 pub mod PutsOnce

@@ -1,7 +1,8 @@
-ghost use Rattle.std.specs.Prelude.{◌≡◌, ◌≢◌, ◌<◌, ◌↔◌, length, slice_get, option_copied, OnOk, OnErr, IfOk, IfSome, IsTrue, IsFalse, IsPermutation, None, Some};
+ghost use Rattle.std.specs.Prelude.{◌≡◌, ◌+◌, ◌<◌, ◌≤◌, ◌↔◌, length, slice_get, option_copied, OnOk, OnErr, IfOk, IfSome, IsOk, IsTrue, IsFalse, IsPermutation, None, Some};
 ghost use Rattle.std.specs.FinMap as map;
-ghost use Rattle.indexmap.specs.IndexMap.{IsUnchanged, Updates};
-ghost use Rattle.issuer_rows.specs.Book.{AllOfKind, IsWithin, value_at};
+ghost use Rattle.indexmap.specs.IndexMap.{Updates, spare};
+ghost use Rattle.issuer_rows.specs.Book.{AllOfKind, AreOfKind, IsWithin, value_at};
+ghost use Rattle.issuer_rows.specs.Fold.{overlay};
 ghost use Rattle.issuer_rows.specs.RowVal.{IsOfKind};
 ghost use Rattle.issuer_rows.specs.RowKey.{key_cmp, key_eq};
 
@@ -9,6 +10,7 @@ use crate::places::{KINDS, Places};
 use crate::row_key::RowKey;
 use crate::row_val::RowVal;
 use crate::sorted_rows::SortedRows;
+use crate::written_rows::WrittenRows;
 use indexmap::IndexMap;
 use indexmap::map::{Entry, Iter};
 use std::alloc::{AllocError, Global};
@@ -159,30 +161,20 @@ impl Book {
         put_noting(&mut self.rows, key, val, places)
     }
 
-    /// Writes a copy of the value at the key if there is no such row, and says whether there was none. It fails only where memory runs
-    /// out, and then there was none. There is no look-up where the row stands at its noted place; the place of a new row is noted.
+    /// Writes these rows, one after another, each where it stands at its noted place without a look-up, all or none. It fails only
+    /// where memory runs out, before the first is written.
     #[inline(always)]
-    pub fn put_if_absent(
+    pub fn put_all<W: WrittenRows>(
         &mut self,
-        key: &RowKey,
-        val: &RowVal,
+        written: &W,
         places: &mut Places,
-    ) -> Result<bool, AllocError>
-        requires { IsOfKind key.now val.now }
-        ensures new { IfOk result (λ new. IsTrue new → (map.get self.old key.now ≡ None) × (self.new ≡ map.insert self.old key.now val.now)) }
-        ensures there { IfOk result (λ new. IsFalse new → (map.get self.old key.now ≢ None) × (self.new ≡ self.old)) }
+    ) -> Result<(), AllocError>
+        ensures ok { OnOk result (self.new ≡ overlay self.old (W.rows written.now)) }
         ensures err { OnErr result (self.new ≡ self.old) }
-        ensures full { OnErr result (map.get self.old key.now ≡ None) }
     {
-        let count = self.rows.len();
-        if stands_at(&self.rows, places.last(key), key) {
-            return Ok(false);
-        }
-        let new = put_vacant(&mut self.rows, key, val)?;
-        if new {
-            places.note(key, count);
-        }
-        Ok(new)
+        self.rows.reserve(written.len())?;
+        put_each(&mut self.rows, written, places);
+        Ok(())
     }
 
     /// Takes the row out, and returns its value, if there was such a row.
@@ -263,6 +255,32 @@ impl Book {
     }
 }
 
+// Writes these rows, for which there is room, one after another.
+#[inline(always)]
+fn put_each<W: WrittenRows>(rows: &mut IndexMap<RowKey, RowVal>, written: &W, places: &mut Places)
+    requires room { length (W.rows written.now) ≤ spare rows.old }
+    requires kinds { AreOfKind rows.old.entries }
+    ensures rows { map.from_entries rows.new.entries ≡ overlay (map.from_entries rows.old.entries) (W.rows written.now) }
+    ensures kinds { AreOfKind rows.new.entries }
+{
+    for index in 0..written.len() {
+        let (key, val) = written.row(index);
+        put_in_room(rows, key, val, places);
+    }
+}
+
+// Writes a copy of a row where there is room for it.
+#[inline(always)]
+fn put_in_room(rows: &mut IndexMap<RowKey, RowVal>, key: &RowKey, val: &RowVal, places: &mut Places)
+    requires { 0 < spare rows.old }
+    ensures updates { Updates key_eq rows.old rows.new key.now (Some val.now) }
+    ensures room { spare rows.old ≤ spare rows.new + 1 }
+{
+    if !copy_at(rows, places.last(key), key, val) && put_noting(rows, key, val, places).is_err() {
+        unreachable!()
+    }
+}
+
 // Writes a copy of a row, by one look-up. An entry takes the value without handing one back.
 fn put_entry(
     rows: &mut IndexMap<RowKey, RowVal>,
@@ -272,6 +290,8 @@ fn put_entry(
     ensures updates { OnOk result (Updates key_eq rows.old rows.new key.now (Some val.now)) }
     ensures err { OnErr result (rows.new.entries ≡ rows.old.entries) }
     ensures absent { OnErr result (value_at rows.old.entries key.now ≡ None) }
+    ensures succeeds { 0 < spare rows.old → IsOk result }
+    ensures room { spare rows.old ≤ spare rows.new + 1 }
 {
     match rows.entry(*key)? {
         Entry::Occupied(entry) => {
@@ -295,6 +315,8 @@ fn put_noting(
     ensures updates { OnOk result (Updates key_eq rows.old rows.new key.now (Some val.now)) }
     ensures err { OnErr result (rows.new.entries ≡ rows.old.entries) }
     ensures absent { OnErr result (value_at rows.old.entries key.now ≡ None) }
+    ensures succeeds { 0 < spare rows.old → IsOk result }
+    ensures room { spare rows.old ≤ spare rows.new + 1 }
 {
     let count = rows.len();
     put_entry(rows, key, val)?;
@@ -309,6 +331,7 @@ fn put_noting(
 fn copy_at(rows: &mut IndexMap<RowKey, RowVal>, place: usize, key: &RowKey, val: &RowVal) -> bool
     ensures found { IsTrue result → Updates key_eq rows.old rows.new key.now (Some val.now) }
     ensures not_found { IsFalse result → rows.new.entries ≡ rows.old.entries }
+    ensures room { spare rows.old ≤ spare rows.new }
 {
     if !stands_at(rows, place, key) {
         return false;
@@ -316,26 +339,6 @@ fn copy_at(rows: &mut IndexMap<RowKey, RowVal>, place: usize, key: &RowKey, val:
     let (_, there) = rows.pair_mut(place);
     there.copy_from(val);
     true
-}
-
-// Writes a copy of a row that isn't there, by one look-up, and says whether it wasn't.
-fn put_vacant(
-    rows: &mut IndexMap<RowKey, RowVal>,
-    key: &RowKey,
-    val: &RowVal,
-) -> Result<bool, AllocError>
-    ensures new { IfOk result (λ new. IsTrue new → (value_at rows.old.entries key.now ≡ None) × Updates key_eq rows.old rows.new key.now (Some val.now)) }
-    ensures there { IfOk result (λ new. IsFalse new → (value_at rows.old.entries key.now ≢ None) × (rows.new.entries ≡ rows.old.entries)) }
-    ensures err { OnErr result (rows.new.entries ≡ rows.old.entries) }
-    ensures absent { OnErr result (value_at rows.old.entries key.now ≡ None) }
-{
-    match rows.entry(*key)? {
-        Entry::Occupied(_) => Ok(false),
-        Entry::Vacant(entry) => {
-            entry.insert(*val);
-            Ok(true)
-        }
-    }
 }
 
 // The row's value where it stands, if that is this place.

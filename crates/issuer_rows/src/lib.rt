@@ -30,6 +30,7 @@ mod settlement;
 mod sorted_rows;
 mod unposted_action;
 mod velocity_row;
+mod written_rows;
 
 pub use account_row::AccountRow;
 pub use balance::Balance;
@@ -60,3 +61,4 @@ pub use settlement::Settlement;
 pub use sorted_rows::SortedRows;
 pub use unposted_action::UnpostedAction;
 pub use velocity_row::VelocityRow;
+pub use written_rows::WrittenRows;

@@ -4,7 +4,7 @@ ghost use Rattle.issuer_view.specs.RowSets.{value_in, put, IsOnceEach};
 
 use crate::inline_rows::{FEW, InlineRows, place_of};
 use crate::spilled_rows::SpilledRows;
-use issuer_rows::{RowKey, RowVal};
+use issuer_rows::{RowKey, RowVal, WrittenRows};
 use std::alloc::{AllocError, Global};
 use std::marker::Model;
 use std::mem;
@@ -156,5 +156,19 @@ impl WriteSet {
         }
         self.more.insert_copy(self.few.allocator(), key, row)?;
         Ok(())
+    }
+}
+
+impl WrittenRows for WriteSet {
+    ghost rows = { λ set. set };
+
+    #[inline(always)]
+    fn len(&self) -> usize {
+        WriteSet::len(self)
+    }
+
+    #[inline(always)]
+    fn row(&self, index: usize) -> (&RowKey, &RowVal) {
+        WriteSet::row(self, index)
     }
 }

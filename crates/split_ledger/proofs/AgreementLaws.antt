@@ -1,6 +1,6 @@
 -- Reads that are looked at one after another.
 use Rattle.std.proofs.Common.{◌≡◌, ◌↔◌, ℕ, ◌+◌, Option, Some, drop, slice_get, sym, subst}
-use Rattle.issuer_fold.proofs.FoldLaws.{left_at}
+use Rattle.issuer_rows.proofs.OverlayLaws.{left_at}
 use Rattle.issuer_view.specs.Words.{Agrees, Lookup, Reads, RowKey, RowVal}
 
 -- where the read at this place agrees, it is left to look at those behind it

@@ -1,5 +1,5 @@
 use Rattle.std.proofs.Common.{◌+◌, drop, ap, ◌∙◌}
-use Rattle.issuer_fold.proofs.FoldLaws.{overlay-drop}
+use Rattle.issuer_rows.proofs.OverlayLaws.{overlay-drop}
 use Rattle.issuer_view.specs.Words.{Rows, overlay}
 use Rattle.engine_parts.proofs.writing.put_all.Goals as goal
 

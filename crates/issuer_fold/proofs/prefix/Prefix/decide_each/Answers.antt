@@ -1,4 +1,4 @@
-use Rattle.std.proofs.Common.{ℕ, ◌+◌, ◌++◌, ap, ◌∙◌, append_assoc, arith}
+use Rattle.std.proofs.Common.{ℕ, ◌++◌, ap, ◌∙◌, append_assoc, arith}
 use Rattle.issuer_view.specs.Words.{Rows, rows_after_one}
 use Rattle.issuer_view.proofs.ListLaws.{on_err}
 use Rattle.issuer_fold.specs.Begun.{AreDecided}
