@@ -7,7 +7,7 @@ use Rattle.file_batch_laws.specs.Reading.{◌>>=◌, bodies_at, bodies_of, body_
 use Rattle.file_batch_laws.specs.Replies.{AreRepliesOf, FailsAsReplies, FailsAt, IsReplyFileOf, IsReplyText}
 use Rattle.file_batch_laws.specs.declared.batch_fault.BatchFault.{BatchFault}
 use Rattle.app_jobs.specs.BlockFaults.{FailsAsBlocks}
-use Rattle.file_batch_laws.proofs.Steps.{bind_ok, ok_is}
+use Rattle.file_batch_laws.proofs.Steps.{bind_ok, ok_injective}
 
 -- ---- one answer
 
@@ -15,7 +15,7 @@ ok_or_err : {A : Type 0} (x : A) (fault : BatchFault) → Path (Result A BatchFa
 ok_or_err x fault e = cc
 
 pub one_value : {A : Type 0} (r : Result A BatchFault) (x y : A) → r ≡ Ok x → r ≡ Ok y → x ≡ y
-one_value r x y a b = ok_is x y (sym a ∙ b)
+one_value r x y a b = ok_injective x y (sym a ∙ b)
 
 pub no_both : {A : Type 0} (r : Result A BatchFault) (x : A) (fault : BatchFault) → r ≡ Ok x → r ≡ Err fault → ⊥
 no_both r x fault a b = ok_or_err x fault (sym a ∙ b)
@@ -43,18 +43,18 @@ next_reply zero number bytes front bodies left rest replies lt some all are = ab
 next_reply (suc n) zero bytes front bodies left rest replies lt some all are =
     let a = bind_ok (body_at bytes) (λ b. bodies_at n b.1 >>= λ others. Ok (b.0 ∷ others.0, others.1)) (bodies, rest) all in
     let b = bind_ok (bodies_at n a.0.1) (λ others. Ok (a.0.0 ∷ others.0, others.1)) (bodies, rest) a.2 in
-    let whole : a.0.0 ∷ b.0.0 ≡ bodies = ap (λ (p : List (List ℕ) × List ℕ). p.0) (ok_is (a.0.0 ∷ b.0.0, b.0.1) (bodies, rest) b.2) in
-    let here : bytes ≡ left = ap (λ (p : List (List ℕ) × List ℕ). p.1) (ok_is ([], bytes) (front, left) some) in
+    let whole : a.0.0 ∷ b.0.0 ≡ bodies = ap (λ (p : List (List ℕ) × List ℕ). p.0) (ok_injective (a.0.0 ∷ b.0.0, b.0.1) (bodies, rest) b.2) in
+    let here : bytes ≡ left = ap (λ (p : List (List ℕ) × List ℕ). p.1) (ok_injective ([], bytes) (front, left) some) in
     let first = first_reply a.0.0 b.0.0 replies (subst (λ (bs : List (List ℕ)). AreRepliesOf bs replies) (sym whole) are) in
     subst IsNextReply here (record { body = a.0.0; more = a.0.1; read = a.1; reply = first.0.0; is = first.0.1 })
 next_reply (suc n) (suc m) bytes front bodies left rest replies lt some all are =
     let a = bind_ok (body_at bytes) (λ b. bodies_at n b.1 >>= λ others. Ok (b.0 ∷ others.0, others.1)) (bodies, rest) all in
     let b = bind_ok (bodies_at n a.0.1) (λ others. Ok (a.0.0 ∷ others.0, others.1)) (bodies, rest) a.2 in
-    let whole : a.0.0 ∷ b.0.0 ≡ bodies = ap (λ (p : List (List ℕ) × List ℕ). p.0) (ok_is (a.0.0 ∷ b.0.0, b.0.1) (bodies, rest) b.2) in
+    let whole : a.0.0 ∷ b.0.0 ≡ bodies = ap (λ (p : List (List ℕ) × List ℕ). p.0) (ok_injective (a.0.0 ∷ b.0.0, b.0.1) (bodies, rest) b.2) in
     let c = bind_ok (body_at bytes) (λ b. bodies_at m b.1 >>= λ others. Ok (b.0 ∷ others.0, others.1)) (front, left) some in
     let d = bind_ok (bodies_at m c.0.1) (λ others. Ok (c.0.0 ∷ others.0, others.1)) (front, left) c.2 in
     let same : c.0.1 ≡ a.0.1 = ap (λ (p : List ℕ × List ℕ). p.1) (one_value (body_at bytes) c.0 a.0 c.1 a.1) in
-    let end : d.0.1 ≡ left = ap (λ (p : List (List ℕ) × List ℕ). p.1) (ok_is (c.0.0 ∷ d.0.0, d.0.1) (front, left) d.2) in
+    let end : d.0.1 ≡ left = ap (λ (p : List (List ℕ) × List ℕ). p.1) (ok_injective (c.0.0 ∷ d.0.0, d.0.1) (front, left) d.2) in
     let read : bodies_at m a.0.1 ≡ Ok (d.0.0, d.0.1) = ap (bodies_at m) (sym same) ∙ d.1 in
     let first = first_reply a.0.0 b.0.0 replies (subst (λ (bs : List (List ℕ)). AreRepliesOf bs replies) (sym whole) are) in
     subst IsNextReply end (next_reply n m a.0.1 d.0.0 b.0.0 d.0.1 b.0.1 first.1.0 (omega (arith, lt)) read b.1 first.1.1)
@@ -86,7 +86,7 @@ read_from magic bytes bodies read =
     let a = bind_ok (head_at magic bytes) (λ count. bodies_at count.0 count.1 >>= λ bodies. ended bodies.1 >>= λ _. Ok bodies.0) bodies read in
     let b = bind_ok (bodies_at a.0.0 a.0.1) (λ bodies. ended bodies.1 >>= λ _. Ok bodies.0) bodies a.2 in
     let c = bind_ok (ended b.0.1) (λ _. let r : Result (List (List ℕ)) BatchFault = Ok b.0.0 in r) bodies b.2 in
-    let whole : b.0.0 ≡ bodies = ok_is b.0.0 bodies c.2 in
+    let whole : b.0.0 ≡ bodies = ok_injective b.0.0 bodies c.2 in
     record {
       count = a.0.0;
       behind = a.0.1;

@@ -1,6 +1,6 @@
 -- What words ask of `unpack`.
 use Rattle.std.specs.Prelude.{◌≡◌, ◌≢◌, ◌⊎◌, ◌+◌, ℕ, List, Some, codes, length, slice_get}
-use Rattle.app_words.specs.Numbers.{IsNumber, number_of}
+use Rattle.app_words.specs.Numbers.{IsNumber, number_said}
 use Rattle.app_words.specs.Words.{AsksHelp}
 use Rattle.app_messages.specs.declared.asking.UnpackAsked.{UnpackAsked}
 use Rattle.app_messages.specs.declared.asking.UnpackAsked.TheVariants.{Batch, Block, Help, Wrong}
@@ -9,7 +9,7 @@ use Rattle.app_messages.specs.declared.asking.UnpackAsked.TheVariants.{Batch, Bl
 abbrev pub SaysBlock : List (List ℕ) → ℕ → ℕ → Type 0
 SaysBlock words place number =
     (slice_get words place ≡ Some (codes "--block")) × (word : List ℕ) × (slice_get words (place + 1) ≡ Some word) × IsNumber word
-    × (number ≡ number_of word)
+    × (number ≡ number_said word)
 
 -- behind the command stand `--block`, a number and the file's name, or the name before the other two
 abbrev pub AsksBlock : List (List ℕ) → List ℕ → ℕ → Type 0

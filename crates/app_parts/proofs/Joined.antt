@@ -30,7 +30,7 @@ use Rattle.app_parts_folder.specs.declared.part_fault.PartFault.TheVariants as w
 use Rattle.app_parts_folder.specs.declared.parts_fault.PartsFault.{PartsFault}
 use Rattle.app_parts_folder.specs.declared.parts_fault.PartsFault.TheVariants as fault
 use Rattle.app_parts_folder.specs.declared.plan_opening.OpenPlan.{OpenPlan}
-use Rattle.file_batch_laws.proofs.Steps.{ok_is}
+use Rattle.file_batch_laws.proofs.Steps.{ok_injective}
 
 -- ---- bytes have one meaning
 
@@ -50,7 +50,7 @@ all_texts (body ∷ bodies) (r ∷ replies) are =
 -- a reply file has the replies of one list
 pub one_file : (bytes : List ℕ) (replies others : List ReplyBody) → IsReplyFileOf bytes replies → IsReplyFileOf bytes others → others ≡ replies
 one_file bytes replies others one other =
-    let same : other.0 ≡ one.0 = ok_is other.0 one.0 (sym other.1 ∙ one.1) in
+    let same : other.0 ≡ one.0 = ok_injective other.0 one.0 (sym other.1 ∙ one.1) in
     let all = all_texts one.0 replies one.2 in
     same_replies replies others all.1 (subst (λ (bodies : List (List ℕ)). AreRepliesOf bodies others) (same ∙ all.0) other.2)
 

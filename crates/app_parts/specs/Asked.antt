@@ -1,6 +1,6 @@
 -- What words ask of `part`, `decide` and `join`.
 use Rattle.std.specs.Prelude.{◌≡◌, ◌≤◌, ◌⊎◌, ℕ, List, Some, codes, length, slice_get}
-use Rattle.app_words.specs.Numbers.{IsNumber, number_of}
+use Rattle.app_words.specs.Numbers.{IsNumber, number_said}
 use Rattle.app_words.specs.Words.{AsksHelp, IsCommand}
 use Rattle.app_parts.specs.declared.asking.PartsAsked.{PartsAsked}
 use Rattle.app_parts.specs.declared.asking.PartsAsked.TheVariants.{Part, Decide, Join, Help, Wrong}
@@ -11,7 +11,7 @@ IsMost most = (1 ≤ most) × (most ≤ 64)
 
 -- the word at this place is this number
 abbrev pub SaysNumber : List (List ℕ) → ℕ → ℕ → Type 0
-SaysNumber words place number = (word : List ℕ) × (slice_get words place ≡ Some word) × IsNumber word × (number ≡ number_of word)
+SaysNumber words place number = (word : List ℕ) × (slice_get words place ≡ Some word) × IsNumber word × (number ≡ number_said word)
 
 -- `part` has four words behind it, of which the third is a number from 1 to 64
 abbrev pub AsksPart : List (List ℕ) → Type 0

@@ -1,6 +1,6 @@
 ghost use Rattle.std.specs.Prelude.{◌⊎◌, IfSome, IfNone, SomeIff, codes, map, string_bytes};
 ghost use Rattle.app_parts.specs.Asked.{IsAskedBy, IsMost};
-ghost use Rattle.app_words.specs.Numbers.{IsNumber, number_of};
+ghost use Rattle.app_words.specs.Numbers.{IsNumber, number_said};
 ghost use Rattle.app_words.specs.Words.{IsCommand};
 
 use crate::help::{DECIDE_HELP, DECIDE_USAGE, JOIN_HELP, JOIN_USAGE, PART_HELP, PART_USAGE};
@@ -99,7 +99,7 @@ fn join_asked(words: &[String]) -> PartsAsked<'_>
 
 // How many parts this word asks for at most.
 fn most_of(word: &str) -> Option<MostParts>
-    ensures { SomeIff result (IsNumber word.now × IsMost (number_of word.now)) (number_of word.now) }
+    ensures { SomeIff result (IsNumber word.now × IsMost (number_said word.now)) (number_said word.now) }
 {
     match number_in(word) {
         Some(number) => MostParts::new(number),

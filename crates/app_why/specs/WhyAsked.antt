@@ -1,6 +1,6 @@
 -- What words ask of `why`.
 use Rattle.std.specs.Prelude.{◌≡◌, ◌⊎◌, ℕ, List, Some, codes, slice_get}
-use Rattle.app_words.specs.Numbers.{IsNumber, number_of}
+use Rattle.app_words.specs.Numbers.{IsNumber, number_said}
 use Rattle.app_words.specs.Words.{AsksHelp}
 use Rattle.app_why.specs.FormAsked.{SaysForm}
 use Rattle.app_why.specs.declared.form.Form.{Form}
@@ -32,7 +32,7 @@ AsksMessages words = (form : Form) × SaysForm words 6 form × IsSearch words
 abbrev pub IsAskedBy : List (List ℕ) → WhyAsked → Type 0
 IsAskedBy words (Message book batch place form) =
     SaysForm words 5 form × (slice_get words 2 ≡ Some book.now) × (slice_get words 3 ≡ Some batch.now)
-    × (word : List ℕ) × (slice_get words 4 ≡ Some word) × IsNumber word × (place ≡ number_of word)
+    × (word : List ℕ) × (slice_get words 4 ≡ Some word) × IsNumber word × (place ≡ number_said word)
 IsAskedBy words (Messages batch sought form) = SaysForm words 6 form × (slice_get words 3 ≡ Some batch.now) × IsSoughtBy words sought
 IsAskedBy words Help = AsksHelp words
 IsAskedBy words Wrong = (¬ AsksHelp words) × (¬ AsksMessage words) × (¬ AsksMessages words)

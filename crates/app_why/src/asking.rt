@@ -1,7 +1,7 @@
 ghost use Rattle.std.specs.Prelude.{◌≤◌, IfSome, IfNone, OnSome, codes, length, map, string_bytes};
 ghost use Rattle.std.specs.Option.{SomeIff};
 ghost use Rattle.app_why.specs.WhyAsked.{AsksMessage, AsksMessages, IsAskedBy, IsSearch, IsSoughtBy};
-ghost use Rattle.app_words.specs.Numbers.{IsNumber, number_of};
+ghost use Rattle.app_words.specs.Numbers.{IsNumber, number_said};
 ghost use Rattle.app_words.specs.Words.{IsCommand};
 
 use crate::form::Form;
@@ -88,7 +88,7 @@ fn sought_by(words: &[String]) -> Option<Sought<'_>>
 
 // The place that a word says, if it is one.
 fn place_in(word: &str) -> Option<usize>
-    ensures { SomeIff result (IsNumber word.now) (number_of word.now) }
+    ensures { SomeIff result (IsNumber word.now) (number_said word.now) }
 {
     Some(number_in(word)? as usize)
 }

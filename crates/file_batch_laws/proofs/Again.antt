@@ -9,7 +9,7 @@ use Rattle.byteorder.specs.Endian.{big_number, big_bytes}
 use Rattle.file_batch_laws.specs.Files.{framed, head_text, IsBody, AreBodies, IsBatch}
 use Rattle.file_batch_laws.specs.Reading.{field_at, number_at, magic_at, version_at, count_at, head_at, length_at, body_at, bodies_at, bodies_of, batch_magic}
 use Rattle.file_batch_laws.specs.declared.batch_fault.BatchFault.{BatchFault}
-use Rattle.file_batch_laws.proofs.Steps.{ok_is}
+use Rattle.file_batch_laws.proofs.Steps.{ok_injective}
 
 pub field_again : (text rest : List ℕ) (size : ℕ) → length text ≡ size → field_at size (text ++ rest) ≡ Ok (text, rest)
 field_again text rest size len =
@@ -94,5 +94,5 @@ framed_apart body other rest more is is' e =
     ap (λ (x : List ℕ). x ++ rest) (append-nil (framed body)) ∙ e ∙ ap (λ (x : List ℕ). x ++ more) (sym (append-nil (framed other))) in
     let read : Path (Result (List (List ℕ) × List ℕ) BatchFault) (Ok (body ∷ [], rest)) (Ok (other ∷ [], more)) =
     sym (bodies_again (body ∷ []) rest (is, tt)) ∙ ap (bodies_at 1) one ∙ bodies_again (other ∷ []) more (is', tt) in
-    let both = ok_is (body ∷ [], rest) (other ∷ [], more) read in
+    let both = ok_injective (body ∷ [], rest) (other ∷ [], more) read in
     (head_is body other (ap (λ (p : List (List ℕ) × List ℕ). p.0) both), ap (λ (p : List (List ℕ) × List ℕ). p.1) both)

@@ -13,7 +13,7 @@ use Rattle.file_batch_laws.specs.Files.{framed, head_text, IsBody, AreBodies, Is
 use Rattle.file_batch_laws.specs.Reading.{◌>>=◌, field_at, number_at, magic_at, version_at, count_at, head_at, length_at, body_at, bodies_at, bodies_of, ended, batch_magic}
 use Rattle.file_batch_laws.specs.declared.batch_fault.BatchFault.{BatchFault}
 use Rattle.file_batch_laws.specs.declared.batch_fault.BatchFault.TheVariants.{Ended, Magic, Version, Count, Length}
-use Rattle.file_batch_laws.proofs.Steps.{bind_ok, ok_is, passed, clean, nothing_left}
+use Rattle.file_batch_laws.proofs.Steps.{bind_ok, ok_injective, test_passed, fault_not_found, nothing_left}
 
 abbrev pub AreBytes : List ℕ → Type 0
 AreBytes bytes = AllByRecursion (λ byte. byte < 256) bytes
@@ -39,7 +39,7 @@ taken bytes front rest all is =
 
 field_taken : (size : ℕ) (bytes field rest : List ℕ) → AreBytes bytes → field_at size bytes ≡ Ok (field, rest) → Taken bytes field rest × (length field ≡ size)
 field_taken size bytes field rest all read =
-    let there = clean (ltb (length bytes) size) Ended (take size bytes, drop size bytes) (field, rest) read in
+    let there = fault_not_found (ltb (length bytes) size) Ended (take size bytes, drop size bytes) (field, rest) read in
     let front : take size bytes ≡ field = ap (λ (p : List ℕ × List ℕ). p.0) there.1 in
     let back : drop size bytes ≡ rest = ap (λ (p : List ℕ × List ℕ). p.1) there.1 in
     let is : bytes ≡ field ++ rest = sym (take-append-drop size bytes) ∙ rw (front, back) refl in
@@ -80,7 +80,7 @@ number_taken : (size : ℕ) → ((field : List ℕ) → length field ≡ size �
 unfolding number_at
 number_taken size back bytes n rest all read =
     let a = bind_ok (field_at size bytes) (λ x. let r : Result (ℕ × List ℕ) BatchFault = Ok (big_number size x.0, x.1) in r) (n, rest) read in
-    let same = ok_is (big_number size a.0.0, a.0.1) (n, rest) a.2 in
+    let same = ok_injective (big_number size a.0.0, a.0.1) (n, rest) a.2 in
     let field = field_taken size bytes a.0.0 a.0.1 all a.1 in
     let number : big_number size a.0.0 ≡ n = ap (λ (p : ℕ × List ℕ). p.0) same in
     let left : a.0.1 ≡ rest = ap (λ (p : ℕ × List ℕ). p.1) same in
@@ -91,7 +91,7 @@ magic_taken : (magic bytes letters rest : List ℕ) → AreBytes bytes → magic
 unfolding magic_at
 magic_taken magic bytes letters rest all read =
     let a = bind_ok (field_at 4 bytes) (λ x. let r : Result (List ℕ × List ℕ) BatchFault = cond (bytes_eq x.0 magic) (Ok x) (Err Magic) in r) (letters, rest) read in
-    let b = passed (bytes_eq a.0.0 magic) Magic a.0 (letters, rest) a.2 in
+    let b = test_passed (bytes_eq a.0.0 magic) Magic a.0 (letters, rest) a.2 in
     let same : a.0.0 ≡ magic = (bytes_eq-Decides a.0.0 magic).0 b.0 in
     let left : a.0.1 ≡ rest = ap (λ (p : List ℕ × List ℕ). p.1) b.1 in
     subst (λ (l : List ℕ). Taken bytes magic l) left (subst (λ (f : List ℕ). Taken bytes f a.0.1) same (field_taken 4 bytes a.0.0 a.0.1 all a.1).0)
@@ -100,7 +100,7 @@ version_taken : (bytes : List ℕ) (n : ℕ) (rest : List ℕ) → AreBytes byte
 unfolding version_at
 version_taken bytes n rest all read =
     let a = bind_ok (number_at 2 bytes) (λ x. let r : Result (ℕ × List ℕ) BatchFault = cond (eqb x.0 1) (Ok x) (Err Version) in r) (n, rest) read in
-    let b = passed (eqb a.0.0 1) Version a.0 (n, rest) a.2 in
+    let b = test_passed (eqb a.0.0 1) Version a.0 (n, rest) a.2 in
     let left : a.0.1 ≡ rest = ap (λ (p : ℕ × List ℕ). p.1) b.1 in
     subst (λ (l : List ℕ). Taken bytes (big_bytes 2 1) l) left (subst (λ (k : ℕ). Taken bytes (big_bytes 2 k) a.0.1) (eqb-true a.0.0 1 b.0) (number_taken 2 two bytes a.0.0 a.0.1 all a.1))
 
@@ -108,7 +108,7 @@ count_taken : (bytes : List ℕ) (n : ℕ) (rest : List ℕ) → AreBytes bytes 
 unfolding count_at
 count_taken bytes n rest all read =
     let a = bind_ok (number_at 4 bytes) (λ x. let r : Result (ℕ × List ℕ) BatchFault = cond (ltb 65536 x.0) (Err Count) (Ok x) in r) (n, rest) read in
-    let b = clean (ltb 65536 a.0.0) Count a.0 (n, rest) a.2 in
+    let b = fault_not_found (ltb 65536 a.0.0) Count a.0 (n, rest) a.2 in
     let number : a.0.0 ≡ n = ap (λ (p : ℕ × List ℕ). p.0) b.1 in
     (number_taken 4 four bytes n rest all (a.1 ∙ ap Ok b.1), subst (λ (k : ℕ). k ≤ 65536) number (ltb-false 65536 a.0.0 b.0))
 
@@ -135,7 +135,7 @@ length_taken : (bytes : List ℕ) (n : ℕ) (rest : List ℕ) → AreBytes bytes
 unfolding length_at
 length_taken bytes n rest all read =
     let a = bind_ok (number_at 2 bytes) (λ x. let r : Result (ℕ × List ℕ) BatchFault = cond (eqb x.0 0 || ltb 512 x.0) (Err Length) (Ok x) in r) (n, rest) read in
-    let b = clean (eqb a.0.0 0 || ltb 512 a.0.0) Length a.0 (n, rest) a.2 in
+    let b = fault_not_found (eqb a.0.0 0 || ltb 512 a.0.0) Length a.0 (n, rest) a.2 in
     let c = or_parts (eqb a.0.0 0) (ltb 512 a.0.0) b.0 in
     let number : a.0.0 ≡ n = ap (λ (p : ℕ × List ℕ). p.0) b.1 in
     (number_taken 2 two bytes n rest all (a.1 ∙ ap Ok b.1), subst (λ (k : ℕ). 1 ≤ k) number (not_zero a.0.0 c.0), subst (λ (k : ℕ). k ≤ 512) number (ltb-false 512 a.0.0 c.1))
@@ -155,13 +155,13 @@ AreTaken n bytes read = Taken bytes (flat_map framed read.0) read.1 × AllByRecu
 
 bodies_taken : (n : ℕ) (bytes : List ℕ) (bodies : List (List ℕ)) (rest : List ℕ) → AreBytes bytes → bodies_at n bytes ≡ Ok (bodies, rest) → AreTaken n bytes (bodies, rest)
 unfolding bodies_at
-bodies_taken zero bytes bodies rest all read = subst (AreTaken zero bytes) (ok_is ([], bytes) (bodies, rest) read) (taken bytes [] bytes all refl, tt, refl)
+bodies_taken zero bytes bodies rest all read = subst (AreTaken zero bytes) (ok_injective ([], bytes) (bodies, rest) read) (taken bytes [] bytes all refl, tt, refl)
 bodies_taken (suc n) bytes bodies rest all read =
     let a = bind_ok (body_at bytes) (λ b. bodies_at n b.1 >>= λ others. Ok (b.0 ∷ others.0, others.1)) (bodies, rest) read in
     let b = bind_ok (bodies_at n a.0.1) (λ others. Ok (a.0.0 ∷ others.0, others.1)) (bodies, rest) a.2 in
     let first = body_taken bytes a.0.0 a.0.1 all a.1 in
     let others = bodies_taken n a.0.1 b.0.0 b.0.1 first.0.left b.1 in
-    subst (AreTaken (suc n) bytes) (ok_is (a.0.0 ∷ b.0.0, b.0.1) (bodies, rest) b.2) (
+    subst (AreTaken (suc n) bytes) (ok_injective (a.0.0 ∷ b.0.0, b.0.1) (bodies, rest) b.2) (
       taken bytes (flat_map framed (a.0.0 ∷ b.0.0)) b.0.1 all (then bytes (framed a.0.0) a.0.1 (flat_map framed b.0.0) b.0.1 first.0 others.0),
       (first.1, others.1),
       ap suc others.2,
@@ -187,7 +187,7 @@ file_taken magic bytes bodies all read =
     let behind : a.0.1 ≡ flat_map framed b.0.0 = others.0.is ∙ ap (λ (x : List ℕ). flat_map framed b.0.0 ++ x) none ∙ append-nil (flat_map framed b.0.0) in
     let text : bytes ≡ head_text magic (length b.0.0) ++ flat_map framed b.0.0 =
     head.0.is ∙ ap (λ (x : List ℕ). head_text magic a.0.0 ++ x) behind ∙ ap (λ (n : ℕ). head_text magic n ++ flat_map framed b.0.0) (sym number) in
-    subst (IsText magic bytes) (ok_is b.0.0 bodies c.2) ((rw number head.1, others.1), text)
+    subst (IsText magic bytes) (ok_injective b.0.0 bodies c.2) ((rw number head.1, others.1), text)
 
 pub batch_taken : (bytes : List ℕ) (bodies : List (List ℕ)) → All (λ byte. byte < 256) bytes → bodies_of batch_magic bytes ≡ Ok bodies → IsBatch bytes bodies
 batch_taken bytes bodies all read = file_taken batch_magic bytes bodies (recursion_from_All (λ byte. byte < 256) bytes all) read

@@ -27,7 +27,7 @@ use Rattle.file_batch_laws.specs.Files.{framed, head_text, IsBody, AreBodies, re
 use Rattle.file_batch_laws.specs.Reading.{bodies_of, replies_magic}
 use Rattle.file_batch_laws.specs.Replies.{IsReplyText, AreRepliesOf, IsReplyFileOf, IsReplyBody, AreReplyBodies}
 use Rattle.file_batch_laws.proofs.Again.{file_again}
-use Rattle.file_batch_laws.proofs.Steps.{ok_is}
+use Rattle.file_batch_laws.proofs.Steps.{ok_injective}
 
 -- ---- a reply is no longer than a body
 
@@ -176,5 +176,5 @@ replies_again replies are = (texts_of replies, file_of_texts replies are, are_te
 
 pub replies_alone : (replies others : List ReplyBody) → AreReplyBodies replies → IsReplyFileOf (replies_text replies) others → others ≡ replies
 replies_alone replies others are file =
-    let same : file.0 ≡ texts_of replies = ok_is file.0 (texts_of replies) (sym file.1 ∙ file_of_texts replies are) in
+    let same : file.0 ≡ texts_of replies = ok_injective file.0 (texts_of replies) (sym file.1 ∙ file_of_texts replies are) in
     same_replies replies others are.1 (subst (λ (bodies : List (List ℕ)). AreRepliesOf bodies others) same file.2)

@@ -12,7 +12,7 @@ use Rattle.file_batch_laws.specs.Reading.{bodies_at}
 use Rattle.file_batch_laws.specs.Replies.{AreReplyBodies, AreRepliesOf}
 use Rattle.file_batch_laws.proofs.Again.{number_4, magic_again, version_again, count_again, bodies_again}
 use Rattle.file_batch_laws.proofs.ReadBack.{texts_of, all_bodies, are_texts, framed_texts, same_replies}
-use Rattle.file_batch_laws.proofs.Steps.{ok_is}
+use Rattle.file_batch_laws.proofs.Steps.{ok_injective}
 
 pub block_count_again : (n : ℕ) (rest : List ℕ) → n ≤ 1000 → block_count_at (big_bytes 4 n ++ rest) ≡ Ok (n, rest)
 unfolding block_count_at
@@ -59,7 +59,7 @@ all_alone [] (o ∷ others) bytes left all same text are = absurd (omega (arith,
 all_alone (b ∷ blocks) [] bytes left all same text are = absurd (omega (arith, same))
 all_alone (b ∷ blocks) (o ∷ others) bytes left all same text are =
     let here = are.1 in
-    let both = ok_is (here.0, are.0) (texts_of b, blocks_text blocks) (sym here.1 ∙ ap block_at text ∙ block_again b (blocks_text blocks) all.0) in
+    let both = ok_injective (here.0, are.0) (texts_of b, blocks_text blocks) (sym here.1 ∙ ap block_at text ∙ block_again b (blocks_text blocks) all.0) in
     let bodies : here.0 ≡ texts_of b = ap (λ (p : List (List ℕ) × List ℕ). p.0) both in
     let next : are.0 ≡ blocks_text blocks = ap (λ (p : List (List ℕ) × List ℕ). p.1) both in
     let first : o ≡ b = same_replies b o all.0.1 (subst (λ (bs : List (List ℕ)). AreRepliesOf bs o) bodies here.2) in
@@ -69,7 +69,7 @@ all_alone (b ∷ blocks) (o ∷ others) bytes left all same text are =
 pub blocks_alone : (blocks others : List (List ReplyBody)) → AreBlocksOfReplies blocks → IsBlockReplyFileOf (block_replies_text blocks) others → others ≡ blocks
 blocks_alone blocks others are file =
     let head = block_head_again block_replies_magic (length blocks) (blocks_text blocks) refl refl are.0 in
-    let both = ok_is (length others, file.0) (length blocks, blocks_text blocks) (sym file.1 ∙ head) in
+    let both = ok_injective (length others, file.0) (length blocks, blocks_text blocks) (sym file.1 ∙ head) in
     let number : length others ≡ length blocks = ap (λ (p : ℕ × List ℕ). p.0) both in
     let behind : file.0 ≡ blocks_text blocks = ap (λ (p : ℕ × List ℕ). p.1) both in
     all_alone blocks others file.0 [] are.1 number behind file.2

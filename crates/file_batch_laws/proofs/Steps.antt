@@ -9,18 +9,18 @@ pub bind_ok : {A B : Type 0} (r : Result A BatchFault) (f : A → Result B Batch
 bind_ok (Ok x) f y e = (x, refl, e)
 bind_ok (Err d) f y e = absurd cc
 
-pub ok_is : {A : Type 0} (x y : A) → Path (Result A BatchFault) (Ok x) (Ok y) → x ≡ y
-ok_is x y e = cc
+pub ok_injective : {A : Type 0} (x y : A) → Path (Result A BatchFault) (Ok x) (Ok y) → x ≡ y
+ok_injective x y e = cc
 
--- a test that a value passed
-pub passed : {A : Type 0} (b : Bool) (d : BatchFault) (x y : A) → cond b (Ok x) (Err d) ≡ Ok y → (b ≡ true) × (x ≡ y)
-passed true d x y h = (refl, cc)
-passed false d x y h = absurd cc
+-- a test that a value test_passed
+pub test_passed : {A : Type 0} (b : Bool) (d : BatchFault) (x y : A) → cond b (Ok x) (Err d) ≡ Ok y → (b ≡ true) × (x ≡ y)
+test_passed true d x y h = (refl, cc)
+test_passed false d x y h = absurd cc
 
 -- a test for a fault that was not found
-pub clean : {A : Type 0} (b : Bool) (d : BatchFault) (x y : A) → cond b (Err d) (Ok x) ≡ Ok y → (b ≡ false) × (x ≡ y)
-clean true d x y h = absurd cc
-clean false d x y h = (refl, cc)
+pub fault_not_found : {A : Type 0} (b : Bool) (d : BatchFault) (x y : A) → cond b (Err d) (Ok x) ≡ Ok y → (b ≡ false) × (x ≡ y)
+fault_not_found true d x y h = absurd cc
+fault_not_found false d x y h = (refl, cc)
 
 pub nothing_left : (left : List ℕ) → ended left ≡ Ok tt → left ≡ []
 nothing_left [] e = refl

@@ -20,7 +20,7 @@ use Rattle.file_bodies.specs.BlockText.{block_text}
 use Rattle.file_bodies.specs.BodyLines.{body_lines}
 use Rattle.file_bodies.proofs.Fronts.{block_front, counted_at, counted_front, field_taken}
 use Rattle.file_bodies.proofs.PackedAgain.{bodies_are_bytes, read_lines}
-use Rattle.file_batch_laws.proofs.Steps.{bind_ok, clean, passed}
+use Rattle.file_batch_laws.proofs.Steps.{bind_ok, fault_not_found, test_passed}
 
 abbrev Block : Type 0
 Block = List (List ℕ)
@@ -109,7 +109,7 @@ letters_taken : (bytes found rest : List ℕ) → magic_at blocks_magic bytes �
 unfolding magic_at
 letters_taken bytes found rest read =
     let a = bind_ok (field_at 4 bytes) (λ x. let r : Result (List ℕ × List ℕ) BatchFault = cond (bytes_eq x.0 blocks_magic) (Ok x) (Err Magic) in r) (found, rest) read in
-    let b = passed (bytes_eq a.0.0 blocks_magic) Magic a.0 (found, rest) a.2 in
+    let b = test_passed (bytes_eq a.0.0 blocks_magic) Magic a.0 (found, rest) a.2 in
     let same : a.0.0 ≡ blocks_magic = (bytes_eq-Decides a.0.0 blocks_magic).0 b.0 in
     let left : a.0.1 ≡ rest = ap (λ (p : List ℕ × List ℕ). p.1) b.1 in
     (field_taken 4 bytes a.0.0 a.0.1 a.1).0 ∙ rw (same, left) refl
@@ -119,7 +119,7 @@ count_is_read : (bytes : List ℕ) (n : ℕ) (rest : List ℕ) → block_count_a
 unfolding block_count_at count_at
 count_is_read bytes n rest read =
     let a = bind_ok (number_at 4 bytes) (λ x. let r : Result (ℕ × List ℕ) BatchFault = cond (ltb 1000 x.0) (Err Blocks) (Ok x) in r) (n, rest) read in
-    let b = clean (ltb 1000 a.0.0) Blocks a.0 (n, rest) a.2 in
+    let b = fault_not_found (ltb 1000 a.0.0) Blocks a.0 (n, rest) a.2 in
     let number : a.0.0 ≡ n = ap (λ (p : ℕ × List ℕ). p.0) b.1 in
     let few : n ≤ 1000 = subst (λ (k : ℕ). k ≤ 1000) number (ltb-false 1000 a.0.0 b.0) in
     let fits : ltb 65536 n ≡ false = le-ltb 65536 n (omega (arith, few)) in

@@ -8,7 +8,7 @@ use Rattle.file_batch_laws.specs.Blocks.{block_at}
 use Rattle.file_batch_laws.specs.Reading.{◌>>=◌, field_at, number_at, version_at, count_at, length_at, body_at, bodies_at}
 use Rattle.file_batch_laws.specs.declared.batch_fault.BatchFault.{BatchFault}
 use Rattle.file_batch_laws.specs.declared.batch_fault.BatchFault.TheVariants.{Ended, Version, Count, Length}
-use Rattle.file_batch_laws.proofs.Steps.{bind_ok, ok_is, clean}
+use Rattle.file_batch_laws.proofs.Steps.{bind_ok, ok_injective, fault_not_found}
 use Rattle.file_batch_laws.proofs.Again.{field_again}
 
 abbrev Read : Type 0 → Type 0
@@ -26,7 +26,7 @@ TakesFront {A} read = (bytes : List ℕ) (x : A) (rest : List ℕ) → read byte
 -- nothing is read
 nothing_front : {A : Type 0} (x : A) → TakesFront (λ bytes. let r : Read A = Ok (x, bytes) in r)
 nothing_front {A = A} x bytes y rest e =
-    let same = ok_is (x, bytes) (y, rest) e in
+    let same = ok_injective (x, bytes) (y, rest) e in
     let value : x ≡ y = ap (λ (p : A × List ℕ). p.0) same in
     record { front = []; is = ap (λ (p : A × List ℕ). p.1) same; again = λ more. ap (λ (z : A). let r : Read A = Ok (z, more) in r) value }
 
@@ -59,7 +59,7 @@ then_front {A = A} {B = B} read next first second bytes y rest e =
 
 pub field_taken : (size : ℕ) (bytes field rest : List ℕ) → field_at size bytes ≡ Ok (field, rest) → (bytes ≡ field ++ rest) × (length field ≡ size)
 field_taken size bytes field rest e =
-    let there = clean (ltb (length bytes) size) Ended (take size bytes, drop size bytes) (field, rest) e in
+    let there = fault_not_found (ltb (length bytes) size) Ended (take size bytes, drop size bytes) (field, rest) e in
     let front : take size bytes ≡ field = ap (λ (p : List ℕ × List ℕ). p.0) there.1 in
     let back : drop size bytes ≡ rest = ap (λ (p : List ℕ × List ℕ). p.1) there.1 in
     let is : bytes ≡ field ++ rest = sym (take-append-drop size bytes) ∙ rw (front, back) refl in

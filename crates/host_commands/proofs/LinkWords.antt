@@ -4,28 +4,28 @@ use Rattle.std.proofs.lemmas.List.{nil_from_length}
 use Rattle.std.specs.Str.{bytes_eq}
 use Rattle.host_commands.specs.Links.{AddsLink, LinkOptions, SayMore, nothing}
 use Rattle.host_commands.specs.Settings.{IsNumberTo}
-use Rattle.app_words.specs.Numbers.{number_of}
+use Rattle.app_words.specs.Numbers.{number_said}
 
 module _ (all rest : List (List ℕ)) (option first : List ℕ) (before mid after : LinkOptions) where
   pub max_said : all ≡ option ∷ first ∷ rest → bytes_eq option (codes "--max-batch") ≡ true
-      → IsNumberTo 65536 first × (before.max_batch ≡ None) × (mid ≡ record { max_batch = Some (number_of first); stats = before.stats; links = before.links })
+      → IsNumberTo 65536 first × (before.max_batch ≡ None) × (mid ≡ record { max_batch = Some (number_said first); stats = before.stats; links = before.links })
       → SayMore mid rest after → SayMore before all after
   max_said there max heard more = rw (there, max) (heard.0, heard.1, subst (λ (h : LinkOptions). SayMore h rest after) heard.2 more)
 
   pub max_unsaid : all ≡ option ∷ first ∷ rest → bytes_eq option (codes "--max-batch") ≡ true
-      → IsNumberTo 65536 first × (before.max_batch ≡ None) × (mid ≡ record { max_batch = Some (number_of first); stats = before.stats; links = before.links })
+      → IsNumberTo 65536 first × (before.max_batch ≡ None) × (mid ≡ record { max_batch = Some (number_said first); stats = before.stats; links = before.links })
       → (SayMore mid rest after → ⊥) → SayMore before all after → ⊥
   max_unsaid there max heard none said =
       let so = rw (there, max) at said in
       none (subst (λ (h : LinkOptions). SayMore h rest after) (sym heard.2) so.2)
 
   pub stats_said : all ≡ option ∷ first ∷ rest → bytes_eq option (codes "--max-batch") ≡ false → bytes_eq option (codes "--stats") ≡ true
-      → IsNumberTo (2 ^ 64 - 1) first × (before.stats ≡ None) × (mid ≡ record { max_batch = before.max_batch; stats = Some (number_of first); links = before.links })
+      → IsNumberTo (2 ^ 64 - 1) first × (before.stats ≡ None) × (mid ≡ record { max_batch = before.max_batch; stats = Some (number_said first); links = before.links })
       → SayMore mid rest after → SayMore before all after
   stats_said there max stats heard more = rw (there, max, stats) (heard.0, heard.1, subst (λ (h : LinkOptions). SayMore h rest after) heard.2 more)
 
   pub stats_unsaid : all ≡ option ∷ first ∷ rest → bytes_eq option (codes "--max-batch") ≡ false → bytes_eq option (codes "--stats") ≡ true
-      → IsNumberTo (2 ^ 64 - 1) first × (before.stats ≡ None) × (mid ≡ record { max_batch = before.max_batch; stats = Some (number_of first); links = before.links })
+      → IsNumberTo (2 ^ 64 - 1) first × (before.stats ≡ None) × (mid ≡ record { max_batch = before.max_batch; stats = Some (number_said first); links = before.links })
       → (SayMore mid rest after → ⊥) → SayMore before all after → ⊥
   stats_unsaid there max stats heard none said =
       let so = rw (there, max, stats) at said in

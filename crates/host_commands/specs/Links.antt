@@ -6,7 +6,7 @@ use Rattle.host_commands.specs.Settings.{IsNumberTo}
 use Rattle.host_commands.specs.declared.choices.Choices.{Choices}
 use Rattle.host_commands.specs.declared.link_names.LinkNames.{LinkNames}
 use Rattle.host_commands.specs.declared.settings.Settings.{Settings}
-use Rattle.app_words.specs.Numbers.{number_of}
+use Rattle.app_words.specs.Numbers.{number_said}
 
 -- what options say: how many frames in one turn at most and after how many bodies it is told how it goes, each if it is said; and the two
 -- names of each link, in order
@@ -39,9 +39,9 @@ abbrev mutual
   SayMore before (option ∷ []) after = ⊥
   SayMore before (option ∷ first ∷ words) after =
       MatchBool (bytes_eq option (codes "--max-batch"))
-      (IsNumberTo 65536 first × (before.max_batch ≡ None) × SayMore (record { max_batch = Some (number_of first); stats = before.stats; links = before.links }) words after)
+      (IsNumberTo 65536 first × (before.max_batch ≡ None) × SayMore (record { max_batch = Some (number_said first); stats = before.stats; links = before.links }) words after)
       (MatchBool (bytes_eq option (codes "--stats"))
-      (IsNumberTo (2 ^ 64 - 1) first × (before.stats ≡ None) × SayMore (record { max_batch = before.max_batch; stats = Some (number_of first); links = before.links }) words after)
+      (IsNumberTo (2 ^ 64 - 1) first × (before.stats ≡ None) × SayMore (record { max_batch = before.max_batch; stats = Some (number_said first); links = before.links }) words after)
       (MatchBool (bytes_eq option (codes "--link")) (SayLink before first words after) ⊥))
 
   pub SayLink : LinkOptions → List ℕ → List (List ℕ) → LinkOptions → Type 0

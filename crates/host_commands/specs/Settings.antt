@@ -1,7 +1,7 @@
 -- How a host is to serve, as words say it.
 use Rattle.std.specs.Prelude.{◌≡◌, ◌⊎◌, ℕ, ◌+◌, ◌-◌, ◌^◌, ◌≤◌, List, Some, None, codes, length, slice_get}
 use Rattle.std.specs.Str.Parse.{IsNumeral, without_leading_plus}
-use Rattle.app_words.specs.Numbers.{number_of}
+use Rattle.app_words.specs.Numbers.{number_said}
 use Rattle.host_commands.specs.declared.settings.Settings.{Settings}
 
 -- where nothing is said: 65,536 frames in one turn at most, and it isn't told how it goes
@@ -10,12 +10,12 @@ plain = record { max_batch = 65536; stats = None }
 
 -- a word is a number in decimal digits, from 1 to this one
 abbrev pub IsNumberTo : ℕ → List ℕ → Type 0
-IsNumberTo most word = IsNumeral 10 (without_leading_plus word) × (1 ≤ number_of word) × (number_of word ≤ most)
+IsNumberTo most word = IsNumeral 10 (without_leading_plus word) × (1 ≤ number_said word) × (number_said word ≤ most)
 
 -- at this place this word stands, and behind it a number from 1 to the greatest
 abbrev pub Says : List ℕ → ℕ → List (List ℕ) → ℕ → ℕ → Type 0
 Says option greatest words place number =
-    (slice_get words place ≡ Some option) × (word : List ℕ) × (slice_get words (place + 1) ≡ Some word) × IsNumberTo greatest word × (number ≡ number_of word)
+    (slice_get words place ≡ Some option) × (word : List ℕ) × (slice_get words (place + 1) ≡ Some word) × IsNumberTo greatest word × (number ≡ number_said word)
 
 -- how many frames are served in one turn, at most
 abbrev pub SaysMaxBatch : List (List ℕ) → ℕ → ℕ → Type 0

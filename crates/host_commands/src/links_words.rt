@@ -4,7 +4,7 @@ ghost use Rattle.std.specs.Prelude.{◌≡◌, ◌≢◌, ◌^◌, ◌-◌, ◌+
 ghost use Rattle.app_words.specs.Words.{IsCommand};
 ghost use Rattle.host_commands.specs.Links.{AddsLink, AskLinks, LinkOptions, NoneAsks, SayMore, options_of, is_named, names_of};
 ghost use Rattle.host_commands.specs.Settings.{IsNumberTo};
-ghost use Rattle.app_words.specs.Numbers.{number_of};
+ghost use Rattle.app_words.specs.Numbers.{number_said};
 
 use crate::asked_links::AskedLinks;
 use crate::choices::Choices;
@@ -31,7 +31,7 @@ fn is_named(name: &str, links: &[LinkNames<'_>]) -> bool
 // How many frames are served in one turn, as this word says. Returns whether it does, and it wasn't said before.
 fn read_max_batch(word: &str, said: &mut Choices<'_>) -> bool
     ensures yes { IsTrue result → IsNumberTo 65536 word.now × (said.old.max_batch ≡ None)
-        × (options_of said.new ≡ record { max_batch = Some (number_of word.now); stats = said.old.stats; links = names_of said.old.links.items }) }
+        × (options_of said.new ≡ record { max_batch = Some (number_said word.now); stats = said.old.stats; links = names_of said.old.links.items }) }
     ensures no { ¬ IsTrue result → ¬ (IsNumberTo 65536 word.now × (said.old.max_batch ≡ None)) }
 {
     if said.max_batch.is_some() {
@@ -44,7 +44,7 @@ fn read_max_batch(word: &str, said: &mut Choices<'_>) -> bool
 // The same of how it goes.
 fn read_stats(word: &str, said: &mut Choices<'_>) -> bool
     ensures yes { IsTrue result → IsNumberTo (2 ^ 64 - 1) word.now × (said.old.stats ≡ None)
-        × (options_of said.new ≡ record { max_batch = said.old.max_batch; stats = Some (number_of word.now); links = names_of said.old.links.items }) }
+        × (options_of said.new ≡ record { max_batch = said.old.max_batch; stats = Some (number_said word.now); links = names_of said.old.links.items }) }
     ensures no { ¬ IsTrue result → ¬ (IsNumberTo (2 ^ 64 - 1) word.now × (said.old.stats ≡ None)) }
 {
     if said.stats.is_some() {

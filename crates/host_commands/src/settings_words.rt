@@ -2,7 +2,7 @@
 
 ghost use Rattle.std.specs.Prelude.{◌≡◌, ◌+◌, ◌<◌, ◌≤◌, ◌-◌, ◌^◌, ℕ, IfSome, IfNone, OnSome, length, map, string_bytes};
 ghost use Rattle.std.specs.Option.{SomeIff};
-ghost use Rattle.app_words.specs.Numbers.{number_of};
+ghost use Rattle.app_words.specs.Numbers.{number_said};
 ghost use Rattle.host_commands.specs.Settings.{IsNumberTo, SaySettings, SaysMaxBatch, SaysStats};
 ghost use Rattle.host_commands.specs.declared.settings.Settings.{Settings as Said};
 
@@ -13,7 +13,7 @@ use host_telling::StatsInterval;
 
 // How many frames a word says.
 pub(crate) fn max_batch_in(word: &str) -> Option<MaxBatch>
-    ensures { SomeIff result (IsNumberTo 65536 word.now) (number_of word.now) }
+    ensures { SomeIff result (IsNumberTo 65536 word.now) (number_said word.now) }
 {
     match word.parse::<u32>() {
         Ok(count) => MaxBatch::new(count),
@@ -23,7 +23,7 @@ pub(crate) fn max_batch_in(word: &str) -> Option<MaxBatch>
 
 // How many bodies a word says.
 pub(crate) fn stats_in(word: &str) -> Option<StatsInterval>
-    ensures { SomeIff result (IsNumberTo (2 ^ 64 - 1) word.now) (number_of word.now) }
+    ensures { SomeIff result (IsNumberTo (2 ^ 64 - 1) word.now) (number_said word.now) }
 {
     match word.parse::<u64>() {
         Ok(bodies) => StatsInterval::new(bodies),

@@ -13,7 +13,7 @@ returns c =
     let cut = rw c.deref.ensures.value at c.in_ok-length.ensures.cases in
     let size = c.read_u16-size.result in
     let long : length there ≡ self.end - self.start = omega (arith, length-take (self.end - self.start) (drop self.start xs), length-drop self.start xs, self.in_order, self.within) in
-    let within : self.start + 2 + size ≤ self.end = omega (arith, cut.1.1, c.if-rest-size.false, long, self.in_order) in
+    let within : self.start + 2 + size ≤ self.end = omega (arith, cut.2, c.if-rest-size.false, long, self.in_order) in
     let number : big_number 2 (take 2 there) ≡ size = ap (big_number 2) (sym cut.0) ∙ sym c.read_u16-size.ensures in
     record {
       within = within;

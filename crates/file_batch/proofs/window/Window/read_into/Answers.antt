@@ -20,7 +20,7 @@ returns-in_err-read_frame-clause-gives g c = λ known.
     let i = c.loop.counter in
     let n = c.args.count in
     let mid = ahead c.loop.self (g.R.Source.remaining c.loop.source) in
-    let e = c.in_err-read_frame.field-0 in
+    let e = c.in_err-read_frame.field-0.0 in
     let all : n ≡ i + (n - i) = omega (arith, c.loop-test.true) in
     let more : n - i ≡ 1 + (n - (i + 1)) = omega (arith, c.loop-test.true) in
     rw (p.1, p.2) (λ of_bytes. fails IsFrameOf i (n - i) n (ahead c.args.self.now (g.R.Source.remaining c.args.source.now)) mid c.loop.frames.items e all
