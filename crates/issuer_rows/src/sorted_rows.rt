@@ -105,13 +105,16 @@ fn ranked(key: &RowKey) -> (usize, usize) {
 
 // The number with so many further digits to the base 11, those of a text: 1 to 10, and 0 behind its end.
 fn with_digits(number: u64, text: &str, count: usize) -> u64 {
+    let bytes = text.as_bytes();
+    let said = bytes.get(..count).unwrap_or(bytes);
     let mut number = number;
-    for place in 0..count {
-        let digit = match text.as_bytes().get(place) {
-            Some(byte) => u64::from(byte & 15) + 1,
-            None => 0,
-        };
-        number = number.wrapping_mul(11).wrapping_add(digit);
+    for byte in said {
+        number = number
+            .wrapping_mul(11)
+            .wrapping_add(u64::from(byte & 15) + 1);
+    }
+    for _ in said.len()..count {
+        number = number.wrapping_mul(11);
     }
     number
 }
