@@ -9,7 +9,6 @@ use crate::card_hints::CardHints;
 use crate::decided_part::DecidedPart;
 use crate::gathering::gather;
 use crate::part_rows::PartRows;
-use crate::writing::put_all;
 use issuer_rows::{Book, Frame, Places, ReplyBody};
 use issuer_view::{Decide, ReadSet, Recorder, Stop, WriteSet};
 use std::alloc::{AllocError, Global};
@@ -109,7 +108,7 @@ impl DecidedPart {
         let _ = reads;
         match decided {
             Ok(reply) => {
-                put_all(&mut self.rows, writes, places)?;
+                self.rows.put_all(writes, places)?;
                 self.replies.push(*reply)?;
                 Ok(())
             }
