@@ -1,11 +1,11 @@
 ghost use Rattle.std.specs.Prelude.{◌≡◌, IfOk};
 ghost use Rattle.app_runs.specs.Answers.{IsAnswerTo, answer_text};
-ghost use Rattle.file_batch_laws.specs.Frames.{IsFrameOf};
 
 use engine_locked::run;
 use engine_workers::{NoHook, Workers};
-use iso_codec::{decode, encode_reply};
-use issuer_rows::{Book, Frame, FrameFault, ReplyBody};
+use file_batch_laws::frame_of;
+use iso_codec::encode_reply;
+use issuer_rows::{Book, ReplyBody};
 use issuer_rules::Shipped;
 use std::alloc::{AllocError, Global};
 use std::sync::Wait;
@@ -27,19 +27,6 @@ pub fn answer_on<R: Threads + Wait + Sync>(
     match outcome.replies.first() {
         Some(reply) => text_of(alloc, reply),
         None => unreachable!(),
-    }
-}
-
-// The message that the body spells, or the fault of a body that spells none.
-fn frame_of(body: &[u8]) -> Frame
-    ensures { IsFrameOf body.now result }
-{
-    match decode(body) {
-        Ok(message) => Frame::Good(message),
-        Err(fault) => match FrameFault::new(fault) {
-            Some(fault) => Frame::Bad(fault),
-            None => unreachable!(),
-        },
     }
 }
 

@@ -1,29 +1,15 @@
 ghost use Rattle.std.specs.Prelude.{◌≡◌, ◌≤◌, [], length, vec_len, IfOk, OnOk};
 ghost use Rattle.file_batch.specs.Device.{UsesDevice};
 ghost use Rattle.file_batch_laws.specs.Reading.{GivesWhole, body_at, bodies_at, ended};
-ghost use Rattle.file_batch_laws.specs.Frames.{IsFrameOf, GivesFrames, GivesBatch};
+ghost use Rattle.file_batch_laws.specs.Frames.{GivesFrames, GivesBatch};
 ghost use Rattle.file_batch.specs.InOrder.{GivesInto};
 ghost use Rattle.file_batch.specs.Window.{ahead, GivesFrame};
 
 use crate::window::Window;
-use file_batch_laws::BatchFault;
+use file_batch_laws::{BatchFault, frame_of};
 use file_devices::Source;
-use iso_codec::decode;
-use issuer_rows::{Frame, FrameFault};
+use issuer_rows::Frame;
 use std::alloc::Global;
-
-// The message that the body spells, or the fault of a body that spells none.
-fn frame_of(body: &[u8]) -> Frame
-    ensures { IsFrameOf body.now result }
-{
-    match decode(body) {
-        Ok(message) => Frame::Good(message),
-        Err(fault) => match FrameFault::new(fault) {
-            Some(fault) => Frame::Bad(fault),
-            None => unreachable!(),
-        },
-    }
-}
 
 impl Window {
     /// Sees that nothing is left. A byte that is left is `Trailing`.

@@ -2,9 +2,11 @@
 #![tactic(auto)]
 
 mod batch_fault;
+mod frames;
 mod laws;
 
 pub use batch_fault::BatchFault;
+pub use frames::frame_of;
 pub use laws::{
     a_batch_is_read_as_its_bodies, a_batch_that_is_read_is_its_text, blocks_are_one_fold,
     replies_are_read_back, replies_of_blocks_are_read_back,

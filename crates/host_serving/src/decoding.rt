@@ -2,23 +2,10 @@ ghost use Rattle.std.specs.Prelude.{◌≡◌, ◌∷◌, ◌++◌, [], OnOk};
 ghost use Rattle.issuer_rows.specs.declared.frame.Frame.{Frame};
 ghost use Rattle.file_batch_laws.specs.Frames.{IsFrameOf, AreFramesOf};
 
-use iso_codec::decode;
-use issuer_rows::{Frame, FrameFault};
+use file_batch_laws::frame_of;
+use issuer_rows::Frame;
 use log_file::Bodies;
 use std::alloc::AllocError;
-
-// The message that the body spells, or the fault of a body that spells none.
-fn frame_of(body: &[u8]) -> Frame
-    ensures { IsFrameOf body.now result }
-{
-    match decode(body) {
-        Ok(message) => Frame::Good(message),
-        Err(fault) => match FrameFault::new(fault) {
-            Some(fault) => Frame::Bad(fault),
-            None => unreachable!(),
-        },
-    }
-}
 
 /// Appends a copy of an item. Memory can run out.
 pub(crate) fn push_copy<T: Copy>(items: &mut Vec<T>, item: &T) -> Result<(), AllocError>

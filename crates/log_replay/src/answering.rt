@@ -6,9 +6,10 @@ ghost use Rattle.log_replay.specs.Answering.{AnswersBlock, Finishes, IsCounted, 
 ghost use Rattle.log_replay.specs.Writing.{Writes};
 
 use crate::block_writing::write_block;
-use crate::messages::{frame_of, push_copy};
+use crate::copying::push_copy;
 use crate::replay_fault::ReplayFault;
 use file_batch::BodyCount;
+use file_batch_laws::frame_of;
 use file_devices::Sink;
 use issuer_fold::Prefix;
 use issuer_rows::{Book, Frame};

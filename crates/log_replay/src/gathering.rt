@@ -4,7 +4,8 @@ ghost use Rattle.file_batch_laws.specs.Frames.{AreFramesOf};
 ghost use Rattle.log_replay.specs.Blocks.{AreBlocksOf};
 ghost use Rattle.log_replay.specs.Gathering.{Gathers, HasGathered, full_blocks};
 
-use crate::messages::{frame_of, push_copy};
+use crate::copying::push_copy;
+use file_batch_laws::frame_of;
 use issuer_rows::Frame;
 use log_file::Bodies;
 use std::alloc::{AllocError, Global};

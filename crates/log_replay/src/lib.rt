@@ -3,11 +3,11 @@
 
 mod answering;
 mod block_writing;
+mod copying;
 mod gathering;
 mod log_blocks;
 mod log_size;
 mod measuring;
-mod messages;
 mod replay_fault;
 mod replayed;
 mod replaying;
