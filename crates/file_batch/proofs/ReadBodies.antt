@@ -3,24 +3,7 @@ use Rattle.std.proofs.Common.{◌≡◌, ℕ, zero, suc, ◌+◌, List, [], ◌�
 use Rattle.std.specs.List.{AllZip}
 use Rattle.file_batch_laws.specs.Reading.{◌>>=◌, head_at, body_at, bodies_at, bodies_of, ended}
 use Rattle.file_batch_laws.specs.declared.batch_fault.BatchFault.{BatchFault}
-
-abbrev pub Bodies : Type 0
-Bodies = List (List ℕ)
-
-abbrev pub Read : Type 0
-Read = Result (Bodies × List ℕ) BatchFault
-
--- what was read before, and what is still read
-abbrev with_front : Bodies → Read → Read
-with_front front read = read >>= λ x. Ok (front ++ x.0, x.1)
-
-no_front : (read : Read) → with_front [] read ≡ read
-no_front (Ok x) = refl
-no_front (Err e) = refl
-
--- one more body in front of those that were read
-abbrev before_them : List ℕ → Bodies × List ℕ → Read
-before_them body x = Ok (body ∷ x.0, x.1)
+use Rattle.file_batch_laws.proofs.BodiesRead.{Bodies, Read, with_front, no_front, before_them}
 
 -- so many more bodies behind those that were read
 abbrev behind_them : ℕ → Bodies × List ℕ → Read

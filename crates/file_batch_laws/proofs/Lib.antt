@@ -8,3 +8,4 @@ pub mod Steps
 pub mod InTurn
 pub mod Lists
 pub mod FaultTexts
+pub mod BodiesRead

@@ -5,25 +5,8 @@ use Rattle.std.proofs.lemmas.List.Concat.{flat_map-append}
 use Rattle.std.specs.Global.{Vec}
 use Rattle.file_batch_laws.specs.Reading.{◌>>=◌, body_at, bodies_at}
 use Rattle.file_batch_laws.specs.declared.batch_fault.BatchFault.{BatchFault}
+use Rattle.file_batch_laws.proofs.BodiesRead.{Bodies, Read, with_front, no_front, before_them}
 use Rattle.file_bodies.specs.BodyLines.{HasLinesOf, body_line, body_lines}
-
-abbrev pub Bodies : Type 0
-Bodies = List (List ℕ)
-
-abbrev Read : Type 0
-Read = Result (Bodies × List ℕ) BatchFault
-
--- the bodies in front, and those that are still read
-abbrev pub with_front : Bodies → Read → Read
-with_front front read = read >>= λ x. Ok (front ++ x.0, x.1)
-
-pub no_front : (read : Read) → read ≡ with_front [] read
-no_front (Ok x) = refl
-no_front (Err e) = refl
-
--- one more body in front of those that were read
-abbrev before_them : List ℕ → Bodies × List ℕ → Read
-before_them body x = Ok (body ∷ x.0, x.1)
 
 pub moved : (front : Bodies) (body : List ℕ) (read : Read) → with_front front (read >>= before_them body) ≡ with_front (front ++ body ∷ []) read
 moved front body (Ok x) = ap (λ (bodies : Bodies). let r : Read = Ok (bodies, x.1) in r) (sym (append_assoc front (body ∷ []) x.0))
@@ -48,7 +31,7 @@ SoFar count bytes left rest text =
     (bodies : Bodies) × (bodies_at count bytes ≡ with_front bodies (bodies_at left rest)) × (text ≡ body_lines bodies)
 
 pub starts : (count : ℕ) (bytes : List ℕ) → SoFar count bytes count bytes []
-starts count bytes = ([], no_front (bodies_at count bytes), refl)
+starts count bytes = ([], sym (no_front (bodies_at count bytes)), refl)
 
 pub goes_on : (count : ℕ) (bytes : List ℕ) (left more : ℕ) (rest body behind text after : List ℕ) → left ≡ suc more → body_at rest ≡ Ok (body, behind)
     → after ≡ text ++ body_line body → SoFar count bytes left rest text → SoFar count bytes more behind after

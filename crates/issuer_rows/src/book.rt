@@ -10,7 +10,7 @@ use crate::places::{KINDS, Places};
 use crate::row_key::RowKey;
 use crate::row_val::RowVal;
 use crate::sorted_rows::SortedRows;
-use crate::written_rows::WrittenRows;
+use crate::rows_to_write::RowsToWrite;
 use indexmap::IndexMap;
 use indexmap::map::{Entry, Iter};
 use std::alloc::{AllocError, Global};
@@ -161,10 +161,10 @@ impl Book {
         put_noting(&mut self.rows, key, val, places)
     }
 
-    /// Writes these rows, one after another, each where it stands at its noted place without a look-up, all or none. It fails only
-    /// where memory runs out, before the first is written.
+    /// Writes these rows, one after another. Room is made for all of them first: only there can memory run out, and then none
+    /// is written. A row that stands at its noted place isn't looked up.
     #[inline(always)]
-    pub fn put_all<W: WrittenRows>(
+    pub fn put_all<W: RowsToWrite>(
         &mut self,
         written: &W,
         places: &mut Places,
@@ -257,7 +257,7 @@ impl Book {
 
 // Writes these rows, for which there is room, one after another.
 #[inline(always)]
-fn put_each<W: WrittenRows>(rows: &mut IndexMap<RowKey, RowVal>, written: &W, places: &mut Places)
+fn put_each<W: RowsToWrite>(rows: &mut IndexMap<RowKey, RowVal>, written: &W, places: &mut Places)
     requires room { length (W.rows written.now) ≤ spare rows.old }
     requires kinds { AreOfKind rows.old.entries }
     ensures rows { map.from_entries rows.new.entries ≡ overlay (map.from_entries rows.old.entries) (W.rows written.now) }

@@ -1,7 +1,8 @@
-ghost use Rattle.std.specs.Prelude.{◌≡◌, ◌≤◌, IfOk, IsPermutation, length};
+ghost use Rattle.std.specs.Prelude.{◌≡◌, ◌≤◌, IfOk, IsPermutation, length, map};
 ghost use Rattle.std.specs.FinMap as map;
 ghost use Rattle.std.specs.List.{IsDistinct};
 ghost use Rattle.std.specs.Map.{keys_of};
+ghost use Rattle.std.specs.Map.Iter.{deref_pair};
 ghost use Rattle.issuer_rows.specs.RowKey.{key_cmp, key_eq};
 
 use crate::book_rows::BookRows;
@@ -49,6 +50,13 @@ impl<'a> SortedRows<'a> {
         ensures { result ≡ length self.now }
     {
         self.rows.len()
+    }
+
+    /// The rows, where they stand.
+    pub fn as_slice(&self) -> &[(&'a RowKey, &'a RowVal)]
+        ensures { map deref_pair result.now ≡ self.now }
+    {
+        &self.rows
     }
 
     /// The rows, from the first on.

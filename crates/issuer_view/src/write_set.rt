@@ -4,7 +4,7 @@ ghost use Rattle.issuer_view.specs.RowSets.{value_in, put, IsOnceEach};
 
 use crate::inline_rows::{FEW, InlineRows, place_of};
 use crate::spilled_rows::SpilledRows;
-use issuer_rows::{RowKey, RowVal, WrittenRows};
+use issuer_rows::{RowKey, RowVal, RowsToWrite};
 use std::alloc::{AllocError, Global};
 use std::marker::Model;
 use std::mem;
@@ -159,7 +159,7 @@ impl WriteSet {
     }
 }
 
-impl WrittenRows for WriteSet {
+impl RowsToWrite for WriteSet {
     ghost rows = { λ set. set };
 
     #[inline(always)]

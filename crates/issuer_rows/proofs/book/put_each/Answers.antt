@@ -7,7 +7,7 @@ use Rattle.issuer_rows.proofs.book.put_each.Goals as goal
 
 pub loop-index-preserved : goal.loop-index-preserved
 loop-index-preserved g c =
-    let written = g.W.WrittenRows.rows c.args.written.now in
+    let written = g.W.RowsToWrite.rows c.args.written.now in
     let index = c.loop-index.index in
     let key = c.row.result.0.now in
     let val = c.row.result.1.now in

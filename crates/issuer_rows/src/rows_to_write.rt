@@ -6,16 +6,16 @@ ghost use Rattle.issuer_rows.specs.declared.row_val.RowVal.{RowVal};
 use crate::row_key::RowKey;
 use crate::row_val::RowVal;
 
-/// Rows that are written, each with its key, in their order.
-pub trait WrittenRows {
+/// Rows that are to be written into a book, each with its key, in their order.
+pub trait RowsToWrite {
     // The rows, each behind its key.
     ghost rows: { Self → List (RowKey × RowVal) };
 
-    /// How many rows are written.
+    /// How many rows there are.
     fn len(&self) -> usize
         ensures { result ≡ length (rows self.now) };
 
-    /// The row that is written at this place, and its value, where they stand.
+    /// The row at this place and its value, where they stand.
     fn row(&self, index: usize) -> (&RowKey, &RowVal)
         requires { index < length (rows self.now) }
         ensures entry { slice_get (rows self.now) index ≡ Some (result.0.now, result.1.now) }
