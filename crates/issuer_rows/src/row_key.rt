@@ -27,9 +27,9 @@ pub enum RowKey {
 }
 
 impl RowKey {
-    // The place of the key's kind among the five.
+    /// The place of the key's kind among the five, by which keys are ordered first.
     #[inline(always)]
-    pub(crate) fn kind(&self) -> u8
+    pub fn kind(&self) -> u8
         ensures { result ≡ kind_of self.now }
     {
         match self {
