@@ -2,3 +2,4 @@ pub mod Entries
 pub mod Printing
 pub mod Tokens
 pub mod Plain
+pub mod ByKind

@@ -1,6 +1,5 @@
 -- What is printed of tokens, part by part.
 use Rattle.std.proofs.Common.{◌≡◌, ℕ, List, [], ◌∷◌, ◌++◌, Bool, true, false, Some, None, refl, sym, ap, ◌∙◌, append_assoc, drop, ◌≤◌, slice_range}
-use Rattle.std.proofs.lemmas.List.{map-append}
 use Rattle.std.proofs.lemmas.List.Folds.{drop_split}
 use Rattle.json.specs.Print.{print, print_from}
 use Rattle.json.specs.Token.{Token, begin_object, begin_array, end_array, key}
@@ -12,9 +11,8 @@ use Rattle.book_laws.specs.Text.{ends_after}
 use Rattle.book_laws.specs.declared.row_list.RowList.{RowList}
 use Rattle.book_laws.specs.declared.row_list.RowList.TheVariants.{Cards, Days, Budgets, Originals, Ahead, Accounts}
 use Rattle.book_laws.proofs.WrittenTokens.{rest_tokens}
-use Rattle.book_text.specs.Left.{row_of, rows_listed, text_of_rows, text_left, tokens_left, tokens_behind, entries_tokens}
+use Rattle.book_text.specs.Left.{text_of_rows, text_left, tokens_left, tokens_behind, entries_tokens}
 use Rattle.book_text.specs.Pieces.{next_list, between, last_tokens}
-use Rattle.book_text.specs.declared.listed_row.ListedRow.{ListedRow}
 use Rattle.book_text.proofs.Entries.{rest_split}
 
 -- what is left at the beginning
@@ -30,19 +28,16 @@ left_split later list some left rows =
     ∙ print_from-append later (entries_tokens list some) (tokens_left list left rows)
 
 -- what is left in a list from a row on, once the piece up to another row is made
-pub piece_split : (later goes_on : Bool) (list : RowList) (at end : ℕ) (rows : List ListedRow) (all : List (RowKey × RowVal)) (piece : List ℕ) → at ≤ end
-    → piece ≡ print_from later (entries_tokens list (rows_listed (slice_range rows at end)))
-    → goes_on ≡ ends_after later (entries_tokens list (rows_listed (slice_range rows at end)))
-    → text_left later list (rows_listed (drop at rows)) all ≡ piece ++ text_left goes_on list (rows_listed (drop end rows)) all
-piece_split later goes_on list at end rows all piece within is ends =
-    let some = slice_range rows at end in
-    let left = drop end rows in
-    let entries = entries_tokens list (rows_listed some) in
-    ap (λ (from : List ListedRow). text_left later list (rows_listed from) all) (drop_split rows at end within)
-    ∙ ap (λ (from : List (RowKey × RowVal)). text_left later list from all) (map-append row_of some left)
-    ∙ left_split later list (rows_listed some) (rows_listed left) all
-    ∙ ap (λ (t : List ℕ). t ++ text_left (ends_after later entries) list (rows_listed left) all) (sym is)
-    ∙ ap (λ (b : Bool). piece ++ text_left b list (rows_listed left) all) (sym ends)
+pub piece_split : (later goes_on : Bool) (list : RowList) (at end : ℕ) (rows : List (RowKey × RowVal)) (piece : List ℕ) → at ≤ end
+    → piece ≡ print_from later (entries_tokens list (slice_range rows at end))
+    → goes_on ≡ ends_after later (entries_tokens list (slice_range rows at end))
+    → text_left later list (drop at rows) rows ≡ piece ++ text_left goes_on list (drop end rows) rows
+piece_split later goes_on list at end rows piece within is ends =
+    let entries = entries_tokens list (slice_range rows at end) in
+    ap (λ (from : List (RowKey × RowVal)). text_left later list from rows) (drop_split rows at end within)
+    ∙ left_split later list (slice_range rows at end) (drop end rows) rows
+    ∙ ap (λ (t : List ℕ). t ++ text_left (ends_after later entries) list (drop end rows) rows) (sym is)
+    ∙ ap (λ (b : Bool). piece ++ text_left b list (drop end rows) rows) (sym ends)
 
 -- no comma stands before a closing bracket
 closes : (later : Bool) (ts : List Token) → print_from later (end_array ∷ ts) ≡ print (end_array ∷ ts)

@@ -1,5 +1,5 @@
 -- What of a book's text is left to be written, over its sorted rows.
-use Rattle.std.specs.Prelude.{ℕ, List, ◌++◌, Bool, codes, map, flat_map}
+use Rattle.std.specs.Prelude.{ℕ, List, ◌++◌, Bool, codes, flat_map}
 use Rattle.json.specs.Print.{print, print_from}
 use Rattle.json.specs.Token.{Token}
 use Rattle.json.specs.Tree.{items_tokens, members_tokens}
@@ -12,15 +12,6 @@ use Rattle.book_laws.specs.Text.{numeral, tokens_of, entry_data, items_data, row
 use Rattle.book_laws.specs.declared.row_list.RowList.{RowList}
 use Rattle.book_laws.specs.declared.row_list.RowList.TheVariants.{Cards, Days, Budgets, Originals, Ahead, Accounts}
 use Rattle.book_text.specs.Top.{top_data}
-use Rattle.book_text.specs.declared.listed_row.ListedRow.{ListedRow}
-
--- the row
-abbrev pub row_of : ListedRow → RowKey × RowVal
-row_of listed = (listed.key.now, listed.val.now)
-
--- the rows
-abbrev pub rows_listed : List ListedRow → List (RowKey × RowVal)
-rows_listed listed = map row_of listed
 
 -- the tokens of the entries of rows, one behind another
 abbrev pub tokens_of_entries : List (RowKey × RowVal) → List Token

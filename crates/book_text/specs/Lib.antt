@@ -1,4 +1,5 @@
 pub mod Back
+pub mod ByKind
 pub mod Digest
 pub mod Escapes
 pub mod Top

@@ -5,7 +5,7 @@ mod digest;
 mod escapes;
 mod field_writers;
 mod json_writer;
-mod listed_row;
+mod listed_rows;
 mod member;
 mod parts;
 mod ranges;
@@ -21,7 +21,7 @@ pub use field_writers::{
     status_field,
 };
 pub use json_writer::JsonWriter;
-pub use listed_row::ListedRow;
+pub use listed_rows::ListedRows;
 pub use member::Member;
 pub use parts::{emptied, last_piece, list_behind, piece_between, rows_piece};
 pub use writing::{open_list, write_book};

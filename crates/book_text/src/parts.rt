@@ -5,11 +5,11 @@ ghost use Rattle.json.specs.Print.{print, print_from};
 ghost use Rattle.json.specs.Token.{key as key_token, number as number_token, begin_array as begin_array_token, end_array as end_array_token, end_object as end_object_token};
 ghost use Rattle.book_laws.specs.Parts.{list_key};
 ghost use Rattle.book_laws.specs.Text.{ends_after};
-ghost use Rattle.book_text.specs.Left.{rows_listed, entries_tokens};
+ghost use Rattle.book_text.specs.Left.{entries_tokens};
 ghost use Rattle.book_text.specs.Pieces.{next_list, between, last_tokens};
 
 use crate::json_writer::JsonWriter;
-use crate::listed_row::ListedRow;
+use crate::listed_rows::ListedRows;
 use crate::writing::{end_book, open_list, write_rows};
 use book_laws::RowList;
 use std::alloc::AllocError;
@@ -31,11 +31,11 @@ pub fn rows_piece(
     text: Vec<u8>,
     later: bool,
     list: RowList,
-    rows: &[ListedRow<'_>],
+    rows: &ListedRows<'_>,
 ) -> Result<(Vec<u8>, bool), AllocError>
     requires { text.items ≡ [] }
-    ensures text { IfOk result (λ piece. piece.0.items ≡ print_from later (entries_tokens list (rows_listed rows.now))) }
-    ensures later { IfOk result (λ piece. piece.1 ≡ ends_after later (entries_tokens list (rows_listed rows.now))) }
+    ensures text { IfOk result (λ piece. piece.0.items ≡ print_from later (entries_tokens list rows.now)) }
+    ensures later { IfOk result (λ piece. piece.1 ≡ ends_after later (entries_tokens list rows.now)) }
 {
     let mut out = JsonWriter::new(text, later);
     write_rows(&mut out, list, rows)?;

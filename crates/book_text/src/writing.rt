@@ -1,40 +1,32 @@
 //! The text of a book.
 
-ghost use Rattle.std.specs.Prelude.{◌≡◌, ◌∷◌, [], Ok, OnOk, IfOk, IsTrue, codes, decimal};
+ghost use Rattle.std.specs.Prelude.{◌≡◌, ◌∷◌, [], Ok, OnOk, IfOk, codes, decimal};
 ghost use Rattle.json.specs.Token.{key as key_token, number as number_token, begin_array as begin_array_token, end_object as end_object_token};
-ghost use Rattle.book_laws.specs.Parts.{list_key, is_in};
+ghost use Rattle.book_laws.specs.Parts.{list_key};
 ghost use Rattle.book_laws.specs.Reading.{reading};
-ghost use Rattle.book_laws.specs.Text.{Adds, tokens_of, entry_data, list_data, book_text};
-ghost use Rattle.book_text.specs.Left.{row_of, rows_listed, entries_tokens};
+ghost use Rattle.book_laws.specs.Text.{Adds, tokens_of, list_data, book_text};
+ghost use Rattle.book_text.specs.Left.{entries_tokens};
 ghost use Rattle.book_text.specs.Top.{top_data};
 
 use crate::json_writer::JsonWriter;
-use crate::listed_row::ListedRow;
+use crate::listed_rows::ListedRows;
 use crate::row_writers::write_entry;
 use book_laws::RowList;
 use issuer_rows::Book;
 use std::alloc::{AllocError, Global};
 
-// Writes the entry of a row that stands in the list.
-fn write_listed(out: &mut JsonWriter, list: RowList, row: &ListedRow<'_>) -> Result<(), AllocError>
-    requires { IsTrue (is_in list row.now.val.now) }
-    ensures { OnOk result (Adds out.old out.new (tokens_of (entry_data row.now.key.now row.now.val.now))) }
-{
-    write_entry(out, row.key, row.val)?;
-    Ok(())
-}
-
 /// Writes the entries of those of the rows that stand in the list. It fails only where memory runs out.
 pub(crate) fn write_rows(
     out: &mut JsonWriter,
     list: RowList,
-    rows: &[ListedRow<'_>],
+    rows: &ListedRows<'_>,
 ) -> Result<(), AllocError>
-    ensures { OnOk result (Adds out.old out.new (entries_tokens list (rows_listed rows.now))) }
+    ensures { OnOk result (Adds out.old out.new (entries_tokens list rows.now)) }
 {
-    for row in rows {
-        if row.is_in(list) {
-            write_listed(out, list, row)?;
+    let candidates = rows.of_kind(list);
+    for row in candidates {
+        if list.has(row.1) {
+            write_entry(out, row.0, row.1)?;
         }
     }
     Ok(())
@@ -58,8 +50,8 @@ pub(crate) fn end_book(out: &mut JsonWriter) -> Result<(), AllocError>
 }
 
 // Writes the list of those of the rows that stand in it.
-fn write_list(out: &mut JsonWriter, list: RowList, rows: &[ListedRow<'_>]) -> Result<(), AllocError>
-    ensures { OnOk result (Adds out.old out.new (key_token (list_key list) ∷ tokens_of (list_data list (rows_listed rows.now)))) }
+fn write_list(out: &mut JsonWriter, list: RowList, rows: &ListedRows<'_>) -> Result<(), AllocError>
+    ensures { OnOk result (Adds out.old out.new (key_token (list_key list) ∷ tokens_of (list_data list rows.now))) }
 {
     open_list(out, list)?;
     write_rows(out, list, rows)?;
@@ -68,8 +60,8 @@ fn write_list(out: &mut JsonWriter, list: RowList, rows: &[ListedRow<'_>]) -> Re
 }
 
 // Writes the top object of the book that has these rows.
-fn write_top(out: &mut JsonWriter, rows: &[ListedRow<'_>]) -> Result<(), AllocError>
-    ensures { OnOk result (Adds out.old out.new (tokens_of (top_data (rows_listed rows.now)))) }
+fn write_top(out: &mut JsonWriter, rows: &ListedRows<'_>) -> Result<(), AllocError>
+    ensures { OnOk result (Adds out.old out.new (tokens_of (top_data rows.now))) }
 {
     out.begin_object()?;
     write_list(out, RowList::Accounts, rows)?;
@@ -101,7 +93,7 @@ pub fn write_book(alloc: Global, book: &Book) -> Result<Vec<u8>, AllocError>
     ensures back { IfOk result (λ text. reading text.items ≡ Ok book.now) }
 {
     let sorted = book.sorted_rows(alloc)?;
-    let rows = ListedRow::all(alloc, &sorted)?;
+    let rows = ListedRows::new(&sorted);
     let mut out = JsonWriter::new(room_for(alloc, book.len())?, false);
     write_top(&mut out, &rows)?;
     Ok(out.into_parts().0)

@@ -1,17 +1,18 @@
 -- A book's text in pieces: what is left of it, and what was made last.
 use Rattle.std.specs.Prelude.{ℕ, ◌+◌, ◌*◌, ◌-◌, List, [], length, Bool, drop}
+use Rattle.issuer_rows.specs.declared.row_key.RowKey.{RowKey}
+use Rattle.issuer_rows.specs.declared.row_val.RowVal.{RowVal}
 use Rattle.book_laws.specs.declared.row_list.RowList.{RowList}
 use Rattle.book_laws.specs.declared.row_list.RowList.TheVariants.{Cards, Days, Budgets, Originals, Ahead, Accounts}
-use Rattle.book_text.specs.Left.{rows_listed, text_left, text_of_rows}
-use Rattle.book_text.specs.declared.listed_row.ListedRow.{ListedRow}
+use Rattle.book_text.specs.Left.{text_left, text_of_rows}
 use Rattle.book_writer.specs.declared.text_left.TextPlace.{TextPlace}
 use Rattle.book_writer.specs.declared.text_left.TextPlace.TheVariants.{Start, In, End}
 use Rattle.book_writer.specs.declared.text_left.TextLeft.{TextLeft}
 
 -- what is left of the text at a place, from the row at an index on
-abbrev pub rest_at : TextPlace → Bool → ℕ → List ListedRow → List ℕ
-rest_at Start later at rows = text_of_rows (rows_listed rows)
-rest_at (In list) later at rows = text_left later list (rows_listed (drop at rows)) (rows_listed rows)
+abbrev pub rest_at : TextPlace → Bool → ℕ → List (RowKey × RowVal) → List ℕ
+rest_at Start later at rows = text_of_rows rows
+rest_at (In list) later at rows = text_left later list (drop at rows) rows
 rest_at End later at rows = []
 
 -- what is left of the text

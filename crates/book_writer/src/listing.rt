@@ -1,36 +1,34 @@
 ghost use Rattle.std.specs.Prelude.{◌≡◌};
 ghost use Rattle.book_text.specs.Back.{IsReadAsBook, IsReadAsBook-prop};
-ghost use Rattle.book_text.specs.Left.{rows_listed};
 
 use crate::of_rows::OfRows;
 use crate::span::Span;
-use book_text::ListedRow;
+use book_text::ListedRows;
 use issuer_rows::SortedRows;
 use std::alloc::{AllocError, Global};
 use std::marker::PhantomData;
 
-/// The sorted rows with their lists, and of which of them the sheets are, one after another.
+/// The sorted rows, and of which of them the sheets are, one after another.
 #[derive(Drop)]
 pub(crate) struct Listing<'a, B: OfRows> {
-    rows: Vec<ListedRow<'a>>,
+    rows: ListedRows<'a>,
     spans: Vec<Span>,
     of: PhantomData<B>,
-    ghost all: { rows_listed rows.items ≡ B.rows },
+    ghost all: { rows ≡ B.rows },
     ghost back: { IsReadAsBook B.rows } by { IsReadAsBook-prop B.rows },
 }
 
 impl<'a, B: OfRows> Listing<'a, B> {
     ghost use Rattle.std.specs.Prelude.{◌≡◌};
-    ghost use Rattle.issuer_rows.specs.Book.{AllOfKind};
+    ghost use Rattle.book_text.specs.ByKind.{StandByKind};
     ghost use Rattle.book_text.specs.Back.{IsReadAsBook};
-    ghost use Rattle.book_text.specs.Left.{rows_listed};
 
     /// Lists these rows.
     pub(crate) fn new(alloc: Global, rows: &'a SortedRows<'_>) -> Result<Listing<'a, B>, AllocError>
-        requires kinds { AllOfKind rows.now }
+        requires by_kind { StandByKind rows.now }
         requires of { rows.now ≡ B.rows }
     {
-        let rows = ListedRow::all(alloc, rows)?;
+        let rows = ListedRows::new(rows);
         let spans = Span::all(alloc, &rows)?;
         Ok(Listing {
             rows,
@@ -40,8 +38,8 @@ impl<'a, B: OfRows> Listing<'a, B> {
     }
 
     /// The rows.
-    pub(crate) fn rows(&self) -> &[ListedRow<'a>]
-        ensures rows { rows_listed result.now ≡ B.rows }
+    pub(crate) fn rows(&self) -> &ListedRows<'a>
+        ensures rows { result.now ≡ B.rows }
         ensures back { IsReadAsBook B.rows }
     {
         &self.rows

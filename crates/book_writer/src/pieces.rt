@@ -1,5 +1,4 @@
 ghost use Rattle.std.specs.Prelude.{◌≡◌};
-ghost use Rattle.book_text.specs.Left.{rows_listed};
 
 use crate::listing::Listing;
 use crate::of_rows::OfRows;
@@ -21,7 +20,7 @@ pub struct BookPieces<'a, R: Wait, B: OfRows> {
     // Which sheet is taken next.
     next: usize,
     left: TextLeft<'a>,
-    ghost of: { rows_listed left.rows.now ≡ B.rows },
+    ghost of: { left.rows.now ≡ B.rows },
 }
 
 impl<'a, R: Wait, B: OfRows> BookPieces<'a, R, B> {

@@ -4,7 +4,7 @@ ghost use Rattle.book_writer.specs.Sheets.{IsTextOf};
 use crate::of_rows::OfRows;
 use crate::span::Span;
 use book_laws::RowList;
-use book_text::{ListedRow, emptied};
+use book_text::{ListedRows, emptied};
 use std::alloc::Global;
 use std::marker::PhantomData;
 use std::mem;
@@ -24,7 +24,6 @@ pub(crate) struct Sheet<B: OfRows> {
 
 impl<B: OfRows> Sheet<B> {
     ghost use Rattle.std.specs.Prelude.{◌≡◌, IfSome};
-    ghost use Rattle.book_text.specs.Left.{rows_listed};
     ghost use Rattle.book_writer.specs.Sheets.{IsTextOf};
 
     /// A sheet on which nothing is written.
@@ -44,8 +43,8 @@ impl<B: OfRows> Sheet<B> {
     }
 
     /// Writes the text of a span of these rows. Where memory runs out, nothing is written.
-    pub(crate) fn write(&mut self, rows: &[ListedRow<'_>], span: Span)
-        requires { rows_listed rows.now ≡ B.rows }
+    pub(crate) fn write(&mut self, rows: &ListedRows<'_>, span: Span)
+        requires { rows.now ≡ B.rows }
     {
         self.is_written = false;
         if !span.is_within(rows.len()) {

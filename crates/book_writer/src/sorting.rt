@@ -31,7 +31,7 @@ struct Sorted<'a, B: OfRows> {
 impl<'a, B: OfRows> Sorting<'a, B> {
     ghost use Rattle.std.specs.Prelude.{◌≡◌, IfSome};
     ghost use Rattle.std.specs.FinMap as map;
-    ghost use Rattle.issuer_rows.specs.Book.{AllOfKind};
+    ghost use Rattle.book_text.specs.ByKind.{StandByKind};
 
     /// The rows of this book, which nobody has sorted yet.
     pub fn new(alloc: Global, book: &'a Book) -> Sorting<'a, B>
@@ -57,7 +57,7 @@ impl<'a, B: OfRows> Sorting<'a, B> {
     // The sorted rows, unless memory ran out. While another thread sorts them, this one waits.
     pub(crate) fn rows<R: Wait>(&self, rt: &R) -> Option<&SortedRows<'a>>
         ensures rows { IfSome result (λ rows. rows.now ≡ B.rows) }
-        ensures kinds { AllOfKind B.rows }
+        ensures by_kind { StandByKind B.rows }
     {
         let sorted = self.sorted.get_or_init(rt, || self.sort());
         sorted.rows()

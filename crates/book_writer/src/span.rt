@@ -1,5 +1,6 @@
 use book_laws::RowList;
-use book_text::{ListedRow, rows_piece};
+use book_text::{ListedRows, rows_piece};
+use issuer_rows::RowVal;
 use std::alloc::{AllocError, Global};
 
 /// How many entries stand on a sheet at most.
@@ -15,11 +16,11 @@ const LISTS: [RowList; 6] = [
     RowList::Originals,
 ];
 
-// The place of the row's list among the lists. Most rows stand in the list of the one before.
-fn list_of(row: &ListedRow<'_>, before: usize) -> usize {
+// The place among the lists of that in which a row with this value stands. Mostly it is that of the row before.
+fn list_of(val: &RowVal, before: usize) -> usize {
     match LISTS.get(before) {
-        Some(list) if row.is_in(*list) => before,
-        _ => LISTS.iter().position(|list| row.is_in(*list)).unwrap_or(0),
+        Some(list) if list.has(val) => before,
+        _ => LISTS.iter().position(|list| list.has(val)).unwrap_or(0),
     }
 }
 
@@ -72,18 +73,17 @@ pub(crate) struct Span {
 
 impl Span {
     ghost use Rattle.std.specs.Prelude.{◌≡◌, ◌<◌, ◌≤◌, [], true, length, IsTrue, IfOk};
-    ghost use Rattle.book_text.specs.Left.{rows_listed};
     ghost use Rattle.book_writer.specs.Sheets.{IsTextOf};
 
     /// All rows for each list in turn, cut so that no sheet has too many entries. The rows are gone through once.
-    pub(crate) fn all(alloc: Global, rows: &[ListedRow<'_>]) -> Result<Vec<Span>, AllocError> {
+    pub(crate) fn all(alloc: Global, rows: &ListedRows<'_>) -> Result<Vec<Span>, AllocError> {
         let mut cuts = Vec::new(alloc);
         for list in LISTS {
             cuts.push(ListCut::new(alloc, list))?;
         }
         let mut current = 0;
-        for (place, row) in rows.iter().enumerate() {
-            current = list_of(row, current);
+        for (place, row) in rows.as_slice().iter().enumerate() {
+            current = list_of(row.1, current);
             if let Some(cut) = cuts.get_mut(current) {
                 cut.add_entry(place)?;
             }
@@ -134,14 +134,15 @@ impl Span {
     pub(crate) fn write(
         self,
         text: Vec<u8>,
-        rows: &[ListedRow<'_>],
+        rows: &ListedRows<'_>,
     ) -> Result<(Vec<u8>, bool), AllocError>
         requires empty { text.items ≡ [] }
         requires some { self.at < self.end }
         requires within { self.end ≤ length rows.now }
-        ensures { IfOk result (λ written. IsTextOf (rows_listed rows.now) self written.0.items written.1) }
+        ensures { IfOk result (λ written. IsTextOf rows.now self written.0.items written.1) }
     {
-        let (text, goes_on) = rows_piece(text, self.later, self.list, &rows[self.at..self.end])?;
+        let rows = rows.range(self.at, self.end);
+        let (text, goes_on) = rows_piece(text, self.later, self.list, &rows)?;
         Ok((text, goes_on))
     }
 }

@@ -3,7 +3,7 @@ ghost use Rattle.std.specs.Prelude.{◌≤◌, length};
 use crate::span::{ENTRIES, Span};
 use book_laws::RowList;
 use book_text::{
-    JsonWriter, ListedRow, emptied, last_piece, list_behind, open_list, piece_between,
+    JsonWriter, ListedRows, emptied, last_piece, list_behind, open_list, piece_between,
 };
 use std::alloc::{AllocError, Global};
 
@@ -21,7 +21,7 @@ pub(crate) enum TextPlace {
 /// What is left of the text of these rows, and the piece of it that was made last.
 #[derive(Drop)]
 pub(crate) struct TextLeft<'a> {
-    pub(crate) rows: &'a [ListedRow<'a>],
+    pub(crate) rows: &'a ListedRows<'a>,
     pub(crate) place: TextPlace,
     // The row that is looked at next, and whether an entry of its list is written.
     pub(crate) at: usize,
@@ -32,14 +32,14 @@ pub(crate) struct TextLeft<'a> {
 
 impl<'a> TextLeft<'a> {
     ghost use Rattle.std.specs.Prelude.{◌≡◌, ◌<◌, ◌≤◌, ◌++◌, [], length, OnOk, drop};
-    ghost use Rattle.book_text.specs.Left.{rows_listed, text_of_rows};
+    ghost use Rattle.book_text.specs.Left.{text_of_rows};
     ghost use Rattle.book_writer.specs.Rest.{rest_of, piece_of, pieces_left};
     ghost use Rattle.book_writer.specs.Sheets.{IsTextOf};
     ghost use Rattle.book_writer.specs.declared.text_left.TextPlace.TheVariants as place;
 
     /// The whole text of these rows. No piece is made yet.
-    pub(crate) fn new(alloc: Global, rows: &'a [ListedRow<'a>]) -> TextLeft<'a>
-        ensures rest { rest_of result ≡ text_of_rows (rows_listed rows.now) }
+    pub(crate) fn new(alloc: Global, rows: &'a ListedRows<'a>) -> TextLeft<'a>
+        ensures rest { rest_of result ≡ text_of_rows rows.now }
         ensures rows { result.rows.now ≡ rows.now }
     {
         TextLeft {
@@ -92,7 +92,7 @@ impl<'a> TextLeft<'a> {
         requires later { span.later ≡ self.old.later }
         requires some { span.at < span.end }
         requires within { span.end ≤ length self.old.rows.now }
-        requires made { IsTextOf (rows_listed self.old.rows.now) span self.old.text.items goes_on }
+        requires made { IsTextOf self.old.rows.now span self.old.text.items goes_on }
         ensures rest { rest_of self.old ≡ piece_of self.new ++ rest_of self.new }
         ensures fewer { pieces_left self.new < pieces_left self.old }
         ensures rows { self.new.rows ≡ self.old.rows }

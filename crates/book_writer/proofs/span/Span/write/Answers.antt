@@ -1,21 +1,18 @@
-use Rattle.std.proofs.Common.{List, ap, ◌∙◌, arith}
-use Rattle.std.proofs.lemmas.List.{length-map}
+use Rattle.std.proofs.Common.{List, ap, ◌∙◌}
 use Rattle.json.specs.Print.{print_from}
 use Rattle.issuer_rows.specs.declared.row_key.RowKey.{RowKey}
 use Rattle.issuer_rows.specs.declared.row_val.RowVal.{RowVal}
 use Rattle.book_laws.specs.Text.{ends_after}
-use Rattle.book_text.specs.Left.{row_of, entries_tokens}
-use Rattle.book_writer.proofs.Spans.{range_listed}
+use Rattle.book_text.specs.Left.{entries_tokens}
 use Rattle.book_writer.proofs.span.Span.write.Goals as goal
 
 pub returns : goal.returns
 returns c =
     let span = c.args.self in
-    let rows = c.args.rows.now in
-    let listed = range_listed rows span.at span.end in
+    let rows = c.range-rows.ensures in
     record {
       some = c.requires.some;
-      within = omega (arith, c.requires.within, length-map rows row_of);
-      made = c.in_ok-text.ensures.text ∙ ap (λ (some : List (RowKey × RowVal)). print_from span.later (entries_tokens span.list some)) listed;
-      ends = c.in_ok-text.ensures.later ∙ ap (λ (some : List (RowKey × RowVal)). ends_after span.later (entries_tokens span.list some)) listed;
+      within = c.requires.within;
+      made = c.in_ok-text.ensures.text ∙ ap (λ (some : List (RowKey × RowVal)). print_from span.later (entries_tokens span.list some)) rows;
+      ends = c.in_ok-text.ensures.later ∙ ap (λ (some : List (RowKey × RowVal)). ends_after span.later (entries_tokens span.list some)) rows;
     }

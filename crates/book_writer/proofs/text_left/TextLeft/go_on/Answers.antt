@@ -3,11 +3,10 @@ use Rattle.json.specs.Print.{print_from}
 use Rattle.issuer_rows.specs.declared.row_key.RowKey.{RowKey}
 use Rattle.issuer_rows.specs.declared.row_val.RowVal.{RowVal}
 use Rattle.book_laws.specs.Text.{ends_after}
-use Rattle.book_text.specs.Left.{rows_listed, entries_tokens}
+use Rattle.book_text.specs.Left.{entries_tokens}
 use Rattle.book_writer.specs.Rest.{rest_at}
 use Rattle.book_writer.specs.declared.text_left.TextPlace.{TextPlace}
 use Rattle.book_text.proofs.Printing.{piece_split}
-use Rattle.book_writer.proofs.Spans.{range_listed}
 use Rattle.book_writer.proofs.text_left.TextLeft.go_on.Goals as goal
 
 pub returns-clause-rest : goal.returns-clause-rest
@@ -16,15 +15,12 @@ returns-clause-rest c =
     let span = c.args.span in
     let rows = s.rows.now in
     let text = s.text.items in
-    let listed = range_listed rows span.at span.end in
-    let piece : text ≡ print_from s.later (entries_tokens span.list (rows_listed (slice_range rows s.at span.end)))
+    let piece : text ≡ print_from s.later (entries_tokens span.list (slice_range rows s.at span.end))
     = c.requires.made.made
-    ∙ ap (λ (some : List (RowKey × RowVal)). print_from span.later (entries_tokens span.list some)) (sym listed)
-    ∙ (λ i. print_from (c.requires.later i) (entries_tokens span.list (rows_listed (slice_range rows (c.requires.at i) span.end)))) in
-    let ends : c.args.goes_on ≡ ends_after s.later (entries_tokens span.list (rows_listed (slice_range rows s.at span.end)))
+    ∙ (λ i. print_from (c.requires.later i) (entries_tokens span.list (slice_range rows (c.requires.at i) span.end))) in
+    let ends : c.args.goes_on ≡ ends_after s.later (entries_tokens span.list (slice_range rows s.at span.end))
     = c.requires.made.ends
-    ∙ ap (λ (some : List (RowKey × RowVal)). ends_after span.later (entries_tokens span.list some)) (sym listed)
-    ∙ (λ i. ends_after (c.requires.later i) (entries_tokens span.list (rows_listed (slice_range rows (c.requires.at i) span.end)))) in
+    ∙ (λ i. ends_after (c.requires.later i) (entries_tokens span.list (slice_range rows (c.requires.at i) span.end))) in
     ap (λ (p : TextPlace). rest_at p s.later s.at rows) c.requires.place
-    ∙ piece_split s.later c.args.goes_on span.list s.at span.end rows (rows_listed rows) text (omega (arith, c.requires.at, c.requires.some)) piece ends
+    ∙ piece_split s.later c.args.goes_on span.list s.at span.end rows text (omega (arith, c.requires.at, c.requires.some)) piece ends
     ∙ ap (λ (p : TextPlace). text ++ rest_at p c.args.goes_on span.end rows) (sym c.requires.place)
