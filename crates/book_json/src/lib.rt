@@ -1,7 +1,9 @@
 //! The book of rows as JSON: reading and writing it.
 #![tactic(auto)]
 
+mod book_reader;
 mod lists;
+mod read_share;
 mod reading;
 mod row;
 mod share;

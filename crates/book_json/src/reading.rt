@@ -1,15 +1,14 @@
 //! A book from its text.
 
-ghost use Rattle.std.specs.Prelude.{◌≡◌, ◌↔◌, Ok, IsOk, IfErr};
+ghost use Rattle.std.specs.Prelude.{◌≡◌, Ok};
 ghost use Rattle.serde_json.specs.View.{view};
-ghost use Rattle.book_laws.specs.CheckBook.{IsFirstFault, IsSound};
 ghost use Rattle.book_laws.specs.Reading.{version_of_keys, version_of, add_lists, all_lists, book_of, reading, IsAnswer};
 ghost use Rattle.book_laws.specs.Steps.{GivesOrMemory};
 
 use crate::lists::add_list;
 use crate::written::read_written;
 use book_entries::{has_keys, number_at};
-use book_laws::{BookFault, BookVersion, JsonFault, Part, RowList, TextFault, check_book};
+use book_laws::{BookVersion, JsonFault, Part, RowList, TextFault, check_book_by};
 use issuer_rows::Book;
 use serde_json::Value;
 use std::alloc::{AllocError, Global};
@@ -110,24 +109,25 @@ fn book_of_text(alloc: Global, bytes: &[u8]) -> Result<Book, TextFault>
 }
 
 // The book, if nothing is wrong with it.
-fn sound_or_fault(book: Book, check: Result<(), BookFault>) -> Result<Book, JsonFault>
-    requires sound { IsOk check ↔ IsSound book }
-    requires fault { IfErr check (IsFirstFault book) }
+fn sound_or_fault<R: Threads + Wait + Sync>(rt: &R, book: Book) -> Result<Book, JsonFault>
     ensures { IsAnswer (Ok book) result }
 {
-    match check {
+    match check_book_by(rt, &book) {
         Ok(()) => Ok(book),
         Err(fault) => Err(JsonFault::Invalid(fault)),
     }
 }
 
 // The sound book that a text is, in whatever form it is written.
-fn read_any(alloc: Global, bytes: &[u8]) -> Result<Book, JsonFault>
+fn read_any<R: Threads + Wait + Sync>(
+    rt: &R,
+    alloc: Global,
+    bytes: &[u8],
+) -> Result<Book, JsonFault>
     ensures { IsAnswer (reading bytes.now) result }
 {
     let book = book_of_text(alloc, bytes)?;
-    let check = check_book(&book);
-    sound_or_fault(book, check)
+    sound_or_fault(rt, book)
 }
 
 /// The book that a text is: JSON of version 1, 2 or 3, with a sound book in it. A book of version 1 or 2 is migrated first:
@@ -153,8 +153,8 @@ pub fn read_book<R: Threads + Wait + Sync>(
     ensures { IsAnswer (reading bytes.now) result }
 {
     match read_written(rt, alloc, bytes) {
-        Ok(Some((book, check))) => sound_or_fault(book, check),
-        Ok(None) => read_any(alloc, bytes),
+        Ok(Some(book)) => sound_or_fault(rt, book),
+        Ok(None) => read_any(rt, alloc, bytes),
         Err(AllocError) => Err(JsonFault::OutOfMemory),
     }
 }

@@ -1,6 +1,13 @@
+ghost use Rattle.std.specs.Prelude.{◌≡◌, []};
+ghost use Rattle.book_laws.specs.Text.{Adds, rows_of};
+ghost use Rattle.book_text.specs.Left.{tokens_of_entries};
+ghost use Rattle.book_json.specs.ReadsOn.{pairs_of};
+
+use crate::read_share::ReadShare;
 use crate::row::Row;
 use book_entries::{WrittenText, row_of};
 use book_laws::RowList;
+use book_text::{JsonWriter, write_entry};
 use json::{Reader, Scratch};
 use memchr::memmem;
 use std::alloc::{AllocError, Global};
@@ -13,65 +20,100 @@ const BYTES_OF_A_ROW: usize = 60;
 #[derive(Drop)]
 pub(crate) struct Share<'a> {
     list: RowList,
-    entries: &'a [u8],
-    // `None` where they aren't read, or the entries aren't as they are written.
-    rows: Result<Option<Vec<Row>>, AllocError>,
+    later: bool,
+    text: &'a [u8],
+    // `None` where they aren't read, or the text isn't what is written of them.
+    read: Result<Option<ReadShare<'a>>, AllocError>,
 }
 
 impl<'a> Share<'a> {
-    /// These entries, whose rows aren't read yet.
-    pub(crate) fn new(list: RowList, entries: &'a [u8]) -> Share<'a> {
+    /// This text of entries, whose rows aren't read yet. It begins with a comma where an entry stands before it.
+    pub(crate) fn new(list: RowList, later: bool, text: &'a [u8]) -> Share<'a> {
         Share {
             list,
-            entries,
-            rows: Ok(None),
+            later,
+            text,
+            read: Ok(None),
         }
     }
 
     /// Reads the rows.
     pub(crate) fn read(&mut self, alloc: Global, scratch: &mut Scratch) {
-        self.rows = read_rows(alloc, scratch, self.list, self.entries);
+        self.read = read_rows(alloc, scratch, self.list, self.later, self.text);
     }
 
     /// About how many rows the entries have, by the first one.
     pub(crate) fn estimated_rows(&self) -> usize {
-        let first = match memmem::find(self.entries, b"},{") {
+        let first = match memmem::find(self.text, b"},{") {
             Some(place) => place,
-            None => self.entries.len(),
+            None => self.text.len(),
         };
-        (self.entries.len() / first.max(BYTES_OF_A_ROW)).saturating_add(1)
+        (self.text.len() / first.max(BYTES_OF_A_ROW)).saturating_add(1)
     }
 
-    /// The rows that were read, which are handed over.
-    pub(crate) fn take_rows(&mut self) -> Result<Option<Vec<Row>>, AllocError> {
-        mem::replace(&mut self.rows, Ok(None))
+    /// What was read, which is handed over.
+    pub(crate) fn take(&mut self) -> Result<Option<ReadShare<'a>>, AllocError> {
+        mem::replace(&mut self.read, Ok(None))
     }
 }
 
-// The rows of a list's entries, if all are as they are written.
-fn read_rows(
+// The rows of a text of entries, if it is what is written of them.
+fn read_rows<'a>(
     alloc: Global,
     scratch: &mut Scratch,
     list: RowList,
-    entries: &[u8],
-) -> Result<Option<Vec<Row>>, AllocError> {
-    let Ok(text) = str::from_utf8(entries) else {
+    later: bool,
+    text: &'a [u8],
+) -> Result<Option<ReadShare<'a>>, AllocError> {
+    let entries = text.strip_prefix(b",").unwrap_or(text);
+    let Ok(entries) = str::from_utf8(entries) else {
         return Ok(None);
     };
-    let mut text = WrittenText::new(Reader::new(text, scratch)?);
+    let mut entries = WrittenText::new(Reader::new(entries, scratch)?);
     let mut rows = Vec::new(alloc);
-    rows.reserve(entries.len() / BYTES_OF_A_ROW)?;
+    rows.reserve(text.len() / BYTES_OF_A_ROW)?;
+    let mut made = Vec::new(alloc);
+    made.reserve(text.len())?;
+    let mut out = JsonWriter::new(made, later);
     // An entry takes more than one byte.
-    for _ in 0..entries.len() {
-        match text.has_entry() {
+    for _ in 0..text.len() {
+        match entries.has_entry() {
             Some(true) => {}
-            Some(false) => return Ok(Some(rows)),
+            Some(false) => return Ok(read_share(list, later, text, rows, out)),
             None => return Ok(None),
         }
-        let Some((key, val)) = row_of(&mut text, list) else {
+        let Some((key, val)) = row_of(&mut entries, list) else {
             return Ok(None);
         };
+        if !list.has(&val) {
+            return Ok(None);
+        }
+        write_entry(&mut out, &key, &val)?;
         rows.push(Row { key, val })?;
     }
     Ok(None)
+}
+
+// These rows with the text, if it is what was written of them.
+fn read_share<'a>(
+    list: RowList,
+    later: bool,
+    text: &'a [u8],
+    rows: Vec<Row>,
+    out: JsonWriter,
+) -> Option<ReadShare<'a>>
+    requires all { rows_of list (pairs_of rows.items) ≡ pairs_of rows.items }
+    requires written { Adds (record { text = []; after_value = later }) out (tokens_of_entries (pairs_of rows.items)) }
+{
+    let (made, goes_on) = out.into_parts();
+    if made.as_slice() != text {
+        return None;
+    }
+    Some(ReadShare {
+        list,
+        later,
+        text,
+        rows,
+        goes_on,
+    })
 }

@@ -1,9 +1,12 @@
 //! A book's text in shares, which several threads read.
 
-use crate::row::Row;
+ghost use Rattle.std.specs.Prelude.{IfOk, IsTrue};
+ghost use Rattle.book_json.specs.ReadsOn.{GoesOn};
+
+use crate::book_reader::BookReader;
+use crate::read_share::ReadShare;
 use crate::share::Share;
 use book_laws::RowList;
-use issuer_rows::Book;
 use json::Scratch;
 use memchr::memmem;
 use rayon::current_num_threads;
@@ -11,13 +14,10 @@ use std::alloc::{AllocError, Global};
 use std::thread::{Threads, join_mut};
 
 // How many bytes a share of a list has at least, if the list has as many.
-pub(crate) const SHARE: usize = 1 << 16;
+const SHARE: usize = 1 << 16;
 
-// How many shares are read at a time at least: threads are begun anew for them, and a new thread begins late.
-const ROUND: usize = 256;
-
-// In how many rounds a larger text is read.
-const ROUNDS: usize = 16;
+// How many shares are read at a time: threads are begun anew for them, and a new thread begins late.
+const ROUND: usize = 32;
 
 // What stands before the entries of the first list.
 const START: &str = r#"{"accounts":["#;
@@ -94,95 +94,105 @@ fn cut_list<'a>(
     shares: &mut Vec<Share<'a>>,
 ) -> Result<(), AllocError> {
     let mut rest = entries;
+    let mut later = false;
     for _ in 0..entries.len() / SHARE {
         let Some((share, behind)) = cut_share(rest, written.between.as_bytes()) else {
             break;
         };
-        shares.push(Share::new(written.list, share))?;
+        shares.push(Share::new(written.list, later, share))?;
         rest = behind;
+        later = true;
     }
     if !rest.is_empty() {
-        shares.push(Share::new(written.list, rest))?;
+        shares.push(Share::new(written.list, later, rest))?;
     }
     Ok(())
 }
 
-// The first entries of some, as many as a share has, and those behind them.
+// The first entries of some, as many as a share has, and those behind them, with the comma between both.
 fn cut_share<'a>(entries: &'a [u8], between: &[u8]) -> Option<(&'a [u8], &'a [u8])> {
     let (_, late) = entries.split_at_checked(SHARE)?;
     let place = memmem::find(late, between)?;
-    let (share, rest) = entries.split_at_checked(SHARE + place + 1)?;
-    Some((share, rest.strip_prefix(b",")?))
+    entries.split_at_checked(SHARE + place + 1)
 }
 
-/// Puts the rows of all shares into the book. While those of some are put, others are read, in as many threads as there are processors.
-/// Returns whether all were as they are written.
-pub(crate) fn put_shares<R: Threads>(
+/// Adds all shares to what a reader has read, one after another. While some are added, others are read, in as many threads as there are
+/// processors. Returns whether all were as they are written.
+pub(crate) fn add_shares<R: Threads>(
     rt: &R,
     alloc: Global,
     shares: &mut [Share<'_>],
-    book: &mut Book,
-) -> Result<bool, AllocError> {
+    reader: &mut BookReader<'_>,
+) -> Result<bool, AllocError>
+    ensures { IfOk result (λ are_added. IsTrue are_added → GoesOn reader.old reader.new) }
+{
     let threads = current_num_threads(rt);
-    let each = ROUND.max(shares.len() / ROUNDS);
-    let mut is_whole = true;
-    for round in 0..=shares.len().div_ceil(each) {
-        let end = round.saturating_mul(each).min(shares.len());
-        let start = end.min(round.saturating_sub(1).saturating_mul(each));
+    for round in 0..=shares.len().div_ceil(ROUND) {
+        let end = round.saturating_mul(ROUND).min(shares.len());
+        let start = end.min(round.saturating_sub(1).saturating_mul(ROUND));
         let (front, back) = shares.split_at_mut(end);
         let (_, read) = front.split_at_mut(start);
-        let (next, _) = back.split_at_mut(back.len().min(each));
-        is_whole = is_whole && put_and_read(rt, alloc, threads, read, next, book)?;
+        let (next, _) = back.split_at_mut(back.len().min(ROUND));
+        if !add_and_read(rt, alloc, threads, read, next, reader)? {
+            return Ok(false);
+        }
     }
-    Ok(is_whole)
+    Ok(true)
 }
 
-// Puts the rows of some shares into the book while the next are read. Returns whether those were as they are written.
-fn put_and_read<R: Threads>(
+// Adds some shares while the next are read. Returns whether those were as they are written.
+fn add_and_read<R: Threads>(
     rt: &R,
     alloc: Global,
     threads: usize,
     read: &mut [Share<'_>],
     next: &mut [Share<'_>],
-    book: &mut Book,
-) -> Result<bool, AllocError> {
-    let Some(rows) = take_rows(alloc, read)? else {
+    reader: &mut BookReader<'_>,
+) -> Result<bool, AllocError>
+    ensures { IfOk result (λ are_added. IsTrue are_added → GoesOn reader.old reader.new) }
+{
+    let Some(shares) = take_shares(alloc, read)? else {
         return Ok(false);
     };
-    if rows.is_empty() || next.is_empty() {
+    if shares.is_empty() || next.is_empty() {
         read_shares(rt, alloc, threads, next);
-        put_rows(&rows, book)?;
-    } else {
-        let (put, ()) = join_mut(
-            rt,
-            &mut || put_rows(&rows, book),
-            &mut || read_shares(rt, alloc, threads.saturating_sub(1), next),
-        );
-        put?;
+        return add_each(&shares, reader);
     }
-    Ok(true)
+    let (are_added, ()) = join_mut(
+        rt,
+        &mut || -> Result<bool, AllocError>
+            ensures { IfOk result (λ are_added. IsTrue are_added → GoesOn reader.entry.now reader.exit.now) }
+        { add_each(&shares, reader) },
+        &mut || read_shares(rt, alloc, threads.saturating_sub(1), next),
+    );
+    are_added
 }
 
-// The rows of these shares, if all were read.
-fn take_rows(alloc: Global, shares: &mut [Share<'_>]) -> Result<Option<Vec<Vec<Row>>>, AllocError> {
+// What was read of these shares, if all were.
+fn take_shares<'a>(
+    alloc: Global,
+    shares: &mut [Share<'a>],
+) -> Result<Option<Vec<ReadShare<'a>>>, AllocError> {
     let mut all = Vec::new(alloc);
     for share in shares.iter_mut() {
-        let Some(rows) = share.take_rows()? else {
+        let Some(read) = share.take()? else {
             return Ok(None);
         };
-        all.push(rows)?;
+        all.push(read)?;
     }
     Ok(Some(all))
 }
 
-// Puts rows into the book, one after another.
-fn put_rows(all: &[Vec<Row>], book: &mut Book) -> Result<(), AllocError> {
-    for rows in all {
-        for row in rows {
-            book.put_copy(&row.key, &row.val)?;
+// Adds shares, one after another. Returns whether all were as they are written.
+fn add_each(shares: &[ReadShare<'_>], reader: &mut BookReader<'_>) -> Result<bool, AllocError>
+    ensures { IfOk result (λ are_added. IsTrue are_added → GoesOn reader.old reader.new) }
+{
+    for share in shares {
+        if !reader.add(share)? {
+            return Ok(false);
         }
     }
-    Ok(())
+    Ok(true)
 }
 
 // Reads the shares in so many threads at most.

@@ -10,33 +10,33 @@ use Rattle.json.specs.Json as json
 use Rattle.json.specs.Lex.{tokens}
 use Rattle.json.specs.Token.{Token}
 use Rattle.json.specs.Tree.{depth}
-use Rattle.issuer_rows.specs.Fold.{Rows}
+use Rattle.issuer_rows.specs.Fold.{Rows, overlay}
 use Rattle.issuer_rows.specs.RowKey.{key_cmp}
 use Rattle.issuer_rows.specs.declared.row_val.RowVal.TheVariants as val
 use Rattle.serde_json.proofs.Numbers.{number_of-decimal}
 use Rattle.serde_json.specs.Data.{Data}
 use Rattle.serde_json.specs.Read.{of_json, read, max_depth}
-use Rattle.serde_json.specs.Written.{outline}
+use Rattle.serde_json.specs.Written.{compact_text, outline}
 use Rattle.book_laws.proofs.ListNames.{list_told}
 use Rattle.book_laws.proofs.PlainTexts.{plain_tokens, plain_utf8}
 use Rattle.book_laws.proofs.Readings.{read_value}
-use Rattle.book_laws.proofs.RoundTrip.{Row, items_again, items_flat, list_added, all_there, sorted_apart, kept_none}
-use Rattle.book_laws.specs.Lists.{add_entries, add_list}
+use Rattle.book_laws.proofs.RoundTrip.{Row, AreApart, items_again, items_flat, list_added, all_there, book_there, sorted_apart, new_apart, kept_none}
+use Rattle.book_laws.specs.Lists.{AreNew, add_entries, add_list}
 use Rattle.book_laws.specs.Parts.{is_in, list_key}
 use Rattle.book_laws.specs.Reading.{add_lists, all_lists, book_of, reading}
 use Rattle.book_laws.specs.Steps.{◌>>=◌}
-use Rattle.book_laws.specs.Text.{ReadsBack, IsReadAgain, IsPlain, AreItemsPlain, tokens_of, rows_of, items_data, book_data, book_text}
+use Rattle.book_laws.specs.Text.{ReadsBack, IsReadAgain, IsPlain, AreItemsPlain, tokens_of, rows_of, items_data, top_data, book_text}
 use Rattle.book_laws.specs.declared.book_version.BookVersion.TheVariants.{Three}
 use Rattle.book_laws.specs.declared.row_list.RowList.{RowList}
 use Rattle.book_laws.specs.declared.row_list.RowList.TheVariants.{Cards, Days, Budgets, Originals, Ahead, Accounts}
 use Rattle.book_laws.specs.declared.text_fault.TextFault.{TextFault}
 
 -- the rows of a list are read again
-abbrev pub IsReadBack : Rows → RowList → Type 0
-IsReadBack rows list = AllByRecursion (ReadsBack list) (rows_of list (map.entries rows))
+abbrev pub IsReadBack : List Row → RowList → Type 0
+IsReadBack rows list = AllByRecursion (ReadsBack list) (rows_of list rows)
 
 -- those of each list
-pub record AreReadBack (rows : Rows) : Type 0 where
+pub record AreReadBack (rows : List Row) : Type 0 where
   pub accounts : IsReadBack rows Accounts
   pub ahead : IsReadBack rows Ahead
   pub budgets : IsReadBack rows Budgets
@@ -46,7 +46,7 @@ pub record AreReadBack (rows : Rows) : Type 0 where
 
 -- ---- the JSON value
 
-data_again : (rows : Rows) → AreReadBack rows → of_json (outline (book_data rows)) ≡ Some (book_data rows)
+data_again : (rows : List Row) → AreReadBack rows → of_json (outline (top_data rows)) ≡ Some (top_data rows)
 data_again rows h =
     rw (
       items_again Accounts _ h.accounts,
@@ -58,16 +58,16 @@ data_again rows h =
       number_of-decimal 3 (omega arith),
     ) refl
 
-data_depth : (rows : Rows) → AreReadBack rows → depth (outline (book_data rows)) ≤ 4
+data_depth : (rows : List Row) → AreReadBack rows → depth (outline (top_data rows)) ≤ 4
 data_depth rows h =
     omega (arith, items_flat Accounts _ h.accounts, items_flat Ahead _ h.ahead, items_flat Budgets _ h.budgets, items_flat Cards _ h.cards, items_flat Days _ h.days, items_flat Originals _ h.originals)
 
 -- what serde_json reads of the text is the value
-read_again : (rows : Rows) (text : List ℕ) → AreReadBack rows → tokens text ≡ tokens_of (book_data rows) → read text ≡ Some (book_data rows)
+read_again : (rows : List Row) (text : List ℕ) → AreReadBack rows → tokens text ≡ tokens_of (top_data rows) → read text ≡ Some (top_data rows)
 read_again rows text h is =
     let deep = data_depth rows h in
     ap (λ (o : Option (json.Json × List Token)). option_and_then of_json (option_and_then (λ p. json.if_last p.0 p.1) o))
-    (ap (json.value max_depth) (is ∙ sym (append-nil _)) ∙ value-json_tokens (outline (book_data rows)) max_depth [] (omega (arith, deep)))
+    (ap (json.value max_depth) (is ∙ sym (append-nil _)) ∙ value-json_tokens (outline (top_data rows)) max_depth [] (omega (arith, deep)))
     ∙ data_again rows h
 
 -- ---- the lists, each behind those that are read before it
@@ -134,7 +134,7 @@ unfolding add_lists
 last_list top m = refl
 
 -- the list of the top object
-of_top : (rows m : Rows) (list : RowList) → add_list Three list (book_data rows) m ≡ add_entries Three list (items_data (rows_of list (map.entries rows))) m
+of_top : (rows : List Row) (m : Rows) (list : RowList) → add_list Three list (top_data rows) m ≡ add_entries Three list (items_data (rows_of list rows)) m
 unfolding add_list
 of_top rows m Cards = refl
 of_top rows m Days = refl
@@ -143,33 +143,32 @@ of_top rows m Originals = refl
 of_top rows m Ahead = refl
 of_top rows m Accounts = refl
 
-lists_again : (rows : Rows) → AreReadBack rows → add_lists Three all_lists (book_data rows) map.empty ≡ Ok rows
+lists_again : (es : List Row) → AreApart es → AreReadBack es → add_lists Three all_lists (top_data es) map.empty ≡ Ok (overlay map.empty es)
 unfolding done_1 done_2 done_3 done_4 done_5 done_6
-lists_again rows h =
-    let es = map.entries rows in
-    let apart = sorted_apart es (map.entries_sorted rows) in
+lists_again es apart h =
     let cards = list_added Cards es (λ _. false) map.empty apart h.cards (λ row is. refl) (λ q. map.get-empty key_cmp q ∙ sym (kept_none q _)) in
     let days = list_added Days es done_1 cards.0 apart h.days apart_2 cards.2 in
     let budgets = list_added Budgets es done_2 days.0 apart h.budgets apart_3 days.2 in
     let originals = list_added Originals es done_3 budgets.0 apart h.originals apart_4 budgets.2 in
     let ahead = list_added Ahead es done_4 originals.0 apart h.ahead apart_5 originals.2 in
     let accounts = list_added Accounts es done_5 ahead.0 apart h.accounts apart_6 ahead.2 in
-    next_list Cards _ _ _ cards.0 (of_top rows _ Cards ∙ cards.1)
-    ∙ next_list Days _ _ _ days.0 (of_top rows _ Days ∙ days.1)
-    ∙ next_list Budgets _ _ _ budgets.0 (of_top rows _ Budgets ∙ budgets.1)
-    ∙ next_list Originals _ _ _ originals.0 (of_top rows _ Originals ∙ originals.1)
-    ∙ next_list Ahead _ _ _ ahead.0 (of_top rows _ Ahead ∙ ahead.1)
-    ∙ next_list Accounts _ _ _ accounts.0 (of_top rows _ Accounts ∙ accounts.1)
-    ∙ last_list (book_data rows) accounts.0
-    ∙ ap (λ (m : Rows). Ok m) (all_there rows accounts.0 done_6 each_row accounts.2)
+    next_list Cards _ _ _ cards.0 (of_top es _ Cards ∙ cards.1)
+    ∙ next_list Days _ _ _ days.0 (of_top es _ Days ∙ days.1)
+    ∙ next_list Budgets _ _ _ budgets.0 (of_top es _ Budgets ∙ budgets.1)
+    ∙ next_list Originals _ _ _ originals.0 (of_top es _ Originals ∙ originals.1)
+    ∙ next_list Ahead _ _ _ ahead.0 (of_top es _ Ahead ∙ ahead.1)
+    ∙ next_list Accounts _ _ _ accounts.0 (of_top es _ Accounts ∙ accounts.1)
+    ∙ last_list (top_data es) accounts.0
+    ∙ ap (λ (m : Rows). Ok m) (all_there es accounts.0 done_6 each_row apart accounts.2)
 
-book_again : (rows : Rows) → AreReadBack rows → book_of (book_data rows) ≡ Ok rows
+top_again : (rows : List Row) → AreApart rows → AreReadBack rows → book_of (top_data rows) ≡ Ok (overlay map.empty rows)
 unfolding book_of
-book_again rows h = lists_again rows h
+top_again rows apart h = lists_again rows apart h
 
--- the text of a book whose rows are read again is read as the book
-pub text_again : (rows : Rows) (text : List ℕ) → AreReadBack rows → IsUtf8 text → tokens text ≡ tokens_of (book_data rows) → reading text ≡ Ok rows
-text_again rows text h utf8 is = read_value text (book_data rows) utf8 (read_again rows text h is) ∙ book_again rows h
+-- the text of rows that each are read again, each of another key, is read as the book that has them
+text_again : (rows : List Row) (text : List ℕ) → AreApart rows → AreReadBack rows → IsUtf8 text → tokens text ≡ tokens_of (top_data rows)
+    → reading text ≡ Ok (overlay map.empty rows)
+text_again rows text apart h utf8 is = read_value text (top_data rows) utf8 (read_again rows text h is) ∙ top_again rows apart h
 
 -- ---- the text of a book whose rows each are read again
 
@@ -194,17 +193,16 @@ key_utf8 Originals = IsUtf8-are_ascii _ refl
 key_utf8 Ahead = IsUtf8-are_ascii _ refl
 key_utf8 Accounts = IsUtf8-are_ascii _ refl
 
--- the text of a book is read as the book, where each of its rows is read again
-pub book_text_again : (book : Rows) → AllByRecursion IsReadAgain (map.entries book) → reading (book_text book) ≡ Ok book
-book_text_again book h =
+apart_text_again : (rows : List Row) → AreApart rows → AllByRecursion IsReadAgain rows → reading (compact_text (top_data rows)) ≡ Ok (overlay map.empty rows)
+apart_text_again rows apart h =
     let accounts = entries_of Accounts _ h in
     let ahead = entries_of Ahead _ h in
     let budgets = entries_of Budgets _ h in
     let cards = entries_of Cards _ h in
     let days = entries_of Days _ h in
     let originals = entries_of Originals _ h in
-    let back : AreReadBack book = record { accounts = accounts.0; ahead = ahead.0; budgets = budgets.0; cards = cards.0; days = days.0; originals = originals.0 } in
-    let plain : IsPlain (book_data book) = (
+    let back : AreReadBack rows = record { accounts = accounts.0; ahead = ahead.0; budgets = budgets.0; cards = cards.0; days = days.0; originals = originals.0 } in
+    let plain : IsPlain (top_data rows) = (
       key_utf8 Accounts,
       accounts.1,
       (
@@ -229,4 +227,13 @@ book_text_again book h =
         ),
       ),
     ) in
-    text_again book (book_text book) back (plain_utf8 (book_data book) plain) (plain_tokens (book_data book) plain)
+    text_again rows (compact_text (top_data rows)) apart back (plain_utf8 (top_data rows) plain) (plain_tokens (top_data rows) plain)
+
+-- the text of rows that each are read again is read as the book that has them, where none of them has the key of another
+pub rows_text_again : (rows : List Row) → AreNew map.empty rows → AllByRecursion IsReadAgain rows → reading (compact_text (top_data rows)) ≡ Ok (overlay map.empty rows)
+rows_text_again rows new h = apart_text_again rows (new_apart rows map.empty new) h
+
+-- the text of a book is read as the book, where each of its rows is read again
+pub book_text_again : (book : Rows) → AllByRecursion IsReadAgain (map.entries book) → reading (book_text book) ≡ Ok book
+book_text_again book h =
+    apart_text_again (map.entries book) (sorted_apart (map.entries book) (map.entries_sorted book)) h ∙ ap (λ (m : Rows). Ok m) (book_there book)

@@ -16,7 +16,7 @@ use Rattle.issuer_rows.specs.declared.row_key.RowKey.{RowKey}
 use Rattle.issuer_rows.specs.declared.row_val.RowVal.{RowVal}
 use Rattle.serde_json.specs.Read.{of_items}
 use Rattle.serde_json.specs.Written.{items_outline}
-use Rattle.book_laws.specs.Lists.{add_entries, has_old_cards}
+use Rattle.book_laws.specs.Lists.{AreNew, add_entries, has_old_cards}
 use Rattle.book_laws.specs.Parts.{is_in}
 use Rattle.book_laws.specs.Text.{ReadsBack, rows_of, items_data}
 use Rattle.book_laws.specs.declared.book_version.BookVersion.TheVariants.{Three}
@@ -37,11 +37,6 @@ items_flat list [] h = omega arith
 items_flat list (r ∷ rs) h = omega (arith, h.0.depth, items_flat list rs h.1)
 
 -- ---- rows written one after another
-
--- each row is new when it is written
-abbrev AreNew : Rows → List Row → Type 0
-AreNew m [] = Unit {0}
-AreNew m (r ∷ rs) = (map.get m r.0 ≡ None) × AreNew (map.insert m r.0 r.1) rs
 
 none_old : (list : RowList) → has_old_cards Three list ≡ false
 none_old Cards = refl
@@ -203,6 +198,45 @@ pub kept_none : (q : RowKey) (o : Option RowVal) → kept (λ _. false) q o ≡ 
 kept_none q None = refl
 kept_none q (Some v) = refl
 
--- the book that has all rows is the book
-pub all_there : (rows m : Rows) (test : Row → Bool) → ((row : Row) → test row ≡ true) → HasThose (map.entries rows) test m → m ≡ rows
-all_there rows m test all has = map.same_map key_cmp_total key_cmp_antisymmetric m rows (λ q. has q ∙ kept_all test q _ all ∙ sym (map.get-entries rows q))
+or_none : (o : Option RowVal) → or_else o None ≡ o
+or_none None = refl
+or_none (Some v) = refl
+
+-- what is found after rows that are apart were written into an empty book
+found_there : (es : List Row) (q : RowKey) → AreApart es → map.get (overlay map.empty es) q ≡ find key_cmp q es
+found_there es q apart = got es map.empty q apart ∙ ap (or_else (find key_cmp q es)) (map.get-empty key_cmp q) ∙ or_none _
+
+-- the book that has all rows is that into which they were written
+pub all_there : (es : List Row) (m : Rows) (test : Row → Bool) → ((row : Row) → test row ≡ true) → AreApart es → HasThose es test m → m ≡ overlay map.empty es
+all_there es m test all apart has =
+    map.same_map key_cmp_total key_cmp_antisymmetric m (overlay map.empty es) (λ q. has q ∙ kept_all test q _ all ∙ sym (found_there es q apart))
+
+-- a book's rows make the book
+pub book_there : (rows : Rows) → overlay map.empty (map.entries rows) ≡ rows
+book_there rows =
+    map.same_map key_cmp_total key_cmp_antisymmetric (overlay map.empty (map.entries rows)) rows
+    (λ q. found_there (map.entries rows) q (sorted_apart (map.entries rows) (map.entries_sorted rows)) ∙ sym (map.get-entries rows q))
+
+-- ---- rows that are new when they are written
+
+-- whoever is there stands not among them
+unmet : (q : RowKey) (v : RowVal) (rs : List Row) (m : Rows) → map.get m q ≡ Some v → AreNew m rs → find key_cmp q rs ≡ None
+unmet q v [] m has new = refl
+unmet q v (r ∷ rs) m has new =
+    let still : (o : Ordering) → key_cmp q r.0 ≡ o → is_eq o ≡ false → map.get (map.insert m r.0 r.1) q ≡ Some v = λ o is differ.
+    map.get-insert key_cmp_total m r.0 r.1 q ∙ ap (λ t. cond (is_eq t) (Some r.1) (map.get m q)) is ∙ ap (λ t. cond t (Some r.1) (map.get m q)) differ ∙ has in
+    elim (key_cmp q r.0) as (λ o. key_cmp q r.0 ≡ o → cond (is_eq o) (Some r.1) (find key_cmp q rs) ≡ None) [
+      | Less ↦ λ is. unmet q v rs (map.insert m r.0 r.1) (still Less is refl) new.1
+      | Equal ↦ λ is. absurd (none-some v (sym new.0 ∙ ap (map.get m) (sym (key_cmp_antisymmetric q r.0 is)) ∙ has))
+      | Greater ↦ λ is. unmet q v rs (map.insert m r.0 r.1) (still Greater is refl) new.1
+    ] refl
+
+-- so each has a key of its own
+pub new_apart : (rs : List Row) (m : Rows) → AreNew m rs → AreApart rs
+new_apart [] m new = tt
+new_apart (r ∷ rs) m new =
+    let there : map.get (map.insert m r.0 r.1) r.0 ≡ Some r.1 =
+    map.get-insert key_cmp_total m r.0 r.1 r.0 ∙ ap (λ o. cond (is_eq o) (Some r.1) (map.get m r.0)) (tied_itself key_cmp_total r.0) in (
+      unmet r.0 r.1 rs (map.insert m r.0 r.1) there new.1,
+      new_apart rs (map.insert m r.0 r.1) new.1,
+    )

@@ -1,5 +1,5 @@
 -- Lists of entries, each of them a row.
-use Rattle.std.specs.Prelude.{Bool, false, [], ◌∷◌, option_and_then, Result, Ok, Err, if◌then◌else◌, is_some}
+use Rattle.std.specs.Prelude.{◌≡◌, Bool, false, [], ◌∷◌, None, option_and_then, Result, Ok, Err, if◌then◌else◌, is_some}
 use Rattle.std.specs.FinMap as map
 use Rattle.issuer_rows.specs.Fold.{Rows, overlay}
 use Rattle.issuer_rows.specs.Plan.{Writes}
@@ -75,3 +75,8 @@ add_list version list top rows =
     if has_list version list then
     (or_fault (Shape (list_part list)) (option_and_then as_array (get (list_key list) top)) >>= λ entries. add_entries version list entries rows)
     else Ok rows
+
+-- each row is new when it is written behind those before it
+abbrev pub AreNew : Rows → Writes → Type 0
+AreNew rows [] = Unit {0}
+AreNew rows (row ∷ others) = (map.get rows row.0 ≡ None) × AreNew (map.insert rows row.0 row.1) others

@@ -166,22 +166,22 @@ rows_of list rows = filter (λ row. is_in list row.1) rows
 abbrev pub list_data : RowList → List (RowKey × RowVal) → Data
 list_data list rows = array (items_data (rows_of list rows))
 
--- a list as a member of the top object
-abbrev pub list_member : RowList → Rows → List ℕ × Data
-list_member list rows = (list_key list, list_data list (map.entries rows))
-
--- the top object
-abbrev pub book_data : Rows → Data
-book_data rows =
+-- the top object of a text that has these rows
+abbrev pub top_data : List (RowKey × RowVal) → Data
+top_data rows =
     object (members (
-    list_member Accounts rows
-    ∷ list_member Ahead rows
-    ∷ list_member Budgets rows
-    ∷ list_member Cards rows
-    ∷ list_member Days rows
-    ∷ list_member Originals rows
+    (list_key Accounts, list_data Accounts rows)
+    ∷ (list_key Ahead, list_data Ahead rows)
+    ∷ (list_key Budgets, list_data Budgets rows)
+    ∷ (list_key Cards, list_data Cards rows)
+    ∷ (list_key Days, list_data Days rows)
+    ∷ (list_key Originals, list_data Originals rows)
     ∷ (codes "version", numeral 3)
     ∷ []))
+
+-- that of a book
+abbrev pub book_data : Rows → Data
+book_data rows = top_data (map.entries rows)
 
 -- the text of a book
 abbrev pub book_text : Rows → List ℕ

@@ -13,7 +13,7 @@ use issuer_rows::{Balance, Book, CardAccounts, Payer, RowKey, RowVal};
 use std::thread::{Threads, join};
 
 // So many rows at least are looked through by two threads: to start one takes some 50 microseconds.
-const MANY: usize = 1 << 16;
+const MANY: usize = 1 << 13;
 
 /// What is wrong with a book that comes from outside: of the faults that are there, the one with the lowest number.
 /// It takes no memory.

@@ -2,22 +2,21 @@
 use Rattle.std.proofs.Common.{◌≡◌, ℕ, List, [], ◌∷◌, ◌++◌, Bool, true, false, Some, None, refl, sym, ap, ◌∙◌, append_assoc, drop, ◌≤◌, slice_range}
 use Rattle.std.proofs.lemmas.List.Folds.{drop_split}
 use Rattle.json.specs.Print.{print, print_from}
-use Rattle.json.specs.Token.{Token, begin_object, begin_array, end_array, key}
+use Rattle.json.specs.Token.{Token, end_array}
 use Rattle.json.proofs.Printed.Tokens.{print_from-append}
 use Rattle.issuer_rows.specs.declared.row_key.RowKey.{RowKey}
 use Rattle.issuer_rows.specs.declared.row_val.RowVal.{RowVal}
-use Rattle.book_laws.specs.Parts.{list_key}
 use Rattle.book_laws.specs.Text.{ends_after}
 use Rattle.book_laws.specs.declared.row_list.RowList.{RowList}
 use Rattle.book_laws.specs.declared.row_list.RowList.TheVariants.{Cards, Days, Budgets, Originals, Ahead, Accounts}
 use Rattle.book_laws.proofs.WrittenTokens.{rest_tokens}
 use Rattle.book_text.specs.Left.{text_of_rows, text_left, tokens_left, tokens_behind, entries_tokens}
-use Rattle.book_text.specs.Pieces.{next_list, between, last_tokens}
+use Rattle.book_text.specs.Pieces.{first_tokens, next_list, between, last_tokens}
 use Rattle.book_text.proofs.Entries.{rest_split}
 
 -- what is left at the beginning
-pub begun : (rows : List (RowKey × RowVal)) → text_of_rows rows ≡ print (begin_object ∷ key (list_key Accounts) ∷ begin_array ∷ []) ++ text_left false Accounts rows rows
-begun rows = print_from-append false (begin_object ∷ key (list_key Accounts) ∷ begin_array ∷ []) (tokens_left Accounts rows rows)
+pub begun : (rows : List (RowKey × RowVal)) → text_of_rows rows ≡ print first_tokens ++ text_left false Accounts rows rows
+begun rows = print_from-append false first_tokens (tokens_left Accounts rows rows)
 
 -- what is left in a list, once some of its rows are written
 pub left_split : (later : Bool) (list : RowList) (some left rows : List (RowKey × RowVal))

@@ -1,4 +1,4 @@
--- What of a book's text is left to be written, over its sorted rows.
+-- What of a text is left to be written, over its rows.
 use Rattle.std.specs.Prelude.{ℕ, List, ◌++◌, Bool, codes, flat_map}
 use Rattle.json.specs.Print.{print, print_from}
 use Rattle.json.specs.Token.{Token}
@@ -8,10 +8,9 @@ use Rattle.issuer_rows.specs.declared.row_val.RowVal.{RowVal}
 use Rattle.serde_json.specs.Data.{Members, member, no_members}
 use Rattle.serde_json.specs.Written.{items_outline, members_outline}
 use Rattle.book_laws.specs.Parts.{list_key}
-use Rattle.book_laws.specs.Text.{numeral, tokens_of, entry_data, items_data, rows_of, list_data}
+use Rattle.book_laws.specs.Text.{numeral, tokens_of, entry_data, items_data, rows_of, list_data, top_data}
 use Rattle.book_laws.specs.declared.row_list.RowList.{RowList}
 use Rattle.book_laws.specs.declared.row_list.RowList.TheVariants.{Cards, Days, Budgets, Originals, Ahead, Accounts}
-use Rattle.book_text.specs.Top.{top_data}
 
 -- the tokens of the entries of rows, one behind another
 abbrev pub tokens_of_entries : List (RowKey × RowVal) → List Token
@@ -63,6 +62,6 @@ tokens_left list left rows = items_tokens (items_outline (items_data (rows_of li
 abbrev pub text_left : Bool → RowList → List (RowKey × RowVal) → List (RowKey × RowVal) → List ℕ
 text_left later list left rows = print_from later (tokens_left list left rows)
 
--- the whole text of the book that has these rows
+-- the whole text of these rows
 abbrev pub text_of_rows : List (RowKey × RowVal) → List ℕ
 text_of_rows rows = print (tokens_of (top_data rows))

@@ -2,7 +2,6 @@ pub mod Back
 pub mod ByKind
 pub mod Digest
 pub mod Escapes
-pub mod Top
 pub mod Left
 pub mod Pieces
 pub mod Members

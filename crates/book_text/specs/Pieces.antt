@@ -1,6 +1,6 @@
--- What stands between the lists of a book's text, and behind the last one.
+-- What stands before the first list of a book's text, between its lists, and behind the last one.
 use Rattle.std.specs.Prelude.{List, [], ◌∷◌, Option, Some, None, codes, decimal}
-use Rattle.json.specs.Token.{Token, key, number, begin_array, end_array, end_object}
+use Rattle.json.specs.Token.{Token, key, number, begin_array, begin_object, end_array, end_object}
 use Rattle.book_laws.specs.Parts.{list_key}
 use Rattle.book_laws.specs.declared.row_list.RowList.{RowList}
 use Rattle.book_laws.specs.declared.row_list.RowList.TheVariants.{Cards, Days, Budgets, Originals, Ahead, Accounts}
@@ -13,6 +13,10 @@ next_list Budgets = Some Cards
 next_list Cards = Some Days
 next_list Days = Some Originals
 next_list Originals = None
+
+-- what stands before the entries of the first list
+abbrev pub first_tokens : List Token
+first_tokens = begin_object ∷ key (list_key Accounts) ∷ begin_array ∷ []
 
 -- what stands between the entries of a list and those of the next one
 abbrev pub between : RowList → List Token

@@ -23,5 +23,7 @@ pub use field_writers::{
 pub use json_writer::JsonWriter;
 pub use listed_rows::ListedRows;
 pub use member::Member;
-pub use parts::{emptied, last_piece, list_behind, piece_between, rows_piece};
+pub use parts::{emptied, first_piece, last_piece, list_behind, piece_between, rows_piece};
+pub use ranges::row_is_read;
+pub use row_writers::write_entry;
 pub use writing::{open_list, write_book};

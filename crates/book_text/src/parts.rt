@@ -6,7 +6,7 @@ ghost use Rattle.json.specs.Token.{key as key_token, number as number_token, beg
 ghost use Rattle.book_laws.specs.Parts.{list_key};
 ghost use Rattle.book_laws.specs.Text.{ends_after};
 ghost use Rattle.book_text.specs.Left.{entries_tokens};
-ghost use Rattle.book_text.specs.Pieces.{next_list, between, last_tokens};
+ghost use Rattle.book_text.specs.Pieces.{first_tokens, next_list, between, last_tokens};
 
 use crate::json_writer::JsonWriter;
 use crate::listed_rows::ListedRows;
@@ -40,6 +40,17 @@ pub fn rows_piece(
     let mut out = JsonWriter::new(text, later);
     write_rows(&mut out, list, rows)?;
     Ok(out.into_parts())
+}
+
+/// What stands before the first entry of the first list. It fails only where memory runs out.
+pub fn first_piece(text: Vec<u8>) -> Result<Vec<u8>, AllocError>
+    requires { text.items ≡ [] }
+    ensures { IfOk result (λ piece. piece.items ≡ print first_tokens) }
+{
+    let mut out = JsonWriter::new(text, false);
+    out.begin_object()?;
+    open_list(&mut out, RowList::Accounts)?;
+    Ok(out.into_parts().0)
 }
 
 /// What stands between the last entry of a list and the first of the next one. It fails only where memory runs out.

@@ -60,8 +60,8 @@ fn kept_is_read(identity: Identity, kept: &Kept)
     kept_in_range(*kept);
 }
 
-/// A row is read again from the text that is written of it.
-pub(crate) fn row_is_read(key: &RowKey, val: &RowVal)
+/// A row is read again from the text that is written of it. Nothing is done: this is a law.
+pub fn row_is_read(key: &RowKey, val: &RowVal)
     requires { IsOfKind key.now val.now }
     ensures { IsReadAgain (key.now, val.now) }
 {

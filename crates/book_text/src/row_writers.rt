@@ -138,12 +138,8 @@ fn write_account(out: &mut JsonWriter, id: AccountId, row: &AccountRow) -> Resul
     Ok(())
 }
 
-/// Writes the entry of a row.
-pub(crate) fn write_entry(
-    out: &mut JsonWriter,
-    key: &RowKey,
-    val: &RowVal,
-) -> Result<(), AllocError>
+/// Writes the entry of a row. It fails only where memory runs out.
+pub fn write_entry(out: &mut JsonWriter, key: &RowKey, val: &RowVal) -> Result<(), AllocError>
     requires { IsOfKind key.now val.now }
     ensures { OnOk result (Adds out.old out.new (tokens_of (entry_data key.now val.now))) }
 {

@@ -4,9 +4,8 @@ ghost use Rattle.std.specs.Prelude.{◌≡◌, ◌∷◌, [], Ok, OnOk, IfOk, co
 ghost use Rattle.json.specs.Token.{key as key_token, number as number_token, begin_array as begin_array_token, end_object as end_object_token};
 ghost use Rattle.book_laws.specs.Parts.{list_key};
 ghost use Rattle.book_laws.specs.Reading.{reading};
-ghost use Rattle.book_laws.specs.Text.{Adds, tokens_of, list_data, book_text};
+ghost use Rattle.book_laws.specs.Text.{Adds, tokens_of, list_data, top_data, book_text};
 ghost use Rattle.book_text.specs.Left.{entries_tokens};
-ghost use Rattle.book_text.specs.Top.{top_data};
 
 use crate::json_writer::JsonWriter;
 use crate::listed_rows::ListedRows;

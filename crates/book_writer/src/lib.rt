@@ -2,7 +2,6 @@
 #![tactic(auto)]
 
 mod book_writer;
-mod comparing;
 mod listing;
 mod of_rows;
 mod pieces;
@@ -13,7 +12,6 @@ mod span;
 mod text_left;
 
 pub use book_writer::BookWriter;
-pub use comparing::is_text_of;
 pub use of_rows::OfRows;
 pub use pieces::BookPieces;
 pub use sorting::Sorting;

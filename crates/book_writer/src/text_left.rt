@@ -2,9 +2,7 @@ ghost use Rattle.std.specs.Prelude.{◌≤◌, length};
 
 use crate::span::{ENTRIES, Span};
 use book_laws::RowList;
-use book_text::{
-    JsonWriter, ListedRows, emptied, last_piece, list_behind, open_list, piece_between,
-};
+use book_text::{ListedRows, emptied, first_piece, last_piece, list_behind, piece_between};
 use std::alloc::{AllocError, Global};
 
 /// Where the text of a book is written next.
@@ -58,10 +56,7 @@ impl<'a> TextLeft<'a> {
         ensures fewer { OnOk result (pieces_left self.new < pieces_left self.old) }
         ensures rows { self.new.rows ≡ self.old.rows }
     {
-        let mut out = JsonWriter::new(emptied(&mut self.text), false);
-        out.begin_object()?;
-        open_list(&mut out, RowList::Accounts)?;
-        self.text = out.into_parts().0;
+        self.text = first_piece(emptied(&mut self.text))?;
         self.place = TextPlace::In(RowList::Accounts);
         self.at = 0;
         self.later = false;

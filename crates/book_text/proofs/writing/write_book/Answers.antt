@@ -4,10 +4,9 @@ use Rattle.issuer_rows.specs.Fold.{Rows}
 use Rattle.issuer_rows.specs.declared.row_key.RowKey.{RowKey}
 use Rattle.issuer_rows.specs.declared.row_val.RowVal.{RowVal}
 use Rattle.book_laws.specs.Reading.{reading}
-use Rattle.book_laws.specs.Text.{Adds, JsonText, tokens_of, book_data}
+use Rattle.book_laws.specs.Text.{Adds, JsonText, tokens_of, top_data, book_data}
 use Rattle.book_laws.proofs.WrittenTokens.{printed}
 use Rattle.book_text.specs.ByKind.{StandByKind}
-use Rattle.book_text.specs.Top.{top_data}
 use Rattle.book_text.proofs.ByKind.{book_stands}
 use Rattle.book_text.proofs.writing.write_book.Goals as goal
 
