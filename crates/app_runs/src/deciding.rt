@@ -58,8 +58,8 @@ pub fn decide_by<R: Clock + Threads + Wait + Sync>(
     })
 }
 
-/// Decides a block of at most 65,536 bodies on a book itself: one of more than 1,024 by so many workers of an engine. It fails only where
-/// memory runs out, and the book is then what it was.
+/// Decides a block of at most 65,536 bodies on a book itself: one of more than 1,024 by so many workers of an engine, if there are several.
+/// It fails only where memory runs out, and the book is then what it was.
 pub(crate) fn decide_block_by<R: Clock + Threads + Wait + Sync>(
     rt: &R,
     alloc: Global,
@@ -71,7 +71,7 @@ pub(crate) fn decide_block_by<R: Clock + Threads + Wait + Sync>(
     requires { length frames.now ≤ 65536 }
     ensures { DecidesInPlace book.old frames.now book.new result }
 {
-    if frames.len() <= FEW_BODIES {
+    if workers.count() == 1 || frames.len() <= FEW_BODIES {
         return decide_in_place(alloc, book, frames, &Shipped);
     }
     decide_block_together(rt, alloc, book, frames, workers, engine)
