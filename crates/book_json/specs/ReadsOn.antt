@@ -40,9 +40,9 @@ ReadsOn bytes rest list later book =
 abbrev pub ReadsOnBy : List ℕ → BookReader → Type 0
 ReadsOnBy bytes reader = ReadsOn bytes reader.rest.now reader.list reader.later reader.book
 
--- a reader goes on in the same text
-abbrev pub GoesOn : BookReader → BookReader → Type 0
-GoesOn old new = (bytes : List ℕ) → ReadsOnBy bytes old → ReadsOnBy bytes new
+-- a reader that is further on in the same text
+abbrev pub IsFurther : BookReader → BookReader → Type 0
+IsFurther old new = (bytes : List ℕ) → ReadsOnBy bytes old → ReadsOnBy bytes new
 
 -- each row was new in the book, which now has them all
 pub record TakesRows (rows : List (RowKey × RowVal)) (old new : Rows) : Type 0 where

@@ -28,7 +28,7 @@ pub(crate) struct BookReader<'a> {
 impl<'a> BookReader<'a> {
     ghost use Rattle.std.specs.Prelude.{◌≡◌, ℕ, List, Ok, IfOk, IfSome, IsTrue};
     ghost use Rattle.book_laws.specs.Reading.{reading};
-    ghost use Rattle.book_json.specs.ReadsOn.{ReadsOnBy, GoesOn};
+    ghost use Rattle.book_json.specs.ReadsOn.{ReadsOnBy, IsFurther};
 
     /// A reader of a text, if it begins as a book's, with room for so many rows.
     pub(crate) fn new(
@@ -56,7 +56,7 @@ impl<'a> BookReader<'a> {
     /// Goes on behind the entries of a share, whose rows the book is given. Returns whether they stand there, and none is of a row that
     /// stands in the text before them.
     pub(crate) fn add(&mut self, share: &ReadShare<'_>) -> Result<bool, AllocError>
-        ensures { IfOk result (λ is_added. IsTrue is_added → GoesOn self.old self.new) }
+        ensures { IfOk result (λ is_added. IsTrue is_added → IsFurther self.old self.new) }
     {
         if !self.enter(share.list)? || self.later != share.later {
             return Ok(false);
@@ -91,7 +91,7 @@ impl<'a> BookReader<'a> {
     // Goes on to the beginning of this list, unless it is there. Returns whether all lists before it end here.
     fn enter(&mut self, list: RowList) -> Result<bool, AllocError>
         ensures there { IfOk result (λ is_there. IsTrue is_there → self.new.list ≡ list) }
-        ensures on { IfOk result (λ is_there. IsTrue is_there → GoesOn self.old self.new) }
+        ensures on { IfOk result (λ is_there. IsTrue is_there → IsFurther self.old self.new) }
     {
         for _ in 0..LISTS {
             if self.list == list {
@@ -106,7 +106,7 @@ impl<'a> BookReader<'a> {
 
     // Goes on to the next list. Returns whether there is one, and it begins here.
     fn leave(&mut self) -> Result<bool, AllocError>
-        ensures { IfOk result (λ is_left. IsTrue is_left → GoesOn self.old self.new) }
+        ensures { IfOk result (λ is_left. IsTrue is_left → IsFurther self.old self.new) }
     {
         let Some(next) = list_behind(self.list) else {
             return Ok(false);

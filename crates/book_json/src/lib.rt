@@ -2,6 +2,7 @@
 #![tactic(auto)]
 
 mod book_reader;
+mod cutting;
 mod lists;
 mod read_share;
 mod reading;

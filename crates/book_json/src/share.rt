@@ -11,7 +11,6 @@ use book_text::{JsonWriter, write_entry};
 use json::{Reader, Scratch};
 use memchr::memmem;
 use std::alloc::{AllocError, Global};
-use std::mem;
 
 // About how many bytes the entry of a row takes at least: room for so many rows is made at once.
 const BYTES_OF_A_ROW: usize = 60;
@@ -22,8 +21,8 @@ pub(crate) struct Share<'a> {
     list: RowList,
     later: bool,
     text: &'a [u8],
-    // `None` where they aren't read, or the text isn't what is written of them.
-    read: Result<Option<ReadShare<'a>>, AllocError>,
+    // `None` where they aren't read yet; a `None` within it where the text isn't what is written of them.
+    read: Option<Result<Option<ReadShare<'a>>, AllocError>>,
 }
 
 impl<'a> Share<'a> {
@@ -33,13 +32,15 @@ impl<'a> Share<'a> {
             list,
             later,
             text,
-            read: Ok(None),
+            read: None,
         }
     }
 
-    /// Reads the rows.
-    pub(crate) fn read(&mut self, alloc: Global, scratch: &mut Scratch) {
-        self.read = read_rows(alloc, scratch, self.list, self.later, self.text);
+    /// Reads the rows, unless they are read.
+    pub(crate) fn read(&mut self, alloc: Global) {
+        if self.read.is_none() {
+            self.read = Some(read_rows(alloc, self.list, self.later, self.text));
+        }
     }
 
     /// About how many rows the entries have, by the first one.
@@ -51,16 +52,18 @@ impl<'a> Share<'a> {
         (self.text.len() / first.max(BYTES_OF_A_ROW)).saturating_add(1)
     }
 
-    /// What was read, which is handed over.
-    pub(crate) fn take(&mut self) -> Result<Option<ReadShare<'a>>, AllocError> {
-        mem::replace(&mut self.read, Ok(None))
+    /// What was read, which is handed over. It is read now where it wasn't.
+    pub(crate) fn take(&mut self, alloc: Global) -> Result<Option<ReadShare<'a>>, AllocError> {
+        match self.read.take() {
+            Some(read) => read,
+            None => read_rows(alloc, self.list, self.later, self.text),
+        }
     }
 }
 
 // The rows of a text of entries, if it is what is written of them.
 fn read_rows<'a>(
     alloc: Global,
-    scratch: &mut Scratch,
     list: RowList,
     later: bool,
     text: &'a [u8],
@@ -69,7 +72,8 @@ fn read_rows<'a>(
     let Ok(entries) = str::from_utf8(entries) else {
         return Ok(None);
     };
-    let mut entries = WrittenText::new(Reader::new(entries, scratch)?);
+    let mut scratch = Scratch::new(alloc);
+    let mut entries = WrittenText::new(Reader::new(entries, &mut scratch)?);
     let mut rows = Vec::new(alloc);
     rows.reserve(text.len() / BYTES_OF_A_ROW)?;
     let mut made = Vec::new(alloc);

@@ -4,6 +4,7 @@
 mod digest;
 mod escapes;
 mod field_writers;
+mod help;
 mod json_writer;
 mod listed_rows;
 mod member;
@@ -11,6 +12,7 @@ mod parts;
 mod ranges;
 mod row_writers;
 mod text_buffer;
+mod work_ahead;
 mod writing;
 
 pub use digest::digest_of_book;
@@ -20,10 +22,12 @@ pub use field_writers::{
     optional_identity_field, paid_field, prefix_field, processing_field, stamp_field, stan_field,
     status_field,
 };
+pub use help::{Help, lock_meanwhile, with_help};
 pub use json_writer::JsonWriter;
 pub use listed_rows::ListedRows;
 pub use member::Member;
 pub use parts::{emptied, first_piece, last_piece, list_behind, piece_between, rows_piece};
 pub use ranges::row_is_read;
 pub use row_writers::write_entry;
+pub use work_ahead::WorkAhead;
 pub use writing::{open_list, write_book};

@@ -71,8 +71,16 @@ impl<'a> ListedRows<'a> {
         }
     }
 
+    /// How many rows stand before those whose kind is that of the list.
+    pub fn first_of_kind(&self, list: RowList) -> usize
+        ensures { result ≤ length self.now }
+    {
+        let kind = kind_of_list(list);
+        self.rows.partition_point(|row| row.0.kind() < kind)
+    }
+
     /// The rows whose kind is that of the list: where all rows are that stand in it.
-    pub(crate) fn of_kind(&self, list: RowList) -> &'a [(&'a RowKey, &'a RowVal)]
+    pub fn of_kind(&self, list: RowList) -> &'a [(&'a RowKey, &'a RowVal)]
         ensures rows { rows_of list (map deref_pair result.now) ≡ rows_of list self.now }
         ensures kinds { AllOfKind (map deref_pair result.now) }
     {

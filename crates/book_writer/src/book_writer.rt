@@ -3,11 +3,10 @@ use crate::of_rows::OfRows;
 use crate::pieces::BookPieces;
 use crate::sheets::Sheets;
 use crate::sorting::Sorting;
-use rayon::current_num_threads;
+use book_text::{Help, with_help};
 use std::alloc::AllocError;
 use std::sync::{OnceLock, Wait};
-use std::thread;
-use std::thread::{Threads, join_mut};
+use std::thread::Threads;
 
 // Of fewer rows no thread but the one that takes the pieces makes text.
 const MANY: usize = 2048;
@@ -48,13 +47,6 @@ impl<'s, 'a, B: OfRows> BookWriter<'s, 'a, B> {
         Listing::new(self.sorting.alloc(), rows).ok()
     }
 
-    // Sorts and lists the rows if nobody did, and writes sheets ahead until all are written or the writer is closed.
-    fn help<R: Wait>(&self, rt: &R) {
-        if let Some(listing) = self.listing(rt) {
-            self.sheets.help(rt, listing);
-        }
-    }
-
     /// The text of the book that has these rows. No piece is made yet. It fails only where memory runs out.
     pub fn pieces<'d, R: Wait>(&'d self, rt: &'d R) -> Result<BookPieces<'d, R, B>, AllocError>
         ensures rest { IfOk result (λ pieces. (book : Rows) → B.rows ≡ map.entries book → rest_of pieces.left ≡ book_text book) }
@@ -66,8 +58,16 @@ impl<'s, 'a, B: OfRows> BookWriter<'s, 'a, B> {
             None => Err(AllocError),
         }
     }
+}
 
-    // Ends the help of other threads.
+impl<B: OfRows + Send + Sync> Help for BookWriter<'_, '_, B> {
+    // Sorts and lists the rows if nobody did, and writes sheets ahead until all are written or no more are needed.
+    fn help<R: Wait>(&self, rt: &R) {
+        if let Some(listing) = self.listing(rt) {
+            self.sheets.help(rt, listing);
+        }
+    }
+
     fn close(&self) {
         self.sheets.close();
     }
@@ -79,32 +79,9 @@ impl<B: OfRows + Send + Sync> BookWriter<'_, '_, B> {
         requires { F.pre work.old }
         ensures { F.step work.old result work.new }
     {
-        let helpers = current_num_threads(rt) - 1;
-        if self.sorting.len() < MANY || helpers == 0 {
+        if self.sorting.len() < MANY {
             return work();
         }
-        let (_, done) = join_mut(
-            rt,
-            &mut || self.help_in(rt, helpers),
-            &mut || -> T
-                requires { F.pre work.now }
-                ensures { F.step work.entry.now result work.exit.now }
-            {
-                let done = work();
-                self.close();
-                done
-            },
-        );
-        done
-    }
-
-    // Helps whoever takes the pieces, in so many threads, this one among them, until the writer is closed.
-    fn help_in<R: Threads + Wait + Sync>(&self, rt: &R, threads: usize) {
-        thread::scope(thread::scope_env(), rt, move |scope| {
-            for _ in 1..threads {
-                let _ = scope.spawn(move || self.help(rt));
-            }
-            self.help(rt);
-        });
+        with_help(rt, self, work)
     }
 }

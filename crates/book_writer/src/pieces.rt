@@ -72,7 +72,7 @@ impl<'a, R: Wait, B: OfRows> BookPieces<'a, R, B> {
         }
     }
 
-    // Of which rows the next sheet is; where it isn't of the next ones in the list, some of these.
+    // Of which rows the next sheet is, behind what stands before them; where it isn't of the next ones in the list, some of these.
     fn next_span(&self, list: RowList) -> Span
         requires { self.now.left.at < length self.now.left.rows.now }
         ensures list { result.list ≡ list }
@@ -88,7 +88,10 @@ impl<'a, R: Wait, B: OfRows> BookPieces<'a, R, B> {
             ..
         } = self.left;
         match self.listing.span(self.next) {
-            Some(span) if span.fits(list, at, later) && span.is_within(rows.len()) => span,
+            Some(span) if span.begins(list, at) && span.is_within(rows.len()) => Span {
+                later,
+                ..span
+            },
             _ => self.left.next_rows(list),
         }
     }

@@ -2,33 +2,19 @@ use crate::listing::Listing;
 use crate::of_rows::OfRows;
 use crate::sheet::Sheet;
 use crate::span::Span;
+use book_text::{WorkAhead, lock_meanwhile};
 use std::alloc::{AllocError, Global};
-use std::sync::atomic::AtomicUsize;
-use std::sync::atomic::Ordering::SeqCst;
-use std::sync::{Condvar, Mutex, MutexGuard, Wait};
-use std::thread;
-use std::time::Duration;
+use std::sync::{Mutex, Wait};
 
 // How many sheets are written ahead at most.
 const SHEETS: usize = 32;
-
-// How many microseconds a helper sleeps at a time while so many are written.
-const NAP: u64 = 100;
-
-// How often it is looked whether a sheet is written, before the thread that needs it sleeps.
-const TRIES: u32 = 1000;
 
 /// Sheets of the rows of a listing, one behind another, which several threads write ahead.
 #[derive(Drop)]
 pub(crate) struct Sheets<B: OfRows> {
     // A sheet stands at its number's remainder, so that it has the memory of an earlier one.
     sheets: Vec<Mutex<Sheet<B>>>,
-    // The number of the next sheet that nobody writes.
-    drawn: AtomicUsize,
-    // The number of the sheet that is taken next.
-    taken: AtomicUsize,
-    // Where helpers are parked. Nobody notifies them.
-    parked: Condvar,
+    ahead: WorkAhead,
 }
 
 impl<B: OfRows> Sheets<B> {
@@ -43,41 +29,42 @@ impl<B: OfRows> Sheets<B> {
         }
         Ok(Sheets {
             sheets,
-            drawn: AtomicUsize::new(0),
-            taken: AtomicUsize::new(0),
-            parked: Condvar::new(),
+            ahead: WorkAhead::new(SHEETS),
         })
     }
 
     /// Writes sheets ahead, one after another, as long as there are any.
     pub(crate) fn help<R: Wait>(&self, rt: &R, listing: &Listing<'_, B>) {
         for _ in rt.forever() {
-            let number = self.drawn.fetch_add(1, SeqCst);
+            let number = self.ahead.draw();
             let Some(span) = listing.span(number) else {
                 return;
             };
-            self.await_room(rt, number);
-            if self.taken.load(SeqCst) <= number {
-                self.write(rt, listing, number, span);
-            }
+            self.ahead.await_room(rt, number);
+            self.write(rt, listing, number, span);
         }
     }
 
-    // Waits until the sheet of this number is not too far ahead.
-    fn await_room<R: Wait>(&self, rt: &R, number: usize) {
-        for _ in rt.forever() {
-            if number < self.taken.load(SeqCst).saturating_add(SHEETS) {
-                return;
-            }
-            let time = Duration::from_micros(NAP);
-            self.parked.sleep(rt, self.parked.notifications(), time);
-        }
+    // Writes the next sheet that nobody writes. Returns whether there was one.
+    fn write_next<R: Wait>(&self, rt: &R, listing: &Listing<'_, B>) -> bool {
+        let Some(number) = self.ahead.try_draw() else {
+            return false;
+        };
+        let Some(span) = listing.span(number) else {
+            return false;
+        };
+        self.write(rt, listing, number, span);
+        true
     }
 
-    // Writes the sheet of this number.
+    // Writes the sheet of this number, if it is still needed.
     fn write<R: Wait>(&self, rt: &R, listing: &Listing<'_, B>, number: usize, span: Span) {
-        if let Some(sheet) = self.sheet(number) {
-            sheet.lock(rt).write(listing.rows(), span);
+        let Some(sheet) = self.sheet(number) else {
+            return;
+        };
+        let mut sheet = sheet.lock(rt);
+        if self.ahead.is_needed(number) {
+            sheet.write(listing.rows(), span);
         }
     }
 
@@ -98,52 +85,14 @@ impl<B: OfRows> Sheets<B> {
     ) -> Option<bool>
         ensures { IfSome result (λ goes_on. IsTextOf B.rows span text.new.items goes_on) }
     {
-        let mut sheet = self.written(rt, listing, number)?;
-        self.taken.store(number.saturating_add(1), SeqCst);
-        sheet.take(span, text)
-    }
-
-    // The sheet of this number, once nobody writes it.
-    fn written<R: Wait>(
-        &self,
-        rt: &R,
-        listing: &Listing<'_, B>,
-        number: usize,
-    ) -> Option<MutexGuard<'_, Sheet<B>>> {
         let sheet = self.sheet(number)?;
-        for _ in 0..TRIES {
-            if let Some(guard) = sheet.try_lock() {
-                return Some(guard);
-            }
-            if !self.write_next(rt, listing, number) {
-                thread::yield_now();
-            }
-        }
-        Some(sheet.lock(rt))
-    }
-
-    // Writes the next sheet that nobody writes, while this one is taken next. Returns whether there was one.
-    fn write_next<R: Wait>(&self, rt: &R, listing: &Listing<'_, B>, taken: usize) -> bool {
-        let number = self.drawn.load(SeqCst);
-        if number >= taken.saturating_add(SHEETS) {
-            return false;
-        }
-        let Some(span) = listing.span(number) else {
-            return false;
-        };
-        let next = number.saturating_add(1);
-        if self
-            .drawn
-            .compare_exchange(number, next, SeqCst, SeqCst)
-            .is_ok()
-        {
-            self.write(rt, listing, number, span);
-        }
-        true
+        let mut sheet = lock_meanwhile(rt, sheet, &|| self.write_next(rt, listing));
+        self.ahead.end_piece(number);
+        sheet.take(span, text)
     }
 
     /// Says that no more sheets are taken, so that helpers end.
     pub(crate) fn close(&self) {
-        self.taken.store(usize::MAX, SeqCst);
+        self.ahead.close();
     }
 }

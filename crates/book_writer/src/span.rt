@@ -1,64 +1,42 @@
+ghost use Rattle.std.specs.Prelude.{◌<◌};
+
 use book_laws::RowList;
-use book_text::{ListedRows, rows_piece};
-use issuer_rows::RowVal;
+use book_text::{ListedRows, list_behind, rows_piece};
 use std::alloc::{AllocError, Global};
 
 /// How many entries stand on a sheet at most.
 pub(crate) const ENTRIES: usize = 256;
 
-// The lists, as they stand in the text.
-const LISTS: [RowList; 6] = [
-    RowList::Accounts,
-    RowList::Ahead,
-    RowList::Budgets,
-    RowList::Cards,
-    RowList::Days,
-    RowList::Originals,
-];
+// How many lists there are.
+const LISTS: usize = 6;
 
-// The place among the lists of that in which a row with this value stands. Mostly it is that of the row before.
-fn list_of(val: &RowVal, before: usize) -> usize {
-    match LISTS.get(before) {
-        Some(list) if list.has(val) => before,
-        _ => LISTS.iter().position(|list| list.has(val)).unwrap_or(0),
+// How many rows of a list's kind a span has at most. Marks stand among originals and are few.
+fn most_rows(list: RowList) -> usize
+    ensures { 0 < result }
+{
+    match list {
+        RowList::Ahead => 16 * ENTRIES,
+        _ => ENTRIES,
     }
 }
 
-// The spans of a list, and how many entries stand behind the last one.
-#[derive(Drop)]
-struct ListCut {
+// Adds the spans of a list. The first one begins at the first row, and the last one ends behind the last.
+fn add_spans(
     list: RowList,
-    spans: Vec<Span>,
-    at: usize,
-    entries: usize,
-}
-
-impl ListCut {
-    fn new(alloc: Global, list: RowList) -> ListCut {
-        ListCut {
-            list,
-            spans: Vec::new(alloc),
-            at: 0,
-            entries: 0,
-        }
+    rows: &ListedRows<'_>,
+    spans: &mut Vec<Span>,
+) -> Result<(), AllocError> {
+    let most = most_rows(list);
+    let count = rows.of_kind(list).len();
+    let mut at = 0;
+    let mut end = rows.first_of_kind(list);
+    for _ in 0..count.saturating_sub(1) / most {
+        end = end.saturating_add(most);
+        spans.push(Span::new(list, at, end))?;
+        at = end;
     }
-
-    // Takes an entry, the row at this place. Where a sheet has no room for it, a span ends before it.
-    fn add_entry(&mut self, place: usize) -> Result<(), AllocError> {
-        if self.entries == ENTRIES {
-            self.end(place)?;
-            self.entries = 0;
-        }
-        self.entries = self.entries.saturating_add(1);
-        Ok(())
-    }
-
-    // Ends a span before the row at this place.
-    fn end(&mut self, place: usize) -> Result<(), AllocError> {
-        self.spans.push(Span::new(self.list, self.at, place))?;
-        self.at = place;
-        Ok(())
-    }
+    spans.push(Span::new(list, at, rows.len()))?;
+    Ok(())
 }
 
 /// Rows from one place up to another, of which those in a list stand on one sheet.
@@ -75,23 +53,16 @@ impl Span {
     ghost use Rattle.std.specs.Prelude.{◌≡◌, ◌<◌, ◌≤◌, [], true, length, IsTrue, IfOk};
     ghost use Rattle.book_writer.specs.Sheets.{IsTextOf};
 
-    /// All rows for each list in turn, cut so that no sheet has too many entries. The rows are gone through once.
+    /// All rows for each list in turn, cut so that no sheet has too many entries. No row is looked at for it.
     pub(crate) fn all(alloc: Global, rows: &ListedRows<'_>) -> Result<Vec<Span>, AllocError> {
-        let mut cuts = Vec::new(alloc);
-        for list in LISTS {
-            cuts.push(ListCut::new(alloc, list))?;
-        }
-        let mut current = 0;
-        for (place, row) in rows.as_slice().iter().enumerate() {
-            current = list_of(row.1, current);
-            if let Some(cut) = cuts.get_mut(current) {
-                cut.add_entry(place)?;
-            }
-        }
         let mut spans = Vec::new(alloc);
-        for mut cut in cuts {
-            cut.end(rows.len())?;
-            spans.append(&mut cut.spans)?;
+        let mut next = Some(RowList::Accounts);
+        for _ in 0..LISTS {
+            let Some(list) = next else {
+                break;
+            };
+            add_spans(list, rows, &mut spans)?;
+            next = list_behind(list);
         }
         Ok(spans)
     }
@@ -114,20 +85,19 @@ impl Span {
         self.at < self.end && self.end <= len
     }
 
-    /// Whether it is of this list, from this row on, behind as much.
-    pub(crate) fn fits(self, list: RowList, at: usize, later: bool) -> bool
+    /// Whether it is of this list, from this row on.
+    pub(crate) fn begins(self, list: RowList, at: usize) -> bool
         ensures list { IsTrue result → self.list ≡ list }
         ensures at { IsTrue result → self.at ≡ at }
-        ensures later { IsTrue result → self.later ≡ later }
     {
-        self.list == list && self.at == at && self.later == later
+        self.list == list && self.at == at
     }
 
     /// Whether it is this one.
     pub(crate) fn is(self, other: Span) -> bool
         ensures { IsTrue result → self ≡ other }
     {
-        self.end == other.end && self.fits(other.list, other.at, other.later)
+        self.begins(other.list, other.at) && self.end == other.end && self.later == other.later
     }
 
     /// The text of those of its rows that stand in the list, and whether an entry stands before the rows behind them.

@@ -4,7 +4,7 @@ use Rattle.std.specs.FinMap as map
 use Rattle.issuer_rows.specs.Fold.{Rows}
 use Rattle.book_json.specs.ReadsOn.{TakesRows, pairs_of}
 use Rattle.book_json.specs.declared.row.Row.{Row}
-use Rattle.book_json.proofs.Onward.{takes_one, takes_none, new_by_len}
+use Rattle.book_json.proofs.ReadsOn.{takes_one, takes_none, new_by_len}
 use Rattle.book_json.proofs.book_reader.put_rows.Goals as goal
 
 pub loop-row-preserved : goal.loop-row-preserved

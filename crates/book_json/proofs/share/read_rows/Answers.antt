@@ -10,7 +10,7 @@ use Rattle.book_text.specs.Left.{tokens_of_entries}
 use Rattle.book_text.proofs.Tokens.{no_token}
 use Rattle.book_json.specs.ReadsOn.{pairs_of}
 use Rattle.book_json.specs.declared.row.Row.{Row}
-use Rattle.book_json.proofs.Onward.{one_more, entries_more}
+use Rattle.book_json.proofs.ReadsOn.{one_more, entries_more}
 use Rattle.book_json.proofs.share.read_rows.Goals as goal
 
 pub loop-init : goal.loop-init

@@ -2,7 +2,7 @@ use Rattle.std.proofs.Common.{◌≡◌, Bool, List, sym, subst, rules}
 use Rattle.book_laws.specs.declared.row_list.RowList.{RowList}
 use Rattle.book_json.specs.ReadsOn.{ReadsOn, TakesRows, pairs_of}
 use Rattle.book_json.specs.declared.row.Row.{Row}
-use Rattle.book_json.proofs.Onward.{goes_on}
+use Rattle.book_json.proofs.ReadsOn.{goes_on}
 use Rattle.book_json.proofs.book_reader.BookReader.add.Goals as goal
 
 pub returns : goal.returns

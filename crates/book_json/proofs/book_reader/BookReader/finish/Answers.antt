@@ -4,7 +4,7 @@ use Rattle.book_laws.specs.declared.row_list.RowList.{RowList}
 use Rattle.book_laws.specs.declared.row_list.RowList.TheVariants.{Originals}
 use Rattle.book_text.specs.Pieces.{last_tokens}
 use Rattle.book_json.specs.ReadsOn.{ReadsOn}
-use Rattle.book_json.proofs.Onward.{ends}
+use Rattle.book_json.proofs.ReadsOn.{ends}
 use Rattle.book_json.proofs.book_reader.BookReader.finish.Goals as goal
 
 pub returns : goal.returns

@@ -1,5 +1,5 @@
 use Rattle.std.proofs.Common.{sym, ◌∙◌}
-use Rattle.book_json.proofs.Onward.{leaves}
+use Rattle.book_json.proofs.ReadsOn.{leaves}
 use Rattle.book_json.proofs.book_reader.BookReader.leave.Goals as goal
 
 pub returns : goal.returns

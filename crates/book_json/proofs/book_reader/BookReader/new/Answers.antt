@@ -2,7 +2,7 @@ use Rattle.std.proofs.Common.{ℕ, ◌++◌, List, false, ap, sym, ◌∙◌, su
 use Rattle.issuer_rows.specs.Fold.{Rows}
 use Rattle.book_laws.specs.declared.row_list.RowList.TheVariants.{Accounts}
 use Rattle.book_json.specs.ReadsOn.{ReadsOn}
-use Rattle.book_json.proofs.Onward.{begins}
+use Rattle.book_json.proofs.ReadsOn.{begins}
 use Rattle.book_json.proofs.book_reader.BookReader.new.Goals as goal
 
 pub returns : goal.returns
