@@ -3,6 +3,7 @@
 ghost use Rattle.std.specs.Prelude.{◌<◌};
 
 use crate::hosts::served;
+use crate::{FIRST_REPLY, LINK, REPLIES};
 use file_devices::FailingSource;
 use host_commands::Settings;
 use issuer_rows::Book;
@@ -11,7 +12,6 @@ use std::sync::Wait;
 use std::test::Fail;
 use std::thread::Threads;
 use test_fixtures::first_book_with;
-use test_links::{FIRST_REPLY, LINK, REPLIES};
 
 // Whether `serve` over a source that gives so many bytes at once, and fails behind so many calls, returns this status, writes this and says
 // that.

@@ -1,5 +1,9 @@
 //! Hosts over their files: the words that ask for one, and hosts that are opened again on their log.
 
+use crate::{
+    FIRST, FIRST_REPLY, LINK, NO_MESSAGE, REPEAT, REPLIES, SECOND, SECOND_REPLY, copy_of, files,
+    open, serve_link,
+};
 use file_devices::{FailingSink, Source};
 use host_commands::{HostAsked, Logs, Settings, host_asked, serve};
 use host_opening::OpeningFault;
@@ -13,10 +17,6 @@ use std::sync::Wait;
 use std::test::Fail;
 use std::thread::Threads;
 use test_fixtures::{first_book_with, has_row};
-use test_links::{
-    FIRST, FIRST_REPLY, LINK, NO_MESSAGE, REPEAT, REPLIES, SECOND, SECOND_REPLY, copy_of, files,
-    open, serve_link,
-};
 
 // Logs that all have these bytes, in files that answer so many calls.
 #[derive(Drop)]

@@ -2,10 +2,10 @@
 
 ghost use Rattle.std.specs.Prelude.{◌<◌};
 
+use crate::{FIRST, LINK, REPEAT};
 use file_devices::{FailingSource, Source};
 use link_frames::{Front, LinkFault, LinkReader, front_of};
 use std::alloc::{AllocError, Global};
-use test_links::{FIRST, LINK, REPEAT};
 
 // What a link came to: the frames that were given, how many they are, and the fault that ended it, if any.
 #[derive(Drop)]

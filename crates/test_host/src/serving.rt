@@ -2,6 +2,9 @@
 
 ghost use Rattle.std.specs.Prelude.{◌<◌};
 
+use crate::{
+    ECHO, ECHO_REPLY, FIRST, FIRST_REPLY, LINK, NO_MESSAGE, REPEAT, REPLIES, SECOND, SECOND_REPLY,
+};
 use file_devices::{FailingSink, FailingSource};
 use host_serving::{Decider, Host, HostFault, MaxBatch, Tally, Unwatched};
 use issuer_rows::Book;
@@ -13,9 +16,6 @@ use std::alloc::Global;
 use std::test::Fail;
 use std::thread::Threads;
 use test_fixtures::{first_book_with, has_row};
-use test_links::{
-    ECHO, ECHO_REPLY, FIRST, FIRST_REPLY, LINK, NO_MESSAGE, REPEAT, REPLIES, SECOND, SECOND_REPLY,
-};
 
 // The digest of the opening book's text, as the log's header has it.
 const BOOK: [u8; 32] = [7; 32];

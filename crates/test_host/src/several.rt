@@ -1,6 +1,10 @@
 //! Several links at one host, over devices in memory. What each gets doesn't depend on the order of their turns, or is told by the log.
 
 use crate::hosts::{CopiedLogs, words_of};
+use crate::{
+    ECHO, ECHO_REPLY, FIRST, FIRST_REPLY, LINK, REPEAT, REPLIES, SECOND, SECOND_REPLY, copy_of,
+    files, open, serve_link,
+};
 use file_devices::{FailingSink, FailingSource};
 use host_commands::{AskedLinks, LinkNames, Settings, links_asked, serve_links};
 use host_links::{LinksOutcome, Seat, serve_links as serve_at};
@@ -15,10 +19,6 @@ use std::sync::Wait;
 use std::test::Fail;
 use std::thread::Threads;
 use test_fixtures::{first_book_with, has_row};
-use test_links::{
-    ECHO, ECHO_REPLY, FIRST, FIRST_REPLY, LINK, REPEAT, REPLIES, SECOND, SECOND_REPLY, copy_of,
-    files, open, serve_link,
-};
 
 // A link of these bytes, whose sink answers so many calls.
 fn seat<'a>(alloc: Global, bytes: &'a [u8], answers: u64) -> Seat<FailingSource<'a>, FailingSink> {

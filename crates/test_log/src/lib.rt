@@ -1,4 +1,4 @@
-//! Tests of logs: their bytes, faults, torn tails, files that fail, and files of the host.
+//! Tests of logs: their bytes, faults, torn tails, files that fail, and files of the host; and logs that are decided again.
 #![tactic(auto)]
 
 #[cfg(test)]
@@ -7,6 +7,8 @@ mod failing;
 mod faults;
 #[cfg(test)]
 mod host;
+#[cfg(test)]
+mod replays;
 #[cfg(test)]
 mod texts;
 #[cfg(test)]

@@ -1,6 +1,6 @@
 //! The lines of a message: every kind of row, absent ones, and masked numbers.
 
-use crate::rules::explanation;
+use crate::why::rules::explanation;
 use iso_shown::CardNumbers;
 use reason_json::why_line;
 use reason_text::lines_of;

@@ -14,7 +14,7 @@ use std::sync::Wait;
 use std::test::Fail;
 use std::thread::Threads;
 use test_fixtures::{first_book_with, has_row};
-use test_links::{FIRST, LINK, SECOND, copy_of, files, serve_link};
+use test_host::{FIRST, LINK, SECOND, copy_of, files, serve_link};
 
 // A log in memory.
 #[derive(Drop)]

@@ -1,6 +1,6 @@
 //! The commands one after another, and folders that are refused.
 
-use crate::day::{bytes_of, files};
+use crate::parts::day::{bytes_of, files};
 use app_jobs::serial_batch;
 use app_parts::{answer_parts, parts_asked};
 use file_batch::Strictness;
