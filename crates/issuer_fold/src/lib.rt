@@ -2,12 +2,14 @@
 #![tactic(auto)]
 
 mod frames;
+mod look_ahead;
 mod plain_rows;
 mod prefix;
 mod run_outcome;
 mod serial;
 
 pub use frames::are_same_frames;
+pub use look_ahead::LookAhead;
 pub use plain_rows::PlainRows;
 pub use prefix::Prefix;
 pub use run_outcome::RunOutcome;

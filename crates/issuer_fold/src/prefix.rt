@@ -2,6 +2,7 @@ ghost use Rattle.std.specs.Prelude.{◌≡◌, ◌+◌, ◌<◌, ◌^◌, [], �
 ghost use Rattle.issuer_rows.specs.Agreement.{IsLocal};
 ghost use Rattle.issuer_view.specs.Words.{AgreesWithBook, overlay, reply_of, rows_after_one};
 
+use crate::look_ahead::LookAhead;
 use issuer_rows::{Book, CardPlaces, Frame, Places, ReplyBody};
 use issuer_view::{Execution, ReadSet, Stop, WriteSet};
 use std::alloc::{AllocError, Global};
@@ -60,9 +61,10 @@ impl Prefix {
         Ok(())
     }
 
-    // Where the rows may stand that the first bodies ask for, as many as there are places.
-    pub(crate) fn look_ahead(&self, frames: &[Frame], ahead: &mut [Places]) {
-        self.cards.look_ahead(&self.book, frames, ahead);
+    /// Where the rows may stand that the body at this index asks for: a hint alone. Those of the bodies behind it are looked at ahead.
+    #[inline(always)]
+    pub fn places_at(&self, frames: &[Frame], index: usize, ahead: &mut LookAhead) -> Places {
+        ahead.places_at(&self.cards, &self.book, frames, index)
     }
 
     /// Where the rows may stand that a body asks for: a hint alone.

@@ -4,14 +4,12 @@ ghost use Rattle.issuer_rows.specs.Agreement.{IsLocal};
 ghost use Rattle.issuer_rows.specs.Fold.{rows_after, replies_to, rows_after_one, reply_of};
 ghost use Rattle.issuer_view.specs.Words.{AgreesWithBook};
 
+use crate::look_ahead::LookAhead;
 use crate::plain_rows::PlainRows;
 use crate::prefix::Prefix;
 use issuer_rows::{Frame, Places};
 use issuer_view::{Decide, ReadSet, Recorder, WriteSet};
 use std::alloc::{AllocError, Global};
-
-// For how many bodies the rows are looked at ahead at once.
-const AHEAD: usize = 16;
 
 impl Prefix {
     /// Decides one more body, whose rows may stand at these places, by any local decision. What it read and wrote is left in the two sets,
@@ -59,13 +57,10 @@ impl Prefix {
         self.replies.reserve(frames.len())?;
         let mut reads = ReadSet::new(alloc);
         let mut writes = WriteSet::new(alloc);
-        let mut ahead = [Places::new(); AHEAD];
+        let mut ahead = LookAhead::new();
         let mut index: usize = 0;
         for frame in frames {
-            if index % AHEAD == 0 {
-                self.look_ahead(frames.get(index..).unwrap_or(&[]), &mut ahead);
-            }
-            let places = ahead[index % AHEAD];
+            let places = self.places_at(frames, index, &mut ahead);
             self.decide_one(frame, decision, places, &mut reads, &mut writes)?;
             index = index.wrapping_add(1);
         }

@@ -6,13 +6,10 @@ ghost use Rattle.issuer_rows.specs.Fold.{Rows, reply_of, rows_after_one};
 ghost use Rattle.issuer_view.specs.Words.{AgreesWithBook};
 
 use crate::formers::Formers;
-use issuer_fold::PlainRows;
+use issuer_fold::{LookAhead, PlainRows};
 use issuer_rows::{Book, CardPlaces, Frame, Places, ReplyBody};
 use issuer_view::{Decide, ReadSet, Recorder, Stop, WriteSet};
 use std::alloc::{AllocError, Global};
-
-// For how many bodies the rows are looked at ahead at once.
-const AHEAD: usize = 16;
 
 // How many rows a book has at most for each body of a batch, so that finding its cards' rows at once is worth it.
 const FEW_ROWS: usize = 8;
@@ -69,13 +66,10 @@ impl InPlace {
         let mut cards = cards_of(alloc, book, frames.len())?;
         let mut reads = ReadSet::new(alloc);
         let mut writes = WriteSet::new(alloc);
-        let mut ahead = [Places::new(); AHEAD];
+        let mut ahead = LookAhead::new();
         let mut index: usize = 0;
         for frame in frames {
-            if index % AHEAD == 0 {
-                cards.look_ahead(book, frames.get(index..).unwrap_or(&[]), &mut ahead);
-            }
-            let mut places = ahead[index % AHEAD];
+            let mut places = ahead.places_at(&cards, book, frames, index);
             self.decide_one(book, frame, decision, &mut places, &mut reads, &mut writes)?;
             cards.note(frame, &places);
             index = index.wrapping_add(1);

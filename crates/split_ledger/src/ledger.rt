@@ -7,7 +7,7 @@ ghost use Rattle.split_ledger.specs.declared.commit_outcome.CommitOutcome.TheVar
 use crate::agreement::agrees;
 use crate::commit_outcome::CommitOutcome;
 use crate::frames::is_at;
-use issuer_fold::{Prefix, are_same_frames};
+use issuer_fold::{LookAhead, Prefix, are_same_frames};
 use issuer_rows::{Book, Frame, Places};
 use issuer_view::{Decide, Execution, ReadSet, WriteSet};
 use std::alloc::{AllocError, Global};
@@ -20,6 +20,7 @@ pub struct Ledger<'a> {
     opening: &'a Book,
     frames: &'a [Frame],
     prefix: Prefix,
+    ahead: LookAhead,
 }
 
 impl<'a> Model for Ledger<'a> {
@@ -53,6 +54,7 @@ impl<'a> Ledger<'a> {
             opening,
             frames,
             prefix: empty_prefix(alloc, opening, frames.len())?,
+            ahead: LookAhead::new(),
         })
     }
 
@@ -119,8 +121,9 @@ impl<'a> Ledger<'a> {
             IsLocal frame reads.new writes.new (reply_of (book_of self.old) frame))) }
         ensures otherwise { OnErr result (self.new ≡ self.old) }
     {
-        let frame = &self.frames[self.prefix.count as usize];
-        let places = self.prefix.places_of(frame);
+        let index = self.prefix.count as usize;
+        let frame = &self.frames[index];
+        let places = self.prefix.places_at(self.frames, index, &mut self.ahead);
         self.prefix
             .decide_one(frame, decision, places, reads, writes)
     }
@@ -144,6 +147,7 @@ impl<'a> Ledger<'a> {
             opening: _,
             frames: _,
             prefix,
+            ahead: _,
         } = self;
         prefix
     }
