@@ -1,5 +1,5 @@
 -- From what a batch came to, and that it is put in place, to files that are decided.
-use Rattle.std.proofs.Common.{◌≡◌, ◌<◌, ℕ, List, [], ◌∷◌, ◌∙◌, ap, inl, inr, sym, string_bytes, Ok, Err}
+use Rattle.std.proofs.Common.{◌≡◌, ◌⊎◌, ◌<◌, ℕ, List, [], ◌∷◌, ◌∙◌, ap, inl, inr, sym, string_bytes, Ok, Err}
 use Rattle.file_batch.specs.Counting.{Admits, count_of}
 use Rattle.file_batch.specs.declared.body_count.BodyCount.{BodyCount}
 use Rattle.file_batch.specs.declared.strictness.Strictness.{Strictness}
@@ -18,9 +18,9 @@ use Rattle.issuer_rows.specs.declared.frame.Frame.{Frame}
 use Rattle.app_jobs.specs.BlockFaults.{IsStrictBlocksFault}
 use Rattle.app_jobs.specs.Decided.{Holding, IsAnswered, IsBookOf}
 use Rattle.app_jobs.specs.Deciding.{DecidesFiles, PutsAnswer}
-use Rattle.app_jobs.specs.Faults.{IsAnsweringFault, IsBookFault, IsStrictFault, MayBeRefused, MayNotBePut}
+use Rattle.app_jobs.specs.Faults.{IsAnsweringFault, IsBookFault, IsOpeningFault, IsPuttingFault, IsStrictFault, IsWritingFault, MayBeRefused, MayNotBePut}
 use Rattle.app_jobs.specs.JobFault.{fault_of_write}
-use Rattle.app_jobs.proofs.Faults.{answering_more, putting_more, unput_file}
+use Rattle.app_jobs.proofs.Faults.{answering_more, putting_more, unput_file, writing_more}
 use Rattle.app_jobs.specs.declared.job_fault.JobFault.{JobFault}
 use Rattle.app_jobs.specs.declared.job_fault.JobFault.TheVariants.{Bodies}
 
@@ -90,6 +90,27 @@ unanswered is_known holds failing strictness old names rows fault opening h = re
   others = λ other replies book. untouched (holds old) other;
   known = λ k. k;
 }
+
+-- the book or the batch has a fault
+pub unread : {F : Type 0} (is_known : F → Type 0) (holds : F → Holding) (failing : F → Failing) (strictness : Strictness) (old : F) (names : Names) (fault : JobFault)
+    → IsOpeningFault (holds old) (failing old) names fault → DecidesFiles is_known holds failing strictness old old names (Err fault)
+unread is_known holds failing strictness old names fault (inl h) = unopened is_known holds failing strictness old names fault h
+unread is_known holds failing strictness old names fault (inr (some, h)) =
+    unanswered is_known holds failing strictness old names some.0 fault some.1 (inl (inl h))
+
+-- behind a batch, what it comes to isn't written
+pub answer_unwritten : (old : Holding) (failing : Failing) (names : Names) (frames : List Frame) (replies_may book_may may_fail : Type 0) (fault : JobFault)
+    → ((bytes : List ℕ) → old names.batch bytes → IsBatchOf bytes frames) → (replies_may → failing.writing names.replies) → (book_may → may_fail)
+    → IsWritingFault replies_may ⊥ fault ⊎ IsPuttingFault book_may fault → IsAnsweringFault old failing names may_fail fault
+answer_unwritten old failing names frames replies_may book_may may_fail fault messages writing booking (inl w) =
+    inl (inr (writing_more replies_may _ ⊥ _ fault writing (λ no. absurd no) w))
+answer_unwritten old failing names frames replies_may book_may may_fail fault messages writing booking (inr b) =
+    inr ((frames, messages), putting_more book_may may_fail fault booking b)
+
+-- or the file for it isn't made
+pub answer_unmade : (old : Holding) (failing : Failing) (names : Names) (frames : List Frame) (may_fail : Type 0) (e : WriteFault)
+    → ((bytes : List ℕ) → old names.batch bytes → IsBatchOf bytes frames) → (e ≡ write.Unwritable → may_fail) → IsAnsweringFault old failing names may_fail (fault_of_write e)
+answer_unmade old failing names frames may_fail e messages refused = inr ((frames, messages), unput_file may_fail e refused)
 
 -- where a batch is strict, and some of its bodies are no message, it is refused
 pub is_strict : (strictness : Strictness) (old : Holding) (batch : List ℕ) (frames : List Frame) (count : BodyCount) (fault : JobFault)

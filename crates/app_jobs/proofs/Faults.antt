@@ -1,6 +1,6 @@
 -- Faults of the parts of a job.
 use Rattle.std.proofs.Common.{◌≡◌, ◌⊎◌, ℕ, List, inl, inr, refl}
-use Rattle.std.specs.Prelude.{Err, IsTrue}
+use Rattle.std.specs.Prelude.{Result, Err, IsTrue}
 use Rattle.file_batch_laws.specs.BatchFault.{is_of_bytes}
 use Rattle.file_batch_laws.specs.Reading.{bodies_of, batch_magic}
 use Rattle.file_batch_laws.specs.declared.batch_fault.BatchFault.{BatchFault}
@@ -10,7 +10,7 @@ use Rattle.file_devices.specs.Failing.{Failing}
 use Rattle.file_devices.specs.declared.write_fault.WriteFault.{WriteFault}
 use Rattle.file_devices.specs.declared.write_fault.WriteFault.TheVariants as write
 use Rattle.app_jobs.specs.Decided.{Holding}
-use Rattle.app_jobs.specs.Faults.{IsAnsweringFault, IsReplyingFault, IsWritingFault, IsPuttingFault}
+use Rattle.app_jobs.specs.Faults.{IsAnswerFault, IsAnsweringFault, IsReplyingFault, IsWritingFault, IsPuttingFault}
 use Rattle.app_jobs.specs.JobFault.{fault_of_write}
 use Rattle.app_jobs.specs.declared.job_fault.JobFault.{JobFault}
 use Rattle.app_jobs.specs.declared.job_fault.JobFault.TheVariants.{Batch, Unwritable, OutOfMemory}
@@ -44,6 +44,13 @@ pub answering_more : (old : Holding) (failing : Failing) (names : Names) (may_fa
     → IsAnsweringFault old failing names may_fail fault → IsAnsweringFault old failing names others fault
 answering_more old failing names may_fail others fault more (inl h) = inl h
 answering_more old failing names may_fail others fault more (inr (some, h)) = inr (some, putting_more may_fail others fault more h)
+
+-- why replies or the book behind them are not written, where it is known why the call that writes the replies fails
+pub unwritten : {P : Type 0} (step : P → Result (Unit {0}) BatchFault → P → Type 0) (old new : P) (replies_may book_may : Type 0) (fault : JobFault)
+    → ((e : BatchFault) → step old (Err e) new → (¬ IsTrue (is_of_bytes e)) × (e ≡ Device → replies_may))
+    → IsAnswerFault step old new book_may fault → IsWritingFault replies_may ⊥ fault ⊎ IsPuttingFault book_may fault
+unwritten step old new replies_may book_may fault failed (inl called) = rw called.1 (inl (failed called.0 called.2))
+unwritten step old new replies_may book_may fault failed (inr h) = inr h
 
 -- a batch is read and replies are written: the fault of both is the batch's or the replies'
 pub unreplied : (old : Holding) (failing : Failing) (names : Names) (fault : BatchFault)

@@ -1,6 +1,6 @@
 -- Why a job on files is not done: the first fault of what a file holds, where its bytes are known; that a call failed, on a file of which
 -- calls may fail; or out of memory.
-use Rattle.std.specs.Prelude.{◌≡◌, ◌≢◌, ◌⊎◌, ◌<◌, ℕ, List, Err, IsTrue}
+use Rattle.std.specs.Prelude.{◌≡◌, ◌≢◌, ◌⊎◌, ◌<◌, ℕ, List, Result, Err, IsTrue}
 use Rattle.file_batch.specs.Counting.{count_of}
 use Rattle.file_batch.specs.declared.strictness.Strictness.{Strictness}
 use Rattle.file_batch.specs.declared.strictness.Strictness.TheVariants.{Strict}
@@ -8,6 +8,7 @@ use Rattle.file_batch_laws.specs.BatchFault.{is_of_bytes}
 use Rattle.file_batch_laws.specs.Reading.{bodies_of, batch_magic}
 use Rattle.file_batch_laws.specs.Frames.{IsBatchOf}
 use Rattle.file_batch_laws.specs.Replies.{FailsAsReplies, IsReplyFileOf}
+use Rattle.file_batch_laws.specs.declared.batch_fault.BatchFault.{BatchFault}
 use Rattle.file_batch_laws.specs.declared.batch_fault.BatchFault.TheVariants.{Device}
 use Rattle.book_laws.specs.Reading.{IsAnswer, reading}
 use Rattle.issuer_rows.specs.Fold.{Rows}
@@ -59,6 +60,10 @@ abbrev pub IsPuttingFault : Type 0 → JobFault → Type 0
 IsPuttingFault may_fail Unwritable = may_fail
 IsPuttingFault may_fail OutOfMemory = Unit {0}
 IsPuttingFault _ _ = ⊥
+
+-- Why replies, which this call writes, or the book behind them are not written: the call failed; that may be of the book; or memory ran out.
+abbrev pub IsAnswerFault : {P : Type 0} → (P → Result (Unit {0}) BatchFault → P → Type 0) → P → P → Type 0 → JobFault → Type 0
+IsAnswerFault step old new may_fail fault = ((e : BatchFault) × (fault ≡ Batch e) × step old (Err e) new) ⊎ IsPuttingFault may_fail fault
 
 -- the file of this name may not be written, or not be put in its place: a call on it may fail, or it may be refused
 abbrev pub MayNotBePut : Failing → List ℕ → Type 0

@@ -2,13 +2,13 @@ ghost use Rattle.std.specs.Prelude.{◌≡◌, ◌≤◌, IfOk, IfErr, length};
 ghost use Rattle.app_audit.specs.Finding.{Finds};
 ghost use Rattle.file_devices.specs.BatchNames.{names_of};
 ghost use Rattle.issuer_rows.specs.Fold.{replies_to, rows_after};
-ghost use Rattle.app_jobs.specs.Audited.{AreAnswers, AreDecided, AreHeld, IsAudited};
-ghost use Rattle.app_jobs.specs.Faults.{IsAnswersFault, IsAuditingFault, IsOpeningFault, IsFaultInOrder};
+ghost use Rattle.app_jobs.specs.Audited.{AreAnswers, AreHeld, IsAudited};
+ghost use Rattle.app_jobs.specs.Faults.{IsAnswersFault, IsAuditingFault, IsFaultInOrder};
 ghost use Rattle.app_jobs.specs.JournalFaults.{IsJournalAuditingFault};
 ghost use Rattle.app_jobs.specs.Journaled.{IsAuditedWithJournal};
 
 use crate::job_fault::JobFault;
-use crate::opening::{open_batch, open_book, open_journal, open_replies};
+use crate::opening::{open_book, open_inputs, open_journal, open_replies};
 use app_audit::{Audit, audit, audit_journal};
 use file_devices::{BatchNames, Files};
 use issuer_rows::{Book, Frame, ReplyBody};
@@ -95,7 +95,7 @@ fn open_run<R: Threads + Wait + Sync, F: Files>(
     ensures fault { IfErr result (IsFaultInOrder (F.holds files.now) (F.failing files.now)
         (names_of names.now) ⊥) }
 {
-    let (book, frames) = open_decided(rt, alloc, files, names)?;
+    let (book, frames) = open_inputs(rt, alloc, files, names)?;
     let (replies, after) = open_answers(rt, alloc, files, names)?;
     Ok(AuditedRun {
         book,
@@ -103,22 +103,6 @@ fn open_run<R: Threads + Wait + Sync, F: Files>(
         replies,
         after,
     })
-}
-
-// The book, and the messages of the batch that was decided on it.
-fn open_decided<R: Threads + Wait + Sync, F: Files>(
-    rt: &R,
-    alloc: Global,
-    files: &F,
-    names: &BatchNames,
-) -> Result<(Book, Vec<Frame>), JobFault>
-    ensures held { IfOk result (λ decided. AreDecided (F.is_known files.now) (F.holds files.now) (names_of names.now) decided.0 decided.1.items) }
-    ensures count { IfOk result (λ decided. length decided.1.items ≤ 65536) }
-    ensures fault { IfErr result (IsOpeningFault (F.holds files.now) (F.failing files.now) (names_of names.now)) }
-{
-    let book = open_book(rt, alloc, files, names.book.as_str())?;
-    let frames = open_batch(alloc, files, names.batch.as_str())?;
-    Ok((book, frames))
 }
 
 // The replies, and the book after them.

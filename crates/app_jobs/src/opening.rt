@@ -1,20 +1,24 @@
 ghost use Rattle.std.specs.Prelude.{◌≡◌, ◌≤◌, ℕ, List, IfOk, IfErr, OnOk, length};
+ghost use Rattle.std.specs.Thread.{IsSync};
+ghost use Rattle.book_laws.specs.Reading.{IsAnswer, reading};
 ghost use Rattle.file_batch_laws.specs.Frames.{IsBatchOf};
 ghost use Rattle.file_batch_laws.specs.Replies.{IsReplyFileOf};
+ghost use Rattle.file_devices.specs.BatchNames.{names_of};
 ghost use Rattle.file_devices.specs.Holding.{IsThere};
 ghost use Rattle.stm_journal_text.specs.Journal.{AreEntries, journal_text};
+ghost use Rattle.app_jobs.specs.Audited.{AreDecided};
 ghost use Rattle.app_jobs.specs.Decided.{IsBookOf};
-ghost use Rattle.app_jobs.specs.Faults.{IsBatchFault, IsBookFault, IsReplyFileFault};
+ghost use Rattle.app_jobs.specs.Faults.{IsBatchFault, IsBookFault, IsOpeningFault, IsReplyFileFault};
 ghost use Rattle.app_jobs.specs.JournalFaults.{IsJournalFault};
 
 use crate::job_fault::JobFault;
-use book_json::read_book;
+use book_json::{JsonFault, read_book};
 use file_batch::{BatchFault, read_batch, read_replies};
-use file_devices::{Files, read_file};
+use file_devices::{BatchNames, Files, read_file};
 use issuer_rows::{Book, Frame, ReplyBody};
 use std::alloc::Global;
 use std::sync::Wait;
-use std::thread::Threads;
+use std::thread::{Threads, join};
 use stm_journal_text::{Entry, read_journal};
 
 /// The book of the file of this name. It fails with the first fault of the book, where a call on the file fails, or where memory runs out.
@@ -47,6 +51,40 @@ pub fn open_batch<F: Files>(alloc: Global, files: &F, name: &str) -> Result<Vec<
     match read_batch(alloc, &mut input) {
         Ok(frames) => Ok(frames),
         Err(fault) => Err(JobFault::Batch(fault)),
+    }
+}
+
+/// The book of a run and the messages of its batch. The batch is read while another thread reads the book's text. The fault is the first
+/// one in this order: the book's, and then the batch's.
+pub fn open_inputs<R: Threads + Wait + Sync, F: Files>(
+    rt: &R,
+    alloc: Global,
+    files: &F,
+    names: &BatchNames,
+) -> Result<(Book, Vec<Frame>), JobFault>
+    ensures held { IfOk result (λ inputs. AreDecided (F.is_known files.now) (F.holds files.now) (names_of names.now) inputs.0 inputs.1.items) }
+    ensures count { IfOk result (λ inputs. length inputs.1.items ≤ 65536) }
+    ensures fault { IfErr result (IsOpeningFault (F.holds files.now) (F.failing files.now) (names_of names.now)) }
+{
+    let text = read_file(alloc, files, names.book.as_str())?;
+    let bytes = text.as_slice();
+    let batch = names.batch.as_str();
+    let (book, frames) = join(
+        rt,
+        || -> Result<Book, JsonFault>
+            requires { IsSync R.row }
+            ensures { IsAnswer (reading bytes.entry.now) result }
+        { read_book(rt, alloc, bytes) },
+        || -> Result<Vec<Frame>, JobFault>
+            ensures count { IfOk result (λ frames. length frames.items ≤ 65536) }
+            ensures there { OnOk result (F.is_known files.entry.now → IsThere (F.holds files.entry.now) batch.entry.now) }
+            ensures fault { IfErr result (IsBatchFault (F.holds files.entry.now) (F.failing files.entry.now) batch.entry.now) }
+            ensures frames { (bytes : List ℕ) → F.holds files.entry.now batch.entry.now bytes → IfOk result (λ frames. IsBatchOf bytes frames.items) }
+        { open_batch(alloc, files, batch) },
+    );
+    match book {
+        Ok(book) => Ok((book, frames?)),
+        Err(fault) => Err(JobFault::Book(fault)),
     }
 }
 

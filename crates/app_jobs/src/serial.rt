@@ -1,10 +1,8 @@
 ghost use Rattle.std.specs.Prelude.{◌≡◌, ◌⊎◌, ◌++◌, Ok, IfOk, IfErr, OnOk, string_bytes};
-ghost use Rattle.std.specs.FinMap as map;
 ghost use Rattle.book_laws.specs.Reading.{reading};
 ghost use Rattle.book_laws.specs.Text.{book_text};
-ghost use Rattle.book_text.specs.Back.{IsReadAsBook};
+ghost use Rattle.file_batch.specs.Device.{UsesDevice};
 ghost use Rattle.file_devices.specs.BatchNames.{names_of};
-ghost use Rattle.issuer_rows.specs.Fold.{Rows};
 ghost use Rattle.app_jobs.specs.Decided.{IsAnswered};
 ghost use Rattle.app_jobs.specs.Deciding.{DecidesFiles};
 ghost use Rattle.app_jobs.specs.Faults.{IsAnsweringFault, IsPuttingFault, IsWritingFault, MayNotBePut};
@@ -13,15 +11,13 @@ use crate::admitting::admit;
 use crate::job_fault::JobFault;
 use crate::opening::open_book;
 use crate::placing::put_answer;
-use crate::writing::write_rows;
+use crate::writing::write_answer;
 use crate::written_answer::WrittenAnswer;
-use book_writer::{BookWriter, OfRows, Sorting};
-use file_batch::{Answered, BodyCount, Strictness, decide_in_order, put_all};
+use file_batch::{Answered, BatchFault, BodyCount, Strictness, decide_in_order, put_all};
 use file_devices::{BatchNames, Files, Sink};
 use issuer_rows::Book;
 use issuer_rules::Shipped;
 use std::alloc::Global;
-use std::marker::Brand;
 use std::sync::Wait;
 use std::thread::Threads;
 
@@ -86,72 +82,17 @@ fn write_answered<R: Threads + Wait + Sync, W: Sink>(
     ensures back { OnOk result (reading (book_text answered.now.decided.book) ≡ Ok answered.now.decided.book) }
     ensures fault { IfErr result (λ fault. IsWritingFault (W.may_fail replies.old) ⊥ fault ⊎ IsPuttingFault (W.may_fail new_book.old) fault) }
 {
-    write_both::<Brand, R, W>(rt, alloc, answered, replies, new_book)
-}
-
-// The same, where the rows of the book are those of the types.
-fn write_both<B: OfRows + Send + Sync, R: Threads + Wait + Sync, W: Sink>(
-    rt: &R,
-    alloc: Global,
-    answered: &Answered,
-    replies: &mut W,
-    new_book: &mut W,
-) -> Result<(), JobFault>
-    requires rows { map.entries answered.now.decided.book ≡ B.rows }
-    ensures replies { OnOk result (W.is_known replies.old → W.is_known replies.new × (W.written replies.new ≡ W.written replies.old ++ answered.now.text.items)) }
-    ensures book { OnOk result (W.is_known new_book.old → W.is_known new_book.new
-        × (W.written new_book.new ≡ W.written new_book.old ++ book_text answered.now.decided.book)) }
-    ensures back { OnOk result (reading (book_text answered.now.decided.book) ≡ Ok answered.now.decided.book) }
-    ensures fault { IfErr result (λ fault. IsWritingFault (W.may_fail replies.old) ⊥ fault ⊎ IsPuttingFault (W.may_fail new_book.old) fault) }
-{
-    let sorting: Sorting<'_, B> = Sorting::new(alloc, &answered.decided.book);
-    let writer = BookWriter::new(&sorting)?;
-    write_helped(rt, &answered.text, replies, new_book, &writer)
-}
-
-// Writes replies of this text, and then the text of a writer's rows. Where these are many, other threads sort them meanwhile and help to
-// make the text.
-fn write_helped<B: OfRows + Send + Sync, R: Threads + Wait + Sync, W: Sink>(
-    rt: &R,
-    text: &[u8],
-    replies: &mut W,
-    new_book: &mut W,
-    writer: &BookWriter<'_, '_, B>,
-) -> Result<(), JobFault>
-    ensures replies { OnOk result (W.is_known replies.old → W.is_known replies.new × (W.written replies.new ≡ W.written replies.old ++ text.now)) }
-    ensures book { OnOk result ((book : Rows) → B.rows ≡ map.entries book → W.is_known new_book.old
-        → W.is_known new_book.new × (W.written new_book.new ≡ W.written new_book.old ++ book_text book)) }
-    ensures back { OnOk result (IsReadAsBook B.rows) }
-    ensures fault { IfErr result (λ fault. IsWritingFault (W.may_fail replies.old) ⊥ fault ⊎ IsPuttingFault (W.may_fail new_book.old) fault) }
-{
-    writer.with_help(
+    let text = answered.text.as_slice();
+    let mut put_replies = || -> Result<(), BatchFault>
+        ensures device { UsesDevice W.is_known W.has_failed W.may_fail replies.entry.now replies.exit.now result }
+        ensures ok { OnOk result (W.is_known replies.entry.now → W.written replies.exit.now ≡ W.written replies.entry.now ++ text.entry.now) }
+        ensures fault { IfErr result (λ e. e ≡ BatchFault.Device) }
+    { put_all(replies, text) };
+    write_answer(
         rt,
-        &mut || -> Result<(), JobFault>
-            ensures replies { OnOk result (W.is_known replies.entry.now → W.is_known replies.exit.now × (W.written replies.exit.now ≡ W.written replies.entry.now ++ text.entry.now)) }
-            ensures book { OnOk result ((book : Rows) → B.rows ≡ map.entries book → W.is_known new_book.entry.now
-                → W.is_known new_book.exit.now × (W.written new_book.exit.now ≡ W.written new_book.entry.now ++ book_text book)) }
-            ensures back { OnOk result (IsReadAsBook B.rows) }
-            ensures fault { IfErr result (λ fault. IsWritingFault (W.may_fail replies.entry.now) ⊥ fault ⊎ IsPuttingFault (W.may_fail new_book.entry.now) fault) }
-        { write_in_turn(rt, text, replies, new_book, writer) },
+        alloc,
+        &mut put_replies,
+        &answered.decided.book,
+        new_book,
     )
-}
-
-// The same in this thread.
-fn write_in_turn<B: OfRows, R: Wait, W: Sink>(
-    rt: &R,
-    text: &[u8],
-    replies: &mut W,
-    new_book: &mut W,
-    writer: &BookWriter<'_, '_, B>,
-) -> Result<(), JobFault>
-    ensures replies { OnOk result (W.is_known replies.old → W.is_known replies.new × (W.written replies.new ≡ W.written replies.old ++ text.now)) }
-    ensures book { OnOk result ((book : Rows) → B.rows ≡ map.entries book → W.is_known new_book.old
-        → W.is_known new_book.new × (W.written new_book.new ≡ W.written new_book.old ++ book_text book)) }
-    ensures back { OnOk result (IsReadAsBook B.rows) }
-    ensures fault { IfErr result (λ fault. IsWritingFault (W.may_fail replies.old) ⊥ fault ⊎ IsPuttingFault (W.may_fail new_book.old) fault) }
-{
-    if let Err(fault) = put_all(replies, text) {
-        return Err(JobFault::Batch(fault));
-    }
-    write_rows(rt, new_book, writer)
 }

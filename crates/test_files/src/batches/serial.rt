@@ -1,14 +1,11 @@
 //! Batch files that are decided one body after another, in both ways.
 
-ghost use Rattle.std.specs.Prelude.{◌≤◌, length};
-ghost use Rattle.file_batch.specs.Processing.{AnswersFold};
-
-use file_batch::{BatchFault, decide_in_order, process, put_all};
+use file_batch::{BatchFault, decide_in_order, put_all, read_batch, write_replies};
 use file_devices::{Sink, Source};
-use issuer_fold::{Prefix, RunOutcome};
-use issuer_rows::{Book, Frame};
+use issuer_fold::Prefix;
+use issuer_rows::Book;
 use issuer_rules::{Shipped, decide_all};
-use std::alloc::{AllocError, Global};
+use std::alloc::Global;
 use std::sync::Wait;
 use std::thread::Threads;
 
@@ -22,19 +19,6 @@ pub(crate) enum Way {
 }
 
 pub(crate) const WAYS: [Way; 2] = [Way::Whole, Way::InOrder];
-
-fn decide_serially(alloc: Global, book: Book, frames: &[Frame]) -> Result<RunOutcome, AllocError>
-    requires { length frames.now ≤ 65536 }
-    ensures { AnswersFold book frames.now result }
-{
-    let prefix = decide_all(alloc, Prefix::new(alloc, book), frames)?;
-    Ok(RunOutcome {
-        replies: prefix.replies,
-        book: prefix.book,
-        started: 1,
-        committed: 0,
-    })
-}
 
 // Reads a batch file, decides its bodies one after another and writes the reply file: the book after them.
 pub(crate) fn process_serially<T: Threads + Wait + Sync, R: Source, W: Sink>(
@@ -57,14 +41,10 @@ fn process_whole<R: Source, W: Sink>(
     source: &mut R,
     sink: &mut W,
 ) -> Result<Book, BatchFault> {
-    let decide = |book: Book, frames: &[Frame]| -> Result<RunOutcome, AllocError>
-        requires { length frames.now ≤ 65536 }
-        ensures { AnswersFold book frames.entry.now result }
-    { decide_serially(alloc, book, frames) };
-    match process(alloc, book.copy()?, source, sink, &decide) {
-        Ok(done) => Ok(done.outcome.book),
-        Err(fault) => Err(fault),
-    }
+    let frames = read_batch(alloc, source)?;
+    let after = decide_all(alloc, Prefix::new(alloc, book.copy()?), &frames)?;
+    write_replies(alloc, &after.replies, sink)?;
+    Ok(after.book)
 }
 
 fn process_while_reading<T: Threads + Wait + Sync, R: Source, W: Sink>(

@@ -1,25 +1,66 @@
-use Rattle.std.proofs.Common.{◌∙◌, ap}
+use Rattle.std.proofs.Common.{◌≡◌, ◌⊎◌, ◌∙◌, Err, ap, inl, inr, length, string_bytes}
+use Rattle.std.proofs.lemmas.Result.{err_from_is_err_and}
 use Rattle.book_laws.specs.Text.{book_text}
+use Rattle.file_batch.proofs.Folds.{as_many}
+use Rattle.file_batch_laws.specs.Files.{replies_text}
+use Rattle.file_devices.specs.BatchNames.{names_of}
+use Rattle.file_devices.specs.declared.write_fault.WriteFault.{WriteFault}
+use Rattle.app_jobs.proofs.AnsweredFiles.{answer_unmade, answer_unwritten}
+use Rattle.app_jobs.proofs.Faults.{putting_more}
+use Rattle.app_jobs.proofs.Held.{all_written}
+use Rattle.app_jobs.specs.Faults.{MayNotBePut}
 use Rattle.app_runs.proofs.tracing.answer_traced.Goals as goal
+
+pub write_outcome-requires-clause-few : goal.write_outcome-requires-clause-few
+write_outcome-requires-clause-few g c =
+    let same : length c.in_ok-outcome.outcome.replies.items ≡ length c.args.frames.now = ap length c.in_ok-outcome.ensures.fold.0 ∙ as_many c.args.book c.args.frames.now in
+    λ κs lives. rw same c.requires.few
+
+pub returns-in_err-new_book-clause-fault : goal.returns-in_err-new_book-clause-fault
+returns-in_err-new_book-clause-fault g c =
+    let p = err_from_is_err_and c.from_residual-in_err-new_book.result c.from_residual-in_err-new_book.ensures.1 in
+    rw (p.1, p.2) (answer_unmade (g.F.Files.holds c.args.files.now) (g.F.Files.failing c.args.files.now) (names_of c.args.names.now) c.args.frames.now _ c.in_err-new_book.field-0.0
+    c.requires.held.messages (λ is. inl (inr (rw c.as_str-2.ensures.value at (c.in_err-new_book.ensures.refused (ap (λ (e : WriteFault). Err e) is))))))
+
+pub returns-in_err-write_outcome-clause-fault : goal.returns-in_err-write_outcome-clause-fault
+returns-in_err-write_outcome-clause-fault g c =
+    let p = err_from_is_err_and c.from_residual-in_err-write_outcome.result c.from_residual-in_err-write_outcome.ensures.1 in
+    let writing = rw c.as_str.ensures.value at c.in_ok-replies.ensures.device in
+    let booking = rw c.as_str-2.ensures.value at c.in_ok-new_book.ensures.device in
+    rw (p.1, p.2) (answer_unwritten (g.F.Files.holds c.args.files.now) (g.F.Files.failing c.args.files.now) (names_of c.args.names.now) c.args.frames.now _ _ _ _
+    c.requires.held.messages writing (λ f. inl (inl (booking f))) c.in_err-write_outcome.ensures.fault)
+
+pub returns-in_err-journal-clause-fault : goal.returns-in_err-journal-clause-fault
+returns-in_err-journal-clause-fault g c =
+    let p = err_from_is_err_and c.from_residual-in_err-journal.result c.from_residual-in_err-journal.ensures.1 in
+    let failing = g.F.Files.failing c.args.files.now in
+    rw (p.1, p.2) (inr (
+      (c.args.frames.now, c.requires.held.messages),
+      putting_more (MayNotBePut failing c.args.journal.now) (MayNotBePut failing (string_bytes c.args.names.now.new_book) ⊎ MayNotBePut failing c.args.journal.now) _ (λ f. inr f) c.in_err-journal.ensures.fault,
+    ))
 
 pub returns-clause-answered : goal.returns-clause-answered
 returns-clause-answered g c =
-    let run = c.in_ok-run.run' in
-    let decided = c.in_ok-run.ensures.ok in
+    let folded = c.in_ok-outcome.ensures.fold in
+    let wrote = c.in_ok-write_outcome.ensures in
     record {
-      frames = decided.0;
-      entries = run.entries.items;
-      committed = run.outcome.committed;
-      counted = decided.3;
-      batch_there = c.in_ok-run.ensures.there;
-      messages = decided.4;
+      frames = c.args.frames.now;
+      entries = c.in_ok-outcome.entries.items;
+      committed = c.in_ok-outcome.outcome.committed;
+      counted = c.of.ensures;
+      batch_there = c.requires.held.batch_there;
+      messages = c.requires.held.messages;
       are = rw c.deref.ensures.value at c.in_ok-journal.ensures.are;
-      ran = decided.2;
-      back = rw decided.1.1 at c.in_ok-new_book.ensures.back;
-      bodies = rw decided.1.0 at c.in_ok-run.ensures.bodies;
-      replied = decided.5;
+      ran = c.in_ok-outcome.ensures.journal;
+      back = rw folded.1 at wrote.back;
+      bodies = rw folded.0 at wrote.bodies;
+      replied = λ k.
+          let empty = c.in_ok-replies.ensures.empty k in
+          let text = wrote.replies empty.0 in
+          (text.0, all_written _ _ _ text.1 empty.1 ∙ ap replies_text folded.0);
       logged = rw c.deref.ensures.value at c.in_ok-journal.ensures.written;
       booked = λ k.
-          let text = c.in_ok-new_book.ensures.written k in
-          (text.0, text.1 ∙ ap book_text decided.1.1);
+          let empty = c.in_ok-new_book.ensures.empty k in
+          let text = wrote.book empty.0 in
+          (text.0, all_written _ _ _ text.1 empty.1 ∙ ap book_text folded.1);
     }

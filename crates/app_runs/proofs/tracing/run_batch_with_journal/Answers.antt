@@ -6,23 +6,28 @@ use Rattle.app_runs.specs.Journaled.{MayBeRefusedWithJournal, MayNotBeAnsweredWi
 use Rattle.file_devices.specs.BatchNames.{names_of}
 use Rattle.app_runs.proofs.tracing.run_batch_with_journal.Goals as goal
 
+pub returns-in_err-book-clause-fault : goal.returns-in_err-book-clause-fault
+returns-in_err-book-clause-fault g c =
+    let p = err_from_is_err_and c.from_residual.result c.from_residual.ensures.1 in
+    rw (p.1, p.2) (elim c.in_err-book.ensures.fault [ inl h ↦ inl h | inr behind ↦ inr (behind.0, inl (inl (inl behind.1))) ])
+
 pub returns-in_err-answer-clause-fault : goal.returns-in_err-answer-clause-fault
 returns-in_err-answer-clause-fault g c =
     let p = err_from_is_err_and c.from_residual-in_err-answer.result c.from_residual-in_err-answer.ensures.1 in
-    let book = rw c.as_str.ensures.value at c.in_ok-book.ensures.book in
+    let book = c.in_ok-book.ensures.held.opening in
     rw (p.1, p.2) (inr ((c.in_ok-book.book, book), inl (answering_more (g.F.Files.holds c.args.files.now) (g.F.Files.failing c.args.files.now) (names_of c.args.names.now) _ _ _ (λ f. elim f [ inl book_lost ↦ inl (inl book_lost) | inr journal_lost ↦ inr journal_lost ]) c.in_err-answer.ensures.fault)))
 
 pub returns-in_err-admit-clause-fault : goal.returns-in_err-admit-clause-fault
 returns-in_err-admit-clause-fault g c =
     let p = err_from_is_err_and c.from_residual-in_err-admit.result c.from_residual-in_err-admit.ensures.1 in
-    let book = rw c.as_str.ensures.value at c.in_ok-book.ensures.book in
+    let book = c.in_ok-book.ensures.held.opening in
     let answered = c.in_ok-answer.ensures.answered in
     rw (p.1, p.2) (inr ((c.in_ok-book.book, book), inr (is_strict _ _ _ answered.frames _ _ c.in_err-admit.ensures.refused answered.counted answered.messages)))
 
 pub returns-in_err-put_run-clause-fault : goal.returns-in_err-put_run-clause-fault
 returns-in_err-put_run-clause-fault g c =
     let p = err_from_is_err_and c.from_residual-in_err-put_run.result c.from_residual-in_err-put_run.ensures.1 in
-    let book = rw c.as_str.ensures.value at c.in_ok-book.ensures.book in
+    let book = c.in_ok-book.ensures.held.opening in
     let answered = c.in_ok-answer.ensures.answered in
     rw (p.1, p.2) (inr (
       (c.in_ok-book.book, book),
@@ -40,8 +45,8 @@ returns-in_err-put_run-clause-kept g c =
 
 pub returns-clause-decided : goal.returns-clause-decided
 returns-clause-decided g c =
-    let book = rw c.as_str.ensures.value at c.in_ok-book.ensures.book in
-    let there = rw c.as_str.ensures.value at c.in_ok-book.ensures.there in
+    let book = c.in_ok-book.ensures.held.opening in
+    let there = c.in_ok-book.ensures.held.book_there in
     let answered = c.in_ok-answer.ensures.answered in
     let put = c.in_ok-put_run.ensures.puts in
     record {
