@@ -6,12 +6,9 @@ ghost use Rattle.book_json.specs.ReadsOn.{TakesRows, pairs_of};
 use crate::read_share::ReadShare;
 use crate::row::Row;
 use book_laws::RowList;
-use book_text::{first_piece, last_piece, list_behind, piece_between, row_is_read};
+use book_text::{LISTS, first_piece, last_piece, list_behind, piece_between, row_is_read};
 use issuer_rows::Book;
 use std::alloc::{AllocError, Global};
-
-// How many lists there are.
-const LISTS: usize = 6;
 
 /// A book's text that is read from its beginning on, and the rows so far.
 #[derive(Drop)]
@@ -93,7 +90,7 @@ impl<'a> BookReader<'a> {
         ensures there { IfOk result (λ is_there. IsTrue is_there → self.new.list ≡ list) }
         ensures on { IfOk result (λ is_there. IsTrue is_there → IsFurther self.old self.new) }
     {
-        for _ in 0..LISTS {
+        for _ in LISTS {
             if self.list == list {
                 return Ok(true);
             }

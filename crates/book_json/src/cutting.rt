@@ -2,15 +2,12 @@
 
 use crate::share::Share;
 use book_laws::RowList;
-use book_text::{first_piece, last_piece, list_behind, piece_between};
+use book_text::{LISTS, first_piece, last_piece, list_behind, piece_between};
 use memchr::memmem;
 use std::alloc::{AllocError, Global};
 
 // How many bytes a share of a list has at least, if the list has as many.
 const SHARE: usize = 1 << 16;
-
-// How many lists there are.
-const LISTS: usize = 6;
 
 // What stands between two entries of a list.
 const BETWEEN: &[u8] = b"},{";
@@ -22,10 +19,8 @@ pub(crate) fn shares_of(alloc: Global, bytes: &[u8]) -> Result<Option<Vec<Share<
     let Some(mut rest) = bytes.strip_prefix(first.as_slice()) else {
         return Ok(None);
     };
-    let mut list = RowList::Accounts;
-    for _ in 0..LISTS {
-        let next = list_behind(list);
-        let end = match next {
+    for list in LISTS {
+        let end = match list_behind(list) {
             Some(next) => piece_between(Vec::new(alloc), next)?,
             None => last_piece(Vec::new(alloc))?,
         };
@@ -34,7 +29,6 @@ pub(crate) fn shares_of(alloc: Global, bytes: &[u8]) -> Result<Option<Vec<Share<
         };
         cut_list(list, entries, &mut shares)?;
         rest = behind;
-        list = next.unwrap_or(list);
     }
     Ok(rest.is_empty().then_some(shares))
 }

@@ -26,7 +26,7 @@ pub use help::{Help, lock_meanwhile, with_help};
 pub use json_writer::JsonWriter;
 pub use listed_rows::ListedRows;
 pub use member::Member;
-pub use parts::{emptied, first_piece, last_piece, list_behind, piece_between, rows_piece};
+pub use parts::{LISTS, emptied, first_piece, last_piece, list_behind, piece_between, rows_piece};
 pub use ranges::row_is_read;
 pub use row_writers::write_entry;
 pub use work_ahead::WorkAhead;

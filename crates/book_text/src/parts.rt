@@ -75,6 +75,16 @@ pub fn last_piece(text: Vec<u8>) -> Result<Vec<u8>, AllocError>
     Ok(out.into_parts().0)
 }
 
+/// The lists of a book's text, in the order in which they stand there.
+pub const LISTS: [RowList; 6] = [
+    RowList::Accounts,
+    RowList::Ahead,
+    RowList::Budgets,
+    RowList::Cards,
+    RowList::Days,
+    RowList::Originals,
+];
+
 /// The list that stands behind this one, if there is one.
 pub fn list_behind(list: RowList) -> Option<RowList>
     ensures { result ≡ next_list list }

@@ -1,16 +1,13 @@
 ghost use Rattle.std.specs.Prelude.{◌<◌};
 
 use book_laws::RowList;
-use book_text::{ListedRows, list_behind, rows_piece};
+use book_text::{LISTS, ListedRows, rows_piece};
 use std::alloc::{AllocError, Global};
 
-/// How many entries stand on a sheet at most.
+/// How many entries stand on a sheet at most, but of originals whose reversals came ahead.
 pub(crate) const ENTRIES: usize = 256;
 
-// How many lists there are.
-const LISTS: usize = 6;
-
-// How many rows of a list's kind a span has at most. Marks stand among originals and are few.
+// How many rows of a list's kind a span has at most. Those whose reversals came ahead stand among the other originals and are few.
 fn most_rows(list: RowList) -> usize
     ensures { 0 < result }
 {
@@ -53,16 +50,11 @@ impl Span {
     ghost use Rattle.std.specs.Prelude.{◌≡◌, ◌<◌, ◌≤◌, [], true, length, IsTrue, IfOk};
     ghost use Rattle.book_writer.specs.Sheets.{IsTextOf};
 
-    /// All rows for each list in turn, cut so that no sheet has too many entries. No row is looked at for it.
+    /// All rows for each list in turn, cut so that no sheet has too many entries. Few rows are looked at for it.
     pub(crate) fn all(alloc: Global, rows: &ListedRows<'_>) -> Result<Vec<Span>, AllocError> {
         let mut spans = Vec::new(alloc);
-        let mut next = Some(RowList::Accounts);
-        for _ in 0..LISTS {
-            let Some(list) = next else {
-                break;
-            };
+        for list in LISTS {
             add_spans(list, rows, &mut spans)?;
-            next = list_behind(list);
         }
         Ok(spans)
     }
