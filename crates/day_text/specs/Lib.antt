@@ -1,2 +1,4 @@
+pub mod Escaped
 pub mod Lines
 pub mod Meaning
+pub mod Page

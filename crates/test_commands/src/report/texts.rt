@@ -1,6 +1,6 @@
 //! Texts from outside in a page.
 
-use day_page::escape;
+use day_text::escape;
 use std::process::Abort;
 
 #[test]

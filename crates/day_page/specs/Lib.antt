@@ -1,2 +1,0 @@
-pub mod Escaped
-pub mod Page
