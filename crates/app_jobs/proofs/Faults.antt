@@ -1,8 +1,7 @@
 -- Faults of the parts of a job.
-use Rattle.std.proofs.Common.{◌≡◌, ◌⊎◌, ℕ, List, inl, inr, refl}
+use Rattle.std.proofs.Common.{◌≡◌, ◌⊎◌, inl, inr, refl}
 use Rattle.std.specs.Prelude.{Result, Err, IsTrue}
 use Rattle.file_batch_laws.specs.BatchFault.{is_of_bytes}
-use Rattle.file_batch_laws.specs.Reading.{bodies_of, batch_magic}
 use Rattle.file_batch_laws.specs.declared.batch_fault.BatchFault.{BatchFault}
 use Rattle.file_batch_laws.specs.declared.batch_fault.BatchFault.TheVariants.{Device}
 use Rattle.file_devices.specs.BatchNames.{Names}
@@ -10,7 +9,7 @@ use Rattle.file_devices.specs.Failing.{Failing}
 use Rattle.file_devices.specs.declared.write_fault.WriteFault.{WriteFault}
 use Rattle.file_devices.specs.declared.write_fault.WriteFault.TheVariants as write
 use Rattle.app_jobs.specs.Decided.{Holding}
-use Rattle.app_jobs.specs.Faults.{IsAnswerFault, IsAnsweringFault, IsReplyingFault, IsWritingFault, IsPuttingFault}
+use Rattle.app_jobs.specs.Faults.{IsWritingBothFault, IsAnsweringFault, IsWritingFault, IsPuttingFault}
 use Rattle.app_jobs.specs.JobFault.{fault_of_write}
 use Rattle.app_jobs.specs.declared.job_fault.JobFault.{JobFault}
 use Rattle.app_jobs.specs.declared.job_fault.JobFault.TheVariants.{Batch, Unwritable, OutOfMemory}
@@ -48,13 +47,6 @@ answering_more old failing names may_fail others fault more (inr (some, h)) = in
 -- why replies or the book behind them are not written, where it is known why the call that writes the replies fails
 pub unwritten : {P : Type 0} (step : P → Result (Unit {0}) BatchFault → P → Type 0) (old new : P) (replies_may book_may : Type 0) (fault : JobFault)
     → ((e : BatchFault) → step old (Err e) new → (¬ IsTrue (is_of_bytes e)) × (e ≡ Device → replies_may))
-    → IsAnswerFault step old new book_may fault → IsWritingFault replies_may ⊥ fault ⊎ IsPuttingFault book_may fault
+    → IsWritingBothFault step old new book_may fault → IsWritingFault replies_may ⊥ fault ⊎ IsPuttingFault book_may fault
 unwritten step old new replies_may book_may fault failed (inl called) = rw called.1 (inl (failed called.0 called.2))
 unwritten step old new replies_may book_may fault failed (inr h) = inr h
-
--- a batch is read and replies are written: the fault of both is the batch's or the replies'
-pub unreplied : (old : Holding) (failing : Failing) (names : Names) (fault : BatchFault)
-    → ((bytes : List ℕ) → old names.batch bytes → IsTrue (is_of_bytes fault) → bodies_of batch_magic bytes ≡ Err fault)
-    → (fault ≡ Device → failing.reading names.batch ⊎ failing.writing names.replies) → IsReplyingFault old failing names (Batch fault)
-unreplied old failing names Device first device = elim (device refl) [ inl r ↦ inl (first, λ d. r) | inr w ↦ inr ((λ t. absurd cc), λ d. w) ]
-unreplied old failing names _ first device = inl (first, λ d. absurd cc)

@@ -62,8 +62,8 @@ IsPuttingFault may_fail OutOfMemory = Unit {0}
 IsPuttingFault _ _ = ⊥
 
 -- Why replies, which this call writes, or the book behind them are not written: the call failed; that may be of the book; or memory ran out.
-abbrev pub IsAnswerFault : {P : Type 0} → (P → Result (Unit {0}) BatchFault → P → Type 0) → P → P → Type 0 → JobFault → Type 0
-IsAnswerFault step old new may_fail fault = ((e : BatchFault) × (fault ≡ Batch e) × step old (Err e) new) ⊎ IsPuttingFault may_fail fault
+abbrev pub IsWritingBothFault : {P : Type 0} → (P → Result (Unit {0}) BatchFault → P → Type 0) → P → P → Type 0 → JobFault → Type 0
+IsWritingBothFault step old new may_fail fault = ((e : BatchFault) × (fault ≡ Batch e) × step old (Err e) new) ⊎ IsPuttingFault may_fail fault
 
 -- the file of this name may not be written, or not be put in its place: a call on it may fail, or it may be refused
 abbrev pub MayNotBePut : Failing → List ℕ → Type 0

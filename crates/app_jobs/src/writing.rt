@@ -8,7 +8,7 @@ ghost use Rattle.file_batch.specs.Device.{UsesDevice};
 ghost use Rattle.file_batch_laws.specs.BatchFault.{is_of_bytes};
 ghost use Rattle.file_batch_laws.specs.Files.{replies_text};
 ghost use Rattle.file_batch_laws.specs.Replies.{AreReplyBodies};
-ghost use Rattle.app_jobs.specs.Faults.{IsAnswerFault, IsPuttingFault, IsWritingFault, MayNotBePut};
+ghost use Rattle.app_jobs.specs.Faults.{IsWritingBothFault, IsPuttingFault, IsWritingFault, MayNotBePut};
 
 use crate::job_fault::JobFault;
 use book_writer::{BookWriter, OfRows, Sorting};
@@ -85,7 +85,7 @@ pub(crate) fn write_answer<R: Threads + Wait + Sync, W: Sink, P: FnMut() -> Resu
     ensures book { OnOk result (W.is_known new_book.old → W.is_known new_book.new × (W.written new_book.new ≡ W.written new_book.old ++ book_text book.now)) }
     // It is read again as the book.
     ensures back { OnOk result (reading (book_text book.now) ≡ Ok book.now) }
-    ensures fault { IfErr result (IsAnswerFault P.step put_replies.old put_replies.new (W.may_fail new_book.old)) }
+    ensures fault { IfErr result (IsWritingBothFault P.step put_replies.old put_replies.new (W.may_fail new_book.old)) }
 {
     write_sorted::<Brand, R, W, P>(rt, alloc, put_replies, book, new_book)
 }
@@ -102,7 +102,7 @@ fn write_sorted<
     ensures replies { OnOk result (P.step put_replies.old (Ok tt) put_replies.new) }
     ensures book { OnOk result (W.is_known new_book.old → W.is_known new_book.new × (W.written new_book.new ≡ W.written new_book.old ++ book_text book.now)) }
     ensures back { OnOk result (reading (book_text book.now) ≡ Ok book.now) }
-    ensures fault { IfErr result (IsAnswerFault P.step put_replies.old put_replies.new (W.may_fail new_book.old)) }
+    ensures fault { IfErr result (IsWritingBothFault P.step put_replies.old put_replies.new (W.may_fail new_book.old)) }
 {
     let sorting: Sorting<'_, B> = Sorting::new(alloc, book);
     let writer = BookWriter::new(&sorting)?;
@@ -126,7 +126,7 @@ fn write_helped<
     ensures book { OnOk result ((book : Rows) → B.rows ≡ map.entries book → W.is_known new_book.old
         → W.is_known new_book.new × (W.written new_book.new ≡ W.written new_book.old ++ book_text book)) }
     ensures back { OnOk result (IsReadAsBook B.rows) }
-    ensures fault { IfErr result (IsAnswerFault P.step put_replies.old put_replies.new (W.may_fail new_book.old)) }
+    ensures fault { IfErr result (IsWritingBothFault P.step put_replies.old put_replies.new (W.may_fail new_book.old)) }
 {
     writer.with_help(
         rt,
@@ -136,7 +136,7 @@ fn write_helped<
             ensures book { OnOk result ((book : Rows) → B.rows ≡ map.entries book → W.is_known new_book.entry.now
                 → W.is_known new_book.exit.now × (W.written new_book.exit.now ≡ W.written new_book.entry.now ++ book_text book)) }
             ensures back { OnOk result (IsReadAsBook B.rows) }
-            ensures fault { IfErr result (IsAnswerFault P.step put_replies.entry.now put_replies.exit.now (W.may_fail new_book.entry.now)) }
+            ensures fault { IfErr result (IsWritingBothFault P.step put_replies.entry.now put_replies.exit.now (W.may_fail new_book.entry.now)) }
         { write_in_turn(rt, put_replies, new_book, writer) },
     )
 }
@@ -153,7 +153,7 @@ fn write_in_turn<B: OfRows, R: Wait, W: Sink, P: FnMut() -> Result<(), BatchFaul
     ensures book { OnOk result ((book : Rows) → B.rows ≡ map.entries book → W.is_known new_book.old
         → W.is_known new_book.new × (W.written new_book.new ≡ W.written new_book.old ++ book_text book)) }
     ensures back { OnOk result (IsReadAsBook B.rows) }
-    ensures fault { IfErr result (IsAnswerFault P.step put_replies.old put_replies.new (W.may_fail new_book.old)) }
+    ensures fault { IfErr result (IsWritingBothFault P.step put_replies.old put_replies.new (W.may_fail new_book.old)) }
 {
     if let Err(fault) = put_replies() {
         return Err(JobFault::Batch(fault));

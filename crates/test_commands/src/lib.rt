@@ -4,6 +4,8 @@
 #[cfg(test)]
 mod archive;
 #[cfg(test)]
+mod files;
+#[cfg(test)]
 mod parts;
 #[cfg(test)]
 mod report;

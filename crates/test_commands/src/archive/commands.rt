@@ -1,5 +1,6 @@
 //! The command over files in memory: its statuses, what stands on standard output and standard error, and the books.
 
+use crate::files::files_with;
 use app_archive::{ArchiveAsked, ArchiveNames, answer_archive};
 use file_devices::MemoryFiles;
 use iso8583::Day;
@@ -27,17 +28,8 @@ const REFUSED: &[(&str, &str, &str, u8, &str)] = &[
     ("book", "new", "new", 2, "NEWBOOK and OLD are one file\n"),
 ];
 
-fn bytes_of(alloc: Global, text: &str) -> Option<Vec<u8>> {
-    let mut copy = Vec::new(alloc);
-    copy.extend_from_slice(text.as_bytes()).ok()?;
-    Some(copy)
-}
-
 fn files(alloc: Global) -> Option<MemoryFiles> {
-    let mut files = MemoryFiles::new(alloc);
-    files.put("book", bytes_of(alloc, BOOK)?).ok()?;
-    files.put("none", bytes_of(alloc, "{")?).ok()?;
-    Some(files)
+    files_with(alloc, &[("book", BOOK.as_bytes()), ("none", b"{")])
 }
 
 // Whether the file of this name holds this text.

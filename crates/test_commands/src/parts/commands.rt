@@ -1,6 +1,6 @@
 //! The commands one after another, and folders that are refused.
 
-use crate::parts::day::{bytes_of, files};
+use crate::parts::day::files;
 use app_jobs::serial_batch;
 use app_parts::{answer_parts, parts_asked};
 use file_batch::Strictness;
@@ -145,7 +145,7 @@ fn one_part_is_the_batch(rt: HostRuntime) {
 
 // Copies a file over another.
 fn copied(alloc: Global, files: &mut MemoryFiles, to: &str, from: &str) -> Option<()> {
-    let bytes = bytes_of(alloc, files.get(from)?)?;
+    let bytes = Vec::from_slice(alloc, files.get(from)?).ok()?;
     files.put(to, bytes).ok()?;
     Some(())
 }

@@ -1,5 +1,6 @@
 //! A book of three cards, and a batch of their requests, with two bodies that are no message.
 
+use crate::files::files_with;
 use file_devices::MemoryFiles;
 use std::alloc::Global;
 
@@ -60,17 +61,8 @@ fn batch(alloc: Global) -> Option<Vec<u8>> {
     Some(bytes)
 }
 
-/// The bytes of a text.
-pub fn bytes_of(alloc: Global, text: &[u8]) -> Option<Vec<u8>> {
-    let mut copy = Vec::new(alloc);
-    copy.extend_from_slice(text).ok()?;
-    Some(copy)
-}
-
 /// Files that hold this book, as `book`, and this batch, as `batch`.
 pub fn files(alloc: Global) -> Option<MemoryFiles> {
-    let mut files = MemoryFiles::new(alloc);
-    files.put("book", bytes_of(alloc, BOOK.as_bytes())?).ok()?;
-    files.put("batch", batch(alloc)?).ok()?;
-    Some(files)
+    let batch = batch(alloc)?;
+    files_with(alloc, &[("book", BOOK.as_bytes()), ("batch", batch.as_slice())])
 }

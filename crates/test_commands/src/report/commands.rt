@@ -1,7 +1,7 @@
 //! The command over files in memory: its statuses, and what stands on standard output and standard error.
 
+use crate::files::files_with;
 use app_report::{ReportAsked, answer_report};
-use file_devices::MemoryFiles;
 use std::alloc::Global;
 use std::process::Abort;
 
@@ -11,6 +11,8 @@ const BATCH: &[u8] = b"I83B\x00\x01\x00\x00\x00\x01\x00\x04\x31\x31\x30\x30";
 const REPLIES: &[u8] = b"I83R\x00\x01\x00\x00\x00\x01\x00\x06F01000";
 
 const NONE: &[u8] = b"I83R\x00\x01\x00\x00\x00\x00";
+
+const FILES: &[(&str, &[u8])] = &[("batch", BATCH), ("replies", REPLIES), ("none", NONE)];
 
 // Commands: the names of their files, the status, what stands on standard output, and on standard error.
 const COMMANDS: &[(&str, &str, u8, &str, &str)] = &[
@@ -28,23 +30,9 @@ const COMMANDS: &[(&str, &str, u8, &str, &str)] = &[
     ("batch", "batch", 1, "", "batch 1\n"),
 ];
 
-fn bytes_of(alloc: Global, bytes: &[u8]) -> Option<Vec<u8>> {
-    let mut copy = Vec::new(alloc);
-    copy.extend_from_slice(bytes).ok()?;
-    Some(copy)
-}
-
-fn files(alloc: Global) -> Option<MemoryFiles> {
-    let mut files = MemoryFiles::new(alloc);
-    files.put("batch", bytes_of(alloc, BATCH)?).ok()?;
-    files.put("replies", bytes_of(alloc, REPLIES)?).ok()?;
-    files.put("none", bytes_of(alloc, NONE)?).ok()?;
-    Some(files)
-}
-
 // What the command comes to: its status, and what it said.
 fn said(alloc: Global, asked: &ReportAsked<'_>) -> Option<(u8, Vec<u8>, Vec<u8>)> {
-    let mut files = files(alloc)?;
+    let mut files = files_with(alloc, FILES)?;
     let (mut out, mut err) = (Vec::new(alloc), Vec::new(alloc));
     let status = answer_report(alloc, &mut files, asked, &mut out, &mut err);
     Some((status, out, err))

@@ -1,7 +1,7 @@
 //! The command over files in memory: its statuses, and what stands on standard error.
 
+use crate::files::files_with;
 use app_why::{Form, WhyAsked, answer_why, why_asked};
-use file_devices::MemoryFiles;
 use std::alloc::Global;
 use std::process::Abort;
 use std::sync::Wait;
@@ -65,27 +65,13 @@ const COMMANDS: &[(&str, &str, usize, u8, &str, &str)] = &[
     ("book", "book", 0, 1, "", "batch 1\nbook: "),
 ];
 
-fn bytes_of(alloc: Global, bytes: &[u8]) -> Option<Vec<u8>> {
-    let mut copy = Vec::new(alloc);
-    copy.extend_from_slice(bytes).ok()?;
-    Some(copy)
-}
-
-fn files(alloc: Global) -> Option<MemoryFiles> {
-    let mut files = MemoryFiles::new(alloc);
-    files.put("book", bytes_of(alloc, BOOK.as_bytes())?).ok()?;
-    files.put("batch", bytes_of(alloc, BATCH)?).ok()?;
-    files.put("day", bytes_of(alloc, DAY)?).ok()?;
-    Some(files)
-}
-
 // What the command comes to: its status, and what it said.
 fn said<R: Threads + Wait + Sync>(
     rt: &R,
     alloc: Global,
     asked: &WhyAsked<'_>,
 ) -> Option<(u8, Vec<u8>, Vec<u8>)> {
-    let files = files(alloc)?;
+    let files = files_with(alloc, &[("book", BOOK.as_bytes()), ("batch", BATCH), ("day", DAY)])?;
     let (mut out, mut err) = (Vec::new(alloc), Vec::new(alloc));
     let status = answer_why(rt, alloc, &files, asked, &mut out, &mut err);
     Some((status, out, err))
