@@ -11,7 +11,7 @@ use Rattle.file_devices.specs.Holding.{Holding}
 use Rattle.issuer_rows.specs.declared.reply_body.ReplyBody.{ReplyBody}
 use Rattle.app_jobs.specs.declared.job_fault.JobFault.{JobFault}
 use Rattle.app_jobs.specs.declared.job_fault.JobFault.TheVariants as job
-use Rattle.parts_files.specs.Texts.{decided_text}
+use Rattle.app_parts_folder.specs.PlanTexts.{decided_text}
 use Rattle.app_parts.specs.Answers.{HaveAnswers, IsNoAnswer, IsPartAnswer}
 use Rattle.app_parts_folder.specs.Faults.{IsFaultOfPart}
 use Rattle.app_parts_folder.specs.Joining.{Answer, AreAnswersFrom, IsAnswerOf}

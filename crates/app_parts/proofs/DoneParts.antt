@@ -4,8 +4,8 @@ use Rattle.sha2.specs.Sha256.{sha256}
 use Rattle.book_laws.specs.Reading.{IsAnswer, reading}
 use Rattle.file_devices.specs.Holding.{Holding}
 use Rattle.parts_books.specs.PartBooks.{each_part}
-use Rattle.parts_files.specs.Texts.{plan_of, plan_text}
-use Rattle.parts_files.specs.declared.part_digests.PartDigests.{PartDigests}
+use Rattle.app_parts_folder.specs.PlanTexts.{plan_of, plan_text}
+use Rattle.app_parts_folder.specs.declared.part_digests.PartDigests.{PartDigests}
 use Rattle.app_parts_folder.proofs.NamesApart.{all_of_decided, all_of_folder, decided_distinct, folder_distinct, none_such, outside_none}
 use Rattle.app_parts_folder.specs.Apart.{IsOutside}
 use Rattle.app_parts_folder.specs.Deciding.{IsDecidedText, made_texts}

@@ -9,9 +9,9 @@ use Rattle.file_devices.specs.Holding.{Holding}
 use Rattle.app_jobs.specs.Faults.{IsBatchFault, IsBookFault}
 use Rattle.app_jobs.specs.declared.job_fault.JobFault.{JobFault}
 use Rattle.app_jobs.specs.declared.job_fault.JobFault.TheVariants as job
-use Rattle.parts_files.proofs.Fronts.{same_plan}
-use Rattle.parts_files.specs.Texts.{Plan, plan_of, plan_text}
-use Rattle.parts_files.specs.declared.part_digests.PartDigests.{PartDigests}
+use Rattle.app_parts_folder.proofs.Fronts.{same_plan}
+use Rattle.app_parts_folder.specs.PlanTexts.{Plan, plan_of, plan_text}
+use Rattle.app_parts_folder.specs.declared.part_digests.PartDigests.{PartDigests}
 use Rattle.app_parts_folder.proofs.NamesApart.{all_of_decided, all_of_folder, put_fault}
 use Rattle.app_parts_folder.specs.Apart.{IsOneFileFault}
 use Rattle.app_parts_folder.specs.Deciding.{IsDecidedFaultOf, made_texts}

@@ -15,8 +15,8 @@ use Rattle.issuer_rows.specs.declared.reply_body.ReplyBody.TheVariants.{Reply, F
 use Rattle.app_jobs.specs.declared.job_fault.JobFault.{JobFault}
 use Rattle.app_jobs.specs.declared.job_fault.JobFault.TheVariants.{OutOfMemory}
 use Rattle.parts_books.specs.PartBooks.{AreInArrivalOrder, joined_books}
-use Rattle.parts_files.proofs.Fronts.{same_plan}
-use Rattle.parts_files.specs.Texts.{Plan, decided_head, decided_text, plan_of, plan_text}
+use Rattle.app_parts_folder.proofs.Fronts.{same_plan}
+use Rattle.app_parts_folder.specs.PlanTexts.{Plan, decided_head, decided_text, plan_of, plan_text}
 use Rattle.app_parts_folder.proofs.NamesApart.{put_fault}
 use Rattle.app_parts.specs.Answers.{HaveAnswers, IsNoAnswer, IsNoOrder, IsPartFault, IsRest, IsRestFault}
 use Rattle.app_parts_folder.specs.Apart.{IsPairFault}

@@ -21,8 +21,8 @@ use Rattle.engine_parts.proofs.OrderLaws.{bodies_zip, parts_zip, zip_below}
 use Rattle.parts_books.proofs.Arrival.{one_order}
 use Rattle.parts_books.proofs.Whole.{the_whole}
 use Rattle.parts_books.specs.PartBooks.{AreInArrivalOrder, each_from, each_part, joined_books, part_replies, part_rows_after, rest_rows}
-use Rattle.parts_files.proofs.Fronts.{behind_letters, behind_number, counted, long, numbered, same_plan}
-use Rattle.parts_files.specs.Texts.{AreDigests, IsPlan, Plan, digests_text, listed_text, plan_text}
+use Rattle.app_parts_folder.proofs.Fronts.{behind_letters, behind_number, counted, long, numbered, same_plan}
+use Rattle.app_parts_folder.specs.PlanTexts.{AreDigests, IsPlan, Plan, digests_text, listed_text, plan_text}
 use Rattle.app_parts_folder.proofs.Parts.{length-each}
 use Rattle.app_parts_folder.specs.Joining.{Answer, AreAnswersFrom, Names}
 use Rattle.app_parts_folder.specs.Parting.{IsPlanned, Parting, batch_of_part, book_of_part, digests_of_part, parted, plan_of_parting, rest_of}

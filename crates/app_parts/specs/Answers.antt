@@ -8,7 +8,7 @@ use Rattle.issuer_rows.specs.Fold.{Rows}
 use Rattle.issuer_rows.specs.declared.reply_body.ReplyBody.{ReplyBody}
 use Rattle.app_jobs.specs.Faults.{IsBookFault}
 use Rattle.parts_books.specs.PartBooks.{AreInArrivalOrder}
-use Rattle.parts_files.specs.Texts.{decided_head, decided_text}
+use Rattle.app_parts_folder.specs.PlanTexts.{decided_head, decided_text}
 use Rattle.app_parts_folder.specs.Faults.{HasNoFile, IsFaultOfPart}
 use Rattle.app_parts_folder.specs.Joining.{Answer, AreAnswersFrom, IsAnswerOf}
 use Rattle.app_parts_folder.specs.Names.{part_name, rest_name}

@@ -8,7 +8,7 @@ use Rattle.file_devices.specs.Holding.{Holding}
 use Rattle.issuer_rows.specs.Fold.{Rows, replies_to, rows_after}
 use Rattle.issuer_rows.specs.declared.reply_body.ReplyBody.{ReplyBody}
 use Rattle.parts_books.specs.PartBooks.{joined_books, part_replies, part_rows_after}
-use Rattle.parts_files.specs.Texts.{plan_text}
+use Rattle.app_parts_folder.specs.PlanTexts.{plan_text}
 use Rattle.app_parts_folder.specs.Joining.{IsJoined, Names}
 use Rattle.app_parts_folder.specs.Names.{part_name, plan_name, rest_name}
 use Rattle.app_parts_folder.specs.Parting.{AreReadBack, IsPlanned, Parting, parted, plan_of_parting, rest_of}

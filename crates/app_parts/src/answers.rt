@@ -4,19 +4,18 @@ ghost use Rattle.std.specs.Prelude.{◌≡◌, ◌≢◌, ◌⊎◌, ℕ, List, 
 ghost use Rattle.sha2.specs.Sha256.{sha256};
 ghost use Rattle.book_laws.specs.Reading.{IsAnswer, reading};
 ghost use Rattle.file_batch_laws.specs.Replies.{IsReplyFileOf};
-ghost use Rattle.parts_files.specs.Texts.{decided_text};
+ghost use Rattle.app_parts_folder.specs.PlanTexts.{decided_text};
 ghost use Rattle.app_parts.specs.Answers.{HaveAnswers, IsNoAnswer, IsPartAnswer};
 ghost use Rattle.app_parts_folder.specs.Joining.{Answer};
 ghost use Rattle.app_parts_folder.specs.Opening.{IsDecidedFault};
 ghost use Rattle.app_parts_folder.specs.Reading.{IsAnswerBytesFault};
 
 use app_jobs::JobFault;
-use app_parts_folder::{PartFault, PartFile, PartsFault, digest_of, open_part_file};
+use app_parts_folder::{PartFault, PartFile, PartsFault, behind_decided_head, decided_text, digest_of, open_part_file};
 use book_json::read_book;
 use file_batch::read_replies;
 use file_devices::Files;
 use issuer_rows::{Book, ReplyBody};
-use parts_files::{behind_decided_head, decided_text};
 use std::alloc::Global;
 use std::sync::Wait;
 use std::thread::Threads;

@@ -4,9 +4,8 @@ ghost use Rattle.app_words.specs.Numbers.{IsNumber, number_said};
 ghost use Rattle.app_words.specs.Words.{IsCommand};
 
 use crate::help::{DECIDE_HELP, DECIDE_USAGE, JOIN_HELP, JOIN_USAGE, PART_HELP, PART_USAGE};
-use app_parts_folder::{JoinNames, PartNames};
+use app_parts_folder::{JoinNames, MostParts, PartNames};
 use app_words::{asks_help, is_command, number_in};
-use parts_files::MostParts;
 
 /// What words ask of `part`, `decide` and `join`.
 #[derive(Clone, Copy)]

@@ -9,13 +9,12 @@ use crate::asking::PartsAsked;
 use crate::deciding::decide_part;
 use crate::joining::join_parts;
 use crate::parting::part_files;
-use app_parts_folder::{JoinNames, PartCount, PartNames, PartsFault};
+use app_parts_folder::{JoinNames, MostParts, PartCount, PartNames, PartsFault};
 use app_words::{put, status_of};
 use file_devices::Files;
-use parts_files::MostParts;
 use std::alloc::{AllocError, Global};
-use std::io;
 use std::io::Write;
+use std::io;
 use std::sync::Wait;
 use std::thread::Threads;
 

@@ -3,3 +3,4 @@ pub mod NamesApart
 pub mod OwnBodies
 pub mod Parts
 pub mod InParts
+pub mod Fronts

@@ -15,7 +15,7 @@ use Rattle.app_parts_folder.specs.Parting.{Parting, folder_texts, part_texts, pl
 use Rattle.app_parts_folder.specs.Apart.{IsOutside}
 use Rattle.app_parts_folder.specs.Texts.{AreDistinct, HasOne, IsNoneOf, IsPutFault, Text}
 use Rattle.app_parts_folder.specs.declared.part_file.PartFile.TheVariants.{Book, Batch}
-use Rattle.parts_files.specs.Texts.{plan_text}
+use Rattle.app_parts_folder.specs.PlanTexts.{plan_text}
 
 -- ---- lists by their ends
 

@@ -10,7 +10,7 @@ use Rattle.issuer_rows.specs.Fold.{Rows, replies_to, rows_after}
 use Rattle.issuer_rows.specs.declared.frame.Frame.{Frame}
 use Rattle.app_jobs.specs.declared.job_fault.JobFault.{JobFault}
 use Rattle.app_jobs.specs.declared.job_fault.JobFault.TheVariants as job
-use Rattle.parts_files.specs.Texts.{decided_text}
+use Rattle.app_parts_folder.specs.PlanTexts.{decided_text}
 use Rattle.app_parts_folder.specs.Names.{part_name}
 use Rattle.app_parts_folder.specs.Planning.{IsBatchFaultOf}
 use Rattle.app_parts_folder.specs.Texts.{Text}

@@ -9,8 +9,8 @@ use Rattle.app_jobs.specs.Faults.{IsBatchFault, IsBookFault, IsReplyFileFault, M
 use Rattle.app_jobs.specs.declared.job_fault.JobFault.{JobFault}
 use Rattle.app_jobs.specs.declared.job_fault.JobFault.TheVariants.{InUse, Unwritable, OutOfMemory}
 use Rattle.parts_books.specs.PartBooks.{AreInArrivalOrder}
-use Rattle.parts_files.specs.Texts.{IsPlan, Plan, decided_head, decided_text, plan_text}
-use Rattle.parts_files.specs.declared.part_digests.PartDigests.{PartDigests}
+use Rattle.app_parts_folder.specs.PlanTexts.{IsPlan, Plan, decided_head, decided_text, plan_text}
+use Rattle.app_parts_folder.specs.declared.part_digests.PartDigests.{PartDigests}
 use Rattle.app_parts_folder.specs.Joining as joining
 use Rattle.app_parts_folder.specs.Joining.{Answer, IsFolder}
 use Rattle.app_parts_folder.specs.Names.{IsOfDecided, IsOfFolder, part_name, plan_name, rest_name}

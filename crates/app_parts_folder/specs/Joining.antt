@@ -11,8 +11,8 @@ use Rattle.issuer_rows.specs.Fold.{Rows, replies_to, rows_after}
 use Rattle.issuer_rows.specs.declared.frame.Frame.{Frame}
 use Rattle.issuer_rows.specs.declared.reply_body.ReplyBody.{ReplyBody}
 use Rattle.parts_books.specs.PartBooks.{AreInArrivalOrder, joined_books}
-use Rattle.parts_files.specs.Texts.{IsPlan, Plan, decided_text, plan_text}
-use Rattle.parts_files.specs.declared.part_digests.PartDigests.{PartDigests}
+use Rattle.app_parts_folder.specs.PlanTexts.{IsPlan, Plan, decided_text, plan_text}
+use Rattle.app_parts_folder.specs.declared.part_digests.PartDigests.{PartDigests}
 use Rattle.app_parts_folder.specs.Names.{part_name, plan_name, rest_name}
 use Rattle.app_parts_folder.specs.Texts.{AreHeld, IsHeld, Text}
 use Rattle.app_parts_folder.specs.declared.join_names.JoinNames.{JoinNames}

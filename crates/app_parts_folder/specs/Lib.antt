@@ -11,3 +11,4 @@ pub mod Deciding
 pub mod Reading
 pub mod Joining
 pub mod Faults
+pub mod PlanTexts

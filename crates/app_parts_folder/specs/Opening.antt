@@ -5,7 +5,7 @@ use Rattle.file_devices.specs.Failing.{Failing}
 use Rattle.file_devices.specs.Holding.{Holding}
 use Rattle.app_jobs.specs.declared.job_fault.JobFault.{JobFault}
 use Rattle.app_jobs.specs.declared.job_fault.JobFault.TheVariants.{OutOfMemory}
-use Rattle.parts_files.specs.Texts.{IsPlan, decided_head, decided_text, plan_of, plan_text}
+use Rattle.app_parts_folder.specs.PlanTexts.{IsPlan, decided_head, decided_text, plan_of, plan_text}
 use Rattle.app_parts_folder.specs.Faults.{HasNoPlan}
 use Rattle.app_parts_folder.specs.Names.{plan_name}
 use Rattle.app_parts_folder.specs.Texts.{IsHeld, IsReadingFault}

@@ -13,8 +13,8 @@ use Rattle.issuer_laws.specs.Parts.{AreApart, Parted, of_part}
 use Rattle.issuer_rows.specs.Fold.{Rows}
 use Rattle.issuer_rows.specs.declared.frame.Frame.{Frame}
 use Rattle.parts_books.specs.PartBooks.{each_part, part_rows, rest_rows}
-use Rattle.parts_files.specs.Texts.{Plan, plan_text}
-use Rattle.parts_files.specs.declared.part_digests.PartDigests.{PartDigests}
+use Rattle.app_parts_folder.specs.PlanTexts.{Plan, plan_text}
+use Rattle.app_parts_folder.specs.declared.part_digests.PartDigests.{PartDigests}
 use Rattle.app_parts_folder.specs.Names.{part_name, plan_name, rest_name}
 use Rattle.app_parts_folder.specs.Texts.{AreHeld, IsHeld, Text}
 use Rattle.app_parts_folder.specs.declared.part_count.PartCount.{PartCount}

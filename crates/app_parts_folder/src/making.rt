@@ -6,7 +6,7 @@ ghost use Rattle.book_laws.specs.Reading.{reading};
 ghost use Rattle.book_laws.specs.Text.{book_text};
 ghost use Rattle.parts_books.specs.PartBooks.{each_part, rest_rows};
 ghost use Rattle.app_parts_folder.specs.Making.{AreMade, IsMade};
-ghost use Rattle.parts_files.specs.Texts.{plan_text};
+ghost use Rattle.app_parts_folder.specs.PlanTexts.{plan_text};
 ghost use Rattle.app_parts_folder.specs.Names.{part_name, plan_name, rest_name};
 ghost use Rattle.app_parts_folder.specs.Parting.{AreReadBack, count_of_part, folder_texts};
 ghost use Rattle.app_parts_folder.specs.Texts.{texts_of};
@@ -17,12 +17,14 @@ use crate::bodies::{batch_text, bodies_of_part};
 use crate::named_text::NamedText;
 use crate::names::{part_name, plan_name, rest_name};
 use crate::part_count::PartCount;
+use crate::part_digests::PartDigests;
 use crate::part_file::PartFile;
+use crate::plan_file::PlanFile;
+use crate::plan_writing::plan_text;
 use crate::reading::digest_of;
 use book_text::write_book;
 use issuer_rows::{Book, Frame};
 use parts_books::{part_book, rest_book};
-use parts_files::{PartDigests, PlanFile, plan_text};
 use std::alloc::{AllocError, Global};
 
 // What is made of some parts.

@@ -2,7 +2,7 @@
 
 ghost use Rattle.std.specs.Prelude.{◌≡◌, ◌≤◌, ℕ, List, IfOk, IfErr, OnOk, Some, length, slice_get};
 ghost use Rattle.sha2.specs.Sha256.{sha256};
-ghost use Rattle.parts_files.specs.Texts.{plan_of};
+ghost use Rattle.app_parts_folder.specs.PlanTexts.{plan_of};
 ghost use Rattle.app_parts_folder.specs.Names.{part_name};
 ghost use Rattle.app_parts_folder.specs.Opening.{IsOpenPlan, IsPartFileFault, IsPlanFault, IsPlannedFileFault};
 ghost use Rattle.app_parts_folder.specs.Texts.{IsHeld};
@@ -11,10 +11,11 @@ use crate::names::{part_name, plan_name};
 use crate::part_fault::PartFault;
 use crate::part_file::PartFile;
 use crate::parts_fault::PartsFault;
+use crate::plan_file::PlanFile;
+use crate::plan_reading::read_plan;
 use crate::reading::{digest_of, read_text};
 use app_jobs::JobFault;
 use file_devices::Files;
-use parts_files::{PlanFile, read_plan};
 use std::alloc::Global;
 
 /// The plan of a folder.

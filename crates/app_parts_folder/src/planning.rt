@@ -6,11 +6,11 @@ ghost use Rattle.app_parts_folder.specs.Parting.{IsCut, IsPlanned};
 ghost use Rattle.app_parts_folder.specs.Planning.{IsBatchFaultOf};
 
 use crate::batch_in_parts::BatchInParts;
+use crate::most_parts::MostParts;
 use app_jobs::JobFault;
 use file_batch::read_batch;
 use file_bodies::bodies_of_batch;
 use issuer_rows::{Book, Frame};
-use parts_files::MostParts;
 use parts_plan::plan_parts;
 use std::alloc::Global;
 

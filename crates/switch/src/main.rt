@@ -3,10 +3,12 @@
 
 use app_archive::{ArchiveAsked, answer_archive, archive_asked};
 use app_commands::{Fault, Printer, act, print_fault};
-use app_messages::{MakeAsked, UnpackAsked, answer_make, answer_unpack, make_asked, unpack_asked};
+use app_messages::{
+    MakeAsked, ShowAsked, UnpackAsked, answer_make, answer_show, answer_unpack, make_asked,
+    show_asked, unpack_asked,
+};
 use app_parts::{PartsAsked, answer_parts, parts_asked};
 use app_report::{ReportAsked, answer_report, report_asked};
-use app_show::{ShowAsked, answer_show, show_asked};
 use app_why::{answer_why, why_asked};
 use app_words::{names_standard_output, take_progress, topic_asked, with_streams};
 use file_devices::{Files, FromRead, HostFiles, IntoWrite};

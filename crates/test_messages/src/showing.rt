@@ -1,6 +1,6 @@
 //! `show` for JSON over files in memory: the lines of each kind of file, worked out by hand from what its help says, its faults and words.
 
-use app_show::{SHOW_JSON_HELP, ShowAsked, answer_show, show_asked};
+use app_messages::{SHOW_JSON_HELP, ShowAsked, answer_show, show_asked};
 use file_devices::MemoryFiles;
 use iso_shown::CardNumbers;
 use std::alloc::Global;

@@ -3,7 +3,7 @@ use Rattle.sha2.specs.Sha256.{sha256}
 use Rattle.book_laws.specs.Text.{book_text}
 use Rattle.issuer_rows.specs.declared.frame.Frame.{Frame}
 use Rattle.parts_books.specs.PartBooks.{rest_rows}
-use Rattle.parts_files.specs.Texts.{plan_text}
+use Rattle.app_parts_folder.specs.PlanTexts.{plan_text}
 use Rattle.app_parts_folder.specs.Names.{plan_name, rest_name}
 use Rattle.app_parts_folder.specs.Parting.{Parting, digests_of_part, plan_of_parting, rest_of}
 use Rattle.app_parts_folder.proofs.Parts.{length-each}
