@@ -2,9 +2,9 @@
 use Rattle.std.specs.Prelude.{ℕ, ◌+◌, List, [], ◌∷◌, ◌++◌, Option, Some}
 use Rattle.issuer_rows.specs.declared.frame.Frame.{Frame}
 use Rattle.issuer_rows.specs.declared.reply_body.ReplyBody.{ReplyBody}
-use Rattle.message_json.specs.Lines.{frame_line, reply_line}
+use Rattle.message_text.specs.Lines.{frame_line, reply_line}
 use Rattle.iso_shown.specs.declared.card_numbers.CardNumbers.{CardNumbers}
-use Rattle.message_json.specs.declared.place.Place.{Place}
+use Rattle.message_text.specs.declared.place.Place.{Place}
 
 -- a place of a file that has no blocks, or of this block
 abbrev pub place_in : Option ℕ → ℕ → Place

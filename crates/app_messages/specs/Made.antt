@@ -1,8 +1,8 @@
 -- What `make` says.
 use Rattle.std.specs.Prelude.{⊤, ℕ, List, Option, map, string_bytes}
 use Rattle.std.specs.Io.KnownBytes.{Appends}
-use Rattle.file_bodies.specs.BodyLines.{body_line}
-use Rattle.message_words.specs.Made.{IsMade}
+use Rattle.file_listing.specs.BodyLines.{body_line}
+use Rattle.message_text.specs.Made.{IsMade}
 use Rattle.app_messages.specs.declared.make_asking.MakeAsked.{MakeAsked}
 use Rattle.app_messages.specs.declared.make_asking.MakeAsked.TheVariants.{Message, Help, Wrong}
 

@@ -2,8 +2,8 @@
 use Rattle.std.specs.Prelude.{◌≡◌, ◌≤◌, ⊤, ℕ, List, Option, Some, Err, length, slice_get}
 use Rattle.std.specs.Io.KnownBytes.{Appends}
 use Rattle.file_batch_laws.specs.Reading.{batch_magic, bodies_of}
-use Rattle.file_bodies.specs.BlockLines.{AreTextsOf, FailsAsBlockFile}
-use Rattle.file_bodies.specs.BodyLines.{IsTextOf}
+use Rattle.file_listing.specs.BlockLines.{AreTextsOf, FailsAsBlockFile}
+use Rattle.file_listing.specs.BodyLines.{IsTextOf}
 use Rattle.file_devices.specs.Failing.{Failing}
 use Rattle.file_devices.specs.Holding.{Holding, IsThere}
 use Rattle.app_jobs.specs.declared.job_fault.JobFault.{JobFault}

@@ -1,12 +1,12 @@
 ghost use Rattle.std.specs.Prelude.{OnOk, IfOk, IfErr, List, ℕ, map};
-ghost use Rattle.file_bodies.specs.BlockLines.{AreTextsOf};
+ghost use Rattle.file_listing.specs.BlockLines.{AreTextsOf};
 ghost use Rattle.file_devices.specs.Holding.{IsThere};
 ghost use Rattle.app_messages.specs.Unpacked.{IsBlockFault, IsBlockUnpacked, IsTextsFault};
 
 use crate::block_fault::BlockFault;
 use app_jobs::JobFault;
 use file_batch_laws::BatchFault;
-use file_bodies::texts_of_blocks;
+use file_listing::texts_of_blocks;
 use file_devices::{Files, read_file};
 use std::alloc::Global;
 

@@ -6,7 +6,7 @@ ghost use Rattle.app_messages.specs.Lines.{block_lines, frame_lines, reply_block
 
 use iso_shown::CardNumbers;
 use issuer_rows::{Frame, ReplyBody};
-use message_json::{Place, frame_line, reply_line};
+use message_text::{Place, frame_line, reply_line};
 use std::alloc::{AllocError, Global};
 
 /// A line for each body of a batch, or of a block.

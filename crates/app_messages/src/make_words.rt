@@ -1,6 +1,6 @@
 use iso_laws::Element;
 use iso8583::CodecFault;
-use message_words::{MakeFault, element_numbered, name_of};
+use message_text::{MakeFault, element_numbered, name_of};
 use std::fmt;
 
 /// Why words make no message of this type, as a line.

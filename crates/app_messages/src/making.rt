@@ -1,14 +1,14 @@
 ghost use Rattle.std.specs.Prelude.{◌≡◌, ◌≤◌, IfOk, map, string_bytes, ℕ, List};
-ghost use Rattle.file_bodies.specs.BodyLines.{body_line};
-ghost use Rattle.message_words.specs.Made.{IsMade};
+ghost use Rattle.file_listing.specs.BodyLines.{body_line};
+ghost use Rattle.message_text.specs.Made.{IsMade};
 ghost use Rattle.app_messages.specs.Made.{IsMadeSaid};
 
 use crate::help::{MAKE_HELP, MAKE_USAGE};
 use crate::make_asking::MakeAsked;
 use crate::make_words::MakeWords;
 use app_words::{put, status_of};
-use file_bodies::line_of_body;
-use message_words::{MakeFault, body_of_words};
+use file_listing::line_of_body;
+use message_text::{MakeFault, body_of_words};
 use std::alloc::Global;
 use std::io::Write;
 

@@ -3,7 +3,7 @@ ghost use Rattle.app_messages.specs.Unpacked.{IsUnpacked, IsUnpackFault};
 
 use app_jobs::JobFault;
 use file_batch_laws::BatchFault;
-use file_bodies::lines_of_batch;
+use file_listing::lines_of_batch;
 use file_devices::{Files, read_file};
 use std::alloc::Global;
 

@@ -9,7 +9,7 @@ use crate::batch_in_parts::BatchInParts;
 use crate::most_parts::MostParts;
 use app_jobs::JobFault;
 use file_batch::read_batch;
-use file_bodies::bodies_of_batch;
+use file_listing::bodies_of_batch;
 use issuer_rows::{Book, Frame};
 use parts_plan::plan_parts;
 use std::alloc::Global;

@@ -3,7 +3,7 @@ use Rattle.std.proofs.Common.{◌≡◌, ℕ, ◌+◌, ◌*◌, ◌≤◌, List,
 use Rattle.std.specs.List.{AllByRecursion}
 use Rattle.std.proofs.lemmas.List.{length-append}
 use Rattle.file_batch_laws.specs.Files.{AreBodies}
-use Rattle.file_bodies.specs.BlockText.{all_bodies}
+use Rattle.file_listing.specs.BlockText.{all_bodies}
 
 -- no more than 65,536 in each
 pub bodies_at_most : (blocks : List (List (List ℕ))) → AllByRecursion AreBodies blocks → length (all_bodies blocks) ≤ 65536 * length blocks

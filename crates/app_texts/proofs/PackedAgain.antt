@@ -8,7 +8,7 @@ use Rattle.file_batch_laws.specs.Blocks.{AreBlocks, IsBlock, IsBlockFileOf, bloc
 use Rattle.file_batch_laws.specs.Files.{AreBodies, framed, head_text}
 use Rattle.file_batch_laws.specs.Frames.{AreFramesOf}
 use Rattle.file_batch_laws.proofs.Again.{bodies_again, count_again, magic_again, version_again}
-use Rattle.file_bodies.specs.BlockText.{AreBlocksOfBodies, block_file_text, block_text}
+use Rattle.file_listing.specs.BlockText.{AreBlocksOfBodies, block_file_text, block_text}
 use Rattle.file_batch_laws.proofs.ReadBackBlocks.{block_count_again}
 
 head_is_read : (n : ℕ) (rest : List ℕ) → n ≤ 1000 → block_head_at blocks_magic (head_text blocks_magic n ++ rest) ≡ Ok (n, rest)

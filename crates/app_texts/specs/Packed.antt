@@ -9,7 +9,7 @@ use Rattle.app_jobs.specs.Decided.{Holding}
 use Rattle.app_jobs.specs.Faults.{IsWritingFaultOf}
 use Rattle.app_jobs.specs.declared.job_fault.JobFault.{JobFault}
 use Rattle.app_jobs.specs.declared.job_fault.JobFault.TheVariants.{Unreadable, Batch, Text, OutOfMemory}
-use Rattle.file_bodies.specs.BlockText.{all_bodies, block_file_text}
+use Rattle.file_listing.specs.BlockText.{all_bodies, block_file_text}
 
 abbrev Name : Type 0
 Name = List ℕ

@@ -1,7 +1,7 @@
 ghost use Rattle.std.specs.Prelude.{◌≡◌, ◌≢◌, ℕ, List, IfOk, IfErr, OnOk, OnErr, length, map, string_bytes};
 ghost use Rattle.file_devices.specs.Holding.{AreAsTheyWere, IsAsItWas};
 ghost use Rattle.app_jobs.specs.Faults.{IsWritingFaultOf};
-ghost use Rattle.file_bodies.specs.BlockText.{AreBlocksOfBodies, all_bodies, block_file_text};
+ghost use Rattle.file_listing.specs.BlockText.{AreBlocksOfBodies, all_bodies, block_file_text};
 ghost use Rattle.app_texts.specs.Handed.{bodies_of_blocks};
 ghost use Rattle.app_texts.specs.Packed.{ArePackedInBlocks, IsBlockPackingFault};
 

@@ -4,7 +4,7 @@ ghost use Rattle.file_batch.specs.Bodies.{bytes_of};
 ghost use Rattle.file_batch.specs.Device.{UsesDevice};
 ghost use Rattle.file_batch_laws.specs.BatchFault.{is_of_bytes};
 ghost use Rattle.file_batch_laws.specs.Files.{AreBodies, framed};
-ghost use Rattle.file_bodies.specs.BlockText.{AreBlocksOfBodies, block_file_text, block_text};
+ghost use Rattle.file_listing.specs.BlockText.{AreBlocksOfBodies, block_file_text, block_text};
 ghost use Rattle.app_texts.specs.Handed.{bodies_of_blocks};
 
 use byteorder::{BigEndian, ByteOrder};

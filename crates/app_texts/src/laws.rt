@@ -3,7 +3,7 @@ ghost use Rattle.std.specs.List.{AllZip};
 ghost use Rattle.issuer_rows.specs.declared.frame.Frame.{Frame};
 ghost use Rattle.file_batch_laws.specs.Blocks.{IsBlockFileOf};
 ghost use Rattle.file_batch_laws.specs.Frames.{AreFramesOf};
-ghost use Rattle.file_bodies.specs.BlockText.{AreBlocksOfBodies, block_file_text};
+ghost use Rattle.file_listing.specs.BlockText.{AreBlocksOfBodies, block_file_text};
 
 /// What blocks are packed into is a block file of the messages of their bodies, block by block.
 pub fn packed_blocks_are_read()

@@ -3,7 +3,7 @@ ghost use Rattle.std.specs.List.{AllByRecursion};
 ghost use Rattle.file_batch.specs.Bodies.{bytes_of};
 ghost use Rattle.file_batch_laws.specs.Files.{AreBodies};
 ghost use Rattle.file_devices.specs.Holding.{IsThere};
-ghost use Rattle.file_bodies.specs.BlockText.{AreBlocksOfBodies};
+ghost use Rattle.file_listing.specs.BlockText.{AreBlocksOfBodies};
 ghost use Rattle.app_texts.specs.Handed.{bodies_of_blocks};
 ghost use Rattle.app_texts.specs.Packed.{AreThere, HasBodies, HaveBlocks, HaveBodies, IsBlocksFault, IsBodiesFault, IsOneTextFault, IsTextFault};
 

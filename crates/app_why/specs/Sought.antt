@@ -6,7 +6,7 @@ use Rattle.iso_laws.specs.Messages.{transaction_of}
 use Rattle.issuer_rows.specs.declared.frame.Frame.{Frame}
 use Rattle.issuer_rows.specs.declared.frame.Frame.TheVariants.{Good, Bad}
 use Rattle.reason_text.specs.Words.{frame_words}
-use Rattle.message_json.specs.Lines.{frame_line}
+use Rattle.message_text.specs.Lines.{frame_line}
 use Rattle.app_why.specs.declared.form.Form.{Form}
 use Rattle.app_why.specs.declared.form.Form.TheVariants.{Lines, Json}
 use Rattle.app_why.specs.declared.sought.Sought.{Sought}

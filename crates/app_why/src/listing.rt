@@ -4,7 +4,7 @@ ghost use Rattle.app_why.specs.Sought.{message_line, sought_lines, told_line};
 use crate::form::Form;
 use crate::sought::Sought;
 use issuer_rows::Frame;
-use message_json::{Place, frame_line};
+use message_text::{Place, frame_line};
 use reason_text::FrameWords;
 use std::alloc::{AllocError, Global};
 

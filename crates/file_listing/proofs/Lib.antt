@@ -1,1 +1,6 @@
 mod LineSteps
+mod Steps
+mod BlockSteps
+mod PackedAgain
+mod Fronts
+mod BlocksPackedAgain

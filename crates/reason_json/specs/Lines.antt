@@ -13,7 +13,7 @@ use Rattle.reason_text.specs.Rules.{rule_name, rule_sentence}
 use Rattle.serde_json.specs.Data.{Data, array, object, string, Items, no_items, item}
 use Rattle.serde_json.specs.Written.{compact_text}
 use Rattle.book_laws.specs.Text.{members, numeral}
-use Rattle.message_json.specs.Lines.{Member, frame_members, reply_members}
+use Rattle.message_text.specs.Lines.{Member, frame_members, reply_members}
 use Rattle.reason_json.specs.Rows.{found_data, row_data}
 
 -- the items of an array

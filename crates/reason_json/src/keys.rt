@@ -4,7 +4,7 @@ ghost use Rattle.std.specs.Prelude.{◌∷◌, ◌++◌, [], true, OnOk};
 ghost use Rattle.json.specs.Token.{end_object as end_object_token, key as key_token, boolean as boolean_token};
 ghost use Rattle.std.specs.Prelude.{codes};
 ghost use Rattle.book_laws.specs.Text.{Adds, tokens_of};
-ghost use Rattle.message_json.specs.Lines.{all_tokens};
+ghost use Rattle.message_text.specs.Lines.{all_tokens};
 ghost use Rattle.reason_json.specs.Rows.{absent_data, key_members};
 
 use crate::numbers::{account_field, pan_field};

@@ -3,7 +3,7 @@ ghost use Rattle.json.specs.Print.{print};
 ghost use Rattle.json.specs.Token.{key as key_token, string as string_token, number as number_token};
 ghost use Rattle.book_laws.specs.Text.{Adds, members, tokens_of};
 ghost use Rattle.serde_json.specs.Data.{object};
-ghost use Rattle.message_json.specs.Lines.{all_tokens, frame_members, reply_members};
+ghost use Rattle.message_text.specs.Lines.{all_tokens, frame_members, reply_members};
 ghost use Rattle.reason_text.specs.Rules.{rule_name, rule_sentence};
 ghost use Rattle.reason_json.specs.Lines.{head_members, row_members, why_line, why_members};
 
@@ -14,7 +14,7 @@ use issuer_laws::DecisionRule;
 use issuer_reasons::Explanation;
 use issuer_rows::{Frame, ReplyBody};
 use issuer_view::{ReadSet, WriteSet};
-use message_json::{put_frame, put_reply};
+use message_text::{put_frame, put_reply};
 use reason_text::RuleWords;
 use std::alloc::{AllocError, Global};
 

@@ -1,7 +1,7 @@
 use Rattle.std.proofs.Common.{◌≡◌, ◌≤◌, ◌+◌, length, ap, ◌∙◌, arith}
 use Rattle.std.proofs.lemmas.List.{length-map}
 use Rattle.file_batch.specs.Bodies.{bytes_of}
-use Rattle.file_bodies.specs.BlockText.{all_bodies}
+use Rattle.file_listing.specs.BlockText.{all_bodies}
 use Rattle.app_texts.specs.Handed.{bodies_of_blocks}
 use Rattle.app_texts.proofs.BlockSteps.{bodies_at_most, bodies_of_more}
 use Rattle.app_texts.proofs.block_packing.count_bodies.Goals as goal

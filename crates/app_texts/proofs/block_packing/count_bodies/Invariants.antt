@@ -1,5 +1,5 @@
 use Rattle.std.proofs.Common.{◌≡◌, ◌+◌, length}
-use Rattle.file_bodies.specs.BlockText.{all_bodies}
+use Rattle.file_listing.specs.BlockText.{all_bodies}
 use Rattle.app_texts.specs.Handed.{bodies_of_blocks}
 use Rattle.app_texts.proofs.block_packing.count_bodies.Given as goal
 

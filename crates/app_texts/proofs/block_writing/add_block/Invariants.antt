@@ -2,7 +2,7 @@ use Rattle.std.proofs.Common.{◌≡◌, ◌++◌, length}
 use Rattle.std.specs.List.{AllByRecursion, flat_map}
 use Rattle.file_batch.specs.Bodies.{bytes_of}
 use Rattle.file_batch_laws.specs.Files.{IsBody, framed}
-use Rattle.file_bodies.specs.BlockText.{block_text}
+use Rattle.file_listing.specs.BlockText.{block_text}
 use Rattle.app_texts.proofs.block_writing.add_block.Given as goal
 
 -- what stands there, and the bodies of the rest

@@ -1,7 +1,7 @@
 use Rattle.std.proofs.Common.{◌≡◌, ◌++◌, length}
 use Rattle.std.specs.List.{AllByRecursion, flat_map}
 use Rattle.file_batch_laws.specs.Files.{AreBodies}
-use Rattle.file_bodies.specs.BlockText.{block_file_text, block_text}
+use Rattle.file_listing.specs.BlockText.{block_file_text, block_text}
 use Rattle.app_texts.specs.Handed.{bodies_of_blocks}
 use Rattle.app_texts.proofs.block_writing.text_of_blocks.Given as goal
 

@@ -1,5 +1,5 @@
 use Rattle.book_laws.proofs.WrittenTokens.{then}
-use Rattle.message_json.specs.Lines.{frame_members}
+use Rattle.message_text.specs.Lines.{frame_members}
 use Rattle.reason_json.proofs.Parts.{object_tokens}
 use Rattle.reason_json.proofs.RowTokens.{written_as}
 use Rattle.reason_json.proofs.lines.message_member.Goals as goal

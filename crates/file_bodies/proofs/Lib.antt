@@ -1,5 +1,0 @@
-mod Steps
-mod BlockSteps
-mod PackedAgain
-mod Fronts
-mod BlocksPackedAgain

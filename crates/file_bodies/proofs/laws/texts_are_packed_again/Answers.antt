@@ -1,5 +1,0 @@
-use Rattle.file_bodies.proofs.BlocksPackedAgain.{packed_again}
-use Rattle.file_bodies.proofs.laws.texts_are_packed_again.Goals as goal
-
-pub returns : goal.returns
-returns c = packed_again

@@ -1,3 +1,0 @@
-pub mod BlockLines
-pub mod BlockText
-pub mod BodyLines

@@ -1,5 +1,0 @@
-use Rattle.book_laws.proofs.WrittenTokens.{then}
-use Rattle.message_json.proofs.members.put_answer.Goals as goal
-
-pub returns : goal.returns
-returns c = then (rw (c.type_of_reply.ensures) at c.in_ok-text_field.ensures) c.in_ok-put_elements.ensures

@@ -1,0 +1,3 @@
+pub mod Elements
+mod Spelled
+mod GivenWords

@@ -1,2 +1,0 @@
-mod Spelled
-mod GivenWords

@@ -1,4 +1,0 @@
-pub mod Names
-pub mod Texts
-pub mod Givens
-pub mod Made
