@@ -4,3 +4,4 @@ pub mod Answered
 pub mod Joined
 pub mod OneRun
 pub mod Said
+pub mod Files

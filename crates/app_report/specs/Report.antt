@@ -11,8 +11,8 @@ use Rattle.app_jobs.specs.Faults.{IsBatchFault, IsReplyFileFault, IsSomeBatch}
 use Rattle.day_totals.specs.Totals.{AreDayTotals, IsDayOf}
 use Rattle.day_totals.specs.declared.day_totals.DayTotals.{DayTotals}
 use Rattle.day_totals.specs.declared.exchange.Exchange.{Exchange}
-use Rattle.day_text.specs.Lines.{lines_of}
-use Rattle.day_text.specs.Page.{page_of}
+use Rattle.day_totals.specs.Lines.{lines_of}
+use Rattle.day_totals.specs.Page.{page_of}
 use Rattle.app_report.specs.declared.asking.ReportAsked.{ReportAsked}
 use Rattle.app_report.specs.declared.asking.ReportAsked.TheVariants.{Day, Page, Help, Wrong}
 use Rattle.app_report.specs.declared.report_fault.ReportFault.{ReportFault}

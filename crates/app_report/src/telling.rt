@@ -1,8 +1,8 @@
 ghost use Rattle.std.specs.Prelude.{◌≡◌, ◌≢◌, ◌≤◌, ℕ, List, IfOk, IfErr, IsOk, OnErr};
 ghost use Rattle.std.specs.Io.KnownBytes.{Appends};
 ghost use Rattle.day_totals.specs.declared.day_totals.DayTotals.{DayTotals};
-ghost use Rattle.day_text.specs.Lines.{lines_of};
-ghost use Rattle.day_text.specs.Page.{page_of};
+ghost use Rattle.day_totals.specs.Lines.{lines_of};
+ghost use Rattle.day_totals.specs.Page.{page_of};
 ghost use Rattle.file_devices.specs.Holding.{AreAsTheyWere, IsAsItWas};
 ghost use Rattle.app_report.specs.Report.{IsPage, IsReport, IsReportFault, IsSaid};
 
@@ -13,7 +13,7 @@ use crate::help::{REPORT_HELP, USAGE};
 use crate::paging::put_page;
 use crate::report_fault::ReportFault;
 use app_words::{put, status_of};
-use day_text::{lines_of, page_of};
+use day_totals::{lines_of, page_of};
 use file_devices::Files;
 use std::alloc::Global;
 use std::io::Write;

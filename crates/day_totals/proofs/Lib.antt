@@ -1,2 +1,4 @@
 mod Listed
 mod Ranked
+mod Appended
+mod ReadBack

@@ -11,7 +11,7 @@ use Rattle.host_serving.specs.Serving.{AnsweredAfter, Served, Stopped}
 use Rattle.host_serving.specs.declared.host.Host.{Host}
 use Rattle.host_serving.specs.declared.host_fault.HostFault.{HostFault}
 use Rattle.host_serving.specs.declared.host_fault.HostFault.TheVariants.{Link, Log, OutOfMemory}
-use Rattle.host_opening.specs.Opening.{book_digest, HoldsEntries, IsOpened}
+use Rattle.host_commands.specs.Opening.{book_digest, HoldsEntries, IsOpened}
 use Rattle.host_commands.specs.Served.{IsAnswered, IsServed}
 use Rattle.host_serving.proofs.Servings.{whole}
 

@@ -3,3 +3,4 @@ pub mod SameLink
 pub mod SettingWords
 pub mod LinkWords
 pub mod Together
+pub mod Following

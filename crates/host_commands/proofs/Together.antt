@@ -4,7 +4,7 @@ use Rattle.std.proofs.Math.Logic.{∥∥₁_map}
 use Rattle.issuer_rows.specs.Fold.{rows_after}
 use Rattle.host_serving.specs.Entering.{book_of}
 use Rattle.host_serving.specs.declared.host.Host.{Host}
-use Rattle.host_opening.specs.Opening.{book_digest, HoldsEntries}
+use Rattle.host_commands.specs.Opening.{book_digest, HoldsEntries}
 use Rattle.host_links.specs.Merged.{MergesAll}
 use Rattle.host_links.specs.declared.links_outcome.LinksOutcome.{LinksOutcome}
 use Rattle.host_links.specs.declared.seat.Seat.{Seat}

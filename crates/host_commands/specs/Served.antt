@@ -10,7 +10,7 @@ use Rattle.link_frames.specs.Link.{AreFrames}
 use Rattle.link_frames.specs.Replies.{AppendsPart}
 use Rattle.host_serving.specs.Deciding.{answers_to}
 use Rattle.host_serving.specs.Entries.{AreMessagesOf}
-use Rattle.host_opening.specs.Opening.{book_digest, HoldsEntries}
+use Rattle.host_commands.specs.Opening.{book_digest, HoldsEntries}
 
 -- The text is a book, and the log is this book's. Some first frames came; the bodies among them, which are all but network management, were
 -- decided, one after another, on the book after the messages of the log, and what was written is a beginning of their replies and of those

@@ -6,7 +6,7 @@ use Rattle.issuer_rows.specs.declared.frame.Frame.{Frame}
 use Rattle.book_laws.specs.Reading.{reading}
 use Rattle.host_serving.specs.Entries.{AreMessagesOf}
 use Rattle.host_serving.specs.declared.host.Host.{Host}
-use Rattle.host_opening.specs.Opening.{book_digest, HoldsEntries, IsOpened}
+use Rattle.host_commands.specs.Opening.{book_digest, HoldsEntries, IsOpened}
 use Rattle.host_links.specs.Merged.{LinkMerged}
 use Rattle.host_links.specs.Turns.{IsTurnOfLink}
 use Rattle.host_links.specs.declared.link_turn.LinkTurn.{LinkTurn}

@@ -1,6 +1,7 @@
 //! What the program does for `switch serve`: a live host over standard input and output, or over named pipes.
 #![tactic(auto)]
 
+mod again;
 mod ahead;
 mod asked_links;
 mod asking;
@@ -10,6 +11,9 @@ mod link_names;
 mod links_teller;
 mod links_words;
 mod logs;
+mod opened;
+mod opening;
+mod opening_fault;
 mod pipes;
 mod serve_fault;
 mod serving;
@@ -25,6 +29,9 @@ pub use link_names::LinkNames;
 pub use links_teller::LinksTeller;
 pub use links_words::links_asked;
 pub use logs::{HostLogs, Logs};
+pub use opened::Opened;
+pub use opening::open_host;
+pub use opening_fault::OpeningFault;
 pub use pipes::{PipeSink, PipeSource};
 pub use serve_fault::ServeFault;
 pub use serving::serve;

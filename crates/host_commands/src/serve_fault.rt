@@ -1,7 +1,7 @@
 ghost use Rattle.std.specs.Prelude.{◌≡◌};
 ghost use Rattle.host_commands.specs.declared.serve_fault.ServeFault.TheVariants.{Opening, Serving};
 
-use host_opening::OpeningFault;
+use crate::opening_fault::OpeningFault;
 use host_serving::HostFault;
 use log_devices::OpenFault;
 use log_laws::LogFault;

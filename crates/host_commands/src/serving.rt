@@ -3,10 +3,10 @@ ghost use Rattle.host_commands.specs.Served.{IsAnswered, IsServed};
 
 use crate::ahead::serve_ahead;
 use crate::logs::Logs;
+use crate::opening::open_host;
 use crate::serve_fault::ServeFault;
 use crate::settings::Settings;
 use file_devices::{Files, Sink, Source};
-use host_opening::open_host;
 use host_serving::MaxBatch;
 use host_telling::Teller;
 use issuer_rules::Shipped;

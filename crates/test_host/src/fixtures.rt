@@ -1,6 +1,6 @@
 use book_json::write_book;
 use file_devices::{FailingSink, MemoryFiles};
-use host_opening::{Opened, OpeningFault, open_host};
+use host_commands::{Opened, OpeningFault, open_host};
 use host_serving::{MaxBatch, Unwatched};
 use issuer_rows::Book;
 use issuer_rules::Shipped;

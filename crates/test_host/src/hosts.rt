@@ -5,8 +5,7 @@ use crate::{
     open, serve_link,
 };
 use file_devices::{FailingSink, Source};
-use host_commands::{HostAsked, Logs, Settings, host_asked, serve};
-use host_opening::OpeningFault;
+use host_commands::{HostAsked, Logs, OpeningFault, Settings, host_asked, serve};
 use host_serving::MaxBatch;
 use host_telling::StatsInterval;
 use issuer_rows::Book;

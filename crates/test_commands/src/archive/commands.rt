@@ -1,7 +1,7 @@
 //! The command over files in memory: its statuses, what stands on standard output and standard error, and the books.
 
 use crate::files::files_with;
-use app_archive::{ArchiveAsked, ArchiveNames, answer_archive};
+use app_parts::{ArchiveAsked, ArchiveNames, answer_archive};
 use file_devices::MemoryFiles;
 use iso8583::Day;
 use std::alloc::Global;

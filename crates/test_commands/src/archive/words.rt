@@ -1,6 +1,6 @@
 //! What words ask for.
 
-use app_archive::{ARCHIVE_HELP, answer_archive, archive_asked};
+use app_parts::{ARCHIVE_HELP, answer_archive, archive_asked};
 use file_devices::MemoryFiles;
 use std::alloc::Global;
 use std::process::Abort;

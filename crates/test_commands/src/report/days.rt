@@ -1,7 +1,6 @@
 //! A small day, worked out by hand, as lines.
 
-use day_text::{lines_of, page_of};
-use day_totals::{DayTotals, day_of};
+use day_totals::{DayTotals, day_of, lines_of, page_of};
 use iso8583::{Action, Answer, Approval, DeclineCode, Message, Reply, Verdict};
 use issuer_rows::{Frame, ReplyBody};
 use std::alloc::Global;

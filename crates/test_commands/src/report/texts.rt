@@ -1,6 +1,6 @@
 //! Texts from outside in a page.
 
-use day_text::escape;
+use day_totals::escape;
 use std::process::Abort;
 
 #[test]

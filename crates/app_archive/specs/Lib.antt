@@ -1,3 +1,0 @@
-pub mod ArchiveAsked
-pub mod Archived
-pub mod Faults

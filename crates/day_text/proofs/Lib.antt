@@ -1,2 +1,0 @@
-mod Appended
-mod ReadBack

@@ -1,9 +1,0 @@
-use Rattle.day_text.proofs.Appended.{three}
-use Rattle.day_text.proofs.page.add_money.Goals as goal
-
-pub returns : goal.returns
-returns c =
-    let first = rw c.deref.ensures.value at c.in_ok-add_section.ensures in
-    let second = rw c.deref-2.ensures.value at c.in_ok-add_section-2.ensures in
-    let third = rw c.deref-3.ensures.value at c.in_ok-add_section-3.ensures in
-    three c.args.html.now.items _ _ _ _ _ _ first second third

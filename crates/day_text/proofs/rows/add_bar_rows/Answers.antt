@@ -1,6 +1,0 @@
-use Rattle.day_text.proofs.Appended.{appended}
-use Rattle.day_text.specs.Page.{bar_row}
-use Rattle.day_text.proofs.rows.add_bar_rows.Goals as goal
-
-pub loop-total-preserved : goal.loop-total-preserved
-loop-total-preserved c = appended (bar_row c.most_of-most.result) c.args.totals.now c.loop-total.total-index c.total-item.result c.args.html.now.items _ _ c.loop-total-test.true c.total-item.is c.loop-total.invariant c.in_ok-add_bar_row.ensures

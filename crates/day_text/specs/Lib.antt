@@ -1,4 +1,0 @@
-pub mod Escaped
-pub mod Lines
-pub mod Meaning
-pub mod Page

@@ -1,0 +1,8 @@
+use Rattle.std.proofs.Common.{◌≡◌, take}
+use Rattle.std.specs.List.{flat_map}
+use Rattle.day_totals.specs.Lines.{line}
+use Rattle.day_totals.proofs.lines.lines.Given as goal
+
+-- the lines of the totals so far
+abbrev pub invariant-loop-total : goal.invariant-loop-total
+invariant-loop-total l = l.text.items ≡ flat_map (line l.label) (take l.total-index l.totals)
