@@ -6,8 +6,8 @@ ghost use Rattle.app_messages.specs.Unpacked.{IsBlockFault, IsBlockUnpacked, IsT
 use crate::block_fault::BlockFault;
 use app_jobs::JobFault;
 use file_batch_laws::BatchFault;
-use file_listing::texts_of_blocks;
 use file_devices::{Files, read_file};
+use file_listing::texts_of_blocks;
 use std::alloc::Global;
 
 /// The bodies of the block of this number, from 0 on, of the file of blocks of this name, one a line, in hexadecimal. The file is read alone,

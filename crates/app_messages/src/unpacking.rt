@@ -3,8 +3,8 @@ ghost use Rattle.app_messages.specs.Unpacked.{IsUnpacked, IsUnpackFault};
 
 use app_jobs::JobFault;
 use file_batch_laws::BatchFault;
-use file_listing::lines_of_batch;
 use file_devices::{Files, read_file};
+use file_listing::lines_of_batch;
 use std::alloc::Global;
 
 /// The bodies of the batch of this name, one a line, in hexadecimal. The file is read alone. It fails with the first fault of the batch;

@@ -11,7 +11,9 @@ ghost use Rattle.app_parts_folder.specs.Opening.{IsDecidedFault};
 ghost use Rattle.app_parts_folder.specs.Reading.{IsAnswerBytesFault};
 
 use app_jobs::JobFault;
-use app_parts_folder::{PartFault, PartFile, PartsFault, behind_decided_head, decided_text, digest_of, open_part_file};
+use app_parts_folder::{
+    PartFault, PartFile, PartsFault, behind_decided_head, decided_text, digest_of, open_part_file,
+};
 use book_json::read_book;
 use file_batch::read_replies;
 use file_devices::Files;

@@ -10,8 +10,8 @@ use crate::archiving::archive_files;
 use app_words::{put, status_of};
 use file_devices::Files;
 use std::alloc::{AllocError, Global};
-use std::io::Write;
 use std::io;
+use std::io::Write;
 use std::sync::Wait;
 use std::thread::Threads;
 

@@ -10,7 +10,10 @@ ghost use Rattle.app_parts_folder.specs.Texts.{texts_of};
 ghost use Rattle.app_parts_folder.specs.declared.parts_fault.PartsFault.TheVariants as PartsFault;
 
 use app_jobs::JobFault;
-use app_parts_folder::{NamedText, OpenPlan, PartDigests, PartFault, PartFile, PartsFault, decided_text, digest_of, open_plan, open_planned, part_name, put_texts};
+use app_parts_folder::{
+    NamedText, OpenPlan, PartDigests, PartFault, PartFile, PartsFault, decided_text, digest_of,
+    open_plan, open_planned, part_name, put_texts,
+};
 use book_json::read_book;
 use book_text::write_book;
 use file_batch::{BodyCount, decide_in_order};

@@ -8,7 +8,10 @@ ghost use Rattle.app_parts_folder.specs.Parting.{IsParted, names_of};
 ghost use Rattle.app_parts_folder.specs.Texts.{IsHeld};
 
 use app_jobs::JobFault;
-use app_parts_folder::{MostParts, PartCount, PartNames, PartsFault, check_outside, make_folder, plan_batch, put_texts, read_text};
+use app_parts_folder::{
+    MostParts, PartCount, PartNames, PartsFault, check_outside, make_folder, plan_batch, put_texts,
+    read_text,
+};
 use book_json::read_book;
 use file_devices::Files;
 use issuer_rows::Book;

@@ -13,8 +13,8 @@ use app_parts_folder::{JoinNames, MostParts, PartCount, PartNames, PartsFault};
 use app_words::{put, status_of};
 use file_devices::Files;
 use std::alloc::{AllocError, Global};
-use std::io::Write;
 use std::io;
+use std::io::Write;
 use std::sync::Wait;
 use std::thread::Threads;
 

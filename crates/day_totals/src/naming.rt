@@ -4,11 +4,11 @@ ghost use Rattle.std.specs.Prelude.{◌≡◌, ◌<◌, ◌^◌, IfOk, string_by
 ghost use Rattle.iso_shown.specs.Masked.{masked};
 ghost use Rattle.day_totals.specs.Day.{action_of, hour_of, is_repeat, taken_back, type_of};
 
+use iso_shown::MaskedPan;
 use iso8583::{
     Action, Amount, Answer, Digits, LocalStamp, Message, Pan, PrintableUpTo, ReversalScope,
     Terminal, Verdict,
 };
-use iso_shown::MaskedPan;
 use std::alloc::{AllocError, Global};
 
 // A message's type.

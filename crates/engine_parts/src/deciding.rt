@@ -7,7 +7,6 @@ ghost use Rattle.engine_parts.specs.TwoBooks.{joined};
 
 use crate::card_hints::CardHints;
 use crate::decided_part::DecidedPart;
-use crate::gathering::gather;
 use crate::part_rows::PartRows;
 use issuer_rows::{Book, Frame, Places, ReplyBody};
 use issuer_view::{Decide, ReadSet, Recorder, Stop, WriteSet};
@@ -27,38 +26,54 @@ pub(crate) fn decide_part<F: Decide>(
     ensures { result.is_whole ≡ true → AreDecided opening.now (bodies_of part parts.now frames.now) result }
 {
     let mut decided = DecidedPart::new(alloc);
-    if let Ok(own) = gather(alloc, frames, parts, part) {
-        decided.is_whole = decided.decide_each(alloc, opening, &own, decision).is_ok();
-    }
+    decided.is_whole = decided
+        .decide_own(alloc, opening, frames, parts, part, decision)
+        .is_ok();
     decided
 }
 
+// How many messages a part has.
+fn count_of(parts: &[u32], part: usize) -> usize {
+    parts
+        .iter()
+        .filter(|owner| **owner as usize == part)
+        .count()
+}
+
 impl DecidedPart {
-    // Decides these messages in their order, before which none was. It fails only where memory runs out.
-    fn decide_each<F: Decide>(
+    // Decides the messages of a part in their order, where they stand among the others; none is decided before. It fails only where
+    // memory runs out.
+    fn decide_own<F: Decide>(
         &mut self,
         alloc: Global,
         opening: &Book,
-        own: &[Frame],
+        frames: &[Frame],
+        parts: &[u32],
+        part: usize,
         decision: &F,
     ) -> Result<(), AllocError>
+        requires each { length parts.now ≡ length frames.now }
         requires replies { self.old.replies.items ≡ [] }
         requires rows { self.old.rows ≡ map.empty }
-        ensures { OnOk result (AreDecided opening.now own.now self.new) }
+        ensures { OnOk result (AreDecided opening.now (bodies_of part parts.now frames.now) self.new) }
     {
-        self.make_room(own.len())?;
-        let mut hints = CardHints::new(alloc, opening, own.len())?;
+        let messages = count_of(parts, part);
+        self.make_room(messages)?;
+        let mut hints = CardHints::new(alloc, opening, messages)?;
         let mut reads = ReadSet::new(alloc);
         let mut writes = WriteSet::new(alloc);
-        for frame in own {
-            self.decide_next(
-                opening,
-                frame,
-                decision,
-                &mut hints,
-                &mut reads,
-                &mut writes,
-            )?;
+        for index in 0..frames.len() {
+            let owner = parts[index] as usize;
+            if owner == part {
+                self.decide_next(
+                    opening,
+                    &frames[index],
+                    decision,
+                    &mut hints,
+                    &mut reads,
+                    &mut writes,
+                )?;
+            }
         }
         Ok(())
     }

@@ -1,8 +1,8 @@
 ghost use Rattle.std.specs.Prelude.{◌≡◌, ◌≢◌, Ok, Err, IfOk, IfErr, map};
 ghost use Rattle.file_batch_laws.specs.Reading.{batch_magic, bodies_at, bodies_of};
 
-use crate::one_body::body_at;
 use crate::head::head_at;
+use crate::one_body::body_at;
 use file_batch_laws::BatchFault;
 use std::alloc::{AllocError, Global};
 

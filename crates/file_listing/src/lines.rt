@@ -2,8 +2,8 @@ ghost use Rattle.std.specs.Prelude.{◌≡◌, ◌≢◌, ◌++◌, Err, IfOk, I
 ghost use Rattle.file_batch_laws.specs.Reading.{batch_magic, bodies_at, bodies_of};
 ghost use Rattle.file_listing.specs.BodyLines.{IsTextOf, HasLinesOf, body_line};
 
-use crate::one_body::body_at;
 use crate::head::head_at;
+use crate::one_body::body_at;
 use file_batch_laws::BatchFault;
 use std::alloc::{AllocError, Global};
 

@@ -4,9 +4,9 @@ ghost use Rattle.std.specs.Prelude.{◌≡◌, ◌≤◌, [], IfOk, length};
 
 use file_devices::{Broken, Sink, Source};
 use host_links::{LinkSink, LinkSource};
-use std::{fs, rt};
 use std::fs::{File, OpenFile, OpenOptions};
 use std::io::{Read, Write};
+use std::{fs, rt};
 
 /// A pipe of the host that is read. To open it waits for somebody who opens it to write. What comes on it is not known.
 #[derive(Drop)]

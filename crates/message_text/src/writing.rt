@@ -15,9 +15,9 @@ use crate::has_elements::HasElements;
 use crate::names::{elements, name_of};
 use crate::place::Place;
 use book_text::JsonWriter;
-use iso8583::{Digits, OriginalKind, OriginalRef, Pan};
 use iso_laws::Element;
 use iso_shown::{CardNumbers, MaskedPan};
+use iso8583::{Digits, OriginalKind, OriginalRef, Pan};
 use issuer_rows::FrameFault;
 use std::alloc::{AllocError, Global};
 

@@ -1,11 +1,13 @@
 //! `switch`: decides card messages for an issuer.
 #![tactic(auto)]
 
-use app_parts::{ArchiveAsked, PartsAsked, answer_archive, answer_parts, archive_asked, parts_asked};
 use app_commands::{Fault, Printer, act, print_fault};
 use app_messages::{
     MakeAsked, ShowAsked, UnpackAsked, answer_make, answer_show, answer_unpack, make_asked,
     show_asked, unpack_asked,
+};
+use app_parts::{
+    ArchiveAsked, PartsAsked, answer_archive, answer_parts, archive_asked, parts_asked,
 };
 use app_report::{ReportAsked, answer_report, report_asked};
 use app_why::{answer_why, why_asked};

@@ -64,5 +64,8 @@ fn batch(alloc: Global) -> Option<Vec<u8>> {
 /// Files that hold this book, as `book`, and this batch, as `batch`.
 pub fn files(alloc: Global) -> Option<MemoryFiles> {
     let batch = batch(alloc)?;
-    files_with(alloc, &[("book", BOOK.as_bytes()), ("batch", batch.as_slice())])
+    files_with(
+        alloc,
+        &[("book", BOOK.as_bytes()), ("batch", batch.as_slice())],
+    )
 }

@@ -71,7 +71,10 @@ fn said<R: Threads + Wait + Sync>(
     alloc: Global,
     asked: &WhyAsked<'_>,
 ) -> Option<(u8, Vec<u8>, Vec<u8>)> {
-    let files = files_with(alloc, &[("book", BOOK.as_bytes()), ("batch", BATCH), ("day", DAY)])?;
+    let files = files_with(
+        alloc,
+        &[("book", BOOK.as_bytes()), ("batch", BATCH), ("day", DAY)],
+    )?;
     let (mut out, mut err) = (Vec::new(alloc), Vec::new(alloc));
     let status = answer_why(rt, alloc, &files, asked, &mut out, &mut err);
     Some((status, out, err))
