@@ -1,5 +1,6 @@
 //! `show` for JSON over files in memory: the lines of each kind of file, worked out by hand from what its help says, its faults and words.
 
+use crate::files::file_with;
 use app_messages::{SHOW_JSON_HELP, ShowAsked, answer_show, show_asked};
 use file_devices::MemoryFiles;
 use iso_shown::CardNumbers;
@@ -107,14 +108,6 @@ const FILES: &[(&str, &[u8], CardNumbers, u8, &str, &str)] = &[
     ),
 ];
 
-fn file(alloc: Global, name: &str, bytes: &[u8]) -> Option<MemoryFiles> {
-    let mut copy = Vec::new(alloc);
-    copy.extend_from_slice(bytes).ok()?;
-    let mut files = MemoryFiles::new(alloc);
-    files.put(name, copy).ok()?;
-    Some(files)
-}
-
 // What the command comes to: its status, and what it said.
 fn said(alloc: Global, files: &MemoryFiles, asked: &ShowAsked<'_>) -> (u8, Vec<u8>, Vec<u8>) {
     let (mut out, mut err) = (Vec::new(alloc), Vec::new(alloc));
@@ -125,7 +118,7 @@ fn said(alloc: Global, files: &MemoryFiles, asked: &ShowAsked<'_>) -> (u8, Vec<u
 #[test]
 fn shows_each_kind_of_file(rt: HostRuntime) {
     for (name, bytes, cards, status, out, err) in FILES {
-        let files = file(rt.alloc(), name, bytes).expect(&rt, "room");
+        let files = file_with(rt.alloc(), name, bytes).expect(&rt, "room");
         let said = said(rt.alloc(), &files, &ShowAsked::File(name, *cards));
         assert!(rt; said.0 == *status, "{name}");
         assert!(rt; said.1.as_slice() == out.as_bytes(), "{name}");

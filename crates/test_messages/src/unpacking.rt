@@ -1,5 +1,6 @@
 //! `unpack` of batches over files in memory: its statuses, its lines, and what stands on standard error.
 
+use crate::files::file_with;
 use app_messages::{UNPACK_HELP, UnpackAsked, answer_unpack, unpack_asked};
 use file_devices::MemoryFiles;
 use file_listing::read_bodies;
@@ -61,14 +62,6 @@ const FILES: &[(&str, &[u8], u8, &str, &str)] = &[
     ),
 ];
 
-fn file(alloc: Global, name: &str, bytes: &[u8]) -> Option<MemoryFiles> {
-    let mut copy = Vec::new(alloc);
-    copy.extend_from_slice(bytes).ok()?;
-    let mut files = MemoryFiles::new(alloc);
-    files.put(name, copy).ok()?;
-    Some(files)
-}
-
 // What the command comes to: its status, and what it said.
 fn said(alloc: Global, files: &MemoryFiles, asked: &UnpackAsked<'_>) -> (u8, Vec<u8>, Vec<u8>) {
     let (mut out, mut err) = (Vec::new(alloc), Vec::new(alloc));
@@ -79,7 +72,7 @@ fn said(alloc: Global, files: &MemoryFiles, asked: &UnpackAsked<'_>) -> (u8, Vec
 #[test]
 fn unpacks_batches(rt: HostRuntime) {
     for (name, bytes, status, out, err) in FILES {
-        let files = file(rt.alloc(), name, bytes).expect(&rt, "room");
+        let files = file_with(rt.alloc(), name, bytes).expect(&rt, "room");
         let said = said(rt.alloc(), &files, &UnpackAsked::Batch(name));
         assert!(rt; said.0 == *status, "{name}");
         assert!(rt; said.1.as_slice() == out.as_bytes(), "{name}");
@@ -90,7 +83,7 @@ fn unpacks_batches(rt: HostRuntime) {
 
 #[test]
 fn tells_of_a_file_that_is_not_there(rt: HostRuntime) {
-    let files = file(rt.alloc(), "whole", BATCH).expect(&rt, "room");
+    let files = file_with(rt.alloc(), "whole", BATCH).expect(&rt, "room");
     let said = said(rt.alloc(), &files, &UnpackAsked::Batch("none"));
     assert!(rt; said.0 == 1 && said.1.is_empty());
     assert!(rt; said.2.as_slice().starts_with(b"file 1\nnone: "));

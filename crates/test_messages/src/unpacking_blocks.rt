@@ -1,6 +1,7 @@
 //! `unpack` of blocks over files in memory: its statuses, its lines, and what stands on standard error; and that `pack --blocks` of its texts
 //! makes the file again.
 
+use crate::files::file_with;
 use app_messages::{UnpackAsked, answer_unpack, unpack_asked};
 use app_texts::pack_blocks;
 use file_devices::{Files, MemoryFiles, read_file};
@@ -76,18 +77,6 @@ const FAULTS: &[(&str, &[u8], usize, u8, &str)] = &[
     ),
 ];
 
-fn bytes_of(alloc: Global, bytes: &[u8]) -> Option<Vec<u8>> {
-    let mut copy = Vec::new(alloc);
-    copy.extend_from_slice(bytes).ok()?;
-    Some(copy)
-}
-
-fn file(alloc: Global, name: &str, bytes: &[u8]) -> Option<MemoryFiles> {
-    let mut files = MemoryFiles::new(alloc);
-    files.put(name, bytes_of(alloc, bytes)?).ok()?;
-    Some(files)
-}
-
 // What the command comes to: its status, and what it said.
 fn said(alloc: Global, files: &MemoryFiles, name: &str, number: usize) -> (u8, Vec<u8>, Vec<u8>) {
     let (mut out, mut err) = (Vec::new(alloc), Vec::new(alloc));
@@ -98,7 +87,7 @@ fn said(alloc: Global, files: &MemoryFiles, name: &str, number: usize) -> (u8, V
 
 #[test]
 fn unpacks_each_block(rt: HostRuntime) {
-    let files = file(rt.alloc(), "blocks", BLOCKS).expect(&rt, "room");
+    let files = file_with(rt.alloc(), "blocks", BLOCKS).expect(&rt, "room");
     for (number, text) in TEXTS.iter().enumerate() {
         let said = said(rt.alloc(), &files, "blocks", number);
         assert!(rt; said.0 == 0 && said.2.is_empty(), "{number}");
@@ -109,12 +98,12 @@ fn unpacks_each_block(rt: HostRuntime) {
 #[test]
 fn tells_why_a_block_is_not_unpacked(rt: HostRuntime) {
     for (name, bytes, number, status, err) in FAULTS {
-        let files = file(rt.alloc(), name, bytes).expect(&rt, "room");
+        let files = file_with(rt.alloc(), name, bytes).expect(&rt, "room");
         let said = said(rt.alloc(), &files, name, *number);
         assert!(rt; said.0 == *status && said.1.is_empty(), "{name}");
         assert!(rt; said.2.as_slice().starts_with(err.as_bytes()), "{name}");
     }
-    let files = file(rt.alloc(), "blocks", BLOCKS).expect(&rt, "room");
+    let files = file_with(rt.alloc(), "blocks", BLOCKS).expect(&rt, "room");
     let said = said(rt.alloc(), &files, "gone", 0);
     assert!(rt; said.0 == 1 && said.1.is_empty());
     assert!(rt; said.2.as_slice().starts_with(b"file 1\ngone: "));
@@ -127,7 +116,7 @@ fn texts(alloc: Global) -> Option<(MemoryFiles, Vec<String>)> {
     for (number, text) in TEXTS.iter().enumerate() {
         let name = format!(in alloc; "{number}.txt").ok()?;
         files
-            .put(name.as_str(), bytes_of(alloc, text.as_bytes())?)
+            .put(name.as_str(), Vec::from_slice(alloc, text.as_bytes()).ok()?)
             .ok()?;
         names.push(name).ok()?;
     }
