@@ -2,8 +2,8 @@
 use Rattle.std.specs.Prelude.{◌≡◌, ◌≢◌, ◌⊎◌, ◌+◌, ℕ, List, Some, codes, length, slice_get}
 use Rattle.app_words.specs.Numbers.{IsNumber, number_said}
 use Rattle.app_words.specs.Words.{AsksHelp}
-use Rattle.app_messages.specs.declared.asking.UnpackAsked.{UnpackAsked}
-use Rattle.app_messages.specs.declared.asking.UnpackAsked.TheVariants.{Batch, Block, Help, Wrong}
+use Rattle.app_messages.specs.declared.unpack_asking.UnpackAsked.{UnpackAsked}
+use Rattle.app_messages.specs.declared.unpack_asking.UnpackAsked.TheVariants.{Batch, Block, Help, Wrong}
 
 -- the word at this place is `--block`, and the next one says this number
 abbrev pub SaysBlock : List (List ℕ) → ℕ → ℕ → Type 0

@@ -8,8 +8,8 @@ use Rattle.file_devices.specs.Failing.{Failing}
 use Rattle.file_devices.specs.Holding.{Holding, IsThere}
 use Rattle.app_jobs.specs.declared.job_fault.JobFault.{JobFault}
 use Rattle.app_jobs.specs.declared.job_fault.JobFault.TheVariants.{Unreadable, Batch, OutOfMemory}
-use Rattle.app_messages.specs.declared.asking.UnpackAsked.{UnpackAsked}
-use Rattle.app_messages.specs.declared.asking.UnpackAsked.TheVariants as asked
+use Rattle.app_messages.specs.declared.unpack_asking.UnpackAsked.{UnpackAsked}
+use Rattle.app_messages.specs.declared.unpack_asking.UnpackAsked.TheVariants as asked
 use Rattle.app_messages.specs.declared.block_fault.BlockFault.{BlockFault}
 use Rattle.app_messages.specs.declared.block_fault.BlockFault.TheVariants as block
 

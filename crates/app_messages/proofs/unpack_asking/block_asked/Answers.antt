@@ -1,7 +1,7 @@
 use Rattle.std.proofs.Common.{◌⊎◌, ℕ, List, map, inl, inr, arith, string_bytes}
 use Rattle.std.proofs.lemmas.List.{length-map}
 use Rattle.app_messages.specs.UnpackAsked.{AsksBlock, SaysBlock}
-use Rattle.app_messages.proofs.asking.block_asked.Goals as goal
+use Rattle.app_messages.proofs.unpack_asking.block_asked.Goals as goal
 
 either : {A B X Y : Type 0} → (A → ⊥) → (B → ⊥) → (A × X) ⊎ (B × Y) → ⊥
 either a b (inl one) = a one.0

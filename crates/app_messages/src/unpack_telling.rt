@@ -1,10 +1,10 @@
 ghost use Rattle.std.specs.Prelude.{◌≡◌, ◌≤◌};
 ghost use Rattle.app_messages.specs.Unpacked.{IsSaid};
 
-use crate::asking::UnpackAsked;
 use crate::block_fault::BlockFault;
 use crate::block_unpacking::unpack_block;
 use crate::help::{UNPACK_HELP, UNPACK_USAGE};
+use crate::unpack_asking::UnpackAsked;
 use crate::unpacking::unpack;
 use app_reasons::{FileKind, tell_of_file};
 use app_words::{put, status_of};

@@ -3,7 +3,9 @@ ghost use Rattle.std.specs.Str.{bytes_eq};
 ghost use Rattle.app_messages.specs.Shown.{AreLinesAs, FailsAs, IsShowFault, IsShown, kind_of, kind_named};
 ghost use Rattle.app_reasons.specs.declared.file_kind.FileKind.TheVariants.{Batch, Replies, Blocks, BlockReplies};
 
-use crate::listing::{lines_of_blocks, lines_of_frames, lines_of_replies, lines_of_reply_blocks};
+use crate::show_listing::{
+    lines_of_blocks, lines_of_frames, lines_of_replies, lines_of_reply_blocks,
+};
 use app_jobs::JobFault;
 use app_reasons::FileKind;
 use file_batch::{read_batch, read_replies};

@@ -1,7 +1,7 @@
 use Rattle.std.proofs.Common.{◌≡◌, ◌++◌, drop}
 use Rattle.file_blocks.specs.BlockFiles.{replies_of}
 use Rattle.app_messages.specs.Lines.{reply_block_lines}
-use Rattle.app_messages.proofs.listing.lines_of_reply_blocks.Given as goal
+use Rattle.app_messages.proofs.show_listing.lines_of_reply_blocks.Given as goal
 
 -- the lines so far, and those of what is left
 abbrev pub invariant-loop-number : goal.invariant-loop-number

@@ -1,6 +1,6 @@
 use Rattle.std.proofs.Common.{◌≡◌, ◌++◌, drop}
 use Rattle.app_messages.specs.Lines.{reply_lines}
-use Rattle.app_messages.proofs.listing.lines_of_replies.Given as goal
+use Rattle.app_messages.proofs.show_listing.lines_of_replies.Given as goal
 
 -- the lines so far, and those of what is left
 abbrev pub invariant-loop-index : goal.invariant-loop-index
