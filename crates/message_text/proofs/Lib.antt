@@ -1,3 +1,3 @@
-pub mod Elements
+pub mod ElementMembers
 mod Spelled
 mod GivenWords

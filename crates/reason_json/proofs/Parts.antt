@@ -10,7 +10,7 @@ use Rattle.serde_json.specs.Written.{items_outline}
 use Rattle.book_laws.specs.Text.{Adds, JsonText, members, tokens_of}
 use Rattle.book_laws.proofs.WrittenTokens.{then}
 use Rattle.message_text.specs.Lines.{Member, all_tokens}
-use Rattle.message_text.proofs.Elements.{all_append, members_are}
+use Rattle.message_text.proofs.ElementMembers.{all_append, members_are}
 use Rattle.reason_json.specs.Lines.{items}
 
 -- ---- one item after another

@@ -1,6 +1,6 @@
 use Rattle.book_laws.proofs.WrittenTokens.{then}
 use Rattle.message_text.specs.Lines.{place_members, frame_members}
-use Rattle.message_text.proofs.Elements.{line_of}
+use Rattle.message_text.proofs.ElementMembers.{line_of}
 use Rattle.message_text.proofs.lines.frame_line.Goals as goal
 
 pub returns : goal.returns

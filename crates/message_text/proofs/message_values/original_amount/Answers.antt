@@ -1,4 +1,4 @@
-use Rattle.message_text.proofs.Elements.{first_amount_again}
+use Rattle.message_text.proofs.ElementMembers.{first_amount_again}
 use Rattle.message_text.proofs.message_values.original_amount.Goals as goal
 
 pub returns-in-Partial : goal.returns-in-Partial

@@ -1,4 +1,4 @@
-use Rattle.message_text.proofs.Elements.{amount_again}
+use Rattle.message_text.proofs.ElementMembers.{amount_again}
 use Rattle.message_text.proofs.transaction_values.value_in_transaction.Goals as goal
 
 pub returns-in-Amount : goal.returns-in-Amount

@@ -4,7 +4,7 @@ use Rattle.iso_laws.specs.declared.element.Element.{Element}
 use Rattle.book_laws.specs.Text.{Adds}
 use Rattle.book_laws.proofs.WrittenTokens.{then}
 use Rattle.book_text.proofs.Tokens.{no_token}
-use Rattle.message_text.proofs.Elements.{next_element}
+use Rattle.message_text.proofs.ElementMembers.{next_element}
 use Rattle.message_text.proofs.writing.put_elements.Goals as goal
 
 pub loop-element-preserved : goal.loop-element-preserved

@@ -1,5 +1,5 @@
 use Rattle.std.proofs.Common.{rules, ◌∙◌, ap, length, sym}
-use Rattle.message_text.proofs.Elements.{original_written}
+use Rattle.message_text.proofs.ElementMembers.{original_written}
 use Rattle.message_text.proofs.writing.put_original.Goals as goal
 
 pub returns : goal.returns

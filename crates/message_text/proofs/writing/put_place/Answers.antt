@@ -4,7 +4,7 @@ use Rattle.json.specs.Token.{Token}
 use Rattle.book_laws.specs.Text.{Adds}
 use Rattle.book_laws.proofs.WrittenTokens.{then}
 use Rattle.message_text.specs.Lines.{block_members}
-use Rattle.message_text.proofs.Elements.{all_append}
+use Rattle.message_text.proofs.ElementMembers.{all_append}
 use Rattle.message_text.proofs.writing.put_place.Goals as goal
 
 pub returns : goal.returns

@@ -8,7 +8,7 @@ use Rattle.serde_json.specs.Data.{boolean as data_boolean}
 use Rattle.book_laws.specs.Text.{tokens_of}
 use Rattle.book_laws.proofs.WrittenTokens.{then}
 use Rattle.message_text.specs.Lines.{all_tokens}
-use Rattle.message_text.proofs.Elements.{all_append, members_are}
+use Rattle.message_text.proofs.ElementMembers.{all_append, members_are}
 use Rattle.reason_json.specs.Rows.{absent_data, key_members, kind_name}
 use Rattle.reason_json.proofs.RowTokens.{written_as}
 use Rattle.reason_json.proofs.keys.put_absent.Goals as goal

@@ -1,6 +1,6 @@
 use Rattle.std.proofs.Common.{[]}
 use Rattle.book_laws.proofs.WrittenTokens.{then}
-use Rattle.message_text.proofs.Elements.{line_of}
+use Rattle.message_text.proofs.ElementMembers.{line_of}
 use Rattle.reason_json.specs.Lines.{why_members}
 use Rattle.reason_json.proofs.lines.why_line.Goals as goal
 
