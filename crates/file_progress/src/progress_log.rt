@@ -1,7 +1,7 @@
 use crate::progress::Progress;
 use crate::reading::Reading;
 use file_devices::Broken;
-use log_locked::LockedLog;
+use log_commands::LockedLog;
 
 /// A log that tells how far it is read.
 #[derive(Drop)]

@@ -4,6 +4,8 @@ ghost use Rattle.log_commands.specs.Names.{names_of};
 ghost use Rattle.log_commands.specs.Replayed.{IsAnswered};
 
 use crate::command_fault::CommandFault;
+use crate::locked_input::LockedInput;
+use crate::locked_log::LockedLog;
 use crate::log_names::LogNames;
 use crate::written_log::WrittenLog;
 use app_jobs::write_book;
@@ -11,7 +13,6 @@ use book_text::digest_of_book;
 use file_devices::Files;
 use issuer_rows::Book;
 use issuer_rules::Shipped;
-use log_locked::{LockedInput, LockedLog};
 use log_replay::{measure_log, replay_log};
 use std::alloc::Global;
 use std::sync::Wait;

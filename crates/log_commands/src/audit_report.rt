@@ -7,10 +7,10 @@ ghost use Rattle.log_commands.specs.Names.{names_of};
 
 use crate::auditing::audit_log_files;
 use crate::command_fault::CommandFault;
+use crate::locked_logs::LockedLogs;
 use crate::log_names::LogNames;
 use app_audit::{BlockAudit, block_audit_text};
 use file_devices::Files;
-use log_locked::LockedLogs;
 use std::alloc::Global;
 use std::io;
 use std::io::Write;

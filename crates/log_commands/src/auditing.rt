@@ -11,6 +11,9 @@ ghost use Rattle.log_commands.specs.Names.{names_of};
 
 use crate::claiming::claim_audited;
 use crate::command_fault::CommandFault;
+use crate::locked_input::LockedInput;
+use crate::locked_log::LockedLog;
+use crate::locked_logs::LockedLogs;
 use crate::log_names::LogNames;
 use app_audit::{BlockAudit, audit_blocks};
 use app_jobs::{JobFault, open_book};
@@ -19,7 +22,6 @@ use file_batch_laws::BatchFault;
 use file_blocks::read_block_replies;
 use file_devices::Files;
 use issuer_rows::{Book, Frame, ReplyBody};
-use log_locked::{LockedInput, LockedLog, LockedLogs};
 use log_replay::{measure_log, read_log_blocks};
 use std::alloc::Global;
 use std::sync::Wait;

@@ -3,10 +3,10 @@ ghost use Rattle.file_devices.specs.Holding.{IsAsItWas};
 ghost use Rattle.log_commands.specs.Names.{names_of};
 ghost use Rattle.log_commands.specs.Replays.{Ends};
 
+use crate::locked_logs::LockedLogs;
 use crate::log_names::LogNames;
 use crate::log_replay_files::replay_files;
 use file_devices::Files;
-use log_locked::LockedLogs;
 use std::alloc::Global;
 use std::io::Write;
 use std::sync::Wait;

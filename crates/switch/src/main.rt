@@ -20,9 +20,9 @@ use host_commands::{
 };
 use host_links::Seat;
 use log_commands::{
-    AUDIT_LOG_HELP, LogAsked, REPLAY_HELP, audit_log, audit_log_asked, replay, replay_asked,
+    AUDIT_LOG_HELP, HostLockedLogs, LogAsked, REPLAY_HELP, audit_log, audit_log_asked, replay,
+    replay_asked,
 };
-use log_locked::HostLockedLogs;
 use std::alloc::{AllocError, Global};
 use std::io::{ErrorKind, IsTerminal, Write};
 use std::process::ExitCode;

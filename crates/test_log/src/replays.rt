@@ -5,9 +5,11 @@ use book_json::read_book;
 use file_batch::Strictness;
 use file_devices::{BatchNames, Broken, HostFiles, MemoryFiles};
 use issuer_rows::Book;
-use log_commands::{LogAsked, LogNames, audit_log, audit_log_asked, replay, replay_asked};
+use log_commands::{
+    HostLockedLogs, LockedLog, LockedLogs, LogAsked, LogNames, audit_log, audit_log_asked, replay,
+    replay_asked,
+};
 use log_devices::OpenFault;
-use log_locked::{HostLockedLogs, LockedLog, LockedLogs};
 use std::alloc::Global;
 use std::fs;
 use std::sync::Wait;
