@@ -16,7 +16,7 @@ use Rattle.itertools.specs.List.{merge_join_by, by_ordering}
 use Rattle.itertools.specs.declared.either_or_both.EitherOrBoth.{EitherOrBoth}
 use Rattle.itertools.specs.declared.either_or_both.EitherOrBoth.TheVariants.{Both, Left, Right}
 use Rattle.issuer_rows.proofs.KeyLaws.{key_cmp_antisymmetric}
-use Rattle.issuer_view.specs.Words.{RowKey, RowVal, key_cmp}
+use Rattle.issuer_words.specs.Words.{RowKey, RowVal, key_cmp}
 use Rattle.app_audit.specs.JoinedRows.{AreSame, DifferAt}
 
 abbrev pub Row : Type 0

@@ -5,7 +5,7 @@ use Rattle.std.proofs.lemmas.Cmp.{tied_itself}
 use Rattle.std.specs.FinMap as map
 use Rattle.std.specs.Ordering.{eq_by_cmp, is_eq, is_lt, ordering_reverse}
 use Rattle.issuer_rows.proofs.KeyLaws.{key_cmp_total, key_cmp_antisymmetric}
-use Rattle.issuer_view.specs.Words.{RowKey, RowVal, Rows, key_cmp}
+use Rattle.issuer_words.specs.Words.{RowKey, RowVal, Rows, key_cmp}
 use Rattle.app_audit.specs.Difference.{IsLeastDifference}
 use Rattle.app_audit.proofs.Joined.{Row, FindsFirst, by_key, join, join_by, same_row}
 

@@ -1,7 +1,7 @@
 -- What a journal plays to is of its book and its bodies.
 use Rattle.std.proofs.Common.{◌≡◌, List, [], ◌∷◌, length, take, ap, ◌∙◌}
 use Rattle.std.proofs.Math.Seq.{take-length}
-use Rattle.issuer_view.specs.Words.{Frame, Rows, replies_to, rows_after}
+use Rattle.issuer_words.specs.Words.{Frame, Rows, replies_to, rows_after}
 use Rattle.stm_journal_text.specs.Words.{Plays, greatest}
 use Rattle.stm_journal_text.specs.declared.entry.Entry.{Entry}
 use Rattle.stm_journal_text.proofs.Playing.{same_answers}

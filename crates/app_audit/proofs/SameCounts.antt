@@ -4,7 +4,7 @@ use Rattle.std.proofs.lemmas.Bool.{and_parts}
 use Rattle.std.specs.Cmp.Derive.{both_true}
 use Rattle.std.specs.List.{list_all}
 use Rattle.std.proofs.lemmas.Bool.Decides.{Decides-eqb}
-use Rattle.issuer_view.specs.Words.{Frame, ReplyBody}
+use Rattle.issuer_words.specs.Words.{Frame, ReplyBody}
 use Rattle.app_audit.specs.Blocks.{counts}
 
 pub decided : {V W : Type 0} (f : V → List Frame) (g : W → List ReplyBody) (vs : List V) (ws : List W) → length vs ≡ length ws

@@ -1,6 +1,6 @@
 -- What an audit of blocks of bodies, decided one after another, finds.
 use Rattle.std.specs.Prelude.{◌≡◌, ◌≢◌, ℕ, List, ◌∷◌, ◌++◌, length, map}
-use Rattle.issuer_view.specs.Words.{ReplyBody, Rows}
+use Rattle.issuer_words.specs.Words.{ReplyBody, Rows}
 use Rattle.app_audit.specs.Difference.{IsFirstDifference, IsLeastDifference}
 use Rattle.app_audit.specs.declared.block_audit.BlockAudit.{BlockAudit}
 use Rattle.app_audit.specs.declared.block_audit.BlockAudit.TheVariants.{Same, CountDiffers, ReplyDiffers, BookDiffers}

@@ -3,7 +3,7 @@ use Rattle.std.specs.Prelude.{◌≡◌, ◌≢◌, ℕ, ◌<◌, List, length, 
 use Rattle.std.specs.declared.cmp.Ordering.TheVariants.{Less}
 use Rattle.std.specs.List.{slice_get}
 use Rattle.std.specs.FinMap as map
-use Rattle.issuer_view.specs.Words.{ReplyBody, RowKey, Rows, key_cmp}
+use Rattle.issuer_words.specs.Words.{ReplyBody, RowKey, Rows, key_cmp}
 
 -- the reply at this place isn't the right one, and all before it are
 pub record IsFirstDifference (replies right : List ReplyBody) (place : ℕ) : Type 0 where

@@ -1,6 +1,6 @@
 -- What an audit finds.
 use Rattle.std.specs.Prelude.{◌≡◌, ◌≢◌, List, length}
-use Rattle.issuer_view.specs.Words.{ReplyBody, Rows}
+use Rattle.issuer_words.specs.Words.{ReplyBody, Rows}
 use Rattle.app_audit.specs.Difference.{IsFirstDifference, IsLeastDifference}
 use Rattle.app_audit.specs.declared.audited.Audit.{Audit}
 use Rattle.app_audit.specs.declared.audited.Audit.TheVariants.{Same, ReplyDiffers, CountDiffers, BookDiffers}

@@ -1,6 +1,6 @@
 -- What an audit against a journal finds.
 use Rattle.std.specs.Prelude.{◌≡◌, ◌≢◌, List, length}
-use Rattle.issuer_view.specs.Words.{Frame, ReplyBody, Rows, replies_to, rows_after}
+use Rattle.issuer_words.specs.Words.{Frame, ReplyBody, Rows, replies_to, rows_after}
 use Rattle.stm_journal_text.specs.Words.{Plays, greatest}
 use Rattle.stm_journal_text.specs.declared.entry.Entry.{Entry}
 use Rattle.stm_core_laws.specs.Play.{Play, opening_play}

@@ -13,8 +13,7 @@ use Rattle.file_devices.specs.declared.write_fault.WriteFault.{WriteFault}
 use Rattle.file_devices.specs.declared.write_fault.WriteFault.TheVariants as write
 use Rattle.file_devices.specs.declared.written.Written.{Written}
 use Rattle.file_devices.proofs.Placing.{none_of_two, one_of_two, placed_two}
-use Rattle.issuer_rows.specs.Fold.{Rows}
-use Rattle.issuer_rows.specs.declared.frame.Frame.{Frame}
+use Rattle.issuer_words.specs.Words.{Frame, Rows}
 use Rattle.app_jobs.specs.BlockFaults.{IsStrictBlocksFault}
 use Rattle.app_jobs.specs.Decided.{Holding, IsAnswered, IsBookOf}
 use Rattle.app_jobs.specs.Deciding.{DecidesFiles, PutsAnswer}

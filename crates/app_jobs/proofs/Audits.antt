@@ -1,8 +1,6 @@
 -- Faults of what an audit opens, as those of the audit.
 use Rattle.std.proofs.Common.{List, inl, inr}
-use Rattle.issuer_rows.specs.Fold.{Rows}
-use Rattle.issuer_rows.specs.declared.frame.Frame.{Frame}
-use Rattle.issuer_rows.specs.declared.reply_body.ReplyBody.{ReplyBody}
+use Rattle.issuer_words.specs.Words.{Frame, ReplyBody, Rows}
 use Rattle.file_devices.specs.BatchNames.{Names}
 use Rattle.file_devices.specs.Failing.{Failing}
 use Rattle.app_jobs.specs.Audited.{AreDecided, AreHeld}

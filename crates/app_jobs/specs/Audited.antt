@@ -4,9 +4,7 @@ use Rattle.app_audit.specs.Finding.{Finds}
 use Rattle.app_audit.specs.declared.audited.Audit.{Audit}
 use Rattle.file_batch_laws.specs.Frames.{IsBatchOf}
 use Rattle.file_batch_laws.specs.Replies.{IsReplyFileOf}
-use Rattle.issuer_rows.specs.Fold.{Rows, rows_after, replies_to}
-use Rattle.issuer_rows.specs.declared.frame.Frame.{Frame}
-use Rattle.issuer_rows.specs.declared.reply_body.ReplyBody.{ReplyBody}
+use Rattle.issuer_words.specs.Words.{Frame, ReplyBody, Rows, replies_to, rows_after}
 use Rattle.file_devices.specs.BatchNames.{Names}
 use Rattle.file_devices.specs.Holding.{IsThere}
 use Rattle.app_jobs.specs.Decided.{Holding, IsBookOf}

@@ -3,9 +3,7 @@ use Rattle.std.specs.Prelude.{ℕ, List}
 use Rattle.app_audit.specs.Blocks.{FindsInBlocks}
 use Rattle.app_audit.specs.declared.block_audit.BlockAudit.{BlockAudit}
 use Rattle.file_batch_laws.specs.Blocks.{IsBlockFileOf, IsBlockReplyFileOf, rows_after_blocks, replies_to_blocks}
-use Rattle.issuer_rows.specs.Fold.{Rows}
-use Rattle.issuer_rows.specs.declared.frame.Frame.{Frame}
-use Rattle.issuer_rows.specs.declared.reply_body.ReplyBody.{ReplyBody}
+use Rattle.issuer_words.specs.Words.{Frame, ReplyBody, Rows}
 use Rattle.file_devices.specs.BatchNames.{Names}
 use Rattle.file_devices.specs.Holding.{IsThere}
 use Rattle.app_jobs.specs.Decided.{Holding, IsBookOf}

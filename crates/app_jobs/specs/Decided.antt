@@ -10,8 +10,7 @@ use Rattle.file_batch_laws.specs.Frames.{IsBatchOf}
 use Rattle.file_batch_laws.specs.Replies.{AreReplyBodies}
 use Rattle.book_laws.specs.Reading.{IsAnswer, reading}
 use Rattle.book_laws.specs.Text.{book_text}
-use Rattle.issuer_rows.specs.Fold.{Rows, rows_after, replies_to}
-use Rattle.issuer_rows.specs.declared.frame.Frame.{Frame}
+use Rattle.issuer_words.specs.Words.{Frame, Rows, replies_to, rows_after}
 
 -- the file of this name, where its bytes are known, is a sound book of these rows
 abbrev pub IsBookOf : Holding → List ℕ → Rows → Type 0

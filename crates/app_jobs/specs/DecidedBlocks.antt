@@ -8,8 +8,7 @@ use Rattle.file_batch_laws.specs.Files.{head_text}
 use Rattle.file_batch_laws.specs.declared.batch_fault.BatchFault.{BatchFault}
 use Rattle.book_laws.specs.Reading.{reading}
 use Rattle.book_laws.specs.Text.{book_text}
-use Rattle.issuer_rows.specs.Fold.{Rows, replies_to}
-use Rattle.issuer_rows.specs.declared.frame.Frame.{Frame}
+use Rattle.issuer_words.specs.Words.{Frame, Rows, replies_to}
 use Rattle.file_devices.specs.BatchNames.{Names}
 use Rattle.file_devices.specs.Holding.{IsThere}
 use Rattle.app_jobs.specs.Decided.{Holding, IsBookOf}

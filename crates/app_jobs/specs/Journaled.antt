@@ -4,9 +4,7 @@ use Rattle.app_audit.specs.PlayFinding.{FindsInPlay}
 use Rattle.app_audit.specs.declared.audited.Audit.{Audit}
 use Rattle.stm_journal_text.specs.Journal.{AreEntries, journal_text}
 use Rattle.stm_journal_text.specs.declared.entry.Entry.{Entry}
-use Rattle.issuer_rows.specs.Fold.{Rows}
-use Rattle.issuer_rows.specs.declared.frame.Frame.{Frame}
-use Rattle.issuer_rows.specs.declared.reply_body.ReplyBody.{ReplyBody}
+use Rattle.issuer_words.specs.Words.{Frame, ReplyBody, Rows}
 use Rattle.file_devices.specs.BatchNames.{Names}
 use Rattle.app_jobs.specs.Audited.{AreHeld}
 use Rattle.file_devices.specs.Holding.{IsThere}

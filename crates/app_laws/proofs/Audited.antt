@@ -3,9 +3,7 @@ use Rattle.std.proofs.Common.{◌≡◌, List, ◌∷◌, length, refl, sym, ap,
 use Rattle.std.proofs.lemmas.List.{append_cancel_left}
 use Rattle.std.specs.FinMap as map
 use Rattle.std.specs.List.{slice_get}
-use Rattle.issuer_rows.specs.Fold.{Rows, rows_after, replies_to}
-use Rattle.issuer_rows.specs.declared.frame.Frame.{Frame}
-use Rattle.issuer_rows.specs.declared.reply_body.ReplyBody.{ReplyBody}
+use Rattle.issuer_words.specs.Words.{Frame, ReplyBody, Rows, replies_to, rows_after}
 use Rattle.file_batch_laws.proofs.ReadBack.{replies_alone}
 use Rattle.file_batch_laws.proofs.ReadBackBlocks.{blocks_alone}
 use Rattle.file_batch_laws.specs.Blocks.{rows_after_blocks, replies_to_blocks}

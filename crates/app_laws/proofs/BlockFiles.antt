@@ -1,7 +1,6 @@
 -- An audit of the files that a run of blocks left.
 use Rattle.std.proofs.Common.{◌≡◌, List, [], ◌∷◌, inl, inr}
-use Rattle.issuer_rows.specs.Fold.{Rows, rows_after}
-use Rattle.issuer_rows.specs.declared.frame.Frame.{Frame}
+use Rattle.issuer_words.specs.Words.{Frame, Rows, rows_after}
 use Rattle.book_changes.proofs.Sound.{stays_sound}
 use Rattle.book_laws.specs.CheckBook.{IsSound}
 use Rattle.book_laws.specs.Text.{book_text}

@@ -1,7 +1,6 @@
 -- Batches, replies and their blocks that files hold.
 use Rattle.std.proofs.Common.{◌≡◌, ℕ, List, IsTrue, inl, inr, refl}
-use Rattle.issuer_rows.specs.declared.frame.Frame.{Frame}
-use Rattle.issuer_rows.specs.declared.reply_body.ReplyBody.{ReplyBody}
+use Rattle.issuer_words.specs.Words.{Frame, ReplyBody}
 use Rattle.file_batch_laws.specs.BatchFault.{is_of_bytes}
 use Rattle.file_batch_laws.specs.Blocks.{AreBlocksOfReplies, IsBlockFileOf, IsBlockReplyFileOf, block_replies_text}
 use Rattle.file_batch_laws.specs.Files.{replies_text}

@@ -1,9 +1,7 @@
 -- Audits of the files that a run with a journal left.
 use Rattle.std.proofs.Common.{◌≡◌, ◌≢◌, ◌⊎◌, ℕ, List, length, inl, inr, refl, sym, ap, ◌∙◌}
 use Rattle.std.proofs.lemmas.Bool.{cases_eq}
-use Rattle.issuer_rows.specs.Fold.{Rows}
-use Rattle.issuer_rows.specs.declared.frame.Frame.{Frame}
-use Rattle.issuer_rows.specs.declared.reply_body.ReplyBody.{ReplyBody}
+use Rattle.issuer_words.specs.Words.{Frame, ReplyBody, Rows}
 use Rattle.app_audit.specs.PlayFinding.{FindsInPlay}
 use Rattle.app_audit.specs.declared.audited.Audit.{Audit}
 use Rattle.app_audit.specs.declared.audited.Audit.TheVariants as in_batch

@@ -1,8 +1,7 @@
 -- Tomorrow's run opens today's new book, and goes on where today's stopped.
 use Rattle.std.proofs.Common.{◌≡◌, ◌⊎◌, inl, inr, List, Result, Ok, Err, refl, sym, ap, ◌∙◌}
 use Rattle.issuer_fold.proofs.FoldLaws.{rows_after-append, replies_to-append}
-use Rattle.issuer_rows.specs.Fold.{Rows, rows_after}
-use Rattle.issuer_rows.specs.declared.frame.Frame.{Frame}
+use Rattle.issuer_words.specs.Words.{Frame, Rows, rows_after}
 use Rattle.book_laws.specs.CheckBook.{IsSound}
 use Rattle.book_laws.specs.Reading.{reading, IsAnswer}
 use Rattle.book_laws.specs.Text.{book_text}

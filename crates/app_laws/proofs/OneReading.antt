@@ -1,7 +1,6 @@
 -- A batch file is read as one list of frames, a block file as one list of blocks, and a book's text as one book.
 use Rattle.std.proofs.Common.{◌≡◌, ◌∙◌, ℕ, List, [], ◌∷◌, length, Result, Ok, ap, refl, sym, subst, arith}
-use Rattle.issuer_rows.specs.Fold.{Rows}
-use Rattle.issuer_rows.specs.declared.frame.Frame.{Frame}
+use Rattle.issuer_words.specs.Words.{Frame, Rows}
 use Rattle.file_batch_laws.specs.Blocks.{AreBlocks, IsBlock, IsBlockFileOf, block_at, block_head_at, blocks_magic}
 use Rattle.file_batch_laws.specs.Frames.{IsBatchOf}
 use Rattle.file_batch_laws.specs.declared.batch_fault.BatchFault.{BatchFault}

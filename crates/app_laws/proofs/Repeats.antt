@@ -2,10 +2,7 @@
 use Rattle.std.proofs.Common.{◌≡◌, ℕ, zero, suc, List, [], ◌∷◌, ◌++◌, take, Some, sym, ap, ◌∙◌, subst}
 use Rattle.std.specs.List.{slice_get}
 use Rattle.std.proofs.lemmas.Option.{same_Some, none-some}
-use Rattle.iso8583.specs.declared.message.Message.{Message}
-use Rattle.issuer_rows.specs.Fold.{Rows, overlay, replies_to, reply_of, rows_after, rows_after_one, writes_of}
-use Rattle.issuer_rows.specs.declared.frame.Frame.{Frame}
-use Rattle.issuer_rows.specs.declared.reply_body.ReplyBody.{ReplyBody}
+use Rattle.issuer_words.specs.Words.{Frame, Message, ReplyBody, Rows, overlay, replies_to, reply_of, rows_after, rows_after_one, writes_of}
 use Rattle.issuer_fold.proofs.FoldLaws.{rows_after-append}
 use Rattle.issuer_laws.proofs.Repeated.{advice_repeated, request_repeated}
 use Rattle.issuer_laws.specs.Again.{again}

@@ -1,8 +1,6 @@
 -- An audit of the files that a run left.
 use Rattle.std.proofs.Common.{◌≡◌, ◌⊎◌, ℕ, List, inl, inr}
-use Rattle.issuer_rows.specs.Fold.{Rows, rows_after, replies_to}
-use Rattle.issuer_rows.specs.declared.frame.Frame.{Frame}
-use Rattle.issuer_rows.specs.declared.reply_body.ReplyBody.{ReplyBody}
+use Rattle.issuer_words.specs.Words.{Frame, ReplyBody, Rows, replies_to, rows_after}
 use Rattle.book_changes.proofs.Sound.{stays_sound}
 use Rattle.book_laws.specs.Text.{book_text}
 use Rattle.file_batch_laws.specs.Files.{replies_text}

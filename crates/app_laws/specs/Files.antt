@@ -1,8 +1,6 @@
 -- What is read from the files of a run.
 use Rattle.std.specs.Prelude.{◌≡◌, List, Ok}
-use Rattle.issuer_rows.specs.Fold.{Rows, rows_after, replies_to}
-use Rattle.issuer_rows.specs.declared.frame.Frame.{Frame}
-use Rattle.issuer_rows.specs.declared.reply_body.ReplyBody.{ReplyBody}
+use Rattle.issuer_words.specs.Words.{Frame, ReplyBody, Rows, replies_to, rows_after}
 use Rattle.file_batch_laws.specs.Blocks.{AreBlocksOfReplies, IsBlockReplyFileOf, block_replies_text, rows_after_blocks, replies_to_blocks}
 use Rattle.file_batch_laws.specs.Files.{replies_text}
 use Rattle.file_batch_laws.specs.Replies.{AreReplyBodies, IsReplyFileOf}

@@ -1,7 +1,6 @@
 -- What tomorrow's run makes of today's new book.
 use Rattle.std.specs.Prelude.{◌≡◌, ◌⊎◌, List, ◌++◌, Result, Ok, Err}
-use Rattle.issuer_rows.specs.Fold.{Rows, rows_after, replies_to}
-use Rattle.issuer_rows.specs.declared.frame.Frame.{Frame}
+use Rattle.issuer_words.specs.Words.{Frame, Rows, replies_to, rows_after}
 use Rattle.book_laws.specs.CheckBook.{IsSound}
 use Rattle.book_laws.specs.Reading.{reading, IsAnswer}
 use Rattle.book_laws.specs.Text.{book_text}

@@ -1,11 +1,7 @@
 -- A message that is sent again to a later run.
 use Rattle.std.specs.Prelude.{◌≡◌, ◌≢◌, ℕ, zero, suc, List, [], ◌∷◌, take, Some}
 use Rattle.std.specs.List.{slice_get}
-use Rattle.iso8583.specs.declared.message.Message.{Message}
-use Rattle.iso8583.specs.declared.original_kind.OriginalKind.{OriginalKind}
-use Rattle.issuer_rows.specs.Fold.{Rows, rows_after}
-use Rattle.issuer_rows.specs.declared.frame.Frame.{Frame}
-use Rattle.issuer_rows.specs.declared.reply_body.ReplyBody.{ReplyBody}
+use Rattle.issuer_words.specs.Words.{Frame, Message, OriginalKind, ReplyBody, Rows, rows_after}
 use Rattle.issuer_laws.specs.Again.{again}
 use Rattle.issuer_laws.specs.Repeated.{IsFirst}
 use Rattle.file_batch_laws.specs.Replies.{IsReplyFileOf}

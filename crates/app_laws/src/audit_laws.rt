@@ -1,7 +1,5 @@
 ghost use Rattle.std.specs.Prelude.{List};
-ghost use Rattle.issuer_rows.specs.Fold.{Rows};
-ghost use Rattle.issuer_rows.specs.declared.frame.Frame.{Frame};
-ghost use Rattle.issuer_rows.specs.declared.reply_body.ReplyBody.{ReplyBody};
+ghost use Rattle.issuer_words.specs.Words.{Frame, ReplyBody, Rows};
 ghost use Rattle.app_audit.specs.declared.audited.Audit.{Audit};
 ghost use Rattle.app_audit.specs.declared.block_audit.BlockAudit.{BlockAudit};
 ghost use Rattle.app_laws.specs.Audits.{AuditSaysSame, BlockAuditSaysSame};

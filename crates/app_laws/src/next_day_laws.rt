@@ -1,6 +1,5 @@
 ghost use Rattle.std.specs.Prelude.{List, Result};
-ghost use Rattle.issuer_rows.specs.Fold.{Rows};
-ghost use Rattle.issuer_rows.specs.declared.frame.Frame.{Frame};
+ghost use Rattle.issuer_words.specs.Words.{Frame, Rows};
 ghost use Rattle.book_laws.specs.declared.json_fault.JsonFault.{JsonFault};
 ghost use Rattle.app_laws.specs.NextDay.{ReadsTodaysBook, AreOneRun};
 

@@ -1,7 +1,6 @@
 ghost use Rattle.std.specs.Prelude.{◌≡◌, ℕ, List};
 ghost use Rattle.std.specs.List.{slice_get};
-ghost use Rattle.issuer_rows.specs.Fold.{replies_to, rows_after};
-ghost use Rattle.issuer_rows.specs.declared.reply_body.ReplyBody.{ReplyBody};
+ghost use Rattle.issuer_words.specs.Words.{ReplyBody, replies_to, rows_after};
 ghost use Rattle.book_laws.specs.Text.{book_text};
 ghost use Rattle.app_jobs.specs.Decided.{IsDecided};
 ghost use Rattle.file_devices.specs.BatchNames.{names_of};

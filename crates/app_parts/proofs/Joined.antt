@@ -9,8 +9,7 @@ use Rattle.file_batch_laws.specs.Files.{reply_text}
 use Rattle.file_batch_laws.specs.Replies.{AreRepliesOf, AreReplyBodies, IsReplyBody, IsReplyFileOf, IsReplyText}
 use Rattle.file_devices.specs.Failing.{Failing}
 use Rattle.file_devices.specs.Holding.{Holding}
-use Rattle.issuer_rows.specs.Fold.{Rows}
-use Rattle.issuer_rows.specs.declared.reply_body.ReplyBody.{ReplyBody}
+use Rattle.issuer_words.specs.Words.{ReplyBody, Rows}
 use Rattle.issuer_rows.specs.declared.reply_body.ReplyBody.TheVariants.{Reply, Fault}
 use Rattle.app_jobs.specs.declared.job_fault.JobFault.{JobFault}
 use Rattle.app_jobs.specs.declared.job_fault.JobFault.TheVariants.{OutOfMemory}

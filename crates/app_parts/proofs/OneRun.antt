@@ -14,9 +14,7 @@ use Rattle.file_batch_laws.specs.Files.{replies_text}
 use Rattle.file_batch_laws.specs.Replies.{IsReplyFileOf}
 use Rattle.file_devices.specs.Holding.{Holding}
 use Rattle.issuer_laws.specs.Parts.{bodies}
-use Rattle.issuer_rows.specs.Fold.{Rows, replies_to, rows_after}
-use Rattle.issuer_rows.specs.declared.frame.Frame.{Frame}
-use Rattle.issuer_rows.specs.declared.reply_body.ReplyBody.{ReplyBody}
+use Rattle.issuer_words.specs.Words.{Frame, ReplyBody, Rows, replies_to, rows_after}
 use Rattle.engine_parts.proofs.OrderLaws.{bodies_zip, parts_zip, zip_below}
 use Rattle.parts_books.proofs.Arrival.{one_order}
 use Rattle.parts_books.proofs.Whole.{the_whole}

@@ -4,8 +4,7 @@ use Rattle.sha2.specs.Sha256.{sha256}
 use Rattle.book_laws.specs.Reading.{IsAnswer, reading}
 use Rattle.file_devices.specs.Failing.{Failing}
 use Rattle.file_devices.specs.Holding.{Holding}
-use Rattle.issuer_rows.specs.Fold.{Rows}
-use Rattle.issuer_rows.specs.declared.reply_body.ReplyBody.{ReplyBody}
+use Rattle.issuer_words.specs.Words.{ReplyBody, Rows}
 use Rattle.app_jobs.specs.Faults.{IsBookFault}
 use Rattle.parts_books.specs.PartBooks.{AreInArrivalOrder}
 use Rattle.app_parts_folder.specs.PlanTexts.{decided_head, decided_text}

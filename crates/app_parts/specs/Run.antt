@@ -5,8 +5,7 @@ use Rattle.book_laws.specs.Text.{book_text}
 use Rattle.file_batch_laws.specs.Files.{replies_text}
 use Rattle.file_batch_laws.specs.Replies.{AreReplyBodies}
 use Rattle.file_devices.specs.Holding.{Holding}
-use Rattle.issuer_rows.specs.Fold.{Rows, replies_to, rows_after}
-use Rattle.issuer_rows.specs.declared.reply_body.ReplyBody.{ReplyBody}
+use Rattle.issuer_words.specs.Words.{ReplyBody, Rows, replies_to, rows_after}
 use Rattle.parts_books.specs.PartBooks.{joined_books, part_replies, part_rows_after}
 use Rattle.app_parts_folder.specs.PlanTexts.{plan_text}
 use Rattle.app_parts_folder.specs.Joining.{IsJoined, Names}

@@ -3,8 +3,7 @@ use Rattle.std.specs.Prelude.{◌≡◌, ◌≢◌, ◌⊎◌, ◌≤◌, ◌++�
 use Rattle.sha2.specs.Sha256.{sha256}
 use Rattle.file_devices.specs.Failing.{Failing}
 use Rattle.file_devices.specs.Holding.{Holding}
-use Rattle.issuer_rows.specs.Fold.{Rows}
-use Rattle.issuer_rows.specs.declared.reply_body.ReplyBody.{ReplyBody}
+use Rattle.issuer_words.specs.Words.{ReplyBody, Rows}
 use Rattle.app_jobs.specs.Faults.{IsBatchFault, IsBookFault, IsReplyFileFault, MayNotBePut}
 use Rattle.app_jobs.specs.declared.job_fault.JobFault.{JobFault}
 use Rattle.app_jobs.specs.declared.job_fault.JobFault.TheVariants.{InUse, Unwritable, OutOfMemory}

@@ -7,9 +7,7 @@ use Rattle.file_batch_laws.specs.Files.{replies_text}
 use Rattle.file_batch_laws.specs.Frames.{IsBatchOf}
 use Rattle.file_batch_laws.specs.Replies.{AreReplyBodies, IsReplyFileOf}
 use Rattle.file_devices.specs.Holding.{Holding}
-use Rattle.issuer_rows.specs.Fold.{Rows, replies_to, rows_after}
-use Rattle.issuer_rows.specs.declared.frame.Frame.{Frame}
-use Rattle.issuer_rows.specs.declared.reply_body.ReplyBody.{ReplyBody}
+use Rattle.issuer_words.specs.Words.{Frame, ReplyBody, Rows, replies_to, rows_after}
 use Rattle.parts_books.specs.PartBooks.{AreInArrivalOrder, joined_books}
 use Rattle.app_parts_folder.specs.PlanTexts.{IsPlan, Plan, decided_text, plan_text}
 use Rattle.app_parts_folder.specs.declared.part_digests.PartDigests.{PartDigests}

@@ -10,8 +10,7 @@ use Rattle.file_batch_laws.specs.Frames.{AreFramesOf}
 use Rattle.file_batch_laws.specs.Reading.{bodies_of, batch_magic}
 use Rattle.file_devices.specs.Holding.{Holding}
 use Rattle.issuer_laws.specs.Parts.{AreApart, Parted, of_part}
-use Rattle.issuer_rows.specs.Fold.{Rows}
-use Rattle.issuer_rows.specs.declared.frame.Frame.{Frame}
+use Rattle.issuer_words.specs.Words.{Frame, Rows}
 use Rattle.parts_books.specs.PartBooks.{each_part, part_rows, rest_rows}
 use Rattle.app_parts_folder.specs.PlanTexts.{Plan, plan_text}
 use Rattle.app_parts_folder.specs.declared.part_digests.PartDigests.{PartDigests}

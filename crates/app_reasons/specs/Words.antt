@@ -1,7 +1,6 @@
 -- What a person is told of a fault.
 use Rattle.std.specs.Prelude.{ℕ, List, [], ◌++◌, Option, Some, None, codes, decimal}
-use Rattle.iso8583.specs.CodecFault.{number_of_fault, element_of_fault}
-use Rattle.iso8583.specs.Number.{fixed_digits}
+use Rattle.issuer_words.specs.Words.{element_of_fault, fixed_digits, number_of_fault}
 use Rattle.iso_shown.specs.declared.opening.Opening.{Opening}
 use Rattle.iso_shown.specs.declared.opening.Opening.TheVariants.{Mti, LengthHeader, Tpdu, Ebcdic, Bcd}
 use Rattle.book_places.specs.Words.{book_words}

@@ -5,8 +5,7 @@ use Rattle.file_batch_laws.specs.Frames.{IsBatchOf}
 use Rattle.file_batch_laws.specs.Replies.{IsReplyFileOf}
 use Rattle.file_devices.specs.Failing.{Failing}
 use Rattle.file_devices.specs.Holding.{Holding, IsThere}
-use Rattle.issuer_rows.specs.declared.frame.Frame.{Frame}
-use Rattle.issuer_rows.specs.declared.reply_body.ReplyBody.{ReplyBody}
+use Rattle.issuer_words.specs.Words.{Frame, ReplyBody}
 use Rattle.app_jobs.specs.Faults.{IsBatchFault, IsReplyFileFault, IsSomeBatch}
 use Rattle.day_totals.specs.Totals.{AreDayTotals, IsDayOf}
 use Rattle.day_totals.specs.declared.day_totals.DayTotals.{DayTotals}

@@ -2,7 +2,7 @@
 use Rattle.std.proofs.Common.{◌≡◌, ◌≢◌, ◌⊎◌, inl, inr, ℕ, Bool, true, false, List, [], ◌∷◌, ◌++◌, Option, Some, None, Result, Ok, Err, IfOk, refl, sym, ap, subst, ◌∙◌}
 use Rattle.std.specs.FinMap as finite
 use Rattle.std.specs.List.{AllByRecursion}
-use Rattle.issuer_view.specs.Words.{Executed, Frame, ReplyBody, RowKey, RowVal, Rows}
+use Rattle.issuer_words.specs.Words.{Executed, Frame, ReplyBody, RowKey, RowVal, Rows}
 use Rattle.stm_memory.specs.Words.{Entries, IsNewLocation}
 use Rattle.stm_memory.specs.declared.seen.Seen.{Seen}
 use Rattle.stm_memory.specs.declared.seen.Seen.TheVariants as seen

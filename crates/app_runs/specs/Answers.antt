@@ -3,10 +3,7 @@ use Rattle.std.specs.Prelude.{◌≡◌, ℕ, List}
 use Rattle.hex.specs.Hex.{encode_lower}
 use Rattle.file_batch_laws.specs.Frames.{IsFrameOf}
 use Rattle.iso_laws.specs.Replies.{reply_spelling}
-use Rattle.issuer_rows.specs.Fold.{Rows, reply_of}
-use Rattle.issuer_rows.specs.FrameFault.{fault_body}
-use Rattle.issuer_rows.specs.declared.frame.Frame.{Frame}
-use Rattle.issuer_rows.specs.declared.reply_body.ReplyBody.{ReplyBody}
+use Rattle.issuer_words.specs.Words.{Frame, ReplyBody, Rows, fault_body, reply_of}
 use Rattle.issuer_rows.specs.declared.reply_body.ReplyBody.TheVariants.{Reply, Fault}
 
 -- a reply's spelling, or how a fault is answered

@@ -12,8 +12,7 @@ use Rattle.engine_locked.specs.Journals.{IsJournalOf}
 use Rattle.stm_journal_text.specs.Logged.{greatest}
 use Rattle.stm_journal_text.specs.Journal.{AreEntries, journal_text}
 use Rattle.stm_journal_text.specs.declared.entry.Entry.{Entry}
-use Rattle.issuer_rows.specs.Fold.{Rows, rows_after, replies_to}
-use Rattle.issuer_rows.specs.declared.frame.Frame.{Frame}
+use Rattle.issuer_words.specs.Words.{Frame, Rows, replies_to, rows_after}
 use Rattle.stm_core_laws.specs.Play.{opening_play}
 use Rattle.file_devices.specs.BatchNames.{Names}
 use Rattle.file_devices.specs.Failing.{Failing}

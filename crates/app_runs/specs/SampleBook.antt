@@ -1,11 +1,9 @@
 -- A small book to try messages on.
 use Rattle.std.specs.Prelude.{ℕ, List, codes, None}
 use Rattle.std.specs.FinMap as map
-use Rattle.issuer_rows.specs.Fold.{Rows}
+use Rattle.issuer_words.specs.Words.{RowKey, RowVal, Rows}
 use Rattle.issuer_rows.specs.declared.card_status.CardStatus.TheVariants.{Active}
-use Rattle.issuer_rows.specs.declared.row_key.RowKey.{RowKey}
 use Rattle.issuer_rows.specs.declared.row_key.RowKey.TheVariants as key
-use Rattle.issuer_rows.specs.declared.row_val.RowVal.{RowVal}
 use Rattle.issuer_rows.specs.declared.row_val.RowVal.TheVariants as val
 
 -- the row of the card with this number

@@ -7,8 +7,7 @@ use Rattle.file_batch_laws.specs.Reading.{batch_magic, bodies_of, replies_magic}
 use Rattle.file_batch_laws.specs.Replies.{FailsAsReplies, IsReplyFileOf}
 use Rattle.file_batch_laws.specs.declared.batch_fault.BatchFault.{BatchFault}
 use Rattle.file_listing.specs.Lines.{frame_line, reply_line}
-use Rattle.issuer_rows.specs.declared.frame.Frame.{Frame}
-use Rattle.issuer_rows.specs.declared.reply_body.ReplyBody.{ReplyBody}
+use Rattle.issuer_words.specs.Words.{Frame, ReplyBody}
 use Rattle.file_devices.specs.Failing.{Failing}
 use Rattle.app_jobs.specs.BlockFaults.{FailsAsBlocks}
 use Rattle.app_jobs.specs.Decided.{Holding}

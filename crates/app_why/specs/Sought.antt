@@ -1,9 +1,8 @@
 -- The messages of a batch that are sought, and their lines.
 use Rattle.std.specs.Prelude.{ℕ, ◌+◌, List, [], ◌∷◌, ◌++◌, Bool, false, None, if◌then◌else◌, codes, decimal}
 use Rattle.std.specs.Str.{bytes_eq}
-use Rattle.iso8583.specs.declared.transaction.Transaction.{Transaction}
+use Rattle.issuer_words.specs.Words.{Frame, Transaction}
 use Rattle.iso_laws.specs.Messages.{transaction_of}
-use Rattle.issuer_rows.specs.declared.frame.Frame.{Frame}
 use Rattle.issuer_rows.specs.declared.frame.Frame.TheVariants.{Good, Bad}
 use Rattle.reason_text.specs.Words.{frame_words}
 use Rattle.message_text.specs.Lines.{frame_line}

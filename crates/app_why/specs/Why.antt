@@ -4,8 +4,7 @@ use Rattle.std.specs.Io.KnownBytes.{Appends}
 use Rattle.file_batch_laws.specs.Frames.{IsBatchOf}
 use Rattle.file_devices.specs.Failing.{Failing}
 use Rattle.file_devices.specs.Holding.{Holding, IsThere}
-use Rattle.issuer_rows.specs.Fold.{Rows}
-use Rattle.issuer_rows.specs.declared.frame.Frame.{Frame}
+use Rattle.issuer_words.specs.Words.{Frame, Rows}
 use Rattle.issuer_reasons.specs.Explained.{ExplainsAt}
 use Rattle.issuer_reasons.specs.declared.explanation.Explanation.{Explanation}
 use Rattle.app_jobs.specs.Decided.{IsBookOf}

@@ -3,23 +3,8 @@ use Rattle.std.proofs.Common.{◌≡◌, ◌≢◌, ℕ, Bool, true, false, not,
 use Rattle.std.proofs.lemmas.Bool.{false≢true}
 use Rattle.std.specs.FinMap as map
 use Rattle.std.specs.List.{AllByRecursion}
-use Rattle.iso8583.specs.declared.account_id.AccountId.{AccountId}
-use Rattle.iso8583.specs.declared.message.Message.{Message}
-use Rattle.iso8583.specs.declared.pan.Pan.{Pan}
+use Rattle.issuer_words.specs.Words.{AccountId, CardRow, Decided, Frame, Message, OriginalRow, Pan, Payer, Payment, RowKey, RowVal, Rows, card_in, day_of, decision, original_in, overlay, payment_of_outcome, prefix_of, replies_to, reply_of, rows_after, rows_after_one, writes_of}
 use Rattle.issuer_rows.proofs.KeyLaws.{key_cmp_total, key_cmp_antisymmetric}
-use Rattle.issuer_rows.specs.Decision.{decision}
-use Rattle.issuer_rows.specs.Facts.{day_of, prefix_of}
-use Rattle.issuer_rows.specs.Fold.{Rows, overlay, reply_of, writes_of, rows_after_one, replies_to, rows_after}
-use Rattle.issuer_rows.specs.Kept.{payment_of_outcome}
-use Rattle.issuer_rows.specs.Plan.{Decided}
-use Rattle.issuer_rows.specs.Typed.{card_in, original_in}
-use Rattle.issuer_rows.specs.declared.card_row.CardRow.{CardRow}
-use Rattle.issuer_rows.specs.declared.frame.Frame.{Frame}
-use Rattle.issuer_rows.specs.declared.original_row.OriginalRow.{OriginalRow}
-use Rattle.issuer_rows.specs.declared.payer.Payer.{Payer}
-use Rattle.issuer_rows.specs.declared.payment.Payment.{Payment}
-use Rattle.issuer_rows.specs.declared.row_key.RowKey.{RowKey}
-use Rattle.issuer_rows.specs.declared.row_val.RowVal.{RowVal}
 use Rattle.issuer_laws.proofs.Needed.{IsFollowing, follows_itself, follows_one, written_needed, looked_needed}
 use Rattle.issuer_laws.proofs.Parts.{each_of, same_behind, same_decision, unwritten}
 use Rattle.issuer_laws.specs.Parts.{IsIn, MayLook, second_key, account_keys, accounts_at, if_there, budget_at, payer_keys, payment_keys, paying_keys, payer_at, funds_at, may_need}

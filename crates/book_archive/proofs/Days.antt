@@ -4,17 +4,9 @@ use Rattle.std.proofs.lemmas.Bool.{false≢true}
 use Rattle.std.proofs.lemmas.List.Sums.{sum_by-cons}
 use Rattle.std.specs.FinMap as map
 use Rattle.std.specs.List.{AllByRecursion, filter, sum_by}
-use Rattle.iso8583.specs.declared.pan.Pan.{Pan}
+use Rattle.issuer_words.specs.Words.{CardRow, KeptOriginal, Pan, RowKey, RowVal, Rows, card_in, day_of, is_same_card, spent_in, text_eq, velocity_in}
 use Rattle.issuer_rows.proofs.KeyLaws.{text_eq_decides}
 use Rattle.issuer_rows.proofs.ListedRows.{listed_found}
-use Rattle.issuer_rows.specs.Facts.{day_of, is_same_card}
-use Rattle.issuer_rows.specs.Fold.{Rows}
-use Rattle.issuer_rows.specs.Kept.{KeptOriginal}
-use Rattle.issuer_rows.specs.RowKey.{text_eq}
-use Rattle.issuer_rows.specs.Typed.{card_in, velocity_in, spent_in}
-use Rattle.issuer_rows.specs.declared.card_row.CardRow.{CardRow}
-use Rattle.issuer_rows.specs.declared.row_key.RowKey.{RowKey}
-use Rattle.issuer_rows.specs.declared.row_val.RowVal.{RowVal}
 use Rattle.issuer_laws.specs.Cards.{IsWithin}
 use Rattle.issuer_laws.specs.Covered.{is_open_request, open_in, IsCovered}
 use Rattle.issuer_laws.specs.Rules.{has}

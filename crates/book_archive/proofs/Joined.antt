@@ -1,8 +1,7 @@
 -- Both books are the book.
 use Rattle.std.proofs.Common.{◌≡◌, ◌≢◌, ℕ, Bool, true, false, ◌||◌, not, cond, List, Option, Some, None, refl, ◌∙◌}
 use Rattle.std.specs.FinMap as map
-use Rattle.issuer_rows.specs.Fold.{Rows}
-use Rattle.issuer_rows.specs.declared.row_val.RowVal.{RowVal}
+use Rattle.issuer_words.specs.Words.{RowVal, Rows}
 use Rattle.book_archive.specs.Archive.{is_past_at, has_paid_before}
 use Rattle.book_archive.specs.Joining.{or_else, IsPartedBy}
 use Rattle.book_archive.proofs.Splitting.{get_new, get_old, is_account}

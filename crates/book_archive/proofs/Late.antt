@@ -1,20 +1,7 @@
 -- What comes after its original went.
 use Rattle.std.proofs.Common.{◌≡◌, ℕ, not, cond, List, Option, None, refl, sym, ap, ◌∙◌, subst}
 use Rattle.std.specs.FinMap as map
-use Rattle.iso8583.specs.declared.advice.Advice.{Advice}
-use Rattle.iso8583.specs.declared.identity.Identity.{Identity}
-use Rattle.iso8583.specs.declared.request.Request.{Request}
-use Rattle.iso8583.specs.declared.reversal.Reversal.{Reversal}
-use Rattle.issuer_rows.specs.AdviceTable.{advice_on_original}
-use Rattle.issuer_rows.specs.Decision.{decision}
-use Rattle.issuer_rows.specs.Facts.{identity_of}
-use Rattle.issuer_rows.specs.Fold.{Rows}
-use Rattle.issuer_rows.specs.Plan.{carried_out}
-use Rattle.issuer_rows.specs.RequestTable.{on_original}
-use Rattle.issuer_rows.specs.ReversalTable.{on_reversed}
-use Rattle.issuer_rows.specs.Typed.{original_in}
-use Rattle.issuer_rows.specs.declared.original_row.OriginalRow.{OriginalRow}
-use Rattle.issuer_rows.specs.declared.row_key.RowKey.{RowKey}
+use Rattle.issuer_words.specs.Words.{Advice, Identity, OriginalRow, Request, Reversal, RowKey, Rows, advice_on_original, carried_out, decision, identity_of, on_original, on_reversed, original_in}
 use Rattle.issuer_laws.specs.Messages.{HasAction}
 use Rattle.issuer_laws.specs.Repeated.{repeat_of_request, repeat_of_advice}
 use Rattle.book_archive.specs.Archive.{new_rows}

@@ -6,19 +6,9 @@ use Rattle.std.specs.Cmp.Derive.{both_true}
 use Rattle.std.specs.FinMap as map
 use Rattle.std.specs.FinMap.Entries.{where_key, is_sorted-where_key, find-where_key, same_entries}
 use Rattle.std.specs.List.{AllByRecursion, filter, list_all, list_any, sum_by}
-use Rattle.iso8583.specs.declared.account_id.AccountId.{AccountId}
-use Rattle.iso8583.specs.declared.pan_prefix.PanPrefix.{PanPrefix}
+use Rattle.issuer_words.specs.Words.{AccountId, KeptOriginal, PanPrefix, Payer, Payment, RowKey, RowVal, Rows, account_in, account_paid, available_in, backing_of_account, backing_of_prefix, budget_in, is_account, is_from_account, is_from_budget, kept_in, key_cmp, left_in, payment_of_outcome, stay_if, stays}
 use Rattle.issuer_rows.proofs.KeyLaws.{key_cmp_total, key_cmp_antisymmetric, text_eq_decides}
 use Rattle.issuer_rows.proofs.ListedRows.{listed_found}
-use Rattle.issuer_rows.specs.Backing.{kept_in, stay_if, stays, available_in, left_in, is_account, account_paid, is_from_account, is_from_budget, backing_of_account, backing_of_prefix}
-use Rattle.issuer_rows.specs.Fold.{Rows}
-use Rattle.issuer_rows.specs.Kept.{KeptOriginal, payment_of_outcome}
-use Rattle.issuer_rows.specs.RowKey.{key_cmp}
-use Rattle.issuer_rows.specs.Typed.{account_in, budget_in}
-use Rattle.issuer_rows.specs.declared.payer.Payer.{Payer}
-use Rattle.issuer_rows.specs.declared.payment.Payment.{Payment}
-use Rattle.issuer_rows.specs.declared.row_key.RowKey.{RowKey}
-use Rattle.issuer_rows.specs.declared.row_val.RowVal.{RowVal}
 use Rattle.issuer_laws.specs.Rules.{has}
 use Rattle.book_laws.specs.CheckBook.{has_right_number, has_account, has_payer, is_backed, has_paying_account, has_accounts, are_numbers_right, IsSound}
 use Rattle.book_archive.specs.Archive.{is_past, is_past_at, has_paid, has_paid_before, new_rows, old_rows}

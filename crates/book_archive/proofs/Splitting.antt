@@ -5,14 +5,9 @@ use Rattle.std.proofs.lemmas.List.Sorted.{list_any-IsPermutation}
 use Rattle.std.specs.Cmp.Derive.{both_true}
 use Rattle.std.specs.FinMap as map
 use Rattle.std.specs.List.{AllByRecursion, list_any}
-use Rattle.iso8583.specs.declared.account_id.AccountId.{AccountId}
+use Rattle.issuer_words.specs.Words.{AccountId, IsWithin, RowKey, RowVal, Rows, key_cmp, key_eq}
 use Rattle.issuer_rows.proofs.KeyLaws.{both_ways, key_cmp_total, key_cmp_antisymmetric, key_eq_decides, same_test}
 use Rattle.issuer_rows.proofs.ListedRows.{listed_found}
-use Rattle.issuer_rows.specs.Book.{IsWithin}
-use Rattle.issuer_rows.specs.Fold.{Rows}
-use Rattle.issuer_rows.specs.RowKey.{key_cmp, key_eq}
-use Rattle.issuer_rows.specs.declared.row_key.RowKey.{RowKey}
-use Rattle.issuer_rows.specs.declared.row_val.RowVal.{RowVal}
 use Rattle.issuer_laws.proofs.Keys.{get-put, get-other}
 use Rattle.issuer_laws.specs.Rules.{has}
 use Rattle.book_archive.specs.Archive.{is_past, is_past_at, has_paid, has_paid_before, new_rows, old_rows}

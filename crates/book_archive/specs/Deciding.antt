@@ -2,15 +2,7 @@
 use Rattle.std.specs.Prelude.{◌≡◌, ℕ, Bool, true, false, not, List, None, IsTrue}
 use Rattle.std.specs.FinMap as map
 use Rattle.std.specs.List.{AllByRecursion}
-use Rattle.iso8583.specs.declared.advice.Advice.{Advice}
-use Rattle.iso8583.specs.declared.identity.Identity.{Identity}
-use Rattle.iso8583.specs.declared.message.Message.{Message}
-use Rattle.iso8583.specs.declared.request.Request.{Request}
-use Rattle.iso8583.specs.declared.reversal.Reversal.{Reversal}
-use Rattle.issuer_rows.specs.Facts.{day_of, identity_of}
-use Rattle.issuer_rows.specs.Fold.{Rows, reply_of, writes_of, replies_to, rows_after}
-use Rattle.issuer_rows.specs.declared.frame.Frame.{Frame}
-use Rattle.issuer_rows.specs.declared.row_key.RowKey.{RowKey}
+use Rattle.issuer_words.specs.Words.{Advice, Frame, Identity, Message, Request, Reversal, RowKey, Rows, day_of, identity_of, replies_to, reply_of, rows_after, writes_of}
 use Rattle.issuer_laws.specs.Messages.{request_frame, advice_frame, reversal_frame, HasAction}
 use Rattle.issuer_laws.specs.Parts.{may_need}
 use Rattle.issuer_laws.specs.Repeated.{repeat_of_request, repeat_of_advice}

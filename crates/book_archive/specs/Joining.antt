@@ -1,10 +1,7 @@
 -- What the new book and the old one are together, and that both are sound.
 use Rattle.std.specs.Prelude.{◌≡◌, ◌≢◌, ℕ, List, Option, Some, None}
 use Rattle.std.specs.FinMap as map
-use Rattle.iso8583.specs.declared.account_id.AccountId.{AccountId}
-use Rattle.issuer_rows.specs.Fold.{Rows}
-use Rattle.issuer_rows.specs.declared.row_key.RowKey.{RowKey}
-use Rattle.issuer_rows.specs.declared.row_val.RowVal.{RowVal}
+use Rattle.issuer_words.specs.Words.{AccountId, RowKey, RowVal, Rows}
 use Rattle.book_laws.specs.CheckBook.{IsSound}
 use Rattle.book_archive.specs.Archive.{new_rows, old_rows}
 

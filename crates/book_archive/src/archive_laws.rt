@@ -1,9 +1,5 @@
 ghost use Rattle.std.specs.Prelude.{ℕ, List};
-ghost use Rattle.iso8583.specs.declared.advice.Advice.{Advice};
-ghost use Rattle.iso8583.specs.declared.request.Request.{Request};
-ghost use Rattle.iso8583.specs.declared.reversal.Reversal.{Reversal};
-ghost use Rattle.issuer_rows.specs.Fold.{Rows};
-ghost use Rattle.issuer_rows.specs.declared.frame.Frame.{Frame};
+ghost use Rattle.issuer_words.specs.Words.{Advice, Frame, Request, Reversal, Rows};
 ghost use Rattle.book_archive.specs.Days.{KeepsDaysCovered, KeepsLimits};
 ghost use Rattle.book_archive.specs.Deciding.{AnswersAlike, ArchivesAnyTime, LaterNeedsNoPast, LateAdviceIsNew, LateRequestIsNew, LateReversalIsLost};
 ghost use Rattle.book_archive.specs.Joining.{IsPartedBy, LeavesBothSound};

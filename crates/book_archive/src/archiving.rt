@@ -1,7 +1,6 @@
 ghost use Rattle.std.specs.Prelude.{◌≡◌, ◌||◌, false, Some, IfOk, IfSome, IfNone, OnOk, cond};
 ghost use Rattle.std.specs.FinMap as map;
-ghost use Rattle.issuer_rows.specs.Book.{IsWithin};
-ghost use Rattle.issuer_rows.specs.RowKey.{key_eq};
+ghost use Rattle.issuer_words.specs.Words.{IsWithin, key_eq};
 ghost use Rattle.issuer_rows.specs.declared.row_key.RowKey.{RowKey as Key};
 ghost use Rattle.book_archive.specs.Archive.{has_paid, is_before, is_past, new_rows, old_rows};
 

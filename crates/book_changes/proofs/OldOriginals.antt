@@ -2,20 +2,9 @@
 use Rattle.std.proofs.Common.{◌≡◌, ℕ, ◌==◌, Bool, true, false, cond, ◌&&◌, nat_le, Option, Some, None, option_and_then, option_map, refl, sym, ap, ◌∙◌}
 use Rattle.std.proofs.lemmas.Option.{cond_some, same_Some}
 use Rattle.std.proofs.lemmas.Bool.Decides.{Decides-eqb}
-use Rattle.iso8583.specs.declared.account_id.AccountId.{AccountId}
-use Rattle.iso8583.specs.declared.approval.Approval.{Approval}
-use Rattle.iso8583.specs.declared.identity.Identity.{Identity}
-use Rattle.iso8583.specs.declared.original_kind.OriginalKind.{OriginalKind}
+use Rattle.issuer_words.specs.Words.{AccountId, Approval, Identity, KeptOriginal, OriginalKind, OriginalOutcome, Pan, Payer, Payment, Settlement, account_paid, is_from_account, payment_of_outcome, stay_if, stay_of_payment, stay_of_settlement, text_eq}
 use Rattle.iso8583.specs.declared.original_kind.OriginalKind.TheVariants as kind
-use Rattle.iso8583.specs.declared.pan.Pan.{Pan}
-use Rattle.issuer_rows.specs.Backing.{stay_if, is_from_account, account_paid}
-use Rattle.issuer_rows.specs.Kept.{KeptOriginal, payment_of_outcome, stay_of_payment, stay_of_settlement}
-use Rattle.issuer_rows.specs.RowKey.{text_eq}
-use Rattle.issuer_rows.specs.declared.original_outcome.OriginalOutcome.{OriginalOutcome}
-use Rattle.issuer_rows.specs.declared.payer.Payer.{Payer}
 use Rattle.issuer_rows.specs.declared.payer.Payer.TheVariants as payer
-use Rattle.issuer_rows.specs.declared.payment.Payment.{Payment}
-use Rattle.issuer_rows.specs.declared.settlement.Settlement.{Settlement}
 use Rattle.book_laws.specs.Cards.{own_account}
 use Rattle.book_laws.specs.Originals.{settlement_of, payment_by, payment_of, posted, unposted, outcome_by, paid_for, payer_of, outcome_of, kept_of}
 use Rattle.book_laws.specs.declared.original_entry.OriginalEntry.{OriginalEntry}

@@ -5,16 +5,10 @@ use Rattle.std.proofs.lemmas.Option.{none-some}
 use Rattle.std.specs.FinMap as map
 use Rattle.std.specs.List.{sum_by, AllByRecursion}
 use Rattle.std.specs.Ordering.{eq_by_cmp}
-use Rattle.iso8583.specs.declared.account_id.AccountId.{AccountId}
-use Rattle.iso8583.specs.declared.pan.Pan.{Pan}
+use Rattle.issuer_words.specs.Words.{AccountId, Pan, RowKey, RowVal, Rows, is_from_account, kept_in, key_cmp, overlay, stay_if, stays}
 use Rattle.issuer_laws.proofs.Sums.{part, sum-insert}
 use Rattle.issuer_rows.proofs.KeyLaws.{key_cmp_total, key_cmp_antisymmetric}
-use Rattle.issuer_rows.specs.Backing.{stays, stay_if, kept_in, is_from_account}
-use Rattle.issuer_rows.specs.Fold.{Rows, overlay}
-use Rattle.issuer_rows.specs.RowKey.{key_cmp}
-use Rattle.issuer_rows.specs.declared.row_key.RowKey.{RowKey}
 use Rattle.issuer_rows.specs.declared.row_key.RowKey.TheVariants as key
-use Rattle.issuer_rows.specs.declared.row_val.RowVal.{RowVal}
 use Rattle.issuer_rows.specs.declared.row_val.RowVal.TheVariants as val
 use Rattle.serde_json.specs.Data.{Data, Items, no_items, item}
 use Rattle.book_laws.specs.Cards.{old_card_of, own_account, row_of_old_card, account_of_old_card, migrated_card}

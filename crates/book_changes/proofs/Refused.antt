@@ -3,17 +3,7 @@ use Rattle.std.proofs.Common.{◌≡◌, Bool, true, false, if◌then◌else◌,
 use Rattle.std.proofs.lemmas.Bool.{false≢true}
 use Rattle.std.specs.FinMap as map
 use Rattle.std.specs.List.{AllByRecursion}
-use Rattle.iso8583.specs.declared.identity.Identity.{Identity}
-use Rattle.iso8583.specs.declared.message.Message.{Message}
-use Rattle.iso8583.specs.declared.reversal.Reversal.{Reversal}
-use Rattle.issuer_rows.specs.Fold.{Rows, rows_after_one}
-use Rattle.issuer_rows.specs.Kept.{KeptOriginal, payment_of_outcome, reversal_of_outcome}
-use Rattle.issuer_rows.specs.ReversalTable.{is_named, is_wrong_part}
-use Rattle.issuer_rows.specs.Typed.{original_in}
-use Rattle.issuer_rows.specs.declared.frame.Frame.{Frame}
-use Rattle.issuer_rows.specs.declared.original_row.OriginalRow.{OriginalRow}
-use Rattle.issuer_rows.specs.declared.payment.Payment.{Payment}
-use Rattle.issuer_rows.specs.declared.row_key.RowKey.{RowKey}
+use Rattle.issuer_words.specs.Words.{Frame, Identity, KeptOriginal, Message, OriginalRow, Payment, Reversal, RowKey, Rows, is_named, is_wrong_part, original_in, payment_of_outcome, reversal_of_outcome, rows_after_one}
 use Rattle.issuer_laws.proofs.Again.{lasting_conditions, passing_conditions, requests_none_for_now, reversals_write_nothing_again}
 use Rattle.issuer_laws.specs.Again.{is_for_now, NoneForNow}
 use Rattle.issuer_laws.specs.Messages.{reversal_frame}

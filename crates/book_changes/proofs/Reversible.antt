@@ -2,33 +2,7 @@
 use Rattle.std.proofs.Common.{◌≡◌, ℕ, Bool, true, false, if◌then◌else◌, ◌&&◌, List, [], ◌∷◌, ◌++◌, Option, Some, None, is_some, inl, inr, refl, sym, ap, ◌∙◌, subst}
 use Rattle.std.specs.FinMap as map
 use Rattle.std.specs.List.{AllByRecursion}
-use Rattle.iso8583.specs.declared.advice.Advice.{Advice}
-use Rattle.iso8583.specs.declared.identity.Identity.{Identity}
-use Rattle.iso8583.specs.declared.message.Message.{Message}
-use Rattle.iso8583.specs.declared.original_kind.OriginalKind.{OriginalKind}
-use Rattle.iso8583.specs.declared.pan.Pan.{Pan}
-use Rattle.iso8583.specs.declared.pan_prefix.PanPrefix.{PanPrefix}
-use Rattle.iso8583.specs.declared.request.Request.{Request}
-use Rattle.iso8583.specs.declared.reversal.Reversal.{Reversal}
-use Rattle.issuer_rows.specs.AdviceTable.{advice_on_original}
-use Rattle.issuer_rows.specs.Decision.{decision}
-use Rattle.issuer_rows.specs.Facts.{prefix_of, is_marked, is_of_same}
-use Rattle.issuer_rows.specs.Fold.{Rows, overlay, writes_of, rows_after_one, rows_after}
-use Rattle.issuer_rows.specs.Funds.{key_of_funds, row_of_funds, with_balance, payer_of}
-use Rattle.issuer_rows.specs.Kept.{KeptOriginal, payment_of_outcome, settled_outcome}
-use Rattle.issuer_rows.specs.Plan.{Plan, Writes, carried_out}
-use Rattle.issuer_rows.specs.RequestTable.{on_original}
-use Rattle.issuer_rows.specs.ReversalTable.{reversal_plan, reversed_original, refunded}
-use Rattle.issuer_rows.specs.Typed.{original_in, budget_in}
-use Rattle.issuer_rows.specs.declared.frame.Frame.{Frame}
-use Rattle.issuer_rows.specs.declared.funds.Funds.{Funds}
-use Rattle.issuer_rows.specs.declared.original_outcome.OriginalOutcome.{OriginalOutcome}
-use Rattle.issuer_rows.specs.declared.original_row.OriginalRow.{OriginalRow}
-use Rattle.issuer_rows.specs.declared.payer.Payer.{Payer}
-use Rattle.issuer_rows.specs.declared.payment.Payment.{Payment}
-use Rattle.issuer_rows.specs.declared.row_key.RowKey.{RowKey}
-use Rattle.issuer_rows.specs.declared.row_val.RowVal.{RowVal}
-use Rattle.issuer_rows.specs.declared.velocity_row.VelocityRow.{VelocityRow}
+use Rattle.issuer_words.specs.Words.{Advice, Frame, Funds, Identity, KeptOriginal, Message, OriginalKind, OriginalOutcome, OriginalRow, Pan, PanPrefix, Payer, Payment, Plan, Request, Reversal, RowKey, RowVal, Rows, VelocityRow, Writes, advice_on_original, budget_in, carried_out, decision, is_marked, is_of_same, key_of_funds, on_original, original_in, overlay, payer_of, payment_of_outcome, prefix_of, refunded, reversal_plan, reversed_original, row_of_funds, rows_after, rows_after_one, settled_outcome, with_balance, writes_of}
 use Rattle.issuer_laws.proofs.AdviceWays as advice
 use Rattle.issuer_laws.proofs.Funding.{IsFound, IsOfCard}
 use Rattle.issuer_laws.proofs.Needed.{written_or_same}

@@ -4,29 +4,7 @@ use Rattle.std.proofs.lemmas.Bool.{false≢true, and_right, and_left}
 use Rattle.std.proofs.lemmas.Bool.Decides.{nat_tests}
 use Rattle.std.specs.FinMap as map
 use Rattle.std.specs.List.{AllByRecursion, sum_by}
-use Rattle.iso8583.specs.declared.identity.Identity.{Identity}
-use Rattle.iso8583.specs.declared.original_kind.OriginalKind.{OriginalKind}
-use Rattle.iso8583.specs.declared.reversal.Reversal.{Reversal}
-use Rattle.iso8583.specs.declared.reversal_scope.ReversalScope.{ReversalScope}
-use Rattle.issuer_rows.specs.Backing.{is_account, is_budget, account_paid, budget_paid, is_from_account, is_from_budget, kept_in, stay_if, stays, available_in, left_in}
-use Rattle.issuer_rows.specs.Facts.{day_of, prefix_of, identity_of, is_same_identity, is_same_kind}
-use Rattle.issuer_rows.specs.Fold.{Rows, reply_of, rows_after}
-use Rattle.issuer_rows.specs.Funds.{balance_of}
-use Rattle.issuer_rows.specs.Kept.{KeptOriginal, kind_of_outcome, payment_of_outcome, reversal_of_outcome, stay_of, stay_of_payment}
-use Rattle.issuer_rows.specs.Plan.{Writes}
-use Rattle.issuer_rows.specs.ReversalTable.{given_back, greatest_balance, is_named, is_wrong_part, takes_approval, day_key}
-use Rattle.issuer_rows.specs.RowKey.{text_eq}
-use Rattle.issuer_rows.specs.Typed.{velocity_in, budget_in, original_in, account_in, spent_in}
-use Rattle.issuer_rows.specs.declared.frame.Frame.{Frame}
-use Rattle.issuer_rows.specs.declared.funds.Funds.{Funds}
-use Rattle.issuer_rows.specs.declared.original_outcome.OriginalOutcome.{OriginalOutcome}
-use Rattle.issuer_rows.specs.declared.original_row.OriginalRow.{OriginalRow}
-use Rattle.issuer_rows.specs.declared.payer.Payer.{Payer}
-use Rattle.issuer_rows.specs.declared.payment.Payment.{Payment}
-use Rattle.issuer_rows.specs.declared.reply_body.ReplyBody.{ReplyBody}
-use Rattle.issuer_rows.specs.declared.row_key.RowKey.{RowKey}
-use Rattle.issuer_rows.specs.declared.row_val.RowVal.{RowVal}
-use Rattle.issuer_rows.specs.declared.velocity_row.VelocityRow.{VelocityRow}
+use Rattle.issuer_words.specs.Words.{Frame, Funds, Identity, KeptOriginal, OriginalKind, OriginalOutcome, OriginalRow, Payer, Payment, ReplyBody, Reversal, ReversalScope, RowKey, RowVal, Rows, VelocityRow, Writes, account_in, account_paid, available_in, balance_of, budget_in, budget_paid, day_key, day_of, given_back, greatest_balance, identity_of, is_account, is_budget, is_from_account, is_from_budget, is_named, is_same_identity, is_same_kind, is_wrong_part, kept_in, kind_of_outcome, left_in, original_in, payment_of_outcome, prefix_of, reply_of, reversal_of_outcome, rows_after, spent_in, stay_if, stay_of, stay_of_payment, stays, takes_approval, text_eq, velocity_in}
 use Rattle.issuer_laws.proofs.Covered.{open_before, back_within, stays_covered}
 use Rattle.issuer_laws.proofs.Keys.{same_text}
 use Rattle.issuer_laws.proofs.ReversalRules.{reversal_decided}

@@ -4,10 +4,7 @@ use Rattle.std.specs.Prelude.{codes}
 use Rattle.std.proofs.lemmas.Bool.{false≢true}
 use Rattle.std.proofs.lemmas.List.Sums.{sum_by-cons}
 use Rattle.std.specs.List.{sum_by}
-use Rattle.iso8583.specs.declared.identity.Identity.{Identity}
-use Rattle.iso8583.specs.declared.pan.Pan.{Pan}
-use Rattle.issuer_rows.specs.Backing.{stay_if, kept_in, is_from_account}
-use Rattle.issuer_rows.specs.Kept.{KeptOriginal}
+use Rattle.issuer_words.specs.Words.{Identity, KeptOriginal, Pan, is_from_account, kept_in, stay_if}
 use Rattle.issuer_rows.specs.declared.row_key.RowKey.TheVariants as key
 use Rattle.issuer_rows.specs.declared.row_val.RowVal.TheVariants as val
 use Rattle.serde_json.specs.Data.{Data, Items, no_items, item}

@@ -5,33 +5,7 @@ use Rattle.std.proofs.lemmas.List.Sums.{sum_by-cons}
 use Rattle.std.specs.Cmp.Derive.{both_true}
 use Rattle.std.specs.FinMap as map
 use Rattle.std.specs.List.{AllByRecursion, list_all, sum_by}
-use Rattle.iso8583.specs.declared.account_id.AccountId.{AccountId}
-use Rattle.iso8583.specs.declared.advice.Advice.{Advice}
-use Rattle.iso8583.specs.declared.identity.Identity.{Identity}
-use Rattle.iso8583.specs.declared.message.Message.{Message}
-use Rattle.iso8583.specs.declared.original_kind.OriginalKind.{OriginalKind}
-use Rattle.iso8583.specs.declared.pan.Pan.{Pan}
-use Rattle.iso8583.specs.declared.request.Request.{Request}
-use Rattle.iso8583.specs.declared.reversal.Reversal.{Reversal}
-use Rattle.issuer_rows.specs.AdviceTable.{advice_on_original}
-use Rattle.issuer_rows.specs.Decision.{decision}
-use Rattle.issuer_rows.specs.Facts.{identity_of, is_marked, is_of_same}
-use Rattle.issuer_rows.specs.Fold.{Rows, overlay, writes_of, rows_after_one}
-use Rattle.issuer_rows.specs.Funds.{key_of_funds, row_of_funds, with_balance, payer_of}
-use Rattle.issuer_rows.specs.Kept.{KeptOriginal, payment_of_outcome, settled_outcome}
-use Rattle.issuer_rows.specs.Plan.{Plan, Writes, carried_out}
-use Rattle.issuer_rows.specs.RequestTable.{on_original, approved_card}
-use Rattle.issuer_rows.specs.ReversalTable.{reversal_plan, reversed_original, refunded}
-use Rattle.issuer_rows.specs.Typed.{card_in, original_in, account_in}
-use Rattle.issuer_rows.specs.declared.card_row.CardRow.{CardRow}
-use Rattle.issuer_rows.specs.declared.frame.Frame.{Frame}
-use Rattle.issuer_rows.specs.declared.funds.Funds.{Funds}
-use Rattle.issuer_rows.specs.declared.mark.Mark.{Mark}
-use Rattle.issuer_rows.specs.declared.original_outcome.OriginalOutcome.{OriginalOutcome}
-use Rattle.issuer_rows.specs.declared.original_row.OriginalRow.{OriginalRow}
-use Rattle.issuer_rows.specs.declared.row_key.RowKey.{RowKey}
-use Rattle.issuer_rows.specs.declared.row_val.RowVal.{RowVal}
-use Rattle.issuer_rows.specs.declared.velocity_row.VelocityRow.{VelocityRow}
+use Rattle.issuer_words.specs.Words.{AccountId, Advice, CardRow, Frame, Funds, Identity, KeptOriginal, Mark, Message, OriginalKind, OriginalOutcome, OriginalRow, Pan, Plan, Request, Reversal, RowKey, RowVal, Rows, VelocityRow, Writes, account_in, advice_on_original, approved_card, card_in, carried_out, decision, identity_of, is_marked, is_of_same, key_of_funds, on_original, original_in, overlay, payer_of, payment_of_outcome, refunded, reversal_plan, reversed_original, row_of_funds, rows_after_one, settled_outcome, with_balance, writes_of}
 use Rattle.issuer_laws.proofs.AdviceWays as advice
 use Rattle.issuer_laws.proofs.Conserved.{accounts_kept, prefixes_kept}
 use Rattle.issuer_laws.proofs.Funding.{IsFound}

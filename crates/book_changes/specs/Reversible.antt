@@ -1,19 +1,7 @@
 -- When a reversal can be done.
 use Rattle.std.specs.Prelude.{◌≡◌, Bool, true, false, List, Option, Some, None, is_some}
 use Rattle.std.specs.FinMap as map
-use Rattle.iso8583.specs.declared.identity.Identity.{Identity}
-use Rattle.iso8583.specs.declared.pan.Pan.{Pan}
-use Rattle.iso8583.specs.declared.reversal.Reversal.{Reversal}
-use Rattle.issuer_rows.specs.Facts.{prefix_of}
-use Rattle.issuer_rows.specs.Fold.{Rows, reply_of, rows_after}
-use Rattle.issuer_rows.specs.Kept.{KeptOriginal, payment_of_outcome, reversal_of_outcome}
-use Rattle.issuer_rows.specs.ReversalTable.{is_named, is_wrong_part}
-use Rattle.issuer_rows.specs.Typed.{original_in, budget_in}
-use Rattle.issuer_rows.specs.declared.frame.Frame.{Frame}
-use Rattle.issuer_rows.specs.declared.original_row.OriginalRow.{OriginalRow}
-use Rattle.issuer_rows.specs.declared.payer.Payer.{Payer}
-use Rattle.issuer_rows.specs.declared.payment.Payment.{Payment}
-use Rattle.issuer_rows.specs.declared.row_key.RowKey.{RowKey}
+use Rattle.issuer_words.specs.Words.{Frame, Identity, KeptOriginal, OriginalRow, Pan, Payer, Payment, Reversal, RowKey, Rows, budget_in, is_named, is_wrong_part, original_in, payment_of_outcome, prefix_of, reply_of, reversal_of_outcome, rows_after}
 use Rattle.issuer_laws.specs.Again.{NoneForNow, WritesNothingAgain}
 use Rattle.issuer_laws.specs.Covered.{AreDaysCovered}
 use Rattle.issuer_laws.specs.Messages.{reversal_frame, HasAction}

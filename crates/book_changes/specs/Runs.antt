@@ -1,8 +1,7 @@
 -- What a batch leaves of a book.
 use Rattle.std.specs.Prelude.{List}
 use Rattle.book_laws.specs.CheckBook.{IsSound}
-use Rattle.issuer_rows.specs.Fold.{Rows, rows_after}
-use Rattle.issuer_rows.specs.declared.frame.Frame.{Frame}
+use Rattle.issuer_words.specs.Words.{Frame, Rows, rows_after}
 
 -- a book with which nothing is wrong is one behind these bodies too
 abbrev pub StaysSound : Rows → List Frame → Type 0

@@ -1,7 +1,5 @@
 ghost use Rattle.std.specs.Prelude.{List};
-ghost use Rattle.iso8583.specs.declared.reversal.Reversal.{Reversal};
-ghost use Rattle.issuer_rows.specs.Fold.{Rows};
-ghost use Rattle.issuer_rows.specs.declared.frame.Frame.{Frame};
+ghost use Rattle.issuer_words.specs.Words.{Frame, Reversal, Rows};
 ghost use Rattle.book_changes.specs.Reversible.{IsAgainNothing, IsDone, RefusesNoneForNow};
 ghost use Rattle.book_changes.specs.Runs.{StaysSound};
 

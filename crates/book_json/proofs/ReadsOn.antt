@@ -11,9 +11,7 @@ use Rattle.json.specs.Tree.{items_tokens}
 use Rattle.serde_json.proofs.Texts.{print-outline}
 use Rattle.serde_json.specs.Written.{items_outline}
 use Rattle.issuer_rows.proofs.KeyLaws.{key_cmp_total}
-use Rattle.issuer_rows.specs.Fold.{Rows, overlay}
-use Rattle.issuer_rows.specs.declared.row_key.RowKey.{RowKey}
-use Rattle.issuer_rows.specs.declared.row_val.RowVal.{RowVal}
+use Rattle.issuer_words.specs.Words.{RowKey, RowVal, Rows, overlay}
 use Rattle.book_laws.specs.Lists.{AreNew}
 use Rattle.book_laws.specs.Parts.{is_in}
 use Rattle.book_laws.specs.Reading.{reading}

@@ -6,27 +6,14 @@ use Rattle.std.proofs.lemmas.List.Sums.{sum_by-cons}
 use Rattle.std.proofs.lemmas.Option.{same_Some}
 use Rattle.std.specs.FinMap as map
 use Rattle.std.specs.Ordering.{is_eq}
-use Rattle.iso8583.specs.declared.account_id.AccountId.{AccountId}
-use Rattle.iso8583.specs.declared.identity.Identity.{Identity}
-use Rattle.iso8583.specs.declared.pan_prefix.PanPrefix.{PanPrefix}
+use Rattle.issuer_words.specs.Words.{AccountId, Identity, KeptOriginal, PanPrefix, Payer, Payment, RowKey, RowVal, Rows, account_in, account_paid, available_in, backing_of_account, backing_of_prefix, budget_in, budget_paid, is_account, is_from_account, is_from_budget, is_same_account, kept_in, key_cmp, left_in, payment_of_outcome, prefix_of, stay_if, stay_of, stays, text_eq}
 use Rattle.issuer_rows.proofs.KeyLaws.{key_cmp_antisymmetric, text_eq_decides}
 use Rattle.issuer_rows.proofs.ListedRows.{listed_found}
-use Rattle.issuer_rows.specs.Backing.{kept_in, stay_if, stays, is_account, is_from_account, is_from_budget, budget_paid, account_paid, available_in, left_in, backing_of_account, backing_of_prefix}
-use Rattle.issuer_rows.specs.CardAccounts.{is_same_account}
 use Rattle.book_laws.specs.CheckBook.{is_among, has_account, has_payer, is_backed, has_paying_account, have_paying_accounts, IsRowInRange, AreRowsInRange, AreBackingsInRange}
-use Rattle.issuer_rows.specs.Facts.{prefix_of}
-use Rattle.issuer_rows.specs.Fold.{Rows}
-use Rattle.issuer_rows.specs.Kept.{KeptOriginal, stay_of, payment_of_outcome}
-use Rattle.issuer_rows.specs.RowKey.{key_cmp, text_eq}
-use Rattle.issuer_rows.specs.Typed.{account_in, budget_in}
 use Rattle.book_laws.specs.declared.paid_from.PaidFrom.{PaidFrom}
 use Rattle.book_laws.specs.declared.paid_from.PaidFrom.TheVariants.{Anything}
-use Rattle.issuer_rows.specs.declared.payer.Payer.{Payer}
 use Rattle.issuer_rows.specs.declared.payer.Payer.TheVariants as payer
-use Rattle.issuer_rows.specs.declared.payment.Payment.{Payment}
-use Rattle.issuer_rows.specs.declared.row_key.RowKey.{RowKey}
 use Rattle.issuer_rows.specs.declared.row_key.RowKey.TheVariants as key
-use Rattle.issuer_rows.specs.declared.row_val.RowVal.{RowVal}
 use Rattle.issuer_rows.specs.declared.row_val.RowVal.TheVariants as val
 
 -- what stays of an original counts at most once

@@ -10,8 +10,7 @@ use Rattle.json.specs.Json as json
 use Rattle.json.specs.Lex.{tokens}
 use Rattle.json.specs.Token.{Token}
 use Rattle.json.specs.Tree.{depth}
-use Rattle.issuer_rows.specs.Fold.{Rows, overlay}
-use Rattle.issuer_rows.specs.RowKey.{key_cmp}
+use Rattle.issuer_words.specs.Words.{Rows, key_cmp, overlay}
 use Rattle.issuer_rows.specs.declared.row_val.RowVal.TheVariants as val
 use Rattle.serde_json.proofs.Numbers.{number_of-decimal}
 use Rattle.serde_json.specs.Data.{Data}

@@ -1,11 +1,8 @@
 -- What is written of an original is read again.
 use Rattle.std.proofs.Common.{◌≡◌, Option, Some, None, Ok, refl, lt-ltb, le-leb, eq-eqb, arith}
 use Rattle.iso8583.proofs.NumberLaws.{number_of-fixed_digits}
-use Rattle.iso8583.specs.declared.identity.Identity.{Identity}
-use Rattle.issuer_rows.specs.Kept.{KeptOriginal, payment_of_outcome}
-use Rattle.issuer_rows.specs.declared.payer.Payer.{Payer}
+use Rattle.issuer_words.specs.Words.{Identity, KeptOriginal, Payer, Payment, payment_of_outcome}
 use Rattle.issuer_rows.specs.declared.payer.Payer.TheVariants as payer
-use Rattle.issuer_rows.specs.declared.payment.Payment.{Payment}
 use Rattle.issuer_rows.specs.declared.row_key.RowKey.TheVariants as key
 use Rattle.issuer_rows.specs.declared.row_val.RowVal.TheVariants as val
 use Rattle.serde_json.proofs.Numbers.{number_of-decimal}

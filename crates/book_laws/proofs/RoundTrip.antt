@@ -10,10 +10,7 @@ use Rattle.std.specs.List.{AllByRecursion, filter}
 use Rattle.std.specs.Ordering.{eq_by_cmp, is_lt}
 use Rattle.json.specs.Tree.{items_depth}
 use Rattle.issuer_rows.proofs.KeyLaws.{key_cmp_total, key_cmp_antisymmetric}
-use Rattle.issuer_rows.specs.Fold.{Rows, overlay}
-use Rattle.issuer_rows.specs.RowKey.{key_cmp}
-use Rattle.issuer_rows.specs.declared.row_key.RowKey.{RowKey}
-use Rattle.issuer_rows.specs.declared.row_val.RowVal.{RowVal}
+use Rattle.issuer_words.specs.Words.{RowKey, RowVal, Rows, key_cmp, overlay}
 use Rattle.serde_json.specs.Read.{of_items}
 use Rattle.serde_json.specs.Written.{items_outline}
 use Rattle.book_laws.specs.Lists.{AreNew, add_entries, has_old_cards}

@@ -1,24 +1,12 @@
 -- The entry of a row is read again as the row.
 use Rattle.std.proofs.Common.{◌≡◌, ℕ, ◌≤◌, List, Option, Some, None, IfSome, Ok, refl, lt-ltb, le-leb, eq-eqb, arith}
-use Rattle.iso8583.specs.declared.account_id.AccountId.{AccountId}
-use Rattle.iso8583.specs.declared.approval.Approval.{Approval}
-use Rattle.iso8583.specs.declared.identity.Identity.{Identity}
-use Rattle.iso8583.specs.declared.original_kind.OriginalKind.{OriginalKind}
+use Rattle.issuer_words.specs.Words.{AccountId, AccountRow, Approval, BudgetMode, BudgetRow, CardRow, CardStatus, Identity, Mark, OriginalKind, Pan, PanPrefix, VelocityRow}
 use Rattle.iso8583.specs.declared.original_kind.OriginalKind.TheVariants.{Request, Advice}
-use Rattle.iso8583.specs.declared.pan.Pan.{Pan}
-use Rattle.iso8583.specs.declared.pan_prefix.PanPrefix.{PanPrefix}
 use Rattle.json.specs.Tree.{depth}
-use Rattle.issuer_rows.specs.declared.account_row.AccountRow.{AccountRow}
-use Rattle.issuer_rows.specs.declared.budget_mode.BudgetMode.{BudgetMode}
 use Rattle.issuer_rows.specs.declared.budget_mode.BudgetMode.TheVariants.{Direct, StandIn}
-use Rattle.issuer_rows.specs.declared.budget_row.BudgetRow.{BudgetRow}
-use Rattle.issuer_rows.specs.declared.card_row.CardRow.{CardRow}
-use Rattle.issuer_rows.specs.declared.card_status.CardStatus.{CardStatus}
 use Rattle.issuer_rows.specs.declared.card_status.CardStatus.TheVariants.{Active, Blocked, Lost, Stolen}
-use Rattle.issuer_rows.specs.declared.mark.Mark.{Mark}
 use Rattle.issuer_rows.specs.declared.row_key.RowKey.TheVariants as key
 use Rattle.issuer_rows.specs.declared.row_val.RowVal.TheVariants as val
-use Rattle.issuer_rows.specs.declared.velocity_row.VelocityRow.{VelocityRow}
 use Rattle.serde_json.proofs.Numbers.{number_of-decimal}
 use Rattle.serde_json.specs.Read.{of_json}
 use Rattle.serde_json.specs.Written.{outline}

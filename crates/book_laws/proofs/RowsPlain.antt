@@ -7,27 +7,13 @@ use Rattle.std.proofs.lemmas.Str.Ascii.{IsAscii-from_all}
 use Rattle.std.proofs.lemmas.Str.{IsUtf8-from_ascii}
 use Rattle.std.specs.Str.{IsUtf8}
 use Rattle.iso8583.proofs.NumberLaws.{alphanumeric_digits}
-use Rattle.iso8583.specs.Class.{IsDigits, IsPrintable, is_printable}
-use Rattle.iso8583.specs.declared.account_id.AccountId.{AccountId}
-use Rattle.iso8583.specs.declared.approval.Approval.{Approval}
-use Rattle.iso8583.specs.declared.identity.Identity.{Identity}
-use Rattle.iso8583.specs.declared.original_kind.OriginalKind.{OriginalKind}
+use Rattle.issuer_words.specs.Words.{AccountId, AccountRow, Approval, BudgetMode, BudgetRow, CardRow, CardStatus, Identity, IsDigits, IsPrintable, KeptOriginal, Mark, OriginalKind, Pan, PanPrefix, VelocityRow, is_printable}
 use Rattle.iso8583.specs.declared.original_kind.OriginalKind.TheVariants.{Request, Advice}
-use Rattle.iso8583.specs.declared.pan.Pan.{Pan}
-use Rattle.iso8583.specs.declared.pan_prefix.PanPrefix.{PanPrefix}
 use Rattle.json.proofs.Printed.Utf8.{IsUtf8-are_ascii}
-use Rattle.issuer_rows.specs.Kept.{KeptOriginal}
-use Rattle.issuer_rows.specs.declared.account_row.AccountRow.{AccountRow}
-use Rattle.issuer_rows.specs.declared.budget_mode.BudgetMode.{BudgetMode}
 use Rattle.issuer_rows.specs.declared.budget_mode.BudgetMode.TheVariants.{Direct, StandIn}
-use Rattle.issuer_rows.specs.declared.budget_row.BudgetRow.{BudgetRow}
-use Rattle.issuer_rows.specs.declared.card_row.CardRow.{CardRow}
-use Rattle.issuer_rows.specs.declared.card_status.CardStatus.{CardStatus}
 use Rattle.issuer_rows.specs.declared.card_status.CardStatus.TheVariants.{Active, Blocked, Lost, Stolen}
-use Rattle.issuer_rows.specs.declared.mark.Mark.{Mark}
 use Rattle.issuer_rows.specs.declared.row_key.RowKey.TheVariants as key
 use Rattle.issuer_rows.specs.declared.row_val.RowVal.TheVariants as val
-use Rattle.issuer_rows.specs.declared.velocity_row.VelocityRow.{VelocityRow}
 use Rattle.book_laws.specs.Originals.{entry_of_kept, kept_of}
 use Rattle.book_laws.specs.Ranges.{IsIdentity, IsAccountId, IsApproval, IsOriginalEntry, IsCard, IsDayRow, IsBudget, IsMark, IsAccount}
 use Rattle.book_laws.specs.Text.{IsPlain, IsReadAgain, optional_data, account_id_data, approval_data, identity_data, card_data, day_data, budget_data, original_data, mark_data, account_data}

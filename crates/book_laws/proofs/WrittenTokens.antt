@@ -8,8 +8,7 @@ use Rattle.json.proofs.Printed.Tokens.{print_from-append}
 use Rattle.json.specs.Token.{Token}
 use Rattle.std.proofs.lemmas.List.Sums.{fold-append}
 use Rattle.json.specs.Tree.{items_tokens}
-use Rattle.issuer_rows.specs.declared.row_key.RowKey.{RowKey}
-use Rattle.issuer_rows.specs.declared.row_val.RowVal.{RowVal}
+use Rattle.issuer_words.specs.Words.{RowKey, RowVal}
 use Rattle.serde_json.specs.Written.{items_outline}
 use Rattle.book_laws.specs.Text.{Adds, JsonText, ends_after, tokens_of, items_data, rows_of}
 use Rattle.book_laws.specs.declared.row_list.RowList.{RowList}

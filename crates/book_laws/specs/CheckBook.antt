@@ -2,25 +2,13 @@
 use Rattle.std.specs.Prelude.{◌≡◌, ℕ, ◌+◌, ◌≤◌, ◌^◌, Bool, true, false, ◌&&◌, not, List, Option, Some, None, IsTrue, IfSome, is_some}
 use Rattle.std.specs.List.{list_all, AllByRecursion}
 use Rattle.std.specs.FinMap as map
-use Rattle.iso8583.specs.Luhn.{passes_luhn}
-use Rattle.iso8583.specs.declared.account_id.AccountId.{AccountId}
-use Rattle.iso8583.specs.declared.pan_prefix.PanPrefix.{PanPrefix}
-use Rattle.issuer_rows.specs.Backing.{kept_in, stays, is_from_account, is_from_budget, budget_paid, available_in, left_in, backing_of_account, backing_of_prefix}
-use Rattle.issuer_rows.specs.CardAccounts.{AccountsOfCard, is_same_account}
-use Rattle.issuer_rows.specs.Facts.{prefix_of}
-use Rattle.issuer_rows.specs.Fold.{Rows}
-use Rattle.issuer_rows.specs.Kept.{KeptOriginal, payment_of_outcome}
-use Rattle.issuer_rows.specs.Typed.{account_in, budget_in}
+use Rattle.issuer_words.specs.Words.{AccountId, AccountsOfCard, KeptOriginal, PanPrefix, Payer, Payment, RowKey, RowVal, Rows, account_in, available_in, backing_of_account, backing_of_prefix, budget_in, budget_paid, is_from_account, is_from_budget, is_same_account, kept_in, left_in, passes_luhn, payment_of_outcome, prefix_of, stays}
 use Rattle.book_laws.specs.declared.book_fault.BookFault.{BookFault}
 use Rattle.book_laws.specs.declared.book_fault.BookFault.TheVariants.{CardNumber, OriginalWithoutAccount, OutOfRange, CardWithoutAccount}
 use Rattle.book_laws.specs.declared.paid_from.PaidFrom.{PaidFrom}
 use Rattle.book_laws.specs.declared.paid_from.PaidFrom.TheVariants as from
-use Rattle.issuer_rows.specs.declared.payer.Payer.{Payer}
 use Rattle.issuer_rows.specs.declared.payer.Payer.TheVariants as payer
-use Rattle.issuer_rows.specs.declared.payment.Payment.{Payment}
-use Rattle.issuer_rows.specs.declared.row_key.RowKey.{RowKey}
 use Rattle.issuer_rows.specs.declared.row_key.RowKey.TheVariants as key
-use Rattle.issuer_rows.specs.declared.row_val.RowVal.{RowVal}
 use Rattle.issuer_rows.specs.declared.row_val.RowVal.TheVariants as val
 
 -- the number of a card passes the Luhn test

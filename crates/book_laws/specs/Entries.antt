@@ -1,8 +1,7 @@
 -- Days, budgets, marks and accounts.
 use Rattle.std.specs.Prelude.{ℕ, List, [], ◌∷◌, Result, Ok, codes}
-use Rattle.issuer_rows.specs.declared.row_key.RowKey.{RowKey}
+use Rattle.issuer_words.specs.Words.{RowKey, RowVal}
 use Rattle.issuer_rows.specs.declared.row_key.RowKey.TheVariants as key
-use Rattle.issuer_rows.specs.declared.row_val.RowVal.{RowVal}
 use Rattle.issuer_rows.specs.declared.row_val.RowVal.TheVariants as val
 use Rattle.serde_json.specs.Data.{Data}
 use Rattle.book_laws.specs.Fields.{with_keys, account_id_at, acquirer_at, balance_at, count_at, currency_at, day_at, identity_at, kind_at, mode_at, pan_at, prefix_at, stamp_at, stan_at}

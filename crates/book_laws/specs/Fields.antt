@@ -1,21 +1,7 @@
 -- Fields of an entry: the kind of the JSON value first, then its range.
 use Rattle.std.specs.Prelude.{ℕ, ◌^◌, Bool, true, false, ◌&&◌, ◌==◌, nat_lt, nat_le, List, [], ◌∷◌, length, drop, Option, Some, None, is_some, option_map, option_and_then, unwrap_or, Result, Ok, Err, if◌then◌else◌, codes}
 use Rattle.std.specs.Str.{bytes_eq}
-use Rattle.iso8583.specs.Calendar.{is_month, is_day, is_local_stamp}
-use Rattle.iso8583.specs.Class.{is_digits, is_alphanumeric, is_printable}
-use Rattle.iso8583.specs.Number.{number_of}
-use Rattle.iso8583.specs.declared.account_id.AccountId.{AccountId}
-use Rattle.iso8583.specs.declared.acquirer.Acquirer.{Acquirer}
-use Rattle.iso8583.specs.declared.approval.Approval.{Approval}
-use Rattle.iso8583.specs.declared.currency.Currency.{Currency}
-use Rattle.iso8583.specs.declared.identity.Identity.{Identity}
-use Rattle.iso8583.specs.declared.original_kind.OriginalKind.{OriginalKind}
-use Rattle.iso8583.specs.declared.pan.Pan.{Pan}
-use Rattle.iso8583.specs.declared.pan_prefix.PanPrefix.{PanPrefix}
-use Rattle.iso8583.specs.declared.processing.Processing.{Processing}
-use Rattle.iso8583.specs.declared.stan.Stan.{Stan}
-use Rattle.issuer_rows.specs.declared.budget_mode.BudgetMode.{BudgetMode}
-use Rattle.issuer_rows.specs.declared.card_status.CardStatus.{CardStatus}
+use Rattle.issuer_words.specs.Words.{AccountId, Acquirer, Approval, BudgetMode, CardStatus, Currency, Identity, OriginalKind, Pan, PanPrefix, Processing, Stan, is_alphanumeric, is_day, is_digits, is_local_stamp, is_month, is_printable, number_of}
 use Rattle.serde_json.specs.Data.{Data, Members, no_members, member}
 use Rattle.serde_json.specs.Find.{get, as_null, as_number, as_u64, as_str, as_object}
 use Rattle.book_laws.specs.Steps.{◌>>=◌, or_fault, in_range}

@@ -1,21 +1,10 @@
 -- Originals that were decided: what a book's text says of them, and which of them can be.
 use Rattle.std.specs.Prelude.{ℕ, ◌==◌, nat_le, if◌then◌else◌, List, [], ◌∷◌, Option, Some, None, option_map, option_and_then, Result, Ok, codes}
-use Rattle.iso8583.specs.declared.account_id.AccountId.{AccountId}
-use Rattle.iso8583.specs.declared.approval.Approval.{Approval}
-use Rattle.iso8583.specs.declared.identity.Identity.{Identity}
-use Rattle.iso8583.specs.declared.original_kind.OriginalKind.{OriginalKind}
+use Rattle.issuer_words.specs.Words.{AccountId, Approval, Identity, KeptOriginal, OriginalKind, OriginalOutcome, Pan, Payer, Payment, RowKey, RowVal, Settlement, action_of_outcome, approval_of_outcome, kind_of_outcome, payment_of_outcome, reversal_of_outcome, stay_of}
 use Rattle.iso8583.specs.declared.original_kind.OriginalKind.TheVariants as kind
-use Rattle.iso8583.specs.declared.pan.Pan.{Pan}
-use Rattle.issuer_rows.specs.Kept.{KeptOriginal, kind_of_outcome, action_of_outcome, approval_of_outcome, payment_of_outcome, reversal_of_outcome, stay_of}
-use Rattle.issuer_rows.specs.declared.original_outcome.OriginalOutcome.{OriginalOutcome}
 use Rattle.issuer_rows.specs.declared.original_outcome.OriginalOutcome.TheVariants.{Approved, Declined, Accepted, Acknowledged}
-use Rattle.issuer_rows.specs.declared.payer.Payer.{Payer}
 use Rattle.issuer_rows.specs.declared.payer.Payer.TheVariants as payer
-use Rattle.issuer_rows.specs.declared.payment.Payment.{Payment}
-use Rattle.issuer_rows.specs.declared.settlement.Settlement.{Settlement}
-use Rattle.issuer_rows.specs.declared.row_key.RowKey.{RowKey}
 use Rattle.issuer_rows.specs.declared.row_key.RowKey.TheVariants as key
-use Rattle.issuer_rows.specs.declared.row_val.RowVal.{RowVal}
 use Rattle.issuer_rows.specs.declared.row_val.RowVal.TheVariants as val
 use Rattle.serde_json.specs.Data.{Data}
 use Rattle.book_laws.specs.Cards.{own_account}

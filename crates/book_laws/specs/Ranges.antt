@@ -1,20 +1,6 @@
 -- Values in their ranges, for private clauses.
 use Rattle.std.specs.Prelude.{◌≡◌, ℕ, ◌<◌, ◌≤◌, ◌^◌, List, length, IfSome}
-use Rattle.iso8583.specs.Calendar.{IsDay, IsLocalStamp}
-use Rattle.iso8583.specs.Class.{IsDigits, IsAlphanumeric}
-use Rattle.iso8583.specs.Number.{fixed_digits}
-use Rattle.iso8583.specs.Padded.{HasDigits, HasPrintable}
-use Rattle.iso8583.specs.declared.account_id.AccountId.{AccountId}
-use Rattle.iso8583.specs.declared.approval.Approval.{Approval}
-use Rattle.iso8583.specs.declared.identity.Identity.{Identity}
-use Rattle.iso8583.specs.declared.pan.Pan.{Pan}
-use Rattle.iso8583.specs.declared.pan_prefix.PanPrefix.{PanPrefix}
-use Rattle.issuer_rows.specs.Expiry.{IsExpiry}
-use Rattle.issuer_rows.specs.declared.account_row.AccountRow.{AccountRow}
-use Rattle.issuer_rows.specs.declared.budget_row.BudgetRow.{BudgetRow}
-use Rattle.issuer_rows.specs.declared.card_row.CardRow.{CardRow}
-use Rattle.issuer_rows.specs.declared.mark.Mark.{Mark}
-use Rattle.issuer_rows.specs.declared.velocity_row.VelocityRow.{VelocityRow}
+use Rattle.issuer_words.specs.Words.{AccountId, AccountRow, Approval, BudgetRow, CardRow, HasDigits, HasPrintable, Identity, IsAlphanumeric, IsDay, IsDigits, IsExpiry, IsLocalStamp, Mark, Pan, PanPrefix, VelocityRow, fixed_digits}
 use Rattle.book_laws.specs.declared.original_entry.OriginalEntry.{OriginalEntry}
 
 -- so many digits

@@ -3,25 +3,12 @@ use Rattle.std.specs.Prelude.{◌≡◌, ◌<◌, ◌≤◌, ◌^◌, ℕ, List,
 use Rattle.std.specs.List.{filter}
 use Rattle.std.specs.FinMap as map
 use Rattle.std.specs.Str.{IsUtf8}
-use Rattle.iso8583.specs.Number.{fixed_digits}
-use Rattle.iso8583.specs.declared.account_id.AccountId.{AccountId}
-use Rattle.iso8583.specs.declared.approval.Approval.{Approval}
-use Rattle.iso8583.specs.declared.identity.Identity.{Identity}
-use Rattle.iso8583.specs.declared.pan.Pan.{Pan}
-use Rattle.iso8583.specs.declared.pan_prefix.PanPrefix.{PanPrefix}
+use Rattle.issuer_words.specs.Words.{AccountId, AccountRow, Approval, BudgetRow, CardRow, Identity, Mark, Pan, PanPrefix, RowKey, RowVal, Rows, VelocityRow, fixed_digits}
 use Rattle.json.specs.Print.{ends, print_from}
 use Rattle.json.specs.Token.{Token}
 use Rattle.json.specs.Tree.{json_tokens, depth}
-use Rattle.issuer_rows.specs.Fold.{Rows}
-use Rattle.issuer_rows.specs.declared.account_row.AccountRow.{AccountRow}
-use Rattle.issuer_rows.specs.declared.budget_row.BudgetRow.{BudgetRow}
-use Rattle.issuer_rows.specs.declared.card_row.CardRow.{CardRow}
-use Rattle.issuer_rows.specs.declared.mark.Mark.{Mark}
-use Rattle.issuer_rows.specs.declared.row_key.RowKey.{RowKey}
 use Rattle.issuer_rows.specs.declared.row_key.RowKey.TheVariants as key
-use Rattle.issuer_rows.specs.declared.row_val.RowVal.{RowVal}
 use Rattle.issuer_rows.specs.declared.row_val.RowVal.TheVariants as val
-use Rattle.issuer_rows.specs.declared.velocity_row.VelocityRow.{VelocityRow}
 use Rattle.serde_json.specs.Data.{Data, null, boolean, number, unsigned, negative, float, string, array, object, Items, no_items, item, Members, no_members, member}
 use Rattle.serde_json.specs.Read.{of_json}
 use Rattle.serde_json.specs.Written.{compact_text, outline}

@@ -1,11 +1,9 @@
 -- Words that stand for what a row holds.
 use Rattle.std.specs.Prelude.{ℕ, List, Option, Some, None, if◌then◌else◌, codes}
 use Rattle.std.specs.Str.{bytes_eq}
-use Rattle.iso8583.specs.declared.original_kind.OriginalKind.{OriginalKind}
+use Rattle.issuer_words.specs.Words.{BudgetMode, CardStatus, OriginalKind}
 use Rattle.iso8583.specs.declared.original_kind.OriginalKind.TheVariants.{Request, Advice}
-use Rattle.issuer_rows.specs.declared.budget_mode.BudgetMode.{BudgetMode}
 use Rattle.issuer_rows.specs.declared.budget_mode.BudgetMode.TheVariants.{Direct, StandIn}
-use Rattle.issuer_rows.specs.declared.card_status.CardStatus.{CardStatus}
 use Rattle.issuer_rows.specs.declared.card_status.CardStatus.TheVariants.{Active, Blocked, Lost, Stolen}
 use Rattle.book_laws.specs.declared.book_version.BookVersion.{BookVersion}
 use Rattle.book_laws.specs.declared.book_version.BookVersion.TheVariants.{One, Two, Three}

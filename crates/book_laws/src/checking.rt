@@ -1,9 +1,8 @@
 ghost use Rattle.std.specs.Prelude.{◌≡◌, ◌↔◌, ◌+◌, ◌≤◌, ◌^◌, ◌&&◌, All, IsTrue, IsOk, IfErr, IfSome, Some};
 ghost use Rattle.std.specs.Option.{SomeIff};
 ghost use Rattle.std.specs.FinMap as map;
-ghost use Rattle.issuer_rows.specs.Backing.{stays, available_in, left_in};
+ghost use Rattle.issuer_words.specs.Words.{account_in, available_in, budget_in, left_in, stays};
 ghost use Rattle.book_laws.specs.CheckBook.{has_right_number, has_account, has_payer, has_paying_account, has_second, are_accounts, has_accounts, are_numbers_right, have_paying_accounts, have_accounts, AreBackingsInRange, IsSound, IsRestSound, IsFirstFault, is_among, IsRowInRange, AreRowsInRange};
-ghost use Rattle.issuer_rows.specs.Typed.{account_in, budget_in};
 ghost use Rattle.book_laws.specs.declared.paid_from.PaidFrom.TheVariants.{Anything};
 
 use crate::book_fault::BookFault;

@@ -1,7 +1,6 @@
 ghost use Rattle.std.specs.Prelude.{◌≡◌, ◌↔◌, IsTrue};
-ghost use Rattle.issuer_rows.specs.Backing.{kept_in, stay_if, is_account, is_budget, account_paid, budget_paid};
+ghost use Rattle.issuer_words.specs.Words.{account_paid, budget_paid, is_account, is_budget, kept_in, payment_of_outcome, stay_if};
 ghost use Rattle.book_laws.specs.CheckBook.{is_among};
-ghost use Rattle.issuer_rows.specs.Kept.{payment_of_outcome};
 
 use iso8583::{AccountId, Amount, PanPrefix};
 use issuer_rows::{Kept, Payer, RowKey, RowVal};

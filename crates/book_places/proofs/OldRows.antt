@@ -1,9 +1,8 @@
 -- The rows of a card of versions 1 and 2.
 use Rattle.std.proofs.Common.{◌≡◌, [], ◌∷◌, true, Ok, refl}
 use Rattle.serde_json.specs.Data.{Data}
-use Rattle.issuer_rows.specs.declared.row_key.RowKey.{RowKey}
+use Rattle.issuer_words.specs.Words.{RowKey, RowVal}
 use Rattle.issuer_rows.specs.declared.row_key.RowKey.TheVariants as key
-use Rattle.issuer_rows.specs.declared.row_val.RowVal.{RowVal}
 use Rattle.issuer_rows.specs.declared.row_val.RowVal.TheVariants as val
 use Rattle.book_laws.specs.Cards.{account_of_old_card, migrated_card, old_card_of, own_account, row_of_old_card}
 use Rattle.book_laws.specs.Lists.{has_old_cards, rows_at}

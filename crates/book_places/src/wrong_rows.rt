@@ -3,8 +3,7 @@
 ghost use Rattle.std.specs.Prelude.{◌≡◌, IfSome, IsTrue};
 ghost use Rattle.serde_json.specs.View.{view};
 ghost use Rattle.book_laws.specs.Cards.{row_of_old_card};
-ghost use Rattle.issuer_rows.specs.declared.row_key.RowKey.{RowKey};
-ghost use Rattle.issuer_rows.specs.declared.row_val.RowVal.{RowVal};
+ghost use Rattle.issuer_words.specs.Words.{RowKey, RowVal};
 ghost use Rattle.book_places.specs.Places.{IsRowOf, IsRowPlace, IsWrongRow};
 
 use crate::wrong_row::WrongRow;

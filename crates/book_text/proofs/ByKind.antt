@@ -12,12 +12,7 @@ use Rattle.std.specs.List.Sorted.{IsNonDecreasingBy}
 use Rattle.std.specs.Map.Iter.{deref_pair}
 use Rattle.std.specs.Ordering.{is_lt, nat_cmp, ordering_then}
 use lib.Dec.{T, ltb}
-use Rattle.issuer_rows.specs.Book.{AllOfKind}
-use Rattle.issuer_rows.specs.Fold.{Rows}
-use Rattle.issuer_rows.specs.RowKey.{key_cmp, kind_of, texts_cmp}
-use Rattle.issuer_rows.specs.RowVal.{IsOfKind, kind_of_value}
-use Rattle.issuer_rows.specs.declared.row_key.RowKey.{RowKey}
-use Rattle.issuer_rows.specs.declared.row_val.RowVal.{RowVal}
+use Rattle.issuer_words.specs.Words.{AllOfKind, IsOfKind, RowKey, RowVal, Rows, key_cmp, kind_of, kind_of_value, texts_cmp}
 use Rattle.issuer_rows.specs.declared.row_val.RowVal.TheVariants as val
 use Rattle.book_laws.specs.Parts.{list_of, is_in}
 use Rattle.book_laws.specs.Text.{rows_of}

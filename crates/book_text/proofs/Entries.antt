@@ -3,8 +3,7 @@ use Rattle.std.proofs.Common.{◌≡◌, List, [], ◌∷◌, ◌++◌, Bool, tr
 use Rattle.std.proofs.lemmas.List.Elements.{filter-append}
 use Rattle.json.specs.Token.{Token}
 use Rattle.json.specs.Tree.{items_tokens}
-use Rattle.issuer_rows.specs.declared.row_key.RowKey.{RowKey}
-use Rattle.issuer_rows.specs.declared.row_val.RowVal.{RowVal}
+use Rattle.issuer_words.specs.Words.{RowKey, RowVal}
 use Rattle.serde_json.specs.Written.{items_outline}
 use Rattle.book_laws.specs.Parts.{is_in}
 use Rattle.book_laws.specs.Text.{tokens_of, entry_data, items_data, rows_of}

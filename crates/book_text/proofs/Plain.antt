@@ -7,12 +7,9 @@ use Rattle.std.specs.Char.{is_ascii_digit, is_ascii_alphanumeric}
 use Rattle.std.proofs.lemmas.List.Elements.{recursion_from_All}
 use Rattle.json.specs.Print.{escape, escape_byte}
 use Rattle.json.proofs.Printed.Strings.{escape_byte_plain}
-use Rattle.iso8583.specs.Class.{IsDigits, IsAlphanumeric}
-use Rattle.iso8583.specs.declared.original_kind.OriginalKind.{OriginalKind}
+use Rattle.issuer_words.specs.Words.{BudgetMode, CardStatus, IsAlphanumeric, IsDigits, OriginalKind}
 use Rattle.iso8583.specs.declared.original_kind.OriginalKind.TheVariants as kind
-use Rattle.issuer_rows.specs.declared.budget_mode.BudgetMode.{BudgetMode}
 use Rattle.issuer_rows.specs.declared.budget_mode.BudgetMode.TheVariants as mode
-use Rattle.issuer_rows.specs.declared.card_status.CardStatus.{CardStatus}
 use Rattle.issuer_rows.specs.declared.card_status.CardStatus.TheVariants as status
 use Rattle.book_laws.specs.Words.{status_word, mode_word, kind_word, paid_word}
 use Rattle.book_laws.specs.declared.paid.Paid.{Paid}

@@ -4,8 +4,7 @@ use Rattle.std.proofs.lemmas.List.Folds.{drop_split}
 use Rattle.json.specs.Print.{print, print_from}
 use Rattle.json.specs.Token.{Token, end_array}
 use Rattle.json.proofs.Printed.Tokens.{print_from-append}
-use Rattle.issuer_rows.specs.declared.row_key.RowKey.{RowKey}
-use Rattle.issuer_rows.specs.declared.row_val.RowVal.{RowVal}
+use Rattle.issuer_words.specs.Words.{RowKey, RowVal}
 use Rattle.book_laws.specs.Text.{ends_after}
 use Rattle.book_laws.specs.declared.row_list.RowList.{RowList}
 use Rattle.book_laws.specs.declared.row_list.RowList.TheVariants.{Cards, Days, Budgets, Originals, Ahead, Accounts}

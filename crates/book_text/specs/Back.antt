@@ -4,9 +4,7 @@ use Rattle.std.specs.Coded.{Coded, Coded-set, coded_result, Π_prop}
 use Rattle.std.specs.FinMap as map
 use Rattle.issuer_rows.specs.contracts.row_key.RowKey.{the_row as key_row}
 use Rattle.issuer_rows.specs.contracts.row_val.RowVal.{the_row as val_row}
-use Rattle.issuer_rows.specs.Fold.{Rows}
-use Rattle.issuer_rows.specs.declared.row_key.RowKey.{RowKey}
-use Rattle.issuer_rows.specs.declared.row_val.RowVal.{RowVal}
+use Rattle.issuer_words.specs.Words.{RowKey, RowVal, Rows}
 use Rattle.book_laws.specs.Reading.{reading}
 use Rattle.book_laws.specs.Text.{book_text}
 use Rattle.book_laws.specs.contracts.text_fault.TextFault.{the_row as fault_row}

@@ -19,8 +19,7 @@ pub struct ListedRows<'a> {
 impl<'a> Model for ListedRows<'a> {
     ghost use Rattle.std.specs.Prelude.{List, map};
     ghost use Rattle.std.specs.Map.Iter.{deref_pair};
-    ghost use Rattle.issuer_rows.specs.declared.row_key.RowKey.{RowKey};
-    ghost use Rattle.issuer_rows.specs.declared.row_val.RowVal.{RowVal};
+    ghost use Rattle.issuer_words.specs.Words.{RowKey, RowVal};
     ghost use Rattle.book_text.specs.ByKind.{StandByKind};
 
     ghost Value = { List (RowKey × RowVal) };

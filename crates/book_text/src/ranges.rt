@@ -2,8 +2,7 @@
 //! there, so that nothing is computed.
 
 ghost use Rattle.std.specs.Prelude.{◌≡◌, ◌<◌, ◌^◌, Some, IfSome};
-ghost use Rattle.iso8583.specs.Padded.{HasDigits};
-ghost use Rattle.issuer_rows.specs.RowVal.{IsOfKind};
+ghost use Rattle.issuer_words.specs.Words.{HasDigits, IsOfKind};
 ghost use Rattle.issuer_rows.specs.declared.row_key.RowKey.TheVariants as key;
 ghost use Rattle.issuer_rows.specs.declared.row_val.RowVal.TheVariants as val;
 ghost use Rattle.book_laws.specs.Originals.{kept_of, entry_of_kept};

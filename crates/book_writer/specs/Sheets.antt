@@ -1,8 +1,7 @@
 -- Texts of rows that are made ahead.
 use Rattle.std.specs.Prelude.{◌≡◌, ℕ, ◌<◌, ◌≤◌, List, length, Bool, slice_range}
 use Rattle.json.specs.Print.{print_from}
-use Rattle.issuer_rows.specs.declared.row_key.RowKey.{RowKey}
-use Rattle.issuer_rows.specs.declared.row_val.RowVal.{RowVal}
+use Rattle.issuer_words.specs.Words.{RowKey, RowVal}
 use Rattle.book_laws.specs.Text.{ends_after}
 use Rattle.book_text.specs.Left.{entries_tokens}
 use Rattle.book_writer.specs.declared.span.Span.{Span}

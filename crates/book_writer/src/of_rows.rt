@@ -4,8 +4,7 @@ use std::marker::Brand;
 /// the same ones. No value of it is made.
 pub trait OfRows {
     ghost use Rattle.std.specs.Prelude.{List};
-    ghost use Rattle.issuer_rows.specs.declared.row_key.RowKey.{RowKey};
-    ghost use Rattle.issuer_rows.specs.declared.row_val.RowVal.{RowVal};
+    ghost use Rattle.issuer_words.specs.Words.{RowKey, RowVal};
 
     // The rows, sorted by their keys.
     ghost rows: { List (RowKey × RowVal) };

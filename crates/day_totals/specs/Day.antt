@@ -8,20 +8,14 @@ use Rattle.std.specs.Map.{keys_of, lookup}
 use Rattle.std.specs.Ordering.{is_lt, nat_cmp, ordering_then}
 use Rattle.std.specs.declared.cmp.Ordering.{Ordering}
 use Rattle.std.specs.Str.{bytes_eq}
-use Rattle.iso8583.specs.Number.{fixed_digits}
+use Rattle.issuer_words.specs.Words.{Frame, Message, ReplyBody, Reversal, ReversalScope, Transaction, fixed_digits}
 use Rattle.iso8583.specs.declared.answer.Answer.{Answer}
 use Rattle.iso8583.specs.declared.answer.Answer.TheVariants as answer
-use Rattle.iso8583.specs.declared.message.Message.{Message}
 use Rattle.iso8583.specs.declared.message.Message.TheVariants as message
-use Rattle.iso8583.specs.declared.reversal.Reversal.{Reversal}
-use Rattle.iso8583.specs.declared.reversal_scope.ReversalScope.{ReversalScope}
 use Rattle.iso8583.specs.declared.reversal_scope.ReversalScope.TheVariants.{Full, Partial}
-use Rattle.iso8583.specs.declared.transaction.Transaction.{Transaction}
 use Rattle.iso8583.specs.declared.verdict.Verdict.TheVariants as verdict
 use Rattle.iso_shown.specs.Masked.{masked}
-use Rattle.issuer_rows.specs.declared.frame.Frame.{Frame}
 use Rattle.issuer_rows.specs.declared.frame.Frame.TheVariants.{Good, Bad}
-use Rattle.issuer_rows.specs.declared.reply_body.ReplyBody.{ReplyBody}
 use Rattle.issuer_rows.specs.declared.reply_body.ReplyBody.TheVariants.{Reply, Fault}
 use Rattle.day_totals.specs.declared.exchange.Exchange.{Exchange}
 use Rattle.day_totals.specs.declared.figure.Figure.{Figure}

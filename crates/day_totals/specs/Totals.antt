@@ -1,7 +1,6 @@
 -- All totals of a day.
 use Rattle.std.specs.Prelude.{◌≡◌, List, map}
-use Rattle.issuer_rows.specs.declared.frame.Frame.{Frame}
-use Rattle.issuer_rows.specs.declared.reply_body.ReplyBody.{ReplyBody}
+use Rattle.issuer_words.specs.Words.{Frame, ReplyBody}
 use Rattle.day_totals.specs.Day.{AreGreatestOf, AreTotals, shown}
 use Rattle.day_totals.specs.declared.day_totals.DayTotals.{DayTotals}
 use Rattle.day_totals.specs.declared.day_totals.MoneyTotals.{MoneyTotals}

@@ -3,7 +3,7 @@ use Rattle.std.proofs.Common.{◌≡◌, ℕ, List, ◌++◌, inl, inr, length, 
 use Rattle.issuer_fold.specs.declared.run_outcome.RunOutcome.{RunOutcome}
 use Rattle.stm_journal.specs.Finished.{IsFinished}
 use Rattle.stm_journal.specs.SomePlay.{IsSomePlay}
-use Rattle.issuer_view.specs.Words.{Executed, Frame, ReplyBody, Rows, replies_to, rows_after}
+use Rattle.issuer_words.specs.Words.{Executed, Frame, ReplyBody, Rows, replies_to, rows_after}
 use Rattle.stm_core_laws.specs.Words.{IsReached, Play, State, bounded, opening_play}
 use Rattle.stm_journal_text.specs.Words.{AnswersTo, FinishAnswersTo, IsPlayed, Limits, Plays}
 use Rattle.stm_journal_text.specs.Words.{entered}

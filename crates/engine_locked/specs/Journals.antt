@@ -1,6 +1,6 @@
 -- What the journal of a run plays to.
 use Rattle.std.specs.Prelude.{◌≡◌, ℕ, List, ◌++◌}
-use Rattle.issuer_view.specs.Words.{Frame, ReplyBody, Rows}
+use Rattle.issuer_words.specs.Words.{Frame, ReplyBody, Rows}
 use Rattle.stm_core_laws.specs.Words.{Play, bounded}
 use Rattle.stm_journal_text.specs.Words.{IsPlayed, Limits, Plays}
 use Rattle.stm_journal_text.specs.declared.entry.Entry.{Entry}

@@ -8,7 +8,7 @@ use Rattle.std.specs.List.{AllByRecursion}
 use Rattle.issuer_rows.proofs.KeyLaws.{key_cmp_total, key_cmp_antisymmetric, key_eq_decides, same_test}
 use Rattle.issuer_rows.proofs.ListedRows.{listed_found}
 use Rattle.issuer_laws.proofs.Keys.{get-put, get-other, same_or_other}
-use Rattle.issuer_view.specs.Words.{RowKey, RowVal, Rows, Writes, key_cmp, key_eq, overlay}
+use Rattle.issuer_words.specs.Words.{RowKey, RowVal, Rows, Writes, key_cmp, key_eq, overlay}
 use Rattle.engine_parts.specs.TwoBooks.{first_of, joined}
 
 none_found : (k : RowKey) (es : Writes) → AllByRecursion (λ e. k ≢ e.0) es → find key_cmp k es ≡ None

@@ -4,7 +4,7 @@ use Rattle.std.proofs.lemmas.Bool.Decides.{nat_tests}
 use Rattle.std.proofs.lemmas.Option.{none-some, same_Some}
 use Rattle.std.specs.List.{AllByRecursion}
 use Rattle.issuer_laws.specs.Parts.{bodies, of_part}
-use Rattle.issuer_view.specs.Words.{Frame}
+use Rattle.issuer_words.specs.Words.{Frame}
 
 module _ {A : Type 0} where
   zip_left_suc : (parts : List ℕ) (all : List A) (i part : ℕ) (a : A) → slice_get parts i ≡ Some part → slice_get all i ≡ Some a → drop i (zip parts all) ≡ (part, a) ∷ drop (suc i) (zip parts all)

@@ -7,7 +7,7 @@ use Rattle.issuer_laws.proofs.Keys.{get-other, same_or_other}
 use Rattle.issuer_laws.proofs.Needed.{IsFollowing, follows_itself, follows_one, written_needed}
 use Rattle.issuer_laws.proofs.Parts.{decided_alone, each_of, unwritten}
 use Rattle.issuer_laws.specs.Parts.{IsIn, may_need, Parted, bodies, of_part, IsOfPart, AreApart, HasPart}
-use Rattle.issuer_view.specs.Words.{Frame, RowKey, Rows, Writes, key_cmp, overlay, rows_after, rows_after_one, writes_of}
+use Rattle.issuer_words.specs.Words.{Frame, RowKey, Rows, Writes, key_cmp, overlay, rows_after, rows_after_one, writes_of}
 use Rattle.engine_parts.proofs.JoinLaws.{joined_nothing, joined_overlay}
 use Rattle.engine_parts.specs.TwoBooks.{joined, rows_written, rows_of_part}
 

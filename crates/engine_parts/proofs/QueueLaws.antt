@@ -3,7 +3,7 @@ use Rattle.std.proofs.Common.{◌≡◌, ◌≢◌, ℕ, zero, suc, ◌+◌, ◌
 use Rattle.std.proofs.Math.ListN.{set}
 use Rattle.std.proofs.lemmas.Bool.Decides.{nat_tests}
 use Rattle.std.specs.List.{AllByRecursion}
-use Rattle.issuer_view.specs.Words.{ReplyBody}
+use Rattle.issuer_words.specs.Words.{ReplyBody}
 use Rattle.engine_parts.specs.declared.decided_part.DecidedPart.{DecidedPart}
 use Rattle.issuer_rows.proofs.OverlayLaws.{left_at}
 use Rattle.issuer_laws.specs.Parts.{of_part}

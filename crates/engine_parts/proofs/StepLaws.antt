@@ -2,7 +2,7 @@
 use Rattle.std.proofs.Common.{◌≡◌, ◌≢◌, ℕ, ◌+◌, List, [], ◌∷◌, ◌++◌, drop, zip, Some, slice_get, sym, ap, ◌∙◌, subst, append_assoc, append-nil}
 use Rattle.std.specs.FinMap as map
 use Rattle.issuer_laws.specs.Parts.{of_part}
-use Rattle.issuer_view.specs.Words.{Frame, ReplyBody, Rows, overlay, replies_to, reply_of, writes_of}
+use Rattle.issuer_words.specs.Words.{Frame, ReplyBody, Rows, overlay, replies_to, reply_of, writes_of}
 use Rattle.engine_parts.proofs.JoinLaws.{joined_nothing, joined_overlay}
 use Rattle.engine_parts.proofs.OrderLaws.{part_other, part_own, zip_left}
 use Rattle.engine_parts.specs.Decided.{AreDecidedTo}

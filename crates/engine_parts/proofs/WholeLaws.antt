@@ -7,7 +7,7 @@ use Rattle.std.specs.List.{AllByRecursion}
 use Rattle.issuer_laws.proofs.Parts.{decided_alone, leaves_others}
 use Rattle.issuer_laws.specs.Parts.{IsIn, Parted, bodies, of_part, with_parts, IsOfPart, AreApart, HasPart}
 use Rattle.issuer_rows.proofs.KeyLaws.{key_cmp_total, key_cmp_antisymmetric}
-use Rattle.issuer_view.specs.Words.{Frame, ReplyBody, RowKey, RowVal, Rows, replies_to, rows_after}
+use Rattle.issuer_words.specs.Words.{Frame, ReplyBody, RowKey, RowVal, Rows, replies_to, rows_after}
 use Rattle.engine_parts.proofs.JoinLaws.{get_joined}
 use Rattle.engine_parts.proofs.OrderLaws.{bodies_zip, parts_zip, zip_below}
 use Rattle.engine_parts.proofs.PartLaws.{alone_is_whole, of_or_not, others_stay, written_is_whole, written_of_part}

@@ -1,7 +1,7 @@
 -- Parts that are decided.
 use Rattle.std.specs.Prelude.{◌≡◌, ℕ, ◌<◌, ◌++◌, List, [], ◌∷◌, Option, Some, None, drop, length, map, slice_index, slice_index_or, zip}
 use Rattle.issuer_laws.specs.Parts.{of_part}
-use Rattle.issuer_view.specs.Words.{Frame, ReplyBody, Rows, replies_to}
+use Rattle.issuer_words.specs.Words.{Frame, ReplyBody, Rows, replies_to}
 use Rattle.engine_parts.specs.TwoBooks.{joined, rows_of_part, rows_written}
 use Rattle.engine_parts.specs.declared.decided_part.DecidedPart.{DecidedPart}
 

@@ -1,7 +1,7 @@
 -- A book that is seen through the rows that were written since.
 use Rattle.std.specs.Prelude.{List, [], ◌∷◌, Option, Some, None}
 use Rattle.std.specs.FinMap as map
-use Rattle.issuer_view.specs.Words.{Frame, RowVal, Rows, overlay, rows_after_one, writes_of}
+use Rattle.issuer_words.specs.Words.{Frame, RowVal, Rows, overlay, rows_after_one, writes_of}
 
 -- a row that was written, else the one below
 abbrev pub first_of : Option RowVal → Option RowVal → Option RowVal

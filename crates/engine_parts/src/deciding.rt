@@ -1,7 +1,7 @@
 ghost use Rattle.std.specs.Prelude.{◌≡◌, ◌∷◌, [], ◌++◌, length, true, Some, IfOk, IfErr, OnOk};
 ghost use Rattle.std.specs.FinMap as map;
-ghost use Rattle.issuer_rows.specs.Agreement.{IsLocal};
-ghost use Rattle.issuer_view.specs.Words.{AgreesWithBook, overlay, reply_of, writes_of};
+ghost use Rattle.issuer_words.specs.Words.{IsLocal, overlay, reply_of, writes_of};
+ghost use Rattle.issuer_view.specs.Words.{AgreesWithBook};
 ghost use Rattle.engine_parts.specs.Decided.{AreDecided, bodies_of};
 ghost use Rattle.engine_parts.specs.TwoBooks.{joined};
 

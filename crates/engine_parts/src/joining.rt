@@ -2,7 +2,7 @@ ghost use Rattle.std.specs.Prelude.{◌≡◌, ◌+◌, ◌<◌, ◌≤◌, List
 ghost use Rattle.std.specs.List.{AllByRecursion};
 ghost use Rattle.engine_parts.specs.Decided.{HaveParts, list_at, replies_of, with_next};
 ghost use Rattle.engine_parts.specs.TwoBooks.{joined_all};
-ghost use Rattle.issuer_view.specs.Words.{ReplyBody};
+ghost use Rattle.issuer_words.specs.Words.{ReplyBody};
 
 use crate::decided_part::DecidedPart;
 use crate::writing::put_book;

@@ -1,6 +1,6 @@
 ghost use Rattle.std.specs.Prelude.{◌≡◌, ◌≤◌, length, IfOk};
 ghost use Rattle.engine_parts.specs.Decided.{bodies_of};
-ghost use Rattle.issuer_view.specs.Words.{replies_to, rows_after};
+ghost use Rattle.issuer_words.specs.Words.{replies_to, rows_after};
 
 use crate::decided_part::NEW_ROWS;
 use crate::gathering::gather;

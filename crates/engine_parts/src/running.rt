@@ -4,7 +4,7 @@ ghost use Rattle.std.specs.Thread.{IsSync};
 ghost use Rattle.engine_parts.specs.Decided.{AreDecided, bodies_of};
 ghost use Rattle.issuer_fold.specs.Run.{IsRun};
 ghost use Rattle.issuer_laws.specs.Parts.{AreApart};
-ghost use Rattle.issuer_view.specs.Words.{replies_to, rows_after};
+ghost use Rattle.issuer_words.specs.Words.{replies_to, rows_after};
 
 use crate::decided_part::DecidedPart;
 use crate::deciding::decide_part;

@@ -5,7 +5,7 @@ use std::marker::Brand;
 pub trait RunBrand {
     ghost use Rattle.std.specs.Prelude.{List};
     ghost use Rattle.atomic_table.specs.Seated.{TableId};
-    ghost use Rattle.issuer_view.specs.Words.{Frame, Rows};
+    ghost use Rattle.issuer_words.specs.Words.{Frame, Rows};
 
     // The table of the cursors.
     ghost table: { TableId };

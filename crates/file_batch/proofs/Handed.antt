@@ -16,8 +16,7 @@ use Rattle.rtrb.specs.Ring.{SameProducer, SameConsumer, received}
 use Rattle.rtrb.specs.declared.producer.Producer.{Producer}
 use Rattle.rtrb.specs.declared.consumer.Consumer.{Consumer}
 use Rattle.issuer_fold.proofs.FoldLaws.{rows_after-append, replies_to-append}
-use Rattle.issuer_rows.specs.Fold.{Rows, rows_after, replies_to}
-use Rattle.issuer_rows.specs.declared.reply_body.ReplyBody.{ReplyBody}
+use Rattle.issuer_words.specs.Words.{ReplyBody, Rows, replies_to, rows_after}
 use Rattle.file_batch_laws.proofs.Lists.{each_more}
 
 one_more : {A : Type 0} (part : Piece → List A) (pieces : List Piece) (piece : Piece) → flat_map part (pieces ++ piece ∷ []) ≡ flat_map part pieces ++ part piece

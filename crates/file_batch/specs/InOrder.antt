@@ -1,9 +1,7 @@
 -- A batch that is decided in the order of its messages while it is read.
 use Rattle.std.specs.Prelude.{◌≡◌, List, ◌++◌, ℕ, Result, Ok, Err, IsTrue}
 use Rattle.std.specs.List.{flat_map, AllByRecursion}
-use Rattle.issuer_rows.specs.Fold.{Rows, rows_after, replies_to}
-use Rattle.issuer_rows.specs.declared.frame.Frame.{Frame}
-use Rattle.issuer_rows.specs.declared.reply_body.ReplyBody.{ReplyBody}
+use Rattle.issuer_words.specs.Words.{Frame, ReplyBody, Rows, replies_to, rows_after}
 use Rattle.file_batch_laws.specs.BatchFault.{is_of_bytes}
 use Rattle.file_batch_laws.specs.Files.{framed, reply_text, replies_text}
 use Rattle.file_batch_laws.specs.Frames.{AreFramesOf, IsBatchOf}

@@ -2,9 +2,7 @@
 use Rattle.std.specs.Prelude.{◌≡◌, List, ℕ, length, count_by}
 use Rattle.std.specs.List.{flat_map}
 use Rattle.rtrb.specs.Ring.{sent, received, IsPair}
-use Rattle.issuer_rows.specs.Fold.{Rows, rows_after, replies_to}
-use Rattle.issuer_rows.specs.declared.frame.Frame.{Frame}
-use Rattle.issuer_rows.specs.declared.reply_body.ReplyBody.{ReplyBody}
+use Rattle.issuer_words.specs.Words.{Frame, ReplyBody, Rows, replies_to, rows_after}
 use Rattle.file_batch.specs.Counting.{is_unreadable}
 use Rattle.file_batch.specs.InOrder.{HasReplies}
 use Rattle.file_batch.specs.declared.piece.Piece.{Piece}

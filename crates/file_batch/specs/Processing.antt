@@ -2,8 +2,7 @@
 use Rattle.std.specs.Prelude.{◌≡◌, ◌≤◌, List, Result, IfOk, length}
 use Rattle.std.specs.declared.alloc.AllocError.{AllocError}
 use Rattle.issuer_fold.specs.declared.run_outcome.RunOutcome.{RunOutcome}
-use Rattle.issuer_rows.specs.Fold.{Rows, rows_after, replies_to}
-use Rattle.issuer_rows.specs.declared.frame.Frame.{Frame}
+use Rattle.issuer_words.specs.Words.{Frame, Rows, replies_to, rows_after}
 
 -- replies and book are those of deciding the frames one after another on these rows
 abbrev pub IsFold : Rows → List Frame → RunOutcome → Type 0

@@ -1,8 +1,5 @@
 ghost use Rattle.std.specs.Prelude.{◌≡◌, ◌+◌, ◌<◌, ◌≤◌, ◌^◌, [], length, vec_len, Some, IfOk, IfSome, IfNone, OnOk};
-ghost use Rattle.iso8583.specs.CodecFault.{number_of_fault, element_of_fault};
-ghost use Rattle.iso8583.specs.declared.codec_fault.CodecFault.{CodecFault};
-ghost use Rattle.issuer_rows.specs.FrameFault.{IsOfFrame};
-ghost use Rattle.issuer_rows.specs.declared.reply_body.ReplyBody.{ReplyBody};
+ghost use Rattle.issuer_words.specs.Words.{CodecFault, IsOfFrame, ReplyBody, element_of_fault, number_of_fault};
 ghost use Rattle.issuer_rows.specs.declared.reply_body.ReplyBody.TheVariants.{Fault};
 ghost use Rattle.file_batch.specs.Device.{UsesDevice};
 ghost use Rattle.file_batch_laws.specs.Replies.{IsReplyText, GivesReplies, GivesReplyFile};

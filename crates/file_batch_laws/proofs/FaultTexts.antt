@@ -2,12 +2,8 @@
 use Rattle.std.proofs.Common.{◌≡◌, ℕ, ◌<◌, ◌-◌, List, ◌∷◌, ◌++◌, length, take, drop, ap, Bool, true, false, ◌∙◌, arith}
 use Rattle.std.proofs.lemmas.List.{take_all, length-append, length-drop}
 use Rattle.iso8583.proofs.NumberLaws.{length-fixed_digits, is_digits-fixed_digits, is_digits-append}
-use Rattle.iso8583.specs.Class.{is_digits}
-use Rattle.iso8583.specs.CodecFault.{number_of_fault, element_of_fault}
-use Rattle.iso8583.specs.declared.codec_fault.CodecFault.{CodecFault}
+use Rattle.issuer_words.specs.Words.{CodecFault, element_of_fault, fault_body, fixed_digits, is_digits, number_of, number_of_fault}
 use Rattle.file_batch_laws.proofs.ReadBack.{element_in, number_in}
-use Rattle.issuer_rows.specs.FrameFault.{fault_body}
-use Rattle.iso8583.specs.Number.{number_of, fixed_digits}
 
 length_of : (a b : ℕ) → length (70 ∷ (fixed_digits 2 a ++ fixed_digits 3 b)) ≡ 6
 length_of a b = omega (arith, length-append (fixed_digits 2 a) (fixed_digits 3 b), length-fixed_digits 2 a, length-fixed_digits 3 b)

@@ -3,9 +3,7 @@ use Rattle.std.proofs.Common.{◌≡◌, ℕ, suc, List, [], ◌∷◌, ◌++◌
 use Rattle.std.specs.List.{AllByRecursion}
 use Rattle.std.proofs.lemmas.List.{append-nil}
 use Rattle.std.proofs.lemmas.List.Concat.{flat_map-append}
-use Rattle.issuer_rows.specs.Fold.{Rows, rows_after_one, reply_of, rows_after, replies_to}
-use Rattle.issuer_rows.specs.declared.frame.Frame.{Frame}
-use Rattle.issuer_rows.specs.declared.reply_body.ReplyBody.{ReplyBody}
+use Rattle.issuer_words.specs.Words.{Frame, ReplyBody, Rows, replies_to, reply_of, rows_after, rows_after_one}
 use Rattle.file_batch_laws.specs.Blocks.{rows_after_blocks, replies_to_blocks, all_messages, all_replies, AreCutAs, block_text, blocks_text}
 use Rattle.file_batch_laws.specs.Replies.{AreReplyBodies}
 

@@ -1,12 +1,10 @@
 -- Frames of bodies.
 use Rattle.std.proofs.Common.{◌≡◌, ◌∙◌, ℕ, suc, List, [], ◌∷◌, ◌++◌, length, Err, refl, sym, ap}
-use Rattle.iso8583.specs.declared.codec_fault.CodecFault.{CodecFault}
-use Rattle.iso8583.specs.declared.message.Message.{Message}
+use Rattle.issuer_words.specs.Words.{CodecFault, Frame, Message}
 use Rattle.iso_laws.specs.Reading.{reading}
 use Rattle.iso_laws.specs.Types.{taken_in}
 use Rattle.iso_laws.proofs.Messages.{message_are, message_taken, messages_apart}
 use Rattle.iso_laws.proofs.Whole.{reading_again}
-use Rattle.issuer_rows.specs.declared.frame.Frame.{Frame}
 use Rattle.issuer_rows.specs.declared.frame.Frame.TheVariants.{Good, Bad}
 use Rattle.file_batch_laws.specs.Frames.{AreFramesOf, IsFrameOf}
 

@@ -6,9 +6,7 @@ use Rattle.std.specs.Int.{w64, to_be_bytes}
 use Rattle.std.proofs.lemmas.List.{take_at, drop_at, length-append, length-map}
 use Rattle.std.proofs.lemmas.List.Folds.{flat_map-map}
 use Rattle.iso8583.proofs.NumberLaws.{length-fixed_digits, number_of-fixed_digits}
-use Rattle.iso8583.specs.CodecFault.{number_of_fault, element_of_fault}
-use Rattle.iso8583.specs.Number.{number_of, fixed_digits}
-use Rattle.iso8583.specs.declared.codec_fault.CodecFault.{CodecFault}
+use Rattle.issuer_words.specs.Words.{CodecFault, ReplyBody, element_of_fault, fault_body, fixed_digits, number_of, number_of_fault}
 use Rattle.iso8583.specs.declared.codec_fault.CodecFault.TheVariants.{Short, BadMti, SecondaryBitmap, Unexpected, Missing, BadLength, BadCharacter, Trailing, BadValue, OutOfMemory}
 use Rattle.iso8583.specs.declared.reply.Reply.{Reply as ReplyValue}
 use Rattle.iso_laws.specs.declared.element.Element.{Element}
@@ -20,8 +18,6 @@ use Rattle.iso_laws.specs.Types.{mti_text}
 use Rattle.iso_laws.specs.Replies.{IsReply, reply_mti, reply_texts, reply_fields, reply_spelling}
 use Rattle.iso_laws.proofs.Headers.{length-mti_text}
 use Rattle.iso_laws.proofs.Replies.{reply_known, replies_apart}
-use Rattle.issuer_rows.specs.FrameFault.{fault_body}
-use Rattle.issuer_rows.specs.declared.reply_body.ReplyBody.{ReplyBody}
 use Rattle.issuer_rows.specs.declared.reply_body.ReplyBody.TheVariants.{Reply, Fault}
 use Rattle.file_batch_laws.specs.Files.{framed, head_text, IsBody, AreBodies, reply_text, replies_text}
 use Rattle.file_batch_laws.specs.Reading.{bodies_of, replies_magic}

@@ -2,9 +2,7 @@
 use Rattle.std.specs.Prelude.{◌≡◌, ◌⊎◌, ◌<◌, ◌≤◌, ℕ, ◌+◌, List, [], ◌∷◌, ◌++◌, length, Result, Ok, Err, nat_lt, if◌then◌else◌, codes}
 use Rattle.std.specs.List.{flat_map, AllZip, AllByRecursion}
 use Rattle.byteorder.specs.Endian.{big_bytes}
-use Rattle.issuer_rows.specs.Fold.{Rows, rows_after, replies_to}
-use Rattle.issuer_rows.specs.declared.frame.Frame.{Frame}
-use Rattle.issuer_rows.specs.declared.reply_body.ReplyBody.{ReplyBody}
+use Rattle.issuer_words.specs.Words.{Frame, ReplyBody, Rows, replies_to, rows_after}
 use Rattle.file_batch_laws.specs.Files.{framed, head_text, reply_text}
 use Rattle.file_batch_laws.specs.Frames.{AreFramesOf}
 use Rattle.file_batch_laws.specs.Reading.{◌>>=◌, magic_at, version_at, number_at, count_at, bodies_at, ended}

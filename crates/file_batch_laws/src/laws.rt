@@ -2,9 +2,7 @@
 
 ghost use Rattle.std.specs.Prelude.{◌≡◌, ◌<◌, ℕ, List, Ok};
 ghost use Rattle.std.specs.List.{All};
-ghost use Rattle.issuer_rows.specs.Fold.{Rows, rows_after, replies_to};
-ghost use Rattle.issuer_rows.specs.declared.frame.Frame.{Frame};
-ghost use Rattle.issuer_rows.specs.declared.reply_body.ReplyBody.{ReplyBody};
+ghost use Rattle.issuer_words.specs.Words.{Frame, ReplyBody, Rows, replies_to, rows_after};
 ghost use Rattle.file_batch_laws.specs.Files.{IsBatch, replies_text};
 ghost use Rattle.file_batch_laws.specs.Replies.{AreReplyBodies, IsReplyFileOf};
 ghost use Rattle.file_batch_laws.specs.Reading.{bodies_of, batch_magic};

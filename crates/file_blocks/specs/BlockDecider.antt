@@ -3,8 +3,7 @@ use Rattle.std.specs.Prelude.{◌≡◌, ◌≤◌, List, length, Result, IfOk, 
 use Rattle.std.specs.declared.alloc.AllocError.{AllocError}
 use Rattle.issuer_in_place.specs.InPlace.{IsInPlace}
 use Rattle.issuer_in_place.specs.declared.in_place.InPlace.{InPlace}
-use Rattle.issuer_rows.specs.Fold.{Rows}
-use Rattle.issuer_rows.specs.declared.frame.Frame.{Frame}
+use Rattle.issuer_words.specs.Words.{Frame, Rows}
 
 -- a block of these bodies was decided on the book itself, which can be given back what it was; or, without memory, the book is what it was
 abbrev pub DecidesInPlace : Rows → List Frame → Rows → Result InPlace AllocError → Type 0

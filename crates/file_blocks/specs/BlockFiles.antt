@@ -1,8 +1,7 @@
 -- Block files that are read whole.
 use Rattle.std.specs.Prelude.{◌≡◌, ◌⊎◌, ℕ, List, length, map, Result, Ok, Err, IsTrue}
 use Rattle.std.specs.Global.{Vec}
-use Rattle.issuer_rows.specs.declared.frame.Frame.{Frame}
-use Rattle.issuer_rows.specs.declared.reply_body.ReplyBody.{ReplyBody}
+use Rattle.issuer_words.specs.Words.{Frame, ReplyBody}
 use Rattle.file_batch_laws.specs.BatchFault.{is_of_bytes}
 use Rattle.file_batch_laws.specs.Blocks.{AreBlocks, IsBlockFileOf, FailsBehind, block_head_at, blocks_magic, IsReplyBlock, AreReplyBlocks, IsBlockReplyFileOf, FailsInReplyBlock, FailsAmongReplies, FailsAsBlockReplies}
 use Rattle.file_batch_laws.specs.declared.batch_fault.BatchFault.{BatchFault}

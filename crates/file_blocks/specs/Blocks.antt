@@ -1,8 +1,7 @@
 -- Blocks that are decided one after another.
 use Rattle.std.specs.Prelude.{◌≡◌, ◌⊎◌, ◌+◌, ◌<◌, ◌≤◌, ◌^◌, ℕ, List, ◌++◌, length, Ok, Err, IsTrue}
 use Rattle.std.specs.List.{AllByRecursion}
-use Rattle.issuer_rows.specs.Fold.{Rows, rows_after, replies_to}
-use Rattle.issuer_rows.specs.declared.frame.Frame.{Frame}
+use Rattle.issuer_words.specs.Words.{Frame, Rows, replies_to, rows_after}
 use Rattle.file_batch_laws.specs.BatchFault.{is_of_bytes}
 use Rattle.file_batch_laws.specs.Blocks.{IsBlock, AreBlocks, IsBlockFileOf, AreBlocksOfReplies, FailsBehind, block_replies_text, block_head_at, blocks_magic, block_replies_magic, block_text, blocks_text, rows_after_blocks, replies_to_blocks, all_messages}
 use Rattle.file_batch_laws.specs.Files.{head_text}

@@ -1,6 +1,5 @@
 ghost use Rattle.std.specs.Prelude.{◌≡◌, ◌⊎◌, ◌+◌, ◌<◌, ◌≤◌, ◌^◌, ◌++◌, [], length, OnOk, OnErr, IfErr, IsTrue, Err};
-ghost use Rattle.issuer_rows.specs.Fold.{rows_after, replies_to};
-ghost use Rattle.issuer_rows.specs.declared.frame.Frame.{Frame};
+ghost use Rattle.issuer_words.specs.Words.{Frame, replies_to, rows_after};
 ghost use Rattle.file_batch_laws.specs.BatchFault.{is_of_bytes};
 ghost use Rattle.file_batch.specs.Device.{UsesDevice, UsesDevices};
 ghost use Rattle.file_batch_laws.specs.Blocks.{block_text, block_at, block_replies_magic};

@@ -5,12 +5,8 @@ use Rattle.iso_laws.specs.Messages.{mti_of, transaction_of}
 use Rattle.iso_laws.specs.Replies.{answer_action, answer_approval, reply_mti}
 use Rattle.iso_laws.specs.Types.{mti_text}
 use Rattle.iso8583.specs.declared.answer.Answer.{Answer}
-use Rattle.iso8583.specs.declared.message.Message.{Message}
-use Rattle.iso8583.specs.declared.reply.Reply.{Reply}
-use Rattle.issuer_rows.specs.FrameFault.{fault_body}
-use Rattle.issuer_rows.specs.declared.frame.Frame.{Frame}
+use Rattle.issuer_words.specs.Words.{Frame, Message, Reply, ReplyBody, fault_body}
 use Rattle.issuer_rows.specs.declared.frame.Frame.TheVariants as frame
-use Rattle.issuer_rows.specs.declared.reply_body.ReplyBody.{ReplyBody}
 use Rattle.issuer_rows.specs.declared.reply_body.ReplyBody.TheVariants as body
 
 -- type, amount without leading zeros, trace number

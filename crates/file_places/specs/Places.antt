@@ -1,11 +1,10 @@
 -- Where the first fault of a file stands. Bytes are counted from 0 at the beginning of the file, bodies and blocks from 0.
 use Rattle.std.specs.Prelude.{◌≡◌, ◌<◌, ◌≤◌, ◌+◌, ℕ, List, drop, length, Ok, Err, ⊤}
 use Rattle.std.specs.List.{AllByRecursion}
-use Rattle.iso8583.specs.declared.message.Message.{Message}
+use Rattle.issuer_words.specs.Words.{Message, ReplyBody}
 use Rattle.iso_laws.specs.Messages.{Spells}
 use Rattle.iso_laws.specs.Reading.{reading}
 use Rattle.iso_laws.specs.Types.{taken_in}
-use Rattle.issuer_rows.specs.declared.reply_body.ReplyBody.{ReplyBody}
 use Rattle.file_batch_laws.specs.Blocks.{InTurn, block_at, block_head_at}
 use Rattle.file_batch_laws.specs.Reading.{batch_magic, field_at, number_at, magic_at, version_at, count_at, head_at, body_at, bodies_at}
 use Rattle.file_batch_laws.specs.Replies.{IsReplyText}

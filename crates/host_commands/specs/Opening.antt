@@ -1,7 +1,6 @@
 -- A live host that was opened over the file of a book and the file of a log.
 use Rattle.std.specs.Prelude.{◌≡◌, ◌⊎◌, ℕ, List, [], ◌++◌, Ok}
-use Rattle.issuer_rows.specs.Fold.{Rows}
-use Rattle.issuer_rows.specs.declared.frame.Frame.{Frame}
+use Rattle.issuer_words.specs.Words.{Frame, Rows}
 use Rattle.book_laws.specs.Reading.{reading}
 pub use Rattle.book_text.specs.Digest.{book_digest}
 use Rattle.log_laws.specs.Reading.{IsLogOf, IsUnbegun}

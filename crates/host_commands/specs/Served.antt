@@ -1,8 +1,7 @@
 -- What serving a link comes to, by the book's file, the log's, and the bytes that came and went.
 use Rattle.std.specs.Prelude.{◌≡◌, ◌≢◌, ◌⊎◌, ℕ, List, [], ◌++◌, Ok}
 use Rattle.std.specs.List.{AllByRecursion}
-use Rattle.issuer_rows.specs.Fold.{Rows, rows_after}
-use Rattle.issuer_rows.specs.declared.frame.Frame.{Frame}
+use Rattle.issuer_words.specs.Words.{Frame, Rows, rows_after}
 use Rattle.book_laws.specs.Reading.{reading}
 use Rattle.file_batch_laws.specs.Frames.{AreFramesOf}
 use Rattle.link_frames.specs.Incoming.{Incoming, IsIncoming, frames_of, bodies_of}

@@ -1,8 +1,7 @@
 -- What serving several links on a log comes to, by the book's file, the log's, and the bytes that came and went on each.
 use Rattle.std.specs.Prelude.{◌≡◌, ◌<◌, ℕ, List, ◌++◌, Ok, length, slice_index_or}
 use Rattle.std.specs.List.{AllByRecursion}
-use Rattle.issuer_rows.specs.Fold.{Rows, rows_after}
-use Rattle.issuer_rows.specs.declared.frame.Frame.{Frame}
+use Rattle.issuer_words.specs.Words.{Frame, Rows, rows_after}
 use Rattle.book_laws.specs.Reading.{reading}
 use Rattle.host_serving.specs.Entries.{AreMessagesOf}
 use Rattle.host_serving.specs.declared.host.Host.{Host}

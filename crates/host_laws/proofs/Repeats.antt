@@ -3,8 +3,7 @@ use Rattle.std.proofs.Common.{◌≡◌, ℕ, List, [], ◌∷◌, ◌++◌, sym
 use Rattle.std.proofs.lemmas.List.Concat.{flat_map-append}
 use Rattle.issuer_fold.proofs.FoldLaws.{rows_after-append}
 use Rattle.issuer_laws.specs.Repeated.{GetsSameReply}
-use Rattle.issuer_rows.specs.Fold.{Rows, overlay, reply_of, writes_of, rows_after, rows_after_one}
-use Rattle.issuer_rows.specs.declared.frame.Frame.{Frame}
+use Rattle.issuer_words.specs.Words.{Frame, Rows, overlay, reply_of, rows_after, rows_after_one, writes_of}
 use Rattle.file_batch_laws.specs.Frames.{AreFramesOf}
 use Rattle.host_serving.specs.Deciding.{Follows}
 use Rattle.host_serving.specs.Entering.{Grows}

@@ -1,10 +1,7 @@
 -- A host that stands behind its log, and what a repeat gets from it.
 use Rattle.std.specs.Prelude.{◌≡◌, ℕ, List, ◌∷◌, ◌++◌}
-use Rattle.iso8583.specs.declared.transaction.Transaction.{Transaction}
-use Rattle.iso8583.specs.declared.original_kind.OriginalKind.{OriginalKind}
+use Rattle.issuer_words.specs.Words.{Frame, OriginalKind, Rows, Transaction, reply_of, rows_after, rows_after_one}
 use Rattle.issuer_laws.specs.Repeated.{IsFirst}
-use Rattle.issuer_rows.specs.Fold.{Rows, reply_of, rows_after, rows_after_one}
-use Rattle.issuer_rows.specs.declared.frame.Frame.{Frame}
 use Rattle.log_file.specs.Writes.{HasLog}
 use Rattle.host_serving.specs.Entering.{book_of}
 use Rattle.host_serving.specs.Entries.{AreMessagesOf}

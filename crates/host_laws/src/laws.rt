@@ -1,11 +1,7 @@
 ghost use Rattle.std.specs.Prelude.{◌≡◌, ◌++◌, ℕ, List};
-ghost use Rattle.iso8583.specs.declared.advice.Advice.{Advice};
-ghost use Rattle.iso8583.specs.declared.original_kind.OriginalKind.{OriginalKind};
-ghost use Rattle.iso8583.specs.declared.request.Request.{Request};
+ghost use Rattle.issuer_words.specs.Words.{Advice, Frame, OriginalKind, Request, Rows, replies_to, rows_after};
 ghost use Rattle.issuer_laws.specs.Messages.{request_frame, advice_frame};
 ghost use Rattle.issuer_laws.specs.Repeated.{repeat_of_request, repeat_of_advice};
-ghost use Rattle.issuer_rows.specs.Fold.{Rows, rows_after, replies_to};
-ghost use Rattle.issuer_rows.specs.declared.frame.Frame.{Frame};
 ghost use Rattle.host_serving.specs.Deciding.{Follows};
 ghost use Rattle.host_serving.specs.Entering.{Grows};
 ghost use Rattle.host_serving.specs.Entries.{AreMessagesOf};

@@ -1,6 +1,5 @@
 ghost use Rattle.std.specs.Prelude.{ℕ, List};
-ghost use Rattle.issuer_rows.specs.Fold.{Rows};
-ghost use Rattle.issuer_rows.specs.declared.frame.Frame.{Frame};
+ghost use Rattle.issuer_words.specs.Words.{Frame, Rows};
 ghost use Rattle.host_laws.specs.Standing.{StandsBehind};
 ghost use Rattle.log_replay.specs.Blocks.{AreBlocksOf};
 ghost use Rattle.log_replay.specs.Logged.{IsLogOfMessages, book_digest};

@@ -1,7 +1,6 @@
 -- What a turn comes to, as an entry of the history.
 use Rattle.std.proofs.Common.{◌≡◌, ◌≢◌, inl, ◌∙◌, ℕ, List, [], ◌∷◌, ◌++◌, length, ap, refl, sym, subst}
-use Rattle.issuer_rows.specs.Fold.{rows_after, replies_to}
-use Rattle.issuer_rows.specs.declared.frame.Frame.{Frame}
+use Rattle.issuer_words.specs.Words.{Frame, replies_to, rows_after}
 use Rattle.issuer_fold.proofs.FoldLaws.{length-replies_to}
 use Rattle.file_batch_laws.specs.Frames.{AreFramesOf}
 use Rattle.link_frames.specs.Incoming.{Incoming, bodies_of, requests_behind, answers_of, merged}

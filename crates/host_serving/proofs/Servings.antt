@@ -3,8 +3,7 @@ use Rattle.std.proofs.Common.{◌≡◌, ◌⊎◌, ◌+◌, ◌<◌, inl, inr, 
 use Rattle.std.specs.List.{AllByRecursion}
 use Rattle.std.proofs.lemmas.List.{append-nil, take_more}
 use Rattle.std.proofs.lemmas.List.Concat.{flat_map-append}
-use Rattle.issuer_rows.specs.Fold.{Rows, rows_after, replies_to}
-use Rattle.issuer_rows.specs.declared.frame.Frame.{Frame}
+use Rattle.issuer_words.specs.Words.{Frame, Rows, replies_to, rows_after}
 use Rattle.issuer_fold.proofs.FoldLaws.{rows_after-append, replies_to-append, length-replies_to}
 use Rattle.file_batch_laws.specs.Frames.{AreFramesOf}
 use Rattle.link_frames.specs.Link.{AreFrames, HasFault}

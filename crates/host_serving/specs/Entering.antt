@@ -1,7 +1,6 @@
 -- One turn: the messages of its bodies are decided while their entry is appended to the log and synced, and then all that came is answered.
 use Rattle.std.specs.Prelude.{◌≡◌, ◌⊎◌, ℕ, List, [], ◌∷◌, ◌++◌, Result, IfOk, IfErr, OnOk}
-use Rattle.issuer_rows.specs.Fold.{Rows}
-use Rattle.issuer_rows.specs.declared.frame.Frame.{Frame}
+use Rattle.issuer_words.specs.Words.{Frame, Rows}
 use Rattle.file_batch_laws.specs.Frames.{AreFramesOf}
 use Rattle.link_frames.specs.Incoming.{Incoming, bodies_of}
 use Rattle.link_frames.specs.Replies.{AppendsPart}

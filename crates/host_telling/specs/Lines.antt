@@ -1,8 +1,6 @@
 -- What a live host tells of an entry, as lines.
 use Rattle.std.specs.Prelude.{ℕ, ◌/◌, nat_lt, if◌then◌else◌, Bool, List, [], ◌∷◌, ◌++◌, Option, Some, None, codes, decimal}
-use Rattle.iso8583.specs.declared.codec_fault.CodecFault.{CodecFault}
-use Rattle.issuer_rows.specs.FrameFault.{fault_body}
-use Rattle.issuer_rows.specs.declared.frame.Frame.{Frame}
+use Rattle.issuer_words.specs.Words.{CodecFault, Frame, fault_body}
 use Rattle.issuer_rows.specs.declared.frame.Frame.TheVariants.{Good, Bad}
 use Rattle.host_serving.specs.Tally.{counted, counted_one}
 use Rattle.host_serving.specs.declared.tally.Tally.{Tally}

@@ -2,8 +2,7 @@
 use Rattle.std.proofs.Common.{◌≡◌, ℕ, suc, ◌+◌, ◌-◌, ◌<◌, List, [], ◌∷◌, ◌++◌, take, drop, length, get_or, refl, sym, ap, ◌∙◌, add-one, take-append-drop, arith}
 use Rattle.std.proofs.lemmas.List.{take_all, length-drop}
 use Rattle.std.proofs.Math.Seq.{drop-cons, take-suc}
-use Rattle.issuer_view.specs.Words.{Frame, Rows, replies_to}
-use Rattle.issuer_view.specs.Words.{reply_of, rows_after, rows_after_one}
+use Rattle.issuer_words.specs.Words.{Frame, Rows, replies_to, reply_of, rows_after, rows_after_one}
 
 -- what is left begins with the item that a loop is at
 pub left_in_turn : {X : Type 0} (xs : List X) (i : ℕ) (x : X) → i < length xs → x ≡ get_or xs i x → drop i xs ≡ x ∷ drop (i + 1) xs

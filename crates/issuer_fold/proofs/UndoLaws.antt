@@ -3,7 +3,7 @@ use Rattle.std.proofs.Common.{◌≡◌, Option, Some, None, true, false, cond, 
 use Rattle.std.specs.FinMap as map
 use Rattle.std.specs.Ordering.{eq_by_cmp}
 use Rattle.issuer_rows.proofs.KeyLaws.{key_cmp_total, key_cmp_antisymmetric, key_eq_decides, same_test}
-use Rattle.issuer_view.specs.Words.{RowKey, RowVal, Rows, key_cmp}
+use Rattle.issuer_words.specs.Words.{RowKey, RowVal, Rows, key_cmp}
 use Rattle.issuer_fold.specs.Former.{with_former}
 
 -- what another value hid is seen again at its key, and nothing else was changed

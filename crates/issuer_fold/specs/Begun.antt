@@ -1,6 +1,6 @@
 -- How far a batch is decided.
 use Rattle.std.specs.Prelude.{◌≡◌, ℕ, ◌+◌, ◌≤◌, ◌++◌, List, length, take}
-use Rattle.issuer_view.specs.Words.{Frame, replies_to, rows_after}
+use Rattle.issuer_words.specs.Words.{Frame, replies_to, rows_after}
 use Rattle.issuer_fold.specs.declared.prefix.Prefix.{Prefix}
 
 -- the first of these bodies are decided, so many: the prefix has them besides, with the book after them, and their replies behind its own

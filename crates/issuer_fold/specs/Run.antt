@@ -1,6 +1,6 @@
 -- What a run of a batch comes to.
 use Rattle.std.specs.Prelude.{◌≡◌, ℕ, ◌≤◌, List, length}
-use Rattle.issuer_view.specs.Words.{Frame, Rows, replies_to, rows_after}
+use Rattle.issuer_words.specs.Words.{Frame, Rows, replies_to, rows_after}
 use Rattle.issuer_fold.specs.declared.run_outcome.RunOutcome.{RunOutcome}
 
 -- how many threads took part: at least one, and no more than the workers

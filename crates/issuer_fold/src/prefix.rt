@@ -1,6 +1,6 @@
 ghost use Rattle.std.specs.Prelude.{◌≡◌, ◌+◌, ◌<◌, ◌^◌, [], ◌∷◌, ◌++◌, vec_len, vec_capacity, Some, IfOk, IfErr, OnOk, OnErr};
-ghost use Rattle.issuer_rows.specs.Agreement.{IsLocal};
-ghost use Rattle.issuer_view.specs.Words.{AgreesWithBook, overlay, reply_of, rows_after_one};
+ghost use Rattle.issuer_words.specs.Words.{IsLocal, overlay, reply_of, rows_after_one};
+ghost use Rattle.issuer_view.specs.Words.{AgreesWithBook};
 
 use crate::look_ahead::LookAhead;
 use issuer_rows::{Book, CardPlaces, Frame, Places, ReplyBody};

@@ -1,7 +1,6 @@
 ghost use Rattle.std.specs.Prelude.{◌≡◌, ◌+◌, ◌<◌, ◌≤◌, ◌^◌, ◌∷◌, [], ◌++◌, ℕ, Some, drop, length, IfOk, OnOk, OnErr};
 ghost use Rattle.issuer_fold.specs.Begun.{AreDecided};
-ghost use Rattle.issuer_rows.specs.Agreement.{IsLocal};
-ghost use Rattle.issuer_rows.specs.Fold.{rows_after, replies_to, rows_after_one, reply_of};
+ghost use Rattle.issuer_words.specs.Words.{IsLocal, replies_to, reply_of, rows_after, rows_after_one};
 ghost use Rattle.issuer_view.specs.Words.{AgreesWithBook};
 
 use crate::look_ahead::LookAhead;

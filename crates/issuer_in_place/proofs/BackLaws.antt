@@ -2,7 +2,7 @@
 use Rattle.std.proofs.Common.{◌≡◌, ◌≢◌, List, [], ◌∷◌, ◌++◌, None, IfSome, refl, sym, ap, subst, ◌∙◌}
 use Rattle.std.proofs.lemmas.Option.{none-some}
 use Rattle.std.specs.FinMap as map
-use Rattle.issuer_view.specs.Words.{RowKey, RowVal, Rows, IsOfKind}
+use Rattle.issuer_words.specs.Words.{IsOfKind, RowKey, RowVal, Rows}
 use Rattle.issuer_in_place.specs.Formers.{Former, AreFormersOfKind, AreThere, LeadsBack, given_back}
 use Rattle.issuer_fold.specs.Former.{with_former}
 use Rattle.issuer_fold.proofs.UndoLaws.{there_now, undone}

@@ -3,7 +3,7 @@ use Rattle.std.specs.Prelude.{◌≡◌, ◌≢◌, List, [], ◌∷◌, Option,
 use Rattle.std.specs.FinMap as map
 use Rattle.std.specs.List.{AllByRecursion}
 use Rattle.issuer_fold.specs.Former.{with_former}
-use Rattle.issuer_view.specs.Words.{RowKey, RowVal, Rows, IsOfKind}
+use Rattle.issuer_words.specs.Words.{IsOfKind, RowKey, RowVal, Rows}
 
 -- what a row was before it was written: its value, or that it was absent
 abbrev pub Former : Type 0

@@ -1,6 +1,6 @@
 -- Bodies that are decided on a book itself.
 use Rattle.std.specs.Prelude.{◌≡◌, List}
-use Rattle.issuer_view.specs.Words.{Frame, Rows, replies_to, rows_after}
+use Rattle.issuer_words.specs.Words.{Frame, Rows, replies_to, rows_after}
 use Rattle.issuer_in_place.specs.Formers.{LeadsBack}
 use Rattle.issuer_in_place.specs.declared.in_place.InPlace.{InPlace}
 

@@ -2,7 +2,7 @@ ghost use Rattle.std.specs.Prelude.{◌≡◌, ◌≢◌, ◌∷◌, ◌++◌, [
 ghost use Rattle.std.specs.FinMap as map;
 ghost use Rattle.issuer_in_place.specs.Formers.{Former, AreFormersOfKind, AreThere, LeadsBack, given_back};
 ghost use Rattle.issuer_fold.specs.Former.{with_former};
-ghost use Rattle.issuer_view.specs.Words.{IsOfKind, Rows, overlay};
+ghost use Rattle.issuer_words.specs.Words.{IsOfKind, Rows, overlay};
 
 use issuer_rows::{Book, Places, RowKey, RowVal};
 use issuer_view::WriteSet;

@@ -1,8 +1,7 @@
 ghost use Rattle.std.specs.Prelude.{◌≡◌, ◌∷◌, ◌++◌, [], IfOk, IfErr, OnOk, OnErr};
 ghost use Rattle.issuer_in_place.specs.Formers.{LeadsBack};
 ghost use Rattle.issuer_in_place.specs.InPlace.{IsInPlace};
-ghost use Rattle.issuer_rows.specs.Agreement.{IsLocal};
-ghost use Rattle.issuer_rows.specs.Fold.{Rows, reply_of, rows_after_one};
+ghost use Rattle.issuer_words.specs.Words.{IsLocal, Rows, reply_of, rows_after_one};
 ghost use Rattle.issuer_view.specs.Words.{AgreesWithBook};
 
 use crate::formers::Formers;

@@ -1,26 +1,8 @@
 -- The table of an advice, stage by stage, and its flat list of conditions are one.
 use Rattle.std.proofs.Common.{◌≡◌, Bool, true, false, ◌&&◌, ◌==◌, not, nat_le, if◌then◌else◌, [], ◌∷◌, Option, Some, None, is_none, option_and_then, refl, subst}
 use Rattle.std.specs.FinMap as map
-use Rattle.iso8583.specs.declared.account_id.AccountId.{AccountId}
-use Rattle.iso8583.specs.declared.advice.Advice.{Advice}
-use Rattle.iso8583.specs.declared.original_kind.OriginalKind.{OriginalKind}
+use Rattle.issuer_words.specs.Words.{AccountId, AccountRow, Advice, BudgetMode, BudgetRow, CardRow, Funds, KeptOriginal, Lookup, Mark, OriginalKind, OriginalRow, Plan, RowKey, Rows, VelocityRow, account_in, account_of, action_of_outcome, budget_in, card_in, day_of, decision, identity_of, is_marked, is_of_same, is_same_currency, original_in, prefix_of, spent_in, velocity_in}
 use Rattle.issuer_rows.specs.AdviceTable.{answered_unkept, acknowledged, marked_advice, accepted, account_if_covered, budget_by_mode, advice_funds, advice_on_funds, looked_for_funds, advice_on_account, advice_on_named, advice_on_card, looked_for_card, advice_on_original}
-use Rattle.issuer_rows.specs.CardAccounts.{account_of}
-use Rattle.issuer_rows.specs.Decision.{decision}
-use Rattle.issuer_rows.specs.Facts.{identity_of, day_of, prefix_of, is_same_currency, is_marked, is_of_same}
-use Rattle.issuer_rows.specs.Fold.{Rows}
-use Rattle.issuer_rows.specs.Kept.{KeptOriginal, action_of_outcome}
-use Rattle.issuer_rows.specs.Plan.{Plan, Lookup}
-use Rattle.issuer_rows.specs.Typed.{card_in, velocity_in, budget_in, original_in, account_in, spent_in}
-use Rattle.issuer_rows.specs.declared.account_row.AccountRow.{AccountRow}
-use Rattle.issuer_rows.specs.declared.budget_mode.BudgetMode.{BudgetMode}
-use Rattle.issuer_rows.specs.declared.budget_row.BudgetRow.{BudgetRow}
-use Rattle.issuer_rows.specs.declared.card_row.CardRow.{CardRow}
-use Rattle.issuer_rows.specs.declared.funds.Funds.{Funds}
-use Rattle.issuer_rows.specs.declared.mark.Mark.{Mark}
-use Rattle.issuer_rows.specs.declared.original_row.OriginalRow.{OriginalRow}
-use Rattle.issuer_rows.specs.declared.row_key.RowKey.{RowKey}
-use Rattle.issuer_rows.specs.declared.velocity_row.VelocityRow.{VelocityRow}
 use Rattle.issuer_laws.specs.Messages.{advice_frame}
 use Rattle.issuer_laws.specs.Rules.{Conditions, decided_by, Facts, first_of, comes_to, has, named_by, stands_in, covers, advice_rule, AdviceEnds, AdviceIsDecided}
 use Rattle.issuer_laws.specs.declared.decision_rule.DecisionRule.{DecisionRule}

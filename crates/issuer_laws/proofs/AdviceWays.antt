@@ -1,17 +1,7 @@
 -- What becomes of an advice whose identity wasn't seen: it is acknowledged without liability, or accepted and paid.
 use Rattle.std.proofs.Common.{◌≡◌, Bool, true, false, if◌then◌else◌, ◌==◌, [], ◌∷◌, Option, Some, None, ◌⊎◌, inl, inr, refl, sym, subst}
-use Rattle.iso8583.specs.declared.account_id.AccountId.{AccountId}
-use Rattle.iso8583.specs.declared.advice.Advice.{Advice}
-use Rattle.issuer_rows.specs.AdviceTable.{accepted_writes, reply_to_advice, kept_of_advice, acknowledged, advice_funds, advice_on_funds, advice_on_account, advice_on_named, advice_on_card, fresh_advice}
-use Rattle.issuer_rows.specs.CardAccounts.{account_of}
-use Rattle.issuer_rows.specs.Facts.{identity_of, is_same_currency}
-use Rattle.issuer_rows.specs.Plan.{Plan, Lookup, Writes, Decided, carried_out}
-use Rattle.issuer_rows.specs.Typed.{card_in, budget_in, account_in}
-use Rattle.issuer_rows.specs.declared.account_row.AccountRow.{AccountRow}
-use Rattle.issuer_rows.specs.declared.card_row.CardRow.{CardRow}
-use Rattle.issuer_rows.specs.declared.funds.Funds.{Funds}
+use Rattle.issuer_words.specs.Words.{AccountId, AccountRow, Advice, CardRow, Decided, Funds, Lookup, Plan, ReplyBody, Writes, accepted_writes, account_in, account_of, acknowledged, advice_funds, advice_on_account, advice_on_card, advice_on_funds, advice_on_named, budget_in, card_in, carried_out, fresh_advice, identity_of, is_same_currency, kept_of_advice, reply_to_advice}
 use Rattle.issuer_rows.specs.declared.original_outcome.OriginalOutcome.TheVariants as outcome
-use Rattle.issuer_rows.specs.declared.reply_body.ReplyBody.{ReplyBody}
 use Rattle.issuer_rows.specs.declared.row_key.RowKey.TheVariants as key
 use Rattle.issuer_laws.proofs.Funding.{CanPay, IsCover, advice_cover, account_own}
 use Rattle.issuer_laws.specs.Parts.{IsIn, account_keys}

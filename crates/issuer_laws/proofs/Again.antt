@@ -3,30 +3,7 @@ use Rattle.std.proofs.Common.{◌≡◌, Bool, true, false, if◌then◌else◌,
 use Rattle.std.proofs.lemmas.Bool.{false≢true, and_left}
 use Rattle.std.specs.FinMap as finite
 use Rattle.std.specs.List.{AllByRecursion}
-use Rattle.iso8583.specs.declared.advice.Advice.{Advice}
-use Rattle.iso8583.specs.declared.identity.Identity.{Identity}
-use Rattle.iso8583.specs.declared.message.Message.{Message}
-use Rattle.iso8583.specs.declared.original_kind.OriginalKind.{OriginalKind}
-use Rattle.iso8583.specs.declared.request.Request.{Request}
-use Rattle.iso8583.specs.declared.reversal.Reversal.{Reversal}
-use Rattle.iso8583.specs.declared.transaction.Transaction.{Transaction}
-use Rattle.issuer_rows.specs.AdviceTable.{advice_on_original, marked_advice, answered_unkept}
-use Rattle.issuer_rows.specs.Decision.{decision}
-use Rattle.issuer_rows.specs.Facts.{identity_of, is_marked, is_of_same, is_same_identity}
-use Rattle.issuer_rows.specs.Fold.{Rows, overlay, reply_of, writes_of, rows_after_one, rows_after}
-use Rattle.issuer_rows.specs.Kept.{KeptOriginal, kind_of_outcome, payment_of_outcome, reversal_of_outcome}
-use Rattle.issuer_rows.specs.Plan.{Plan, Lookup, Writes, carried_out}
-use Rattle.issuer_rows.specs.RequestTable.{on_original, marked_request, declined_unkept}
-use Rattle.issuer_rows.specs.ReversalTable.{unchanged, is_named, is_wrong_part, by_payer, on_payment, on_reversal, on_reversed}
-use Rattle.issuer_rows.specs.Typed.{original_in}
-use Rattle.issuer_rows.specs.declared.frame.Frame.{Frame}
-use Rattle.issuer_rows.specs.declared.funds.Funds.{Funds}
-use Rattle.issuer_rows.specs.declared.original_row.OriginalRow.{OriginalRow}
-use Rattle.issuer_rows.specs.declared.payment.Payment.{Payment}
-use Rattle.issuer_rows.specs.declared.reply_body.ReplyBody.{ReplyBody}
-use Rattle.issuer_rows.specs.declared.row_key.RowKey.{RowKey}
-use Rattle.issuer_rows.specs.declared.row_val.RowVal.{RowVal}
-use Rattle.issuer_rows.specs.declared.velocity_row.VelocityRow.{VelocityRow}
+use Rattle.issuer_words.specs.Words.{Advice, Frame, Funds, Identity, KeptOriginal, Lookup, Message, OriginalKind, OriginalRow, Payment, Plan, ReplyBody, Request, Reversal, RowKey, RowVal, Rows, Transaction, VelocityRow, Writes, advice_on_original, answered_unkept, by_payer, carried_out, decision, declined_unkept, identity_of, is_marked, is_named, is_of_same, is_same_identity, is_wrong_part, kind_of_outcome, marked_advice, marked_request, on_original, on_payment, on_reversal, on_reversed, original_in, overlay, payment_of_outcome, reply_of, reversal_of_outcome, rows_after, rows_after_one, unchanged, writes_of}
 use Rattle.issuer_laws.proofs.AdviceWays as advice
 use Rattle.issuer_laws.proofs.Duplicate.{was_reversed}
 use Rattle.issuer_laws.proofs.Keys.{get-other, get-fresh, same_or_other, funds_other, original_stands}

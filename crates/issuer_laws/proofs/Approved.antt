@@ -2,9 +2,7 @@
 use Rattle.std.proofs.Common.{◌≡◌, ap, refl, ◌∙◌}
 use Rattle.std.specs.Prelude.{◌≢◌}
 use Rattle.std.specs.FinMap as map
-use Rattle.iso8583.specs.declared.request.Request.{Request}
-use Rattle.issuer_rows.specs.Fold.{Rows}
-use Rattle.issuer_rows.specs.Plan.{Lookup, Plan}
+use Rattle.issuer_words.specs.Words.{Lookup, Plan, Request, Rows}
 use Rattle.issuer_laws.proofs.RequestRules.{request_decided}
 use Rattle.issuer_laws.specs.Messages.{request_frame}
 use Rattle.issuer_laws.specs.Reconciled.{is_answered}

@@ -2,19 +2,9 @@
 use Rattle.std.proofs.Common.{◌≡◌, ℕ, ◌+◌, Bool, true, false, if◌then◌else◌, ◌==◌, not, [], ◌∷◌, Option, Some, IsTrue, refl, sym, ap, ◌∙◌, arith}
 use Rattle.std.proofs.lemmas.Bool.Decides.{nat_tests}
 use Rattle.std.specs.FinMap as map
-use Rattle.iso8583.specs.declared.account_id.AccountId.{AccountId}
-use Rattle.iso8583.specs.declared.pan_prefix.PanPrefix.{PanPrefix}
+use Rattle.issuer_words.specs.Words.{AccountId, KeptOriginal, Lookup, PanPrefix, RowKey, RowVal, Rows, Writes, account_in, available_in, backing_of_account, backing_of_prefix, budget_in, is_from_account, is_from_budget, is_same_account, kept_in, kind_of, left_in, overlay, stay_if, stays, text_eq}
 use Rattle.issuer_rows.proofs.PutsOnce.{IsFresh, AreApart}
-use Rattle.issuer_rows.specs.Backing.{kept_in, is_from_account, is_from_budget, stay_if, stays, available_in, left_in, backing_of_account, backing_of_prefix}
-use Rattle.issuer_rows.specs.CardAccounts.{is_same_account}
-use Rattle.issuer_rows.specs.Fold.{Rows, overlay}
-use Rattle.issuer_rows.specs.Kept.{KeptOriginal}
-use Rattle.issuer_rows.specs.Plan.{Lookup, Writes}
-use Rattle.issuer_rows.specs.RowKey.{kind_of, text_eq}
-use Rattle.issuer_rows.specs.Typed.{account_in, budget_in}
-use Rattle.issuer_rows.specs.declared.row_key.RowKey.{RowKey}
 use Rattle.issuer_rows.specs.declared.row_key.RowKey.TheVariants as key
-use Rattle.issuer_rows.specs.declared.row_val.RowVal.{RowVal}
 use Rattle.issuer_laws.proofs.Keys.{get-put, get-other, other_key, texts_same, texts_apart}
 use Rattle.issuer_laws.proofs.Sums.{part, sum-insert}
 

@@ -1,44 +1,15 @@
 -- The rows that a decision writes add as much to each backing as before.
 use Rattle.std.proofs.Common.{◌≡◌, ℕ, ◌+◌, ◌-◌, ◌≤◌, Bool, true, false, if◌then◌else◌, ◌&&◌, List, [], ◌∷◌, ◌++◌, Option, Some, None, option_map, inl, inr, refl, sym, ap, ◌∙◌, subst, arith}
-use Rattle.iso8583.specs.declared.advice.Advice.{Advice}
-use Rattle.iso8583.specs.declared.identity.Identity.{Identity}
+use Rattle.issuer_words.specs.Words.{AccountRow, Advice, BudgetRow, Frame, Funds, Identity, KeptOriginal, Lookup, OriginalOutcome, OriginalRow, Pan, PanPrefix, Payer, Payment, Plan, ReplyBody, Request, Reversal, ReversalScope, RowVal, Settlement, VelocityRow, Writes, account_paid, advice_on_original, approved_card, available_in, balance_of, budget_paid, carried_out, day_of, decision, difference, given_back, identity_of, is_account, is_budget, is_marked, is_of_same, kept_of_advice, kept_of_request, key_of_funds, left_in, on_original, original_in, paid_by, payer_of, payment_of_outcome, prefix_of, refunded, reversal_of_outcome, reversal_plan, reversed_original, row_of_funds, settled, settled_outcome, settled_payment, spent_in, spent_less, spent_more, stay_if, stay_of, stay_of_payment, stay_of_settlement, text_eq, velocity_in, with_balance}
 use Rattle.iso8583.specs.declared.message.Message.TheVariants as message
 use Rattle.iso8583.specs.declared.original_kind.OriginalKind.TheVariants as kind
-use Rattle.iso8583.specs.declared.pan.Pan.{Pan}
-use Rattle.iso8583.specs.declared.pan_prefix.PanPrefix.{PanPrefix}
-use Rattle.iso8583.specs.declared.request.Request.{Request}
-use Rattle.iso8583.specs.declared.reversal.Reversal.{Reversal}
-use Rattle.iso8583.specs.declared.reversal_scope.ReversalScope.{ReversalScope}
 use Rattle.iso8583.specs.declared.reversal_scope.ReversalScope.TheVariants as scope
-use Rattle.issuer_rows.specs.AdviceTable.{advice_on_original, kept_of_advice}
-use Rattle.issuer_rows.specs.Backing.{is_account, is_budget, account_paid, budget_paid, stay_if, available_in, left_in}
-use Rattle.issuer_rows.specs.Decision.{decision}
-use Rattle.issuer_rows.specs.Facts.{identity_of, day_of, prefix_of, is_marked, is_of_same}
-use Rattle.issuer_rows.specs.Funds.{balance_of, with_balance, key_of_funds, row_of_funds, payer_of, paid_by}
-use Rattle.issuer_rows.specs.Kept.{KeptOriginal, payment_of_outcome, reversal_of_outcome, settled, settled_outcome, settled_payment, stay_of, stay_of_payment, stay_of_settlement}
-use Rattle.issuer_rows.specs.Plan.{Plan, Lookup, Writes, carried_out}
-use Rattle.issuer_rows.specs.RequestTable.{on_original, kept_of_request, approved_card, spent_more}
-use Rattle.issuer_rows.specs.ReversalTable.{difference, given_back, reversed_original, refunded, reversal_plan, spent_less}
-use Rattle.issuer_rows.specs.RowKey.{text_eq}
-use Rattle.issuer_rows.specs.Typed.{original_in, velocity_in, spent_in}
-use Rattle.issuer_rows.specs.declared.account_row.AccountRow.{AccountRow}
-use Rattle.issuer_rows.specs.declared.budget_row.BudgetRow.{BudgetRow}
-use Rattle.issuer_rows.specs.declared.frame.Frame.{Frame}
 use Rattle.issuer_rows.specs.declared.frame.Frame.TheVariants.{Good, Bad}
-use Rattle.issuer_rows.specs.declared.funds.Funds.{Funds}
 use Rattle.issuer_rows.specs.declared.funds.Funds.TheVariants as funds
-use Rattle.issuer_rows.specs.declared.original_row.OriginalRow.{OriginalRow}
 use Rattle.issuer_rows.specs.declared.original_row.OriginalRow.TheVariants as original
-use Rattle.issuer_rows.specs.declared.original_outcome.OriginalOutcome.{OriginalOutcome}
 use Rattle.issuer_rows.specs.declared.original_outcome.OriginalOutcome.TheVariants as outcome
-use Rattle.issuer_rows.specs.declared.payer.Payer.{Payer}
-use Rattle.issuer_rows.specs.declared.payment.Payment.{Payment}
-use Rattle.issuer_rows.specs.declared.reply_body.ReplyBody.{ReplyBody}
 use Rattle.issuer_rows.specs.declared.row_key.RowKey.TheVariants as key
-use Rattle.issuer_rows.specs.declared.row_val.RowVal.{RowVal}
 use Rattle.issuer_rows.specs.declared.row_val.RowVal.TheVariants as val
-use Rattle.issuer_rows.specs.declared.settlement.Settlement.{Settlement}
-use Rattle.issuer_rows.specs.declared.velocity_row.VelocityRow.{VelocityRow}
 use Rattle.issuer_laws.proofs.AdviceWays as advice
 use Rattle.issuer_laws.proofs.Backings.{Holder, Account, Prefix, is_from, is_account_of, is_prefix_of, own_part, stay_part, IsBalanced}
 use Rattle.issuer_laws.proofs.Funding.{IsFound, IsOfCard}

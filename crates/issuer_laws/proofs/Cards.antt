@@ -3,36 +3,9 @@ use Rattle.std.proofs.Common.{◌≡◌, ℕ, ◌+◌, ◌≤◌, Bool, true, fa
 use Rattle.std.proofs.lemmas.Bool.Decides.{nat_tests}
 use Rattle.std.specs.FinMap as map
 use Rattle.iso8583.proofs.NumberLaws.{number_of-fixed_digits}
-use Rattle.iso8583.specs.Number.{number_of, fixed_digits}
-use Rattle.iso8583.specs.declared.advice.Advice.{Advice}
+use Rattle.issuer_words.specs.Words.{Advice, Approval, CardRow, Frame, Funds, Lookup, Message, OriginalKind, OriginalRow, Pan, Plan, ReplyBody, Request, Reversal, ReversalScope, RowKey, RowVal, Rows, VelocityRow, Verdict, Writes, advice_on_original, approval_code, approved_card, card_in, carried_out, count_left, day_of, decision, fixed_digits, is_marked, is_of_same, key_of_funds, kind_of, number_of, on_original, overlay, refunded, refused_by_limits, reply_to_request, reversal_plan, reversed_original, rows_after, rows_after_one, spent_in, spent_less, spent_more, velocity_in, writes_of}
 use Rattle.iso8583.specs.declared.answer.Answer.{Answer}
-use Rattle.iso8583.specs.declared.approval.Approval.{Approval}
-use Rattle.iso8583.specs.declared.message.Message.{Message}
-use Rattle.iso8583.specs.declared.original_kind.OriginalKind.{OriginalKind}
-use Rattle.iso8583.specs.declared.pan.Pan.{Pan}
-use Rattle.iso8583.specs.declared.request.Request.{Request}
-use Rattle.iso8583.specs.declared.reversal.Reversal.{Reversal}
-use Rattle.iso8583.specs.declared.reversal_scope.ReversalScope.{ReversalScope}
-use Rattle.iso8583.specs.declared.verdict.Verdict.{Verdict}
 use Rattle.issuer_rows.proofs.PutsOnce.{IsFresh}
-use Rattle.issuer_rows.specs.AdviceTable.{advice_on_original}
-use Rattle.issuer_rows.specs.Decision.{decision}
-use Rattle.issuer_rows.specs.Facts.{day_of, is_marked, is_of_same}
-use Rattle.issuer_rows.specs.Fold.{Rows, overlay, writes_of, rows_after_one, rows_after}
-use Rattle.issuer_rows.specs.Funds.{key_of_funds}
-use Rattle.issuer_rows.specs.Plan.{Plan, Lookup, Writes, carried_out}
-use Rattle.issuer_rows.specs.RequestTable.{reply_to_request, on_original, refused_by_limits, approval_code, approved_card, spent_more}
-use Rattle.issuer_rows.specs.ReversalTable.{reversal_plan, reversed_original, refunded, count_left, spent_less}
-use Rattle.issuer_rows.specs.RowKey.{kind_of}
-use Rattle.issuer_rows.specs.Typed.{card_in, velocity_in, spent_in}
-use Rattle.issuer_rows.specs.declared.card_row.CardRow.{CardRow}
-use Rattle.issuer_rows.specs.declared.frame.Frame.{Frame}
-use Rattle.issuer_rows.specs.declared.funds.Funds.{Funds}
-use Rattle.issuer_rows.specs.declared.original_row.OriginalRow.{OriginalRow}
-use Rattle.issuer_rows.specs.declared.reply_body.ReplyBody.{ReplyBody}
-use Rattle.issuer_rows.specs.declared.row_key.RowKey.{RowKey}
-use Rattle.issuer_rows.specs.declared.row_val.RowVal.{RowVal}
-use Rattle.issuer_rows.specs.declared.velocity_row.VelocityRow.{VelocityRow}
 use Rattle.issuer_laws.proofs.AdviceWays as advice
 use Rattle.issuer_laws.proofs.Keys.{get-fresh}
 use Rattle.issuer_laws.proofs.RequestWays as request

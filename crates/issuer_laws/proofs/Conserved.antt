@@ -2,8 +2,7 @@
 use Rattle.std.proofs.Common.{◌≡◌, List, [], ◌∷◌, refl, ◌∙◌}
 use Rattle.std.specs.FinMap as map
 use Rattle.issuer_rows.proofs.PutsOnce.{kinds_apart}
-use Rattle.issuer_rows.specs.Fold.{Rows, rows_after_one, rows_after}
-use Rattle.issuer_rows.specs.declared.frame.Frame.{Frame}
+use Rattle.issuer_words.specs.Words.{Frame, Rows, rows_after, rows_after_one}
 use Rattle.issuer_laws.proofs.Backings.{Holder, Account, Prefix, backing, balanced_keeps}
 use Rattle.issuer_laws.proofs.Balanced.{decision_balanced}
 use Rattle.issuer_laws.specs.Conserved.{KeepsAccounts, KeepsPrefixes}

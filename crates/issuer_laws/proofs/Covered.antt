@@ -3,35 +3,8 @@ use Rattle.std.proofs.Common.{◌≡◌, ◌≢◌, ℕ, ◌+◌, ◌-◌, ◌�
 use Rattle.std.proofs.lemmas.Bool.{and_parts, and_right}
 use Rattle.std.specs.FinMap as map
 use Rattle.std.specs.List.{sum_by}
-use Rattle.iso8583.specs.declared.advice.Advice.{Advice}
-use Rattle.iso8583.specs.declared.identity.Identity.{Identity}
-use Rattle.iso8583.specs.declared.message.Message.{Message}
-use Rattle.iso8583.specs.declared.original_kind.OriginalKind.{OriginalKind}
-use Rattle.iso8583.specs.declared.pan.Pan.{Pan}
-use Rattle.iso8583.specs.declared.request.Request.{Request}
-use Rattle.iso8583.specs.declared.reversal.Reversal.{Reversal}
-use Rattle.iso8583.specs.declared.reversal_scope.ReversalScope.{ReversalScope}
+use Rattle.issuer_words.specs.Words.{Advice, Frame, Identity, KeptOriginal, Message, OriginalKind, OriginalOutcome, OriginalRow, Pan, Payment, Plan, ReplyBody, Request, Reversal, ReversalScope, RowKey, RowVal, Rows, Settlement, VelocityRow, Writes, advice_on_original, carried_out, count_left, day_of, decision, given_back, identity_of, is_marked, is_of_same, is_same_card, kept_of_advice, kept_of_request, kind_of, kind_of_outcome, on_original, original_in, overlay, paid_by, payment_of_outcome, refunded, reversal_of_outcome, reversal_plan, reversed_original, rows_after, rows_after_one, settled, settled_outcome, spent_in, spent_less, spent_more, text_eq, velocity_in}
 use Rattle.issuer_rows.proofs.PutsOnce.{IsFresh, not_another}
-use Rattle.issuer_rows.specs.AdviceTable.{advice_on_original, kept_of_advice}
-use Rattle.issuer_rows.specs.Decision.{decision}
-use Rattle.issuer_rows.specs.Facts.{identity_of, day_of, is_same_card, is_marked, is_of_same}
-use Rattle.issuer_rows.specs.Fold.{Rows, overlay, rows_after_one, rows_after}
-use Rattle.issuer_rows.specs.Funds.{paid_by}
-use Rattle.issuer_rows.specs.Kept.{KeptOriginal, kind_of_outcome, payment_of_outcome, reversal_of_outcome, settled, settled_outcome}
-use Rattle.issuer_rows.specs.Plan.{Plan, Writes, carried_out}
-use Rattle.issuer_rows.specs.RequestTable.{on_original, kept_of_request, spent_more}
-use Rattle.issuer_rows.specs.ReversalTable.{reversal_plan, reversed_original, refunded, given_back, count_left, spent_less}
-use Rattle.issuer_rows.specs.RowKey.{kind_of, text_eq}
-use Rattle.issuer_rows.specs.Typed.{velocity_in, original_in, spent_in}
-use Rattle.issuer_rows.specs.declared.frame.Frame.{Frame}
-use Rattle.issuer_rows.specs.declared.original_outcome.OriginalOutcome.{OriginalOutcome}
-use Rattle.issuer_rows.specs.declared.original_row.OriginalRow.{OriginalRow}
-use Rattle.issuer_rows.specs.declared.payment.Payment.{Payment}
-use Rattle.issuer_rows.specs.declared.reply_body.ReplyBody.{ReplyBody}
-use Rattle.issuer_rows.specs.declared.row_key.RowKey.{RowKey}
-use Rattle.issuer_rows.specs.declared.row_val.RowVal.{RowVal}
-use Rattle.issuer_rows.specs.declared.settlement.Settlement.{Settlement}
-use Rattle.issuer_rows.specs.declared.velocity_row.VelocityRow.{VelocityRow}
 use Rattle.issuer_laws.proofs.AdviceWays as advice
 use Rattle.issuer_laws.proofs.Cards.{approved_day_row, leaves_two}
 use Rattle.issuer_laws.proofs.Keys.{get-fresh, same_or_other, same_text, texts_same, funds_other}

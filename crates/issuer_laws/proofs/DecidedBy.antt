@@ -1,9 +1,6 @@
 -- Each body is decided by its rule.
 use Rattle.std.proofs.Common.{refl}
-use Rattle.iso8583.specs.declared.message.Message.{Message}
-use Rattle.issuer_rows.specs.Decision.{decision}
-use Rattle.issuer_rows.specs.Fold.{Rows}
-use Rattle.issuer_rows.specs.declared.frame.Frame.{Frame}
+use Rattle.issuer_words.specs.Words.{Frame, Message, Rows, decision}
 use Rattle.issuer_laws.proofs.AdviceRules.{advice_decided}
 use Rattle.issuer_laws.proofs.RequestRules.{request_decided}
 use Rattle.issuer_laws.proofs.ReversalRules.{reversal_decided}

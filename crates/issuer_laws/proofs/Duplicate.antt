@@ -2,23 +2,9 @@
 use Rattle.std.proofs.Common.{◌≡◌, ◌≢◌, ℕ, Bool, true, false, if◌then◌else◌, ◌&&◌, ◌-◌, List, [], ◌∷◌, Option, Some, inl, inr, refl, sym, ap, ◌∙◌, subst, arith}
 use Rattle.std.proofs.lemmas.Bool.{and_parts, and_right}
 use Rattle.std.specs.FinMap as map
-use Rattle.iso8583.specs.declared.identity.Identity.{Identity}
-use Rattle.iso8583.specs.declared.original_kind.OriginalKind.{OriginalKind}
-use Rattle.iso8583.specs.declared.pan.Pan.{Pan}
-use Rattle.iso8583.specs.declared.reversal.Reversal.{Reversal}
+use Rattle.issuer_words.specs.Words.{Frame, Identity, KeptOriginal, Lookup, OriginalKind, OriginalRow, Pan, ReplyBody, Reversal, Rows, Writes, decision, given_back, identity_of, is_named, is_same_card, is_same_identity, is_same_kind, kind_of_outcome, on_reversal, on_reversed, original_in, overlay, reply_to_reversal, reversal_of_outcome, reversal_plan, rows_after, rows_after_one, settled, text_eq, unchanged}
 use Rattle.issuer_rows.proofs.PutsOnce.{IsFresh}
-use Rattle.issuer_rows.specs.Decision.{decision}
-use Rattle.issuer_rows.specs.Facts.{identity_of, is_same_card, is_same_kind, is_same_identity}
-use Rattle.issuer_rows.specs.Fold.{Rows, overlay, rows_after_one, rows_after}
-use Rattle.issuer_rows.specs.Kept.{KeptOriginal, kind_of_outcome, reversal_of_outcome, settled}
-use Rattle.issuer_rows.specs.Plan.{Lookup, Writes}
-use Rattle.issuer_rows.specs.ReversalTable.{reply_to_reversal, unchanged, given_back, is_named, on_reversal, on_reversed, reversal_plan}
-use Rattle.issuer_rows.specs.RowKey.{text_eq}
-use Rattle.issuer_rows.specs.Typed.{original_in}
-use Rattle.issuer_rows.specs.declared.frame.Frame.{Frame}
-use Rattle.issuer_rows.specs.declared.original_row.OriginalRow.{OriginalRow}
 use Rattle.issuer_rows.specs.declared.original_row.OriginalRow.TheVariants as original
-use Rattle.issuer_rows.specs.declared.reply_body.ReplyBody.{ReplyBody}
 use Rattle.issuer_rows.specs.declared.row_key.RowKey.TheVariants as key
 use Rattle.issuer_rows.specs.declared.row_val.RowVal.TheVariants as val
 use Rattle.issuer_laws.proofs.Keys.{texts_same, original_stands, Outcomes, comes_to}

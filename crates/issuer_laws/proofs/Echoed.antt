@@ -1,21 +1,7 @@
 -- Each reply repeats its message.
 use Rattle.std.proofs.Common.{Bool, true, false, if◌then◌else◌, ◌&&◌, List, [], ◌∷◌, Option, Some, None, inl, inr, refl}
 use Rattle.std.specs.FinMap as map
-use Rattle.iso8583.specs.declared.advice.Advice.{Advice}
-use Rattle.iso8583.specs.declared.message.Message.{Message}
-use Rattle.iso8583.specs.declared.original_kind.OriginalKind.{OriginalKind}
-use Rattle.iso8583.specs.declared.request.Request.{Request}
-use Rattle.iso8583.specs.declared.reversal.Reversal.{Reversal}
-use Rattle.iso8583.specs.declared.verdict.Verdict.{Verdict}
-use Rattle.issuer_rows.specs.AdviceTable.{advice_on_original}
-use Rattle.issuer_rows.specs.Decision.{decision}
-use Rattle.issuer_rows.specs.Facts.{is_marked, is_of_same}
-use Rattle.issuer_rows.specs.Fold.{Rows, rows_after_one, replies_to}
-use Rattle.issuer_rows.specs.Plan.{Plan, Lookup, carried_out}
-use Rattle.issuer_rows.specs.RequestTable.{on_original}
-use Rattle.issuer_rows.specs.ReversalTable.{reversal_plan}
-use Rattle.issuer_rows.specs.declared.frame.Frame.{Frame}
-use Rattle.issuer_rows.specs.declared.original_row.OriginalRow.{OriginalRow}
+use Rattle.issuer_words.specs.Words.{Advice, Frame, Lookup, Message, OriginalKind, OriginalRow, Plan, Request, Reversal, Rows, Verdict, advice_on_original, carried_out, decision, is_marked, is_of_same, on_original, replies_to, reversal_plan, rows_after_one}
 use Rattle.issuer_laws.proofs.AdviceWays as advice
 use Rattle.issuer_laws.proofs.RequestWays as request
 use Rattle.issuer_laws.proofs.ReversalWays.{reversal_ways}

@@ -2,22 +2,8 @@
 use Rattle.std.proofs.Common.{◌≡◌, ℕ, ◌<◌, ◌≤◌, true, false, if◌then◌else◌, nat_lt, nat_le, ◌&&◌, ◌||◌, Bool, Option, Some, None, Result, Ok, Err, inl, inr, refl, sym, ap, subst, arith}
 use Rattle.std.proofs.lemmas.Bool.{false≢true, or_cases}
 use Rattle.std.proofs.lemmas.Bool.Decides.{nat_tests}
-use Rattle.iso8583.specs.declared.account_id.AccountId.{AccountId}
-use Rattle.iso8583.specs.declared.pan.Pan.{Pan}
-use Rattle.iso8583.specs.declared.transaction.Transaction.{Transaction}
-use Rattle.issuer_rows.specs.AdviceTable.{advice_funds, account_if_covered, budget_by_mode}
-use Rattle.issuer_rows.specs.CardAccounts.{account_of, is_same_account, is_second}
-use Rattle.issuer_rows.specs.Facts.{prefix_of}
-use Rattle.issuer_rows.specs.Funds.{balance_of}
-use Rattle.issuer_rows.specs.Plan.{Lookup}
-use Rattle.issuer_rows.specs.RequestTable.{request_funds, account_funds, budget_funds, by_mode}
-use Rattle.issuer_rows.specs.Typed.{card_in, account_in, budget_in}
-use Rattle.issuer_rows.specs.declared.account_row.AccountRow.{AccountRow}
-use Rattle.issuer_rows.specs.declared.budget_mode.BudgetMode.{BudgetMode}
+use Rattle.issuer_words.specs.Words.{AccountId, AccountRow, BudgetMode, BudgetRow, CardRow, Funds, Lookup, Pan, Transaction, account_funds, account_if_covered, account_in, account_of, advice_funds, balance_of, budget_by_mode, budget_funds, budget_in, by_mode, card_in, is_same_account, is_second, prefix_of, request_funds}
 use Rattle.issuer_rows.specs.declared.budget_mode.BudgetMode.TheVariants as mode
-use Rattle.issuer_rows.specs.declared.budget_row.BudgetRow.{BudgetRow}
-use Rattle.issuer_rows.specs.declared.card_row.CardRow.{CardRow}
-use Rattle.issuer_rows.specs.declared.funds.Funds.{Funds}
 use Rattle.issuer_rows.specs.declared.funds.Funds.TheVariants as funds
 use Rattle.issuer_rows.specs.declared.row_key.RowKey.TheVariants as key
 use Rattle.issuer_laws.proofs.Keys.{texts_same}

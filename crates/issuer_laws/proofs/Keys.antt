@@ -7,16 +7,7 @@ use Rattle.std.specs.Ordering.{is_eq}
 use Rattle.std.specs.Cmp.{tied_itself}
 use Rattle.issuer_rows.proofs.KeyLaws.{key_cmp_total, key_cmp_antisymmetric, key_eq_decides}
 use Rattle.issuer_rows.proofs.PutsOnce.{IsFresh, not_another}
-use Rattle.iso8583.specs.declared.identity.Identity.{Identity}
-use Rattle.issuer_rows.specs.Fold.{Rows, overlay}
-use Rattle.issuer_rows.specs.Funds.{key_of_funds}
-use Rattle.issuer_rows.specs.Plan.{Plan, Lookup, Writes, carried_out}
-use Rattle.issuer_rows.specs.RowKey.{kind_of, key_cmp, key_eq, text_eq}
-use Rattle.issuer_rows.specs.Typed.{original_in}
-use Rattle.issuer_rows.specs.declared.funds.Funds.{Funds}
-use Rattle.issuer_rows.specs.declared.reply_body.ReplyBody.{ReplyBody}
-use Rattle.issuer_rows.specs.declared.row_key.RowKey.{RowKey}
-use Rattle.issuer_rows.specs.declared.row_val.RowVal.{RowVal}
+use Rattle.issuer_words.specs.Words.{Funds, Identity, Lookup, Plan, ReplyBody, RowKey, RowVal, Rows, Writes, carried_out, key_cmp, key_eq, key_of_funds, kind_of, original_in, overlay, text_eq}
 
 -- the row that is written has the value that is written
 pub get-put : (rows : Rows) (k : RowKey) (v : RowVal) → map.get (map.insert rows k v) k ≡ Some v

@@ -3,39 +3,7 @@ use Rattle.std.proofs.Common.{◌≡◌, ◌≢◌, ℕ, Bool, true, false, if�
 use Rattle.std.proofs.lemmas.Bool.{and_parts}
 use Rattle.std.specs.FinMap as map
 use Rattle.std.specs.List.{AllByRecursion}
-use Rattle.iso8583.specs.declared.account_id.AccountId.{AccountId}
-use Rattle.iso8583.specs.declared.advice.Advice.{Advice}
-use Rattle.iso8583.specs.declared.identity.Identity.{Identity}
-use Rattle.iso8583.specs.declared.message.Message.{Message}
-use Rattle.iso8583.specs.declared.original_kind.OriginalKind.{OriginalKind}
-use Rattle.iso8583.specs.declared.pan.Pan.{Pan}
-use Rattle.iso8583.specs.declared.pan_prefix.PanPrefix.{PanPrefix}
-use Rattle.iso8583.specs.declared.request.Request.{Request}
-use Rattle.iso8583.specs.declared.reversal.Reversal.{Reversal}
-use Rattle.issuer_rows.specs.AdviceTable.{advice_on_original, advice_on_funds, advice_on_account, advice_on_named, advice_on_card, acknowledged, advice_funds}
-use Rattle.issuer_rows.specs.CardAccounts.{account_of}
-use Rattle.issuer_rows.specs.Decision.{decision}
-use Rattle.issuer_rows.specs.Facts.{identity_of, day_of, prefix_of, is_same_card, is_same_currency, is_same_identity, is_marked, is_of_same}
-use Rattle.issuer_rows.specs.Fold.{Rows, overlay, writes_of, rows_after_one}
-use Rattle.issuer_rows.specs.Funds.{key_of_funds, row_of_funds, with_balance, payer_of}
-use Rattle.issuer_rows.specs.Kept.{KeptOriginal, kind_of_outcome, payment_of_outcome, reversal_of_outcome, settled, settled_outcome}
-use Rattle.issuer_rows.specs.Plan.{Plan, Lookup, Writes, carried_out}
-use Rattle.issuer_rows.specs.RequestTable.{on_original, on_card, on_usable, on_account, on_funds, unless_refused, approved_card, declined_request, refused_unseen, refused_by_limits, usable_account, request_funds}
-use Rattle.issuer_rows.specs.ReversalTable.{reversal_plan, on_reversed, on_reversal, on_payment, by_payer, on_paid, by_kind, on_original_day, reversed_advice, reversed_original, refunded, is_named, is_wrong_part, is_overfull, day_is_short}
-use Rattle.issuer_rows.specs.Typed.{card_in, velocity_in, budget_in, original_in, account_in, spent_in}
-use Rattle.issuer_rows.specs.declared.account_row.AccountRow.{AccountRow}
-use Rattle.issuer_rows.specs.declared.budget_row.BudgetRow.{BudgetRow}
-use Rattle.issuer_rows.specs.declared.card_row.CardRow.{CardRow}
-use Rattle.issuer_rows.specs.declared.frame.Frame.{Frame}
-use Rattle.issuer_rows.specs.declared.funds.Funds.{Funds}
-use Rattle.issuer_rows.specs.declared.original_outcome.OriginalOutcome.{OriginalOutcome}
-use Rattle.issuer_rows.specs.declared.original_row.OriginalRow.{OriginalRow}
-use Rattle.issuer_rows.specs.declared.payer.Payer.{Payer}
-use Rattle.issuer_rows.specs.declared.payment.Payment.{Payment}
-use Rattle.issuer_rows.specs.declared.reply_body.ReplyBody.{ReplyBody}
-use Rattle.issuer_rows.specs.declared.row_key.RowKey.{RowKey}
-use Rattle.issuer_rows.specs.declared.row_val.RowVal.{RowVal}
-use Rattle.issuer_rows.specs.declared.velocity_row.VelocityRow.{VelocityRow}
+use Rattle.issuer_words.specs.Words.{AccountId, AccountRow, Advice, BudgetRow, CardRow, Frame, Funds, Identity, KeptOriginal, Lookup, Message, OriginalKind, OriginalOutcome, OriginalRow, Pan, PanPrefix, Payer, Payment, Plan, ReplyBody, Request, Reversal, RowKey, RowVal, Rows, VelocityRow, Writes, account_in, account_of, acknowledged, advice_funds, advice_on_account, advice_on_card, advice_on_funds, advice_on_named, advice_on_original, approved_card, budget_in, by_kind, by_payer, card_in, carried_out, day_is_short, day_of, decision, declined_request, identity_of, is_marked, is_named, is_of_same, is_overfull, is_same_card, is_same_currency, is_same_identity, is_wrong_part, key_of_funds, kind_of_outcome, on_account, on_card, on_funds, on_original, on_original_day, on_paid, on_payment, on_reversal, on_reversed, on_usable, original_in, overlay, payer_of, payment_of_outcome, prefix_of, refunded, refused_by_limits, refused_unseen, request_funds, reversal_of_outcome, reversal_plan, reversed_advice, reversed_original, row_of_funds, rows_after_one, settled, settled_outcome, spent_in, unless_refused, usable_account, velocity_in, with_balance, writes_of}
 use Rattle.issuer_laws.proofs.AdviceWays as advice
 use Rattle.issuer_laws.proofs.Funding.{IsFound, IsOfCard, IsOwn, account_own}
 use Rattle.issuer_laws.proofs.Keys.{get-put, get-other, same_or_other, texts_same}

@@ -3,12 +3,8 @@ use Rattle.std.proofs.Common.{◌≡◌, ◌≢◌, ℕ, true, false, if◌then�
 use Rattle.std.specs.FinMap as map
 use Rattle.std.specs.List.{AllByRecursion}
 use Rattle.std.proofs.lemmas.Bool.{eqb-true, eqb-false}
-use Rattle.issuer_rows.specs.Decision.{decision, plan_of}
-use Rattle.issuer_rows.specs.Fold.{Rows, overlay, reply_of, writes_of, rows_after_one, replies_to, rows_after}
+use Rattle.issuer_words.specs.Words.{Frame, RowKey, RowVal, Rows, decision, overlay, plan_of, replies_to, reply_of, rows_after, rows_after_one, writes_of}
 use Rattle.issuer_rows.specs.Plan.{Plan, Lookup, Writes, Decided, Answer, Look, after_look, carried_out}
-use Rattle.issuer_rows.specs.declared.frame.Frame.{Frame}
-use Rattle.issuer_rows.specs.declared.row_key.RowKey.{RowKey}
-use Rattle.issuer_rows.specs.declared.row_val.RowVal.{RowVal}
 use Rattle.issuer_laws.proofs.Keys.{get-put, get-other, same_or_other}
 use Rattle.issuer_laws.proofs.Needed.{IsFollowing, follows_itself, follows_one, written_needed, looked_needed}
 use Rattle.issuer_laws.specs.Parts.{IsIn, may_need, IsNoBudget, MayLook, NeedsNoOther, Parted, bodies, of_part, with_parts, IsOfPart, AreApart, HasPart, IsDecidedAlone, LeavesOthers}

@@ -1,29 +1,8 @@
 -- An original that is kept stays: no decision takes it away, and only a reversal of one that had none changes it.
 use Rattle.std.proofs.Common.{◌≡◌, ℕ, Bool, true, false, if◌then◌else◌, ◌&&◌, List, [], ◌∷◌, ◌++◌, Option, Some, None, ◌⊎◌, inl, inr, refl, sym, ap, ◌∙◌, subst}
 use Rattle.std.specs.FinMap as map
-use Rattle.iso8583.specs.declared.advice.Advice.{Advice}
-use Rattle.iso8583.specs.declared.identity.Identity.{Identity}
-use Rattle.iso8583.specs.declared.message.Message.{Message}
-use Rattle.iso8583.specs.declared.original_kind.OriginalKind.{OriginalKind}
-use Rattle.iso8583.specs.declared.request.Request.{Request}
-use Rattle.iso8583.specs.declared.reversal.Reversal.{Reversal}
+use Rattle.issuer_words.specs.Words.{Advice, Frame, Funds, Identity, KeptOriginal, Lookup, Message, OriginalKind, OriginalOutcome, OriginalRow, Plan, Request, Reversal, RowKey, RowVal, Rows, VelocityRow, Writes, action_of_outcome, advice_on_original, approval_of_outcome, carried_out, decision, identity_of, is_marked, is_of_same, kept_of_advice, kept_of_request, kind_of_outcome, on_original, original_in, overlay, refunded, reversal_of_outcome, reversal_plan, rows_after_one, settled, settled_outcome, writes_of}
 use Rattle.issuer_rows.proofs.PutsOnce.{IsFresh}
-use Rattle.issuer_rows.specs.AdviceTable.{advice_on_original, kept_of_advice}
-use Rattle.issuer_rows.specs.Decision.{decision}
-use Rattle.issuer_rows.specs.Facts.{identity_of, is_marked, is_of_same}
-use Rattle.issuer_rows.specs.Fold.{Rows, overlay, writes_of, rows_after_one}
-use Rattle.issuer_rows.specs.Kept.{KeptOriginal, kind_of_outcome, action_of_outcome, approval_of_outcome, reversal_of_outcome, settled, settled_outcome}
-use Rattle.issuer_rows.specs.Plan.{Plan, Lookup, Writes, carried_out}
-use Rattle.issuer_rows.specs.RequestTable.{on_original, kept_of_request}
-use Rattle.issuer_rows.specs.ReversalTable.{refunded, reversal_plan}
-use Rattle.issuer_rows.specs.Typed.{original_in}
-use Rattle.issuer_rows.specs.declared.frame.Frame.{Frame}
-use Rattle.issuer_rows.specs.declared.funds.Funds.{Funds}
-use Rattle.issuer_rows.specs.declared.original_outcome.OriginalOutcome.{OriginalOutcome}
-use Rattle.issuer_rows.specs.declared.original_row.OriginalRow.{OriginalRow}
-use Rattle.issuer_rows.specs.declared.row_key.RowKey.{RowKey}
-use Rattle.issuer_rows.specs.declared.row_val.RowVal.{RowVal}
-use Rattle.issuer_rows.specs.declared.velocity_row.VelocityRow.{VelocityRow}
 use Rattle.issuer_laws.proofs.AdviceWays as advice
 use Rattle.issuer_laws.proofs.Keys.{get-other, get-fresh, same_or_other, funds_other, original_stands}
 use Rattle.issuer_laws.proofs.RequestWays as request

@@ -3,35 +3,8 @@ use Rattle.std.proofs.Common.{◌≡◌, ◌≢◌, ℕ, ◌+◌, ◌-◌, ◌<�
 use Rattle.std.proofs.lemmas.Bool.{false≢true}
 use Rattle.std.proofs.lemmas.Bool.Decides.{nat_tests}
 use Rattle.std.specs.FinMap as map
-use Rattle.iso8583.specs.declared.account_id.AccountId.{AccountId}
-use Rattle.iso8583.specs.declared.advice.Advice.{Advice}
-use Rattle.iso8583.specs.declared.identity.Identity.{Identity}
-use Rattle.iso8583.specs.declared.message.Message.{Message}
-use Rattle.iso8583.specs.declared.original_kind.OriginalKind.{OriginalKind}
-use Rattle.iso8583.specs.declared.request.Request.{Request}
-use Rattle.iso8583.specs.declared.reversal.Reversal.{Reversal}
+use Rattle.issuer_words.specs.Words.{AccountId, Advice, Frame, Funds, Identity, KeptOriginal, Lookup, Message, OriginalKind, OriginalRow, Payer, Payment, Plan, ReplyBody, Request, Reversal, RowKey, RowVal, Rows, VelocityRow, Writes, accepted_writes, account_in, account_paid, advice_on_original, approved_writes, available_in, balance_of, carried_out, decision, given_back, identity_of, is_account, is_from_account, is_marked, is_of_same, is_same_account, on_original, overlay, payer_of, refunded, reply_of, reversal_of_outcome, reversed_original, rows_after_one}
 use Rattle.issuer_rows.proofs.PutsOnce.{IsFresh}
-use Rattle.issuer_rows.specs.AdviceTable.{advice_on_original, accepted_writes}
-use Rattle.issuer_rows.specs.Backing.{available_in, is_account, account_paid, is_from_account}
-use Rattle.issuer_rows.specs.CardAccounts.{is_same_account}
-use Rattle.issuer_rows.specs.Decision.{decision}
-use Rattle.issuer_rows.specs.Facts.{identity_of, is_marked, is_of_same}
-use Rattle.issuer_rows.specs.Fold.{Rows, overlay, reply_of, rows_after_one}
-use Rattle.issuer_rows.specs.Funds.{balance_of, payer_of}
-use Rattle.issuer_rows.specs.Kept.{KeptOriginal, reversal_of_outcome}
-use Rattle.issuer_rows.specs.Plan.{Plan, Lookup, Writes, carried_out}
-use Rattle.issuer_rows.specs.RequestTable.{on_original, approved_writes}
-use Rattle.issuer_rows.specs.ReversalTable.{reversed_original, refunded, given_back}
-use Rattle.issuer_rows.specs.Typed.{account_in}
-use Rattle.issuer_rows.specs.declared.frame.Frame.{Frame}
-use Rattle.issuer_rows.specs.declared.funds.Funds.{Funds}
-use Rattle.issuer_rows.specs.declared.original_row.OriginalRow.{OriginalRow}
-use Rattle.issuer_rows.specs.declared.payer.Payer.{Payer}
-use Rattle.issuer_rows.specs.declared.payment.Payment.{Payment}
-use Rattle.issuer_rows.specs.declared.reply_body.ReplyBody.{ReplyBody}
-use Rattle.issuer_rows.specs.declared.row_key.RowKey.{RowKey}
-use Rattle.issuer_rows.specs.declared.row_val.RowVal.{RowVal}
-use Rattle.issuer_rows.specs.declared.velocity_row.VelocityRow.{VelocityRow}
 use Rattle.issuer_laws.proofs.AdviceWays as advice
 use Rattle.issuer_laws.proofs.Funding.{IsFound, same_account}
 use Rattle.issuer_laws.proofs.Keys.{get-fresh, texts_apart, funds_other, original_stands}

@@ -2,28 +2,8 @@
 use Rattle.std.proofs.Common.{◌≡◌, ℕ, Bool, true, if◌then◌else◌, ◌&&◌, ◌==◌, List, [], Option, Some, None, inl, inr, refl, sym, ap, ◌∙◌, subst}
 use Rattle.std.specs.Cmp.Derive.{both_true}
 use Rattle.std.specs.FinMap as map
-use Rattle.iso8583.specs.declared.advice.Advice.{Advice}
-use Rattle.iso8583.specs.declared.identity.Identity.{Identity}
-use Rattle.iso8583.specs.declared.original_kind.OriginalKind.{OriginalKind}
-use Rattle.iso8583.specs.declared.pan.Pan.{Pan}
-use Rattle.iso8583.specs.declared.processing.Processing.{Processing}
-use Rattle.iso8583.specs.declared.request.Request.{Request}
-use Rattle.iso8583.specs.declared.transaction.Transaction.{Transaction}
-use Rattle.issuer_rows.specs.AdviceTable.{reply_to_advice, advice_on_original, answered_unkept, marked_advice}
-use Rattle.issuer_rows.specs.Decision.{decision}
-use Rattle.issuer_rows.specs.Facts.{identity_of, is_of_same, is_same_kind, is_same_card}
-use Rattle.issuer_rows.specs.Fold.{Rows, reply_of, writes_of, rows_after_one, rows_after}
-use Rattle.issuer_rows.specs.Funds.{paid_by}
-use Rattle.issuer_rows.specs.Kept.{KeptOriginal, kind_of_outcome, action_of_outcome, settled_outcome}
+use Rattle.issuer_words.specs.Words.{Advice, Frame, Identity, KeptOriginal, OriginalKind, OriginalOutcome, OriginalRow, Pan, Processing, Request, RowKey, RowVal, Rows, Transaction, action_of_outcome, advice_on_original, answered_unkept, approval_code, decision, declined_unkept, identity_of, is_of_same, is_same_card, is_same_kind, kept_verdict, kind_of_outcome, marked_advice, marked_request, on_original, original_in, paid_by, reply_of, reply_to_advice, reply_to_request, rows_after, rows_after_one, settled_outcome, text_eq, writes_of}
 use Rattle.issuer_rows.specs.Plan.{Lookup, Answer, carried_out}
-use Rattle.issuer_rows.specs.RequestTable.{reply_to_request, kept_verdict, on_original, declined_unkept, marked_request, approval_code}
-use Rattle.issuer_rows.specs.RowKey.{text_eq}
-use Rattle.issuer_rows.specs.Typed.{original_in}
-use Rattle.issuer_rows.specs.declared.frame.Frame.{Frame}
-use Rattle.issuer_rows.specs.declared.original_outcome.OriginalOutcome.{OriginalOutcome}
-use Rattle.issuer_rows.specs.declared.original_row.OriginalRow.{OriginalRow}
-use Rattle.issuer_rows.specs.declared.row_key.RowKey.{RowKey}
-use Rattle.issuer_rows.specs.declared.row_val.RowVal.{RowVal}
 use Rattle.issuer_laws.proofs.AdviceWays as advice
 use Rattle.issuer_laws.proofs.Keys.{same_text, same_number, funds_other, original_stands, Outcomes, comes_to}
 use Rattle.issuer_laws.proofs.Permanent.{stays_kept, same_original}

@@ -2,8 +2,7 @@
 use Rattle.std.proofs.Common.{◌≡◌, ℕ, zero, suc, List, [], ◌∷◌, take, Some, ap}
 use Rattle.std.specs.List.{slice_get}
 use Rattle.std.proofs.lemmas.Option.{same_Some, none-some}
-use Rattle.issuer_rows.specs.Fold.{Rows, replies_to, reply_of, rows_after, rows_after_one}
-use Rattle.issuer_rows.specs.declared.frame.Frame.{Frame}
+use Rattle.issuer_words.specs.Words.{Frame, Rows, replies_to, reply_of, rows_after, rows_after_one}
 
 -- the reply at a place is to the body there, on the rows after those before it
 pub reply_at : (rows : Rows) (frames : List Frame) (place : ℕ) (frame : Frame) → slice_get frames place ≡ Some frame

@@ -1,29 +1,9 @@
 -- The table of a request, stage by stage, and its flat list of conditions are one.
 use Rattle.std.proofs.Common.{◌≡◌, ℕ, ◌+◌, Bool, true, false, ◌&&◌, ◌==◌, not, nat_lt, nat_le, if◌then◌else◌, [], ◌∷◌, Option, Some, None, is_none, option_and_then, Result, Ok, Err, refl, subst}
 use Rattle.std.specs.FinMap as map
-use Rattle.iso8583.specs.Luhn.{passes_luhn}
-use Rattle.iso8583.specs.Number.{number_of}
-use Rattle.iso8583.specs.declared.account_id.AccountId.{AccountId}
-use Rattle.iso8583.specs.declared.original_kind.OriginalKind.{OriginalKind}
-use Rattle.iso8583.specs.declared.request.Request.{Request}
-use Rattle.issuer_rows.specs.CardAccounts.{account_of}
-use Rattle.issuer_rows.specs.Decision.{decision}
-use Rattle.issuer_rows.specs.Facts.{identity_of, day_of, month_of, prefix_of, is_same_currency, is_marked, is_of_same}
-use Rattle.issuer_rows.specs.Fold.{Rows}
-use Rattle.issuer_rows.specs.Kept.{KeptOriginal}
+use Rattle.issuer_words.specs.Words.{AccountId, AccountRow, BudgetMode, BudgetRow, CardRow, CardStatus, Funds, KeptOriginal, Mark, OriginalKind, OriginalRow, Request, RowKey, Rows, VelocityRow, account_in, account_of, budget_in, card_in, day_of, decision, identity_of, is_marked, is_of_same, is_same_currency, month_of, number_of, original_in, passes_luhn, prefix_of, spent_in, velocity_in}
 use Rattle.issuer_rows.specs.Plan.{Plan, Lookup, Answer}
 use Rattle.issuer_rows.specs.RequestTable.{reply_to_request, kept_verdict, declined_unkept, declined_request, marked_request, approved, is_unpermitted, refused_by_status, unless_status, or_not_permitted, by_mode, account_funds, unless_refused, request_funds, on_funds, looked_for_funds, looked_for_day, on_account, on_usable, on_card, looked_for_card, on_original}
-use Rattle.issuer_rows.specs.Typed.{card_in, velocity_in, budget_in, original_in, account_in, spent_in}
-use Rattle.issuer_rows.specs.declared.account_row.AccountRow.{AccountRow}
-use Rattle.issuer_rows.specs.declared.budget_mode.BudgetMode.{BudgetMode}
-use Rattle.issuer_rows.specs.declared.budget_row.BudgetRow.{BudgetRow}
-use Rattle.issuer_rows.specs.declared.card_row.CardRow.{CardRow}
-use Rattle.issuer_rows.specs.declared.card_status.CardStatus.{CardStatus}
-use Rattle.issuer_rows.specs.declared.funds.Funds.{Funds}
-use Rattle.issuer_rows.specs.declared.mark.Mark.{Mark}
-use Rattle.issuer_rows.specs.declared.original_row.OriginalRow.{OriginalRow}
-use Rattle.issuer_rows.specs.declared.row_key.RowKey.{RowKey}
-use Rattle.issuer_rows.specs.declared.velocity_row.VelocityRow.{VelocityRow}
 use Rattle.issuer_laws.specs.Messages.{request_frame}
 use Rattle.issuer_laws.specs.Rules.{Conditions, decided_by, Facts, first_of, comes_to, named_by, has, is_blocked, is_lost, is_stolen, stands_in, is_over, request_rule, RequestEnds, RequestIsDecided}
 use Rattle.issuer_laws.specs.declared.decision_rule.DecisionRule.{DecisionRule}

@@ -1,24 +1,10 @@
 -- What becomes of a request whose identity wasn't seen: it is declined and kept, or it is approved and paid.
 use Rattle.std.proofs.Common.{◌≡◌, ℕ, ◌<◌, Bool, true, false, if◌then◌else◌, nat_lt, nat_le, ◌==◌, ◌+◌, [], ◌∷◌, Option, Some, None, Result, Ok, Err, ◌⊎◌, inl, inr, refl, sym, ap, ◌∙◌, subst, arith}
-use Rattle.iso8583.specs.Luhn.{passes_luhn}
-use Rattle.iso8583.specs.Number.{number_of}
-use Rattle.iso8583.specs.declared.account_id.AccountId.{AccountId}
-use Rattle.iso8583.specs.declared.request.Request.{Request}
+use Rattle.issuer_words.specs.Words.{AccountId, AccountRow, CardRow, CardStatus, Decided, Funds, Lookup, Plan, ReplyBody, Request, VelocityRow, Writes, account_in, account_of, approval_code, approved_writes, budget_in, card_in, carried_out, day_of, declined_request, fresh_request, identity_of, is_same_currency, is_unpermitted, kept_of_request, month_of, number_of, on_account, on_card, on_funds, on_usable, or_not_permitted, passes_luhn, refused_by_limits, refused_by_status, refused_unseen, reply_to_request, request_funds, spent_in, unless_refused, unless_status, usable_account, velocity_in}
 use Rattle.iso8583.specs.declared.verdict.Verdict.TheVariants as verdict
-use Rattle.issuer_rows.specs.CardAccounts.{account_of}
-use Rattle.issuer_rows.specs.Facts.{identity_of, day_of, month_of, is_same_currency}
-use Rattle.issuer_rows.specs.Plan.{Plan, Lookup, Writes, Decided, carried_out}
-use Rattle.issuer_rows.specs.RequestTable.{approved_writes, reply_to_request, kept_of_request, declined_request, is_unpermitted, refused_unseen, refused_by_status, unless_status, or_not_permitted, usable_account, refused_by_limits, request_funds, approval_code, unless_refused, on_funds, on_account, on_usable, on_card, fresh_request}
-use Rattle.issuer_rows.specs.Typed.{card_in, velocity_in, budget_in, account_in, spent_in}
-use Rattle.issuer_rows.specs.declared.account_row.AccountRow.{AccountRow}
-use Rattle.issuer_rows.specs.declared.card_row.CardRow.{CardRow}
-use Rattle.issuer_rows.specs.declared.card_status.CardStatus.{CardStatus}
 use Rattle.issuer_rows.specs.declared.card_status.CardStatus.TheVariants as status
-use Rattle.issuer_rows.specs.declared.funds.Funds.{Funds}
 use Rattle.issuer_rows.specs.declared.original_outcome.OriginalOutcome.TheVariants as outcome
-use Rattle.issuer_rows.specs.declared.reply_body.ReplyBody.{ReplyBody}
 use Rattle.issuer_rows.specs.declared.row_key.RowKey.TheVariants as key
-use Rattle.issuer_rows.specs.declared.velocity_row.VelocityRow.{VelocityRow}
 use Rattle.issuer_laws.proofs.Funding.{CanPay, IsSource, request_source, account_own}
 use Rattle.issuer_laws.specs.Parts.{IsIn, account_keys}
 

@@ -1,24 +1,8 @@
 -- The table of a reversal, stage by stage, and its flat list of conditions are one.
 use Rattle.std.proofs.Common.{◌≡◌, ◌+◌, Bool, true, false, ◌&&◌, ◌||◌, ◌==◌, not, nat_lt, if◌then◌else◌, [], ◌∷◌, Option, Some, None, is_some, is_none, option_and_then, refl, sym, subst}
 use Rattle.std.specs.FinMap as map
-use Rattle.iso8583.specs.declared.identity.Identity.{Identity}
-use Rattle.iso8583.specs.declared.original_kind.OriginalKind.{OriginalKind}
-use Rattle.iso8583.specs.declared.reversal.Reversal.{Reversal}
-use Rattle.issuer_rows.specs.Decision.{decision}
-use Rattle.issuer_rows.specs.Facts.{identity_of, is_same_identity, is_same_kind}
-use Rattle.issuer_rows.specs.Fold.{Rows}
-use Rattle.issuer_rows.specs.Funds.{balance_of}
-use Rattle.issuer_rows.specs.Kept.{KeptOriginal, kind_of_outcome, payment_of_outcome, reversal_of_outcome, settled}
+use Rattle.issuer_words.specs.Words.{Funds, Identity, KeptOriginal, OriginalKind, OriginalRow, Payer, Payment, Reversal, RowKey, RowVal, Rows, VelocityRow, advice_back, balance_of, by_kind, by_payer, day_is_short, day_key, decision, given_back, greatest_balance, identity_of, is_named, is_overfull, is_same_identity, is_same_kind, is_wrong_part, kind_of_outcome, marked_ahead, on_original_day, on_paid, on_payment, on_reversal, on_reversed, original_in, original_put, payment_of_outcome, reply_to_reversal, request_back, reversal_of_outcome, settled, takes_approval, unchanged, velocity_in}
 use Rattle.issuer_rows.specs.Plan.{Plan, Lookup, Answer}
-use Rattle.issuer_rows.specs.ReversalTable.{reply_to_reversal, unchanged, original_put, marked_ahead, given_back, greatest_balance, is_wrong_part, takes_approval, day_key, day_is_short, is_overfull, advice_back, request_back, on_original_day, by_kind, on_paid, by_payer, on_payment, on_reversal, is_named, on_reversed}
-use Rattle.issuer_rows.specs.Typed.{velocity_in, original_in}
-use Rattle.issuer_rows.specs.declared.funds.Funds.{Funds}
-use Rattle.issuer_rows.specs.declared.original_row.OriginalRow.{OriginalRow}
-use Rattle.issuer_rows.specs.declared.payer.Payer.{Payer}
-use Rattle.issuer_rows.specs.declared.payment.Payment.{Payment}
-use Rattle.issuer_rows.specs.declared.row_key.RowKey.{RowKey}
-use Rattle.issuer_rows.specs.declared.row_val.RowVal.{RowVal}
-use Rattle.issuer_rows.specs.declared.velocity_row.VelocityRow.{VelocityRow}
 use Rattle.issuer_laws.specs.Messages.{reversal_frame}
 use Rattle.issuer_laws.specs.Rules.{Conditions, decided_by, first_of, comes_to, has, ReversalFacts, row_of_payer, reversal_facts, is_request, reversal_rule, EndsGivenBack, ReversalEnds, ReversalIsDecided}
 use Rattle.issuer_laws.specs.declared.decision_rule.DecisionRule.{DecisionRule}

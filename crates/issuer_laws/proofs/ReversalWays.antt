@@ -1,27 +1,13 @@
 -- What becomes of a reversal.
 use Rattle.std.proofs.Common.{◌≡◌, ◌≢◌, ℕ, Bool, true, false, if◌then◌else◌, ◌&&◌, [], ◌∷◌, ◌++◌, Option, Some, None, option_map, ◌⊎◌, inl, inr, refl, sym, arith}
 use Rattle.std.proofs.lemmas.Bool.{and_parts}
-use Rattle.iso8583.specs.declared.identity.Identity.{Identity}
-use Rattle.iso8583.specs.declared.original_kind.OriginalKind.{OriginalKind}
+use Rattle.issuer_words.specs.Words.{Funds, Identity, KeptOriginal, Lookup, OriginalKind, OriginalRow, Payer, Payment, Plan, ReplyBody, Reversal, VelocityRow, Writes, account_in, budget_in, by_kind, by_payer, carried_out, day_is_short, day_key, identity_of, is_named, is_overfull, is_same_identity, is_wrong_part, kind_of_outcome, on_original_day, on_paid, on_payment, on_reversal, on_reversed, original_in, original_put, payer_of, payment_of_outcome, prefix_of, refunded, reply_to_reversal, reversal_of_outcome, reversal_plan, reversed_original, settled, spent_less, unchanged, velocity_in}
 use Rattle.iso8583.specs.declared.original_kind.OriginalKind.TheVariants as kind
-use Rattle.iso8583.specs.declared.reversal.Reversal.{Reversal}
-use Rattle.issuer_rows.specs.Facts.{identity_of, prefix_of, is_same_identity}
-use Rattle.issuer_rows.specs.Funds.{payer_of}
-use Rattle.issuer_rows.specs.Kept.{KeptOriginal, kind_of_outcome, payment_of_outcome, reversal_of_outcome, settled}
-use Rattle.issuer_rows.specs.Plan.{Plan, Lookup, Writes, carried_out}
-use Rattle.issuer_rows.specs.ReversalTable.{reply_to_reversal, unchanged, original_put, is_wrong_part, is_overfull, day_is_short, spent_less, day_key, reversed_original, refunded, on_original_day, by_kind, on_paid, by_payer, on_payment, on_reversal, is_named, on_reversed, reversal_plan}
-use Rattle.issuer_rows.specs.Typed.{velocity_in, budget_in, original_in, account_in}
-use Rattle.issuer_rows.specs.declared.funds.Funds.{Funds}
 use Rattle.issuer_rows.specs.declared.funds.Funds.TheVariants as funds
-use Rattle.issuer_rows.specs.declared.original_row.OriginalRow.{OriginalRow}
 use Rattle.issuer_rows.specs.declared.original_row.OriginalRow.TheVariants as original
-use Rattle.issuer_rows.specs.declared.payer.Payer.{Payer}
 use Rattle.issuer_rows.specs.declared.payer.Payer.TheVariants as payer
-use Rattle.issuer_rows.specs.declared.payment.Payment.{Payment}
-use Rattle.issuer_rows.specs.declared.reply_body.ReplyBody.{ReplyBody}
 use Rattle.issuer_rows.specs.declared.row_key.RowKey.TheVariants as key
 use Rattle.issuer_rows.specs.declared.row_val.RowVal.TheVariants as val
-use Rattle.issuer_rows.specs.declared.velocity_row.VelocityRow.{VelocityRow}
 use Rattle.issuer_laws.proofs.Funding.{IsFound, IsOfCard}
 
 -- another action than 400, and nothing is written

@@ -1,32 +1,15 @@
 -- A full reversal, right after the original that it names: what is given back.
 use Rattle.std.proofs.Common.{◌≡◌, ℕ, ◌+◌, ◌-◌, ◌≤◌, Bool, true, false, if◌then◌else◌, ◌&&◌, ◌||◌, ◌==◌, nat_lt, [], ◌∷◌, Option, Some, option_map, refl, sym, ap, ◌∙◌, arith}
 use Rattle.std.proofs.lemmas.Bool.Decides.{nat_tests}
-use Rattle.iso8583.specs.declared.approval.Approval.{Approval}
-use Rattle.iso8583.specs.declared.original_kind.OriginalKind.{OriginalKind}
+use Rattle.issuer_words.specs.Words.{Approval, Funds, KeptOriginal, OriginalKind, OriginalOutcome, OriginalRow, PanPrefix, ReplyBody, Reversal, RowKey, RowVal, Transaction, VelocityRow, account_in, balance_of, budget_in, by_kind, by_payer, day_is_short, day_key, day_of, greatest_balance, identity_of, is_named, is_overfull, key_of_funds, kind_of_outcome, on_original_day, on_paid, on_reversal, on_reversed, original_in, paid_by, payer_of, prefix_of, refunded, reply_to_reversal, reversal_of_outcome, reversal_plan, reversed_original, row_of_funds, spent_less, spent_more, unchanged, velocity_in, with_balance}
 use Rattle.iso8583.specs.declared.original_kind.OriginalKind.TheVariants as kind
-use Rattle.iso8583.specs.declared.pan_prefix.PanPrefix.{PanPrefix}
-use Rattle.iso8583.specs.declared.reversal.Reversal.{Reversal}
 use Rattle.iso8583.specs.declared.reversal_scope.ReversalScope.TheVariants as scope
-use Rattle.iso8583.specs.declared.transaction.Transaction.{Transaction}
-use Rattle.issuer_rows.specs.Facts.{identity_of, day_of, prefix_of}
-use Rattle.issuer_rows.specs.Funds.{balance_of, with_balance, key_of_funds, row_of_funds, payer_of, paid_by}
-use Rattle.issuer_rows.specs.Kept.{KeptOriginal, kind_of_outcome, reversal_of_outcome}
 use Rattle.issuer_rows.specs.Plan.{Plan, Lookup, Writes, Answer}
-use Rattle.issuer_rows.specs.RequestTable.{spent_more}
-use Rattle.issuer_rows.specs.ReversalTable.{reply_to_reversal, unchanged, greatest_balance, reversed_original, refunded, spent_less, day_is_short, is_overfull, day_key, on_original_day, by_kind, on_paid, by_payer, on_reversal, on_reversed, reversal_plan, is_named}
-use Rattle.issuer_rows.specs.Typed.{account_in, budget_in, original_in, velocity_in}
-use Rattle.issuer_rows.specs.declared.funds.Funds.{Funds}
 use Rattle.issuer_rows.specs.declared.funds.Funds.TheVariants as funds
-use Rattle.issuer_rows.specs.declared.original_row.OriginalRow.{OriginalRow}
 use Rattle.issuer_rows.specs.declared.original_row.OriginalRow.TheVariants as original
-use Rattle.issuer_rows.specs.declared.original_outcome.OriginalOutcome.{OriginalOutcome}
 use Rattle.issuer_rows.specs.declared.original_outcome.OriginalOutcome.TheVariants as outcome
-use Rattle.issuer_rows.specs.declared.reply_body.ReplyBody.{ReplyBody}
-use Rattle.issuer_rows.specs.declared.row_key.RowKey.{RowKey}
 use Rattle.issuer_rows.specs.declared.row_key.RowKey.TheVariants as key
-use Rattle.issuer_rows.specs.declared.row_val.RowVal.{RowVal}
 use Rattle.issuer_rows.specs.declared.row_val.RowVal.TheVariants as val
-use Rattle.issuer_rows.specs.declared.velocity_row.VelocityRow.{VelocityRow}
 use Rattle.issuer_laws.proofs.Funding.{IsOfCard}
 use Rattle.issuer_laws.proofs.Keys.{same_text}
 use Rattle.issuer_laws.proofs.Repeated.{kept_with}

@@ -7,10 +7,7 @@ use Rattle.std.specs.List.{sum_by}
 use Rattle.std.specs.Ordering.{is_lt, is_eq}
 use lib.Dec.{T}
 use Rattle.issuer_rows.proofs.KeyLaws.{key_cmp_total, key_cmp_antisymmetric}
-use Rattle.issuer_rows.specs.Fold.{Rows}
-use Rattle.issuer_rows.specs.RowKey.{key_cmp}
-use Rattle.issuer_rows.specs.declared.row_key.RowKey.{RowKey}
-use Rattle.issuer_rows.specs.declared.row_val.RowVal.{RowVal}
+use Rattle.issuer_words.specs.Words.{RowKey, RowVal, Rows, key_cmp}
 
 -- a row, or that there is none, as a part of a sum over rows
 abbrev pub part : (RowKey × RowVal → ℕ) → RowKey → Option RowVal → ℕ

@@ -2,32 +2,11 @@
 use Rattle.std.proofs.Common.{◌≡◌, ◌≢◌, ℕ, ◌≤◌, Bool, true, false, if◌then◌else◌, ◌==◌, not, nat_lt, List, [], ◌∷◌, Option, Some, None, option_map, IsTrue, ◌⊎◌, inl, inr, refl, sym, ap, ◌∙◌, subst, arith}
 use Rattle.std.proofs.lemmas.Bool.Decides.{nat_tests}
 use Rattle.std.specs.FinMap as map
-use Rattle.iso8583.specs.declared.advice.Advice.{Advice}
+use Rattle.issuer_words.specs.Words.{AccountRow, Advice, BudgetRow, CardRow, Funds, Lookup, Pan, ReplyBody, Request, Reversal, RowKey, RowVal, Rows, Writes, accepted_writes, account_in, approval_code, approved_writes, available_in, balance_of, budget_in, day_of, decision, greatest_balance, identity_of, key_of_funds, kind_of, left_in, overlay, paid_by, reply_to_reversal, reversal_plan, reversed_original, row_of_funds, spent_in, velocity_in, writes_of}
 use Rattle.iso8583.specs.declared.original_kind.OriginalKind.TheVariants as kind
-use Rattle.iso8583.specs.declared.pan.Pan.{Pan}
-use Rattle.iso8583.specs.declared.request.Request.{Request}
-use Rattle.iso8583.specs.declared.reversal.Reversal.{Reversal}
-use Rattle.issuer_rows.specs.AdviceTable.{accepted_writes}
-use Rattle.issuer_rows.specs.Backing.{available_in, left_in}
-use Rattle.issuer_rows.specs.Decision.{decision}
-use Rattle.issuer_rows.specs.Facts.{identity_of, day_of}
-use Rattle.issuer_rows.specs.Fold.{Rows, overlay, writes_of}
-use Rattle.issuer_rows.specs.Funds.{balance_of, key_of_funds, row_of_funds, paid_by}
-use Rattle.issuer_rows.specs.Plan.{Lookup, Writes}
-use Rattle.issuer_rows.specs.RequestTable.{approval_code, approved_writes}
-use Rattle.issuer_rows.specs.ReversalTable.{reply_to_reversal, greatest_balance, reversed_original, reversal_plan}
-use Rattle.issuer_rows.specs.RowKey.{kind_of}
-use Rattle.issuer_rows.specs.Typed.{account_in, budget_in, velocity_in, spent_in}
-use Rattle.issuer_rows.specs.declared.account_row.AccountRow.{AccountRow}
-use Rattle.issuer_rows.specs.declared.budget_row.BudgetRow.{BudgetRow}
-use Rattle.issuer_rows.specs.declared.card_row.CardRow.{CardRow}
-use Rattle.issuer_rows.specs.declared.funds.Funds.{Funds}
 use Rattle.issuer_rows.specs.declared.funds.Funds.TheVariants as funds
 use Rattle.issuer_rows.specs.declared.original_outcome.OriginalOutcome.TheVariants as outcome
-use Rattle.issuer_rows.specs.declared.reply_body.ReplyBody.{ReplyBody}
-use Rattle.issuer_rows.specs.declared.row_key.RowKey.{RowKey}
 use Rattle.issuer_rows.specs.declared.row_key.RowKey.TheVariants as key
-use Rattle.issuer_rows.specs.declared.row_val.RowVal.{RowVal}
 use Rattle.issuer_rows.specs.declared.row_val.RowVal.TheVariants as val
 use Rattle.issuer_laws.proofs.AdviceWays as advice
 use Rattle.issuer_laws.proofs.Funding.{IsFound, CanPay}

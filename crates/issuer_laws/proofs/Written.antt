@@ -2,11 +2,7 @@
 use Rattle.std.proofs.Common.{◌≡◌, ◌≢◌, ℕ, [], ◌∷◌, ◌++◌, Some, ◌⊎◌, inl, inr, refl, sym, ap, ◌∙◌, subst}
 use Rattle.std.specs.FinMap as map
 use Rattle.issuer_rows.proofs.PutsOnce.{IsFresh}
-use Rattle.issuer_rows.specs.Fold.{Rows, overlay}
-use Rattle.issuer_rows.specs.Plan.{Writes}
-use Rattle.issuer_rows.specs.RowKey.{kind_of}
-use Rattle.issuer_rows.specs.declared.row_key.RowKey.{RowKey}
-use Rattle.issuer_rows.specs.declared.row_val.RowVal.{RowVal}
+use Rattle.issuer_words.specs.Words.{RowKey, RowVal, Rows, Writes, kind_of, overlay}
 use Rattle.issuer_laws.proofs.Keys.{get-put, get-other, get-fresh, same_or_other}
 
 -- of the rows of this kind this one alone is written

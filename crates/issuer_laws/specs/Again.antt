@@ -1,10 +1,7 @@
 -- A batch that is sent once more.
 use Rattle.std.specs.Prelude.{◌≡◌, Bool, true, false, List, [], ◌∷◌, map}
 use Rattle.std.specs.List.{AllByRecursion}
-use Rattle.iso8583.specs.declared.message.Message.{Message}
-use Rattle.iso8583.specs.declared.reversal.Reversal.{Reversal}
-use Rattle.issuer_rows.specs.Fold.{Rows, rows_after_one, rows_after}
-use Rattle.issuer_rows.specs.declared.frame.Frame.{Frame}
+use Rattle.issuer_words.specs.Words.{Frame, Message, Reversal, Rows, rows_after, rows_after_one}
 use Rattle.issuer_laws.specs.Messages.{request_frame, advice_frame, reversal_frame}
 use Rattle.issuer_laws.specs.Repeated.{repeat_of_request, repeat_of_advice}
 use Rattle.issuer_laws.specs.Rules.{decided_by}

@@ -1,18 +1,7 @@
 -- Cards, and what their limits allow.
 use Rattle.std.specs.Prelude.{◌≡◌, ◌≢◌, ℕ, ◌≤◌, List, Some}
 use Rattle.std.specs.FinMap as map
-use Rattle.iso8583.specs.declared.approval.Approval.{Approval}
-use Rattle.iso8583.specs.declared.pan.Pan.{Pan}
-use Rattle.iso8583.specs.declared.request.Request.{Request}
-use Rattle.iso8583.specs.declared.verdict.Verdict.{Verdict}
-use Rattle.issuer_rows.specs.Facts.{day_of, identity_of}
-use Rattle.issuer_rows.specs.Fold.{Rows, reply_of, rows_after_one, rows_after}
-use Rattle.issuer_rows.specs.RequestTable.{reply_to_request}
-use Rattle.issuer_rows.specs.Typed.{card_in}
-use Rattle.issuer_rows.specs.declared.card_row.CardRow.{CardRow}
-use Rattle.issuer_rows.specs.declared.frame.Frame.{Frame}
-use Rattle.issuer_rows.specs.declared.row_key.RowKey.{RowKey}
-use Rattle.issuer_rows.specs.declared.velocity_row.VelocityRow.{VelocityRow}
+use Rattle.issuer_words.specs.Words.{Approval, CardRow, Frame, Pan, Request, RowKey, Rows, VelocityRow, Verdict, card_in, day_of, identity_of, reply_of, reply_to_request, rows_after, rows_after_one}
 use Rattle.issuer_laws.specs.Messages.{request_frame, IsUnseen}
 use Rattle.issuer_laws.specs.Undone.{spent_on, IsAnsweredFirst}
 

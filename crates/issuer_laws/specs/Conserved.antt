@@ -1,9 +1,6 @@
 -- Money that is neither made nor lost.
 use Rattle.std.specs.Prelude.{◌≡◌}
-use Rattle.iso8583.specs.declared.account_id.AccountId.{AccountId}
-use Rattle.iso8583.specs.declared.pan_prefix.PanPrefix.{PanPrefix}
-use Rattle.issuer_rows.specs.Backing.{backing_of_account, backing_of_prefix}
-use Rattle.issuer_rows.specs.Fold.{Rows}
+use Rattle.issuer_words.specs.Words.{AccountId, PanPrefix, Rows, backing_of_account, backing_of_prefix}
 
 -- every account's backing is as before
 abbrev pub KeepsAccounts : Rows → Rows → Type 0

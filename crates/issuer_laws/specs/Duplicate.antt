@@ -1,9 +1,6 @@
 -- An original that is reversed a second time.
 use Rattle.std.specs.Prelude.{◌≡◌, ◌≢◌, List, []}
-use Rattle.iso8583.specs.declared.reversal.Reversal.{Reversal}
-use Rattle.issuer_rows.specs.Facts.{identity_of}
-use Rattle.issuer_rows.specs.Fold.{Rows, reply_of, writes_of, rows_after_one, rows_after}
-use Rattle.issuer_rows.specs.declared.frame.Frame.{Frame}
+use Rattle.issuer_words.specs.Words.{Frame, Reversal, Rows, identity_of, reply_of, rows_after, rows_after_one, writes_of}
 use Rattle.issuer_laws.specs.Messages.{reversal_frame, HasAction}
 
 -- both name the same original, of the same kind and card, and are messages of their own

@@ -1,12 +1,6 @@
 -- What a reply repeats of its message.
 use Rattle.std.specs.Prelude.{◌≡◌, ℕ, List, [], ◌∷◌}
-use Rattle.iso8583.specs.declared.message.Message.{Message}
-use Rattle.iso8583.specs.declared.verdict.Verdict.{Verdict}
-use Rattle.issuer_rows.specs.AdviceTable.{reply_to_advice}
-use Rattle.issuer_rows.specs.RequestTable.{reply_to_request}
-use Rattle.issuer_rows.specs.ReversalTable.{reply_to_reversal}
-use Rattle.issuer_rows.specs.declared.frame.Frame.{Frame}
-use Rattle.issuer_rows.specs.declared.reply_body.ReplyBody.{ReplyBody}
+use Rattle.issuer_words.specs.Words.{Frame, Message, ReplyBody, Verdict, reply_to_advice, reply_to_request, reply_to_reversal}
 
 -- a reply of the type that answers the body's (1110, 1130, 1430), with the card, amount, times, trace, acquirer, terminal and currency of
 -- the message, and the account that it names; of a body that is no message its fault

@@ -1,20 +1,12 @@
 -- Messages in their frames, and the action code of what they are answered.
 use Rattle.std.specs.Prelude.{◌≡◌, ℕ, None}
 use Rattle.std.specs.FinMap as map
-use Rattle.iso8583.specs.declared.advice.Advice.{Advice}
+use Rattle.issuer_words.specs.Words.{Advice, Frame, Identity, ReplyBody, Request, Reversal, Rows, Verdict, original_in}
 use Rattle.iso8583.specs.declared.answer.Answer.{Answer}
 use Rattle.iso8583.specs.declared.answer.Answer.TheVariants as answer
-use Rattle.iso8583.specs.declared.identity.Identity.{Identity}
 use Rattle.iso8583.specs.declared.message.Message.TheVariants as message
-use Rattle.iso8583.specs.declared.request.Request.{Request}
-use Rattle.iso8583.specs.declared.reversal.Reversal.{Reversal}
-use Rattle.iso8583.specs.declared.verdict.Verdict.{Verdict}
 use Rattle.iso8583.specs.declared.verdict.Verdict.TheVariants as verdict
-use Rattle.issuer_rows.specs.Fold.{Rows}
-use Rattle.issuer_rows.specs.Typed.{original_in}
-use Rattle.issuer_rows.specs.declared.frame.Frame.{Frame}
 use Rattle.issuer_rows.specs.declared.frame.Frame.TheVariants.{Good}
-use Rattle.issuer_rows.specs.declared.reply_body.ReplyBody.{ReplyBody}
 use Rattle.issuer_rows.specs.declared.reply_body.ReplyBody.TheVariants as body
 use Rattle.issuer_rows.specs.declared.row_key.RowKey.TheVariants as key
 

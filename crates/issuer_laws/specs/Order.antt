@@ -2,9 +2,7 @@
 use Rattle.std.specs.Prelude.{◌≡◌, [], ◌∷◌}
 use Rattle.std.specs.FinMap as map
 use Rattle.std.specs.List.{AllByRecursion}
-use Rattle.issuer_rows.specs.Decision.{decision}
-use Rattle.issuer_rows.specs.Fold.{Rows, reply_of, writes_of, rows_after_one, rows_after}
-use Rattle.issuer_rows.specs.declared.frame.Frame.{Frame}
+use Rattle.issuer_words.specs.Words.{Frame, Rows, decision, reply_of, rows_after, rows_after_one, writes_of}
 use Rattle.issuer_laws.specs.Parts.{IsIn}
 
 -- decided on these rows, neither of them writes a row that the other needs

@@ -1,13 +1,7 @@
 -- Originals that are kept for good.
 use Rattle.std.specs.Prelude.{◌≡◌, ◌⊎◌, ℕ, List, Some, None}
 use Rattle.std.specs.FinMap as map
-use Rattle.iso8583.specs.declared.identity.Identity.{Identity}
-use Rattle.issuer_rows.specs.Fold.{Rows, rows_after}
-use Rattle.issuer_rows.specs.Kept.{KeptOriginal, kind_of_outcome, action_of_outcome, approval_of_outcome, reversal_of_outcome, settled}
-use Rattle.issuer_rows.specs.Typed.{original_in}
-use Rattle.issuer_rows.specs.declared.frame.Frame.{Frame}
-use Rattle.issuer_rows.specs.declared.original_row.OriginalRow.{OriginalRow}
-use Rattle.issuer_rows.specs.declared.row_key.RowKey.{RowKey}
+use Rattle.issuer_words.specs.Words.{Frame, Identity, KeptOriginal, OriginalRow, RowKey, Rows, action_of_outcome, approval_of_outcome, kind_of_outcome, original_in, reversal_of_outcome, rows_after, settled}
 
 -- the original of this identity is kept so
 abbrev pub IsKeptAt : Rows → Identity → KeptOriginal → Type 0

@@ -1,20 +1,7 @@
 -- What an acquirer's totals say of an account.
 use Rattle.std.specs.Prelude.{◌≡◌, ℕ, ◌+◌, Bool, false, ◌&&◌, ◌==◌, List, [], ◌∷◌, Option, Some, None, is_none, if◌then◌else◌}
 use Rattle.std.specs.FinMap as map
-use Rattle.iso8583.specs.declared.account_id.AccountId.{AccountId}
-use Rattle.iso8583.specs.declared.identity.Identity.{Identity}
-use Rattle.iso8583.specs.declared.message.Message.{Message}
-use Rattle.iso8583.specs.declared.reversal.Reversal.{Reversal}
-use Rattle.issuer_rows.specs.Backing.{available_in, is_from_account}
-use Rattle.issuer_rows.specs.Facts.{identity_of}
-use Rattle.issuer_rows.specs.Fold.{Rows, reply_of, rows_after_one, rows_after}
-use Rattle.issuer_rows.specs.Kept.{reversal_of_outcome}
-use Rattle.issuer_rows.specs.ReversalTable.{given_back}
-use Rattle.issuer_rows.specs.Typed.{original_in, account_in}
-use Rattle.issuer_rows.specs.declared.frame.Frame.{Frame}
-use Rattle.issuer_rows.specs.declared.original_row.OriginalRow.{OriginalRow}
-use Rattle.issuer_rows.specs.declared.reply_body.ReplyBody.{ReplyBody}
-use Rattle.issuer_rows.specs.declared.row_key.RowKey.{RowKey}
+use Rattle.issuer_words.specs.Words.{AccountId, Frame, Identity, Message, OriginalRow, ReplyBody, Reversal, RowKey, Rows, account_in, available_in, given_back, identity_of, is_from_account, original_in, reply_of, reversal_of_outcome, rows_after, rows_after_one}
 use Rattle.issuer_laws.specs.Messages.{action_of_answer}
 
 -- what is available of the account

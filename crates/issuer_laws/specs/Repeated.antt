@@ -1,16 +1,7 @@
 -- A message that is sent again.
 use Rattle.std.specs.Prelude.{◌≡◌, true, List, [], Option, Some, None, IsTrue}
 use Rattle.std.specs.FinMap as map
-use Rattle.iso8583.specs.declared.advice.Advice.{Advice}
-use Rattle.iso8583.specs.declared.original_kind.OriginalKind.{OriginalKind}
-use Rattle.iso8583.specs.declared.request.Request.{Request}
-use Rattle.iso8583.specs.declared.transaction.Transaction.{Transaction}
-use Rattle.issuer_rows.specs.Facts.{identity_of, is_marked}
-use Rattle.issuer_rows.specs.Fold.{Rows, reply_of, writes_of, rows_after_one, rows_after}
-use Rattle.issuer_rows.specs.Typed.{original_in}
-use Rattle.issuer_rows.specs.declared.frame.Frame.{Frame}
-use Rattle.issuer_rows.specs.declared.original_row.OriginalRow.{OriginalRow}
-use Rattle.issuer_rows.specs.declared.row_key.RowKey.{RowKey}
+use Rattle.issuer_words.specs.Words.{Advice, Frame, OriginalKind, OriginalRow, Request, RowKey, Rows, Transaction, identity_of, is_marked, original_in, reply_of, rows_after, rows_after_one, writes_of}
 use Rattle.issuer_laws.specs.Messages.{request_frame, advice_frame}
 
 -- a row of an identity leaves it to this message: there is none, or it is the mark of a reversal that came ahead and names its card and kind

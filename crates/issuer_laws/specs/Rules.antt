@@ -2,42 +2,8 @@
 -- rule says what is answered and written.
 use Rattle.std.specs.Prelude.{◌≡◌, ◌≢◌, ℕ, ◌+◌, Bool, true, false, ◌&&◌, ◌||◌, ◌==◌, not, nat_lt, nat_le, List, [], ◌∷◌, Option, Some, None, is_some, is_none, option_and_then, option_map, if◌then◌else◌}
 use Rattle.std.specs.FinMap as map
-use Rattle.iso8583.specs.Luhn.{passes_luhn}
-use Rattle.iso8583.specs.Number.{number_of}
-use Rattle.iso8583.specs.declared.account_id.AccountId.{AccountId}
-use Rattle.iso8583.specs.declared.advice.Advice.{Advice}
-use Rattle.iso8583.specs.declared.identity.Identity.{Identity}
-use Rattle.iso8583.specs.declared.message.Message.{Message}
-use Rattle.iso8583.specs.declared.original_kind.OriginalKind.{OriginalKind}
-use Rattle.iso8583.specs.declared.pan.Pan.{Pan}
-use Rattle.iso8583.specs.declared.request.Request.{Request}
-use Rattle.iso8583.specs.declared.reversal.Reversal.{Reversal}
-use Rattle.iso8583.specs.declared.transaction.Transaction.{Transaction}
-use Rattle.issuer_rows.specs.AdviceTable.{acknowledged, answered_unkept, marked_advice, accepted}
-use Rattle.issuer_rows.specs.CardAccounts.{account_of}
-use Rattle.issuer_rows.specs.Facts.{identity_of, day_of, month_of, prefix_of, is_same_currency, is_same_identity, is_same_kind, is_marked, is_of_same}
-use Rattle.issuer_rows.specs.Fold.{Rows, reply_of, writes_of}
-use Rattle.issuer_rows.specs.Funds.{balance_of}
-use Rattle.issuer_rows.specs.Kept.{KeptOriginal, kind_of_outcome, action_of_outcome, payment_of_outcome, reversal_of_outcome, settled}
+use Rattle.issuer_words.specs.Words.{AccountId, AccountRow, Advice, BudgetMode, BudgetRow, CardRow, CardStatus, Frame, Funds, Identity, KeptOriginal, Mark, Message, OriginalKind, OriginalRow, Pan, Payer, Payment, ReplyBody, Request, Reversal, RowKey, RowVal, Rows, Transaction, VelocityRow, accepted, account_in, account_of, acknowledged, action_of_outcome, advice_back, answered_unkept, approved, balance_of, budget_in, card_in, day_key, day_of, declined_request, declined_unkept, given_back, greatest_balance, identity_of, is_marked, is_named, is_of_same, is_same_currency, is_same_identity, is_same_kind, is_unpermitted, is_wrong_part, kept_verdict, kind_of_outcome, marked_advice, marked_ahead, marked_request, month_of, number_of, original_in, original_put, passes_luhn, payment_of_outcome, prefix_of, reply_of, reply_to_request, reply_to_reversal, request_back, reversal_of_outcome, settled, spent_in, takes_approval, unchanged, velocity_in, writes_of}
 use Rattle.issuer_rows.specs.Plan.{Plan, Lookup, Writes, Answer, carried_out}
-use Rattle.issuer_rows.specs.RequestTable.{reply_to_request, kept_verdict, declined_unkept, declined_request, marked_request, is_unpermitted, approved}
-use Rattle.issuer_rows.specs.ReversalTable.{reply_to_reversal, unchanged, original_put, marked_ahead, is_wrong_part, given_back, greatest_balance, takes_approval, day_key, advice_back, request_back, is_named}
-use Rattle.issuer_rows.specs.Typed.{card_in, velocity_in, budget_in, original_in, account_in, spent_in}
-use Rattle.issuer_rows.specs.declared.account_row.AccountRow.{AccountRow}
-use Rattle.issuer_rows.specs.declared.budget_mode.BudgetMode.{BudgetMode}
-use Rattle.issuer_rows.specs.declared.budget_row.BudgetRow.{BudgetRow}
-use Rattle.issuer_rows.specs.declared.card_row.CardRow.{CardRow}
-use Rattle.issuer_rows.specs.declared.card_status.CardStatus.{CardStatus}
-use Rattle.issuer_rows.specs.declared.frame.Frame.{Frame}
-use Rattle.issuer_rows.specs.declared.funds.Funds.{Funds}
-use Rattle.issuer_rows.specs.declared.mark.Mark.{Mark}
-use Rattle.issuer_rows.specs.declared.original_row.OriginalRow.{OriginalRow}
-use Rattle.issuer_rows.specs.declared.payer.Payer.{Payer}
-use Rattle.issuer_rows.specs.declared.payment.Payment.{Payment}
-use Rattle.issuer_rows.specs.declared.row_key.RowKey.{RowKey}
-use Rattle.issuer_rows.specs.declared.row_val.RowVal.{RowVal}
-use Rattle.issuer_rows.specs.declared.velocity_row.VelocityRow.{VelocityRow}
-use Rattle.issuer_rows.specs.declared.reply_body.ReplyBody.{ReplyBody}
 use Rattle.issuer_laws.specs.Messages.{request_frame, advice_frame, reversal_frame}
 use Rattle.issuer_laws.specs.Reconciled.{is_answered}
 use Rattle.issuer_laws.specs.declared.decision_rule.DecisionRule.{DecisionRule}

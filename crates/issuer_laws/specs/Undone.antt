@@ -1,24 +1,10 @@
 -- An original that is reversed whole.
 use Rattle.std.specs.Prelude.{◌≡◌, ◌≤◌, ℕ, List}
 use Rattle.std.specs.FinMap as map
-use Rattle.iso8583.specs.declared.account_id.AccountId.{AccountId}
-use Rattle.iso8583.specs.declared.advice.Advice.{Advice}
-use Rattle.iso8583.specs.declared.original_kind.OriginalKind.{OriginalKind}
+use Rattle.issuer_words.specs.Words.{AccountId, Advice, Frame, OriginalKind, Pan, PanPrefix, Request, Reversal, Rows, Transaction, VelocityRow, account_in, available_in, budget_in, greatest_balance, identity_of, left_in, reply_of, rows_after_one, spent_in, velocity_in}
 use Rattle.iso8583.specs.declared.original_kind.OriginalKind.TheVariants as kind
-use Rattle.iso8583.specs.declared.pan.Pan.{Pan}
-use Rattle.iso8583.specs.declared.pan_prefix.PanPrefix.{PanPrefix}
-use Rattle.iso8583.specs.declared.request.Request.{Request}
-use Rattle.iso8583.specs.declared.reversal.Reversal.{Reversal}
 use Rattle.iso8583.specs.declared.reversal_scope.ReversalScope.TheVariants as scope
-use Rattle.iso8583.specs.declared.transaction.Transaction.{Transaction}
-use Rattle.issuer_rows.specs.Backing.{available_in, left_in}
-use Rattle.issuer_rows.specs.Facts.{identity_of}
-use Rattle.issuer_rows.specs.Fold.{Rows, reply_of, rows_after_one}
-use Rattle.issuer_rows.specs.ReversalTable.{greatest_balance}
-use Rattle.issuer_rows.specs.Typed.{account_in, budget_in, velocity_in, spent_in}
-use Rattle.issuer_rows.specs.declared.frame.Frame.{Frame}
 use Rattle.issuer_rows.specs.declared.row_key.RowKey.TheVariants as key
-use Rattle.issuer_rows.specs.declared.velocity_row.VelocityRow.{VelocityRow}
 use Rattle.issuer_laws.specs.Messages.{request_frame, advice_frame, reversal_frame, HasAction, IsUnseen}
 
 -- what was spent with a card on a day: nothing where there is no row

@@ -1,9 +1,5 @@
 ghost use Rattle.std.specs.Prelude.{List};
-ghost use Rattle.iso8583.specs.declared.pan.Pan.{Pan};
-ghost use Rattle.iso8583.specs.declared.request.Request.{Request};
-ghost use Rattle.issuer_rows.specs.Fold.{Rows, rows_after};
-ghost use Rattle.issuer_rows.specs.declared.card_row.CardRow.{CardRow};
-ghost use Rattle.issuer_rows.specs.declared.frame.Frame.{Frame};
+ghost use Rattle.issuer_words.specs.Words.{CardRow, Frame, Pan, Request, Rows, rows_after};
 ghost use Rattle.issuer_laws.specs.Covered.{AreDaysCovered};
 ghost use Rattle.issuer_laws.specs.Cards.{CodesDiffer, IsWithinLimits, LeavesDayWithin, StaysCard};
 

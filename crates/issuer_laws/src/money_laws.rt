@@ -1,10 +1,5 @@
 ghost use Rattle.std.specs.Prelude.{List};
-ghost use Rattle.iso8583.specs.declared.account_id.AccountId.{AccountId};
-ghost use Rattle.iso8583.specs.declared.advice.Advice.{Advice};
-ghost use Rattle.iso8583.specs.declared.request.Request.{Request};
-ghost use Rattle.iso8583.specs.declared.reversal.Reversal.{Reversal};
-ghost use Rattle.issuer_rows.specs.Fold.{Rows, rows_after_one, rows_after};
-ghost use Rattle.issuer_rows.specs.declared.frame.Frame.{Frame};
+ghost use Rattle.issuer_words.specs.Words.{AccountId, Advice, Frame, Request, Reversal, Rows, rows_after, rows_after_one};
 ghost use Rattle.issuer_laws.specs.Conserved.{KeepsAccounts, KeepsPrefixes};
 ghost use Rattle.issuer_laws.specs.Reconciled.{IsReconciled};
 ghost use Rattle.issuer_laws.specs.Undone.{RequestIsUndone, RequestIsReversed, AdviceIsUndone, AdviceIsReversed};

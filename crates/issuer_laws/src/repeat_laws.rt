@@ -1,11 +1,5 @@
 ghost use Rattle.std.specs.Prelude.{List};
-ghost use Rattle.iso8583.specs.declared.advice.Advice.{Advice};
-ghost use Rattle.iso8583.specs.declared.identity.Identity.{Identity};
-ghost use Rattle.iso8583.specs.declared.request.Request.{Request};
-ghost use Rattle.iso8583.specs.declared.reversal.Reversal.{Reversal};
-ghost use Rattle.issuer_rows.specs.Fold.{Rows, replies_to};
-ghost use Rattle.issuer_rows.specs.Kept.{KeptOriginal};
-ghost use Rattle.issuer_rows.specs.declared.frame.Frame.{Frame};
+ghost use Rattle.issuer_words.specs.Words.{Advice, Frame, Identity, KeptOriginal, Request, Reversal, Rows, replies_to};
 ghost use Rattle.issuer_laws.specs.Again.{RequestsWriteNothingAgain, ReversalsWriteNothingAgain};
 ghost use Rattle.issuer_laws.specs.Duplicate.{SecondIsDuplicate};
 ghost use Rattle.issuer_laws.specs.Echoed.{EchoEach};

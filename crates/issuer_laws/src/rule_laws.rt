@@ -1,6 +1,4 @@
-ghost use Rattle.iso8583.specs.declared.request.Request.{Request};
-ghost use Rattle.issuer_rows.specs.Fold.{Rows};
-ghost use Rattle.issuer_rows.specs.declared.frame.Frame.{Frame};
+ghost use Rattle.issuer_words.specs.Words.{Frame, Request, Rows};
 ghost use Rattle.issuer_laws.specs.Rules.{IsApprovedWherePaid, IsDecidedBy, decided_by};
 
 /// A body is answered, and rows are written, as the first rule says of the flat list of its kind whose condition holds: that list and the

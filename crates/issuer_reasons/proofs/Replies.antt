@@ -1,8 +1,7 @@
 -- The reply at a place of a batch, and what explains it.
 use Rattle.std.proofs.Common.{◌≡◌, ℕ, List, [], take, Some, sym, ap, ◌∙◌, subst}
 use Rattle.std.specs.List.{slice_get}
-use Rattle.issuer_rows.specs.Fold.{Rows, rows_after}
-use Rattle.issuer_rows.specs.declared.frame.Frame.{Frame}
+use Rattle.issuer_words.specs.Words.{Frame, Rows, rows_after}
 use Rattle.issuer_reasons.specs.Explained.{Explains, ExplainsAt}
 use Rattle.issuer_reasons.specs.declared.explanation.Explanation.{Explanation}
 use Rattle.issuer_laws.proofs.RepliesAt.{reply_at}

@@ -1,8 +1,6 @@
 -- Rules by what was asked already.
 use Rattle.std.specs.Prelude.{ℕ, drop}
-use Rattle.iso8583.specs.declared.advice.Advice.{Advice}
-use Rattle.iso8583.specs.declared.request.Request.{Request}
-use Rattle.iso8583.specs.declared.reversal.Reversal.{Reversal}
+use Rattle.issuer_words.specs.Words.{Advice, Request, Reversal}
 use Rattle.issuer_laws.specs.Rules.{Facts, ReversalFacts, advice_conditions, first_of, request_conditions, reversal_conditions}
 use Rattle.issuer_laws.specs.declared.decision_rule.DecisionRule.{DecisionRule}
 

@@ -1,10 +1,7 @@
 -- Why a body is decided so: its rule, and the decision with the rows that it reads and writes.
 use Rattle.std.specs.Prelude.{◌≡◌, ℕ, List, Some, slice_get, take}
 use Rattle.std.specs.FinMap as map
-use Rattle.issuer_rows.specs.Agreement.{Agrees, keys_read}
-use Rattle.issuer_rows.specs.Decision.{decision}
-use Rattle.issuer_rows.specs.Fold.{Rows, replies_to, reply_of, rows_after, writes_of}
-use Rattle.issuer_rows.specs.declared.frame.Frame.{Frame}
+use Rattle.issuer_words.specs.Words.{Agrees, Frame, Rows, decision, keys_read, replies_to, reply_of, rows_after, writes_of}
 use Rattle.issuer_laws.specs.Rules.{IsDecidedBy, decided_by}
 use Rattle.issuer_reasons.specs.declared.explanation.Explanation.{Explanation}
 

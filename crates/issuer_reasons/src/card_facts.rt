@@ -1,7 +1,6 @@
 ghost use Rattle.std.specs.Prelude.{◌≡◌, option_and_then};
 ghost use Rattle.std.specs.FinMap as map;
-ghost use Rattle.iso8583.specs.declared.account_id.AccountId.{AccountId};
-ghost use Rattle.issuer_rows.specs.Typed.{account_in, spent_in};
+ghost use Rattle.issuer_words.specs.Words.{AccountId, account_in, spent_in};
 ghost use Rattle.issuer_laws.specs.Rules.{facts_of, named_by};
 
 use crate::rows::{account_of, budget_of, card_of, original_of, spent_on};

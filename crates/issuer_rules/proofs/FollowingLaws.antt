@@ -4,15 +4,8 @@ use Rattle.std.proofs.lemmas.Bool.{false≢true}
 use Rattle.std.proofs.lemmas.Bool.Decides.{nat_tests}
 use Rattle.std.proofs.lemmas.List.Elements.{recursion_from_All, All-contains_itself}
 use Rattle.std.specs.List.{list_all}
-use Rattle.issuer_rows.specs.Agreement.{Reads, Agrees, keys_read, IsLocal, ComesTo, AreRead}
-use Rattle.issuer_rows.specs.Decision.{decision, plan_of}
-use Rattle.issuer_rows.specs.Fold.{Rows}
+use Rattle.issuer_words.specs.Words.{Agrees, AreRead, ComesTo, Frame, IsLocal, Reads, ReplyBody, RowKey, RowVal, Rows, decision, key_eq, keys_read, kind_of, plan_of}
 use Rattle.issuer_rows.specs.Plan.{Plan, Answer, Look, Writes, Lookup, Decided, after_look, carried_out}
-use Rattle.issuer_rows.specs.RowKey.{kind_of, key_eq}
-use Rattle.issuer_rows.specs.declared.frame.Frame.{Frame}
-use Rattle.issuer_rows.specs.declared.reply_body.ReplyBody.{ReplyBody}
-use Rattle.issuer_rows.specs.declared.row_key.RowKey.{RowKey}
-use Rattle.issuer_rows.specs.declared.row_val.RowVal.{RowVal}
 use Rattle.issuer_rules.specs.Following.{Follows, Concludes, after_looks, kinds_read}
 use Rattle.issuer_rules.specs.Needs.{ReadsNeeds, ReadsAllNeeds}
 use Rattle.issuer_view.specs.Recording.{Recording, kept, first_kept}

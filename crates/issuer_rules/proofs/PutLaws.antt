@@ -1,14 +1,8 @@
 -- Rows that are written one after another.
 use Rattle.std.proofs.Common.{◌≡◌, ℕ, List, [], ◌∷◌, None, refl, ap, ◌∙◌}
-use Rattle.iso8583.specs.declared.identity.Identity.{Identity}
-use Rattle.iso8583.specs.declared.pan.Pan.{Pan}
-use Rattle.issuer_rows.specs.Funds.{key_of_funds}
-use Rattle.issuer_rows.specs.Plan.{Writes}
-use Rattle.issuer_rows.specs.declared.funds.Funds.{Funds}
+use Rattle.issuer_words.specs.Words.{Funds, Identity, Pan, RowKey, RowVal, Writes, key_of_funds}
 use Rattle.issuer_rows.specs.declared.funds.Funds.TheVariants as funds
-use Rattle.issuer_rows.specs.declared.row_key.RowKey.{RowKey}
 use Rattle.issuer_rows.specs.declared.row_key.RowKey.TheVariants as key
-use Rattle.issuer_rows.specs.declared.row_val.RowVal.{RowVal}
 use Rattle.issuer_view.specs.Recording.{Recording}
 use Rattle.issuer_view.specs.RowSets.{value_in, put}
 

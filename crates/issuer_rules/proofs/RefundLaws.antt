@@ -1,11 +1,7 @@
 -- When what paid would have more than it may.
 use Rattle.std.proofs.Common.{◌≡◌, ℕ, ◌+◌, ◌≤◌, true, false, nat_lt, arith}
 use Rattle.std.proofs.lemmas.Bool.Decides.{nat_tests}
-use Rattle.issuer_rows.specs.Funds.{balance_of}
-use Rattle.issuer_rows.specs.Kept.{KeptOriginal}
-use Rattle.issuer_rows.specs.ReversalTable.{given_back, greatest_balance, is_overfull}
-use Rattle.iso8583.specs.declared.reversal.Reversal.{Reversal}
-use Rattle.issuer_rows.specs.declared.funds.Funds.{Funds}
+use Rattle.issuer_words.specs.Words.{Funds, KeptOriginal, Reversal, balance_of, given_back, greatest_balance, is_overfull}
 
 over : (n : ℕ) → ¬ (n ≤ greatest_balance) → nat_lt greatest_balance n ≡ true
 over n h = grind (arith, nat_tests)

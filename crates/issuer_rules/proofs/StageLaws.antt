@@ -1,14 +1,8 @@
 -- How a stage of a decision goes on, and how it ends.
 use Rattle.std.proofs.Common.{◌≡◌, ◌⊎◌, ℕ, List, [], ◌∷◌, ◌++◌, true, Option, Some, None, Result, Ok, Err, IfSome, IsErrAnd, inl, refl, sym, ap, subst, ◌∙◌}
 use Rattle.std.proofs.lemmas.Result.{err_from_is_err_and}
-use Rattle.issuer_rows.specs.Decision.{plan_of}
-use Rattle.issuer_rows.specs.Fold.{Rows}
+use Rattle.issuer_words.specs.Words.{Frame, ReplyBody, RowKey, RowVal, Rows, kind_of, plan_of}
 use Rattle.issuer_rows.specs.Plan.{Plan, Answer, Writes}
-use Rattle.issuer_rows.specs.RowKey.{kind_of}
-use Rattle.issuer_rows.specs.declared.frame.Frame.{Frame}
-use Rattle.issuer_rows.specs.declared.reply_body.ReplyBody.{ReplyBody}
-use Rattle.issuer_rows.specs.declared.row_key.RowKey.{RowKey}
-use Rattle.issuer_rows.specs.declared.row_val.RowVal.{RowVal}
 use Rattle.issuer_rules.proofs.FollowingLaws.{begins, follows_needs, concluded, concluded_needs, first_put, has_no_kind, kinds_more, stops_kept, unread}
 use Rattle.issuer_rules.proofs.PutLaws.{without_puts}
 use Rattle.issuer_rules.specs.Following.{Follows, Concludes, IsAt, kinds_read}

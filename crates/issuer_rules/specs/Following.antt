@@ -1,12 +1,6 @@
 -- A decision on its way through its table: which rows it has read, as the table needs them, and what is left of its plan.
 use Rattle.std.specs.Prelude.{◌≡◌, ℕ, List, [], ◌∷◌, map}
-use Rattle.issuer_rows.specs.Agreement.{Reads, Agrees, keys_read}
-use Rattle.issuer_rows.specs.Decision.{decision}
-use Rattle.issuer_rows.specs.Plan.{Plan, Writes, Lookup, Decided, after_look, carried_out}
-use Rattle.issuer_rows.specs.RowKey.{kind_of}
-use Rattle.issuer_rows.specs.declared.frame.Frame.{Frame}
-use Rattle.issuer_rows.specs.declared.reply_body.ReplyBody.{ReplyBody}
-use Rattle.issuer_rows.specs.declared.row_key.RowKey.{RowKey}
+use Rattle.issuer_words.specs.Words.{Agrees, Decided, Frame, Lookup, Plan, Reads, ReplyBody, RowKey, Writes, after_look, carried_out, decision, keys_read, kind_of}
 use Rattle.issuer_view.specs.Recording.{Recording}
 
 -- a decision that needed these rows before, in their order

@@ -1,9 +1,6 @@
 -- Rows that a decision needs, and those that it has read so far.
 use Rattle.std.specs.Prelude.{◌≡◌, take, length}
-use Rattle.issuer_rows.specs.Agreement.{Reads, Agrees, keys_read}
-use Rattle.issuer_rows.specs.Decision.{decision}
-use Rattle.issuer_rows.specs.Plan.{Lookup}
-use Rattle.issuer_rows.specs.declared.frame.Frame.{Frame}
+use Rattle.issuer_words.specs.Words.{Agrees, Frame, Lookup, Reads, decision, keys_read}
 
 -- on all rows that agree with the reads, those that were read are the first of the rows that are needed, in their order
 abbrev pub ReadsNeeds : Frame → Reads → Type 0

@@ -1,17 +1,8 @@
 -- A stage of a decision, from where it stands to the end: what it returns, and what it does to the recorder.
 use Rattle.std.specs.Prelude.{◌≡◌, ◌⊎◌, Option, Result, IfOk, IfErr, IfSome}
-use Rattle.iso8583.specs.declared.advice.Advice.{Advice}
+use Rattle.issuer_words.specs.Words.{Advice, Frame, ReplyBody, Request, Reversal, RowKey, RowVal, Rows, Verdict, reply_to_request}
 use Rattle.iso8583.specs.declared.message.Message.TheVariants as message
-use Rattle.iso8583.specs.declared.request.Request.{Request}
-use Rattle.iso8583.specs.declared.reversal.Reversal.{Reversal}
-use Rattle.iso8583.specs.declared.verdict.Verdict.{Verdict}
-use Rattle.issuer_rows.specs.Fold.{Rows}
-use Rattle.issuer_rows.specs.RequestTable.{reply_to_request}
-use Rattle.issuer_rows.specs.declared.frame.Frame.{Frame}
 use Rattle.issuer_rows.specs.declared.frame.Frame.TheVariants.{Good}
-use Rattle.issuer_rows.specs.declared.reply_body.ReplyBody.{ReplyBody}
-use Rattle.issuer_rows.specs.declared.row_key.RowKey.{RowKey}
-use Rattle.issuer_rows.specs.declared.row_val.RowVal.{RowVal}
 use Rattle.issuer_rules.specs.Following.{Concludes}
 use Rattle.issuer_rules.specs.Needs.{ReadsNeeds}
 use Rattle.issuer_view.specs.Recording.{Recording, IsStopOf}

@@ -1,11 +1,8 @@
 ghost use Rattle.std.specs.Prelude.{◌≡◌, ◌+◌, ◌^◌, ◌<◌, ◌≤◌, ◌&&◌, length, None, IsSome, IfErr, IfSome, OnOk, OnErr};
 ghost use Rattle.iso8583.specs.declared.message.Message.TheVariants as message;
 ghost use Rattle.iso8583.specs.declared.original_kind.OriginalKind.TheVariants as kind;
-ghost use Rattle.issuer_rows.specs.Facts.{day_of, identity_of, is_of_same};
-ghost use Rattle.issuer_rows.specs.Funds.{balance_of};
+ghost use Rattle.issuer_words.specs.Words.{IsOfKind, balance_of, day_of, identity_of, is_of_same, original_in};
 ghost use Rattle.issuer_rows.specs.RequestTable as table;
-ghost use Rattle.issuer_rows.specs.RowVal.{IsOfKind};
-ghost use Rattle.issuer_rows.specs.Typed.{original_in};
 ghost use Rattle.issuer_rows.specs.declared.frame.Frame.TheVariants.{Good};
 ghost use Rattle.issuer_rules.specs.Following.{Follows, Concludes};
 ghost use Rattle.issuer_rules.specs.Stage.{DecidesRequest};

@@ -1,7 +1,6 @@
 ghost use Rattle.std.specs.Prelude.{◌≡◌, ◌+◌, ◌^◌, ◌<◌, ◌≤◌, Ok, Err, IfOk, IfErr, IfNone};
 ghost use Rattle.issuer_rows.specs.RequestTable as table;
-ghost use Rattle.issuer_rows.specs.Funds.{balance_of};
-ghost use Rattle.issuer_rows.specs.Kept.{kind_of_outcome};
+ghost use Rattle.issuer_words.specs.Words.{balance_of, kind_of_outcome};
 ghost use Rattle.iso8583.specs.declared.original_kind.OriginalKind.TheVariants as kind;
 
 use iso8583::{AccountId, DeclineCode, Request, Transaction, Verdict, luhn};

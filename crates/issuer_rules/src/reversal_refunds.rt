@@ -1,6 +1,5 @@
 ghost use Rattle.std.specs.Prelude.{◌≡◌, ◌-◌, Some};
-ghost use Rattle.issuer_rows.specs.Facts.{identity_of};
-ghost use Rattle.issuer_rows.specs.Kept.{settled};
+ghost use Rattle.issuer_words.specs.Words.{identity_of, settled};
 ghost use Rattle.iso8583.specs.declared.message.Message.TheVariants as message;
 ghost use Rattle.issuer_rows.specs.ReversalTable as table;
 ghost use Rattle.issuer_rows.specs.declared.frame.Frame.TheVariants.{Good};

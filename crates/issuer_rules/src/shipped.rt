@@ -1,6 +1,5 @@
 ghost use Rattle.std.specs.Prelude.{◌≡◌, ◌⊎◌, IfOk, IfErr, IfSome};
-ghost use Rattle.iso8583.specs.declared.codec_fault.CodecFault.{CodecFault};
-ghost use Rattle.issuer_rows.specs.Agreement.{IsLocal};
+ghost use Rattle.issuer_words.specs.Words.{CodecFault, IsLocal};
 ghost use Rattle.issuer_rules.specs.Needs.{ReadsNeeds, ReadsAllNeeds};
 ghost use Rattle.issuer_view.specs.Recording.{IsNew, IsStopOf};
 

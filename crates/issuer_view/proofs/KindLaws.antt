@@ -4,7 +4,7 @@ use Rattle.std.proofs.lemmas.Option.{none-some, same_Some}
 use Rattle.std.specs.List.{AllByRecursion}
 use Rattle.indexmap.specs.IndexMap.{insert_entry}
 use Rattle.issuer_rows.proofs.KeyLaws.{key_eq_decides}
-use Rattle.issuer_view.specs.Words.{IsOfKind, RowKey, RowVal, Writes, key_eq}
+use Rattle.issuer_words.specs.Words.{IsOfKind, RowKey, RowVal, Writes, key_eq}
 use Rattle.issuer_view.proofs.ListLaws.{inserted_once}
 use Rattle.issuer_view.specs.RowSets.{value_in, AreWritesOfKind, IsOnceEach}
 

@@ -7,7 +7,8 @@ use Rattle.std.proofs.lemmas.Option.{none-some, same_Some, slice_get_within, get
 use Rattle.std.specs.List.{AllByRecursion, IsDistinct}
 use Rattle.indexmap.specs.IndexMap.{insert_entry}
 use Rattle.issuer_rows.proofs.KeyLaws.{key_eq_decides}
-use Rattle.issuer_view.specs.Words.{IsOnceEach, RowKey, key_eq, value_in}
+use Rattle.issuer_words.specs.Words.{RowKey, key_eq}
+use Rattle.issuer_view.specs.Words.{IsOnceEach, value_in}
 
 -- two rows that differ, either way round
 turned : (a b : RowKey) → key_eq a b ≡ false → key_eq b a ≡ false

@@ -5,7 +5,7 @@ use Rattle.std.proofs.lemmas.Option.{same_Some}
 use Rattle.std.specs.Vec.{with_items}
 use Rattle.indexmap.specs.IndexMap.{IndexMap, insert_entry}
 use Rattle.indexmap.proofs.CallerLemmas.{insert_entry-new}
-use Rattle.issuer_view.specs.Words.{Reads, RowKey, RowVal, key_eq}
+use Rattle.issuer_words.specs.Words.{Reads, RowKey, RowVal, key_eq}
 use Rattle.issuer_view.specs.RowSets.{value_in, latest, latest_after, logged}
 
 module _ {S : Type 0} (room : IndexMap RowKey (Option RowVal) S) (reads entries : Reads) (key : RowKey) (row : Option RowVal) where

@@ -1,11 +1,7 @@
 -- What a recorder holds while a message is decided.
 use Rattle.std.specs.Prelude.{◌≡◌, ◌⊎◌, [], Option, Some, None, Result, Ok, Err, IfSome}
 use Rattle.std.specs.FinMap as map
-use Rattle.issuer_rows.specs.Agreement.{Reads, Agrees}
-use Rattle.issuer_rows.specs.Fold.{Rows}
-use Rattle.issuer_rows.specs.Plan.{Writes}
-use Rattle.issuer_rows.specs.declared.row_key.RowKey.{RowKey}
-use Rattle.issuer_rows.specs.declared.row_val.RowVal.{RowVal}
+use Rattle.issuer_words.specs.Words.{Agrees, Reads, RowKey, RowVal, Rows, Writes}
 use Rattle.issuer_view.specs.RowSets.{value_in}
 use Rattle.issuer_view.specs.declared.stop.Stop.{Stop}
 use Rattle.issuer_view.specs.declared.stop.Stop.TheVariants.{OutOfMemory}

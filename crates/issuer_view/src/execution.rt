@@ -1,6 +1,5 @@
 ghost use Rattle.std.specs.Prelude.{◌≡◌, ◌⊎◌, Err, IfOk, IfErr, IfSome};
-ghost use Rattle.issuer_rows.specs.Agreement.{IsLocal, IsTrueExecution};
-ghost use Rattle.issuer_rows.specs.Fold.{reply_of, writes_of};
+ghost use Rattle.issuer_words.specs.Words.{IsLocal, IsTrueExecution, reply_of, writes_of};
 ghost use Rattle.issuer_view.specs.Recording.{AgreesWithBook, IsStopOf};
 
 use crate::decide::Decide;

@@ -1,9 +1,6 @@
 ghost use Rattle.std.specs.Prelude.{◌≡◌, Option, Result, IfOk, IfErr, IfSome, OnOk};
 ghost use Rattle.std.specs.FinMap as map;
-ghost use Rattle.issuer_rows.specs.Fold.{Rows};
-ghost use Rattle.issuer_rows.specs.RowVal.{IsOfKind};
-ghost use Rattle.issuer_rows.specs.declared.row_key.RowKey.{RowKey};
-ghost use Rattle.issuer_rows.specs.declared.row_val.RowVal.{RowVal};
+ghost use Rattle.issuer_words.specs.Words.{IsOfKind, RowKey, RowVal, Rows};
 ghost use Rattle.issuer_view.specs.Recording.{answer_of};
 ghost use Rattle.issuer_view.specs.declared.stop.Stop.{Stop};
 

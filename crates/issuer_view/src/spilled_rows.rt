@@ -4,8 +4,7 @@ ghost use Rattle.std.specs.Prelude.{◌≡◌, ◌<◌, ◌^◌, ◌-◌, [], So
 ghost use Rattle.std.specs.FinMap as map;
 ghost use Rattle.std.specs.Map.Iter.{deref_pair};
 ghost use Rattle.indexmap.specs.IndexMap.{insert_entry, spare};
-ghost use Rattle.issuer_rows.specs.RowKey.{key_eq};
-ghost use Rattle.issuer_rows.specs.RowVal.{IsOfKind};
+ghost use Rattle.issuer_words.specs.Words.{IsOfKind, key_eq};
 ghost use Rattle.issuer_view.specs.Recording.{answer_of, AsksOnce};
 ghost use Rattle.issuer_view.specs.RowSets.{value_in, latest, logged, rows_in};
 

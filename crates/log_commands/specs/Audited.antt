@@ -13,9 +13,7 @@ use Rattle.file_batch_laws.specs.declared.batch_fault.BatchFault.TheVariants as 
 use Rattle.file_devices.specs.BatchNames.{Names}
 use Rattle.file_devices.specs.Failing.{Failing}
 use Rattle.file_devices.specs.Holding.{IsThere}
-use Rattle.issuer_rows.specs.Fold.{Rows, rows_after}
-use Rattle.issuer_rows.specs.declared.frame.Frame.{Frame}
-use Rattle.issuer_rows.specs.declared.reply_body.ReplyBody.{ReplyBody}
+use Rattle.issuer_words.specs.Words.{Frame, ReplyBody, Rows, rows_after}
 use Rattle.log_laws.specs.declared.log_fault.LogFault.TheVariants as log
 use Rattle.log_replay.specs.Blocks.{AreBlocksOf}
 use Rattle.log_replay.specs.Faults.{IsReadingFault}

@@ -8,8 +8,7 @@ use Rattle.file_batch.specs.declared.body_count.BodyCount.{BodyCount}
 use Rattle.file_batch_laws.specs.Blocks.{AreBlocksOfReplies, block_replies_text, replies_to_blocks}
 use Rattle.file_devices.specs.BatchNames.{Names}
 use Rattle.file_devices.specs.Holding.{IsThere}
-use Rattle.issuer_rows.specs.Fold.{Rows, rows_after}
-use Rattle.issuer_rows.specs.declared.frame.Frame.{Frame}
+use Rattle.issuer_words.specs.Words.{Frame, Rows, rows_after}
 use Rattle.log_replay.specs.Blocks.{AreBlocksOf}
 use Rattle.log_replay.specs.Logged.{IsLogOfMessages, book_digest}
 use Rattle.log_commands.specs.declared.written_log.WrittenLog.{WrittenLog}

@@ -1,8 +1,7 @@
 -- Messages that are decided block by block, as they come.
 use Rattle.std.specs.Prelude.{◌≡◌, ◌<◌, ◌≤◌, ◌+◌, ℕ, List, [], ◌++◌, length}
 use Rattle.std.specs.List.{AllByRecursion}
-use Rattle.issuer_rows.specs.Fold.{Rows, rows_after, replies_to}
-use Rattle.issuer_rows.specs.declared.frame.Frame.{Frame}
+use Rattle.issuer_words.specs.Words.{Frame, Rows, replies_to, rows_after}
 use Rattle.file_batch.specs.Counting.{count_of, plus}
 use Rattle.file_batch_laws.specs.Blocks.{all_messages, block_text, blocks_text, replies_to_blocks, rows_after_blocks}
 use Rattle.file_batch_laws.specs.Frames.{AreFramesOf}

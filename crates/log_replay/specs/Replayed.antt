@@ -1,7 +1,6 @@
 -- What a log comes to that is decided again.
 use Rattle.std.specs.Prelude.{◌≡◌, ℕ, List, ◌++◌}
-use Rattle.issuer_rows.specs.Fold.{Rows, rows_after}
-use Rattle.issuer_rows.specs.declared.frame.Frame.{Frame}
+use Rattle.issuer_words.specs.Words.{Frame, Rows, rows_after}
 use Rattle.file_batch.specs.Counting.{count_of}
 use Rattle.file_batch_laws.specs.Blocks.{AreBlocksOfReplies, block_replies_text, replies_to_blocks}
 use Rattle.log_replay.specs.Blocks.{AreBlocksOf}

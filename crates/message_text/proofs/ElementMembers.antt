@@ -3,9 +3,8 @@ use Rattle.std.proofs.Common.{◌≡◌, ℕ, ◌<◌, ◌^◌, false, List, [],
 use Rattle.std.specs.Prelude.{option_map, Result, IfOk, codes}
 use Rattle.std.specs.Global.{Vec}
 use Rattle.std.proofs.lemmas.List.{take_at, length-append}
-use Rattle.iso8583.specs.Number.{number_of, fixed_digits}
+use Rattle.issuer_words.specs.Words.{OriginalRef, fixed_digits, number_of}
 use Rattle.iso8583.proofs.NumberLaws.{length-fixed_digits, number_of-fixed_digits}
-use Rattle.iso8583.specs.declared.original_ref.OriginalRef.{OriginalRef}
 use Rattle.iso_laws.specs.Elements.{original_text, original_type, twelve_zeros}
 use Rattle.iso_laws.proofs.Originals.{cut-acquirer, length-original_type}
 use Rattle.iso_laws.specs.Spelling.{Field, Texts, fields_among, with_field}

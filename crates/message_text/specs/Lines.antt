@@ -1,20 +1,14 @@
 -- Bodies and replies as lines of JSON. A message is an object of its elements, by the names that `make` takes.
 use Rattle.std.specs.Prelude.{ℕ, List, [], ◌∷◌, ◌++◌, Option, Some, None, ◌==◌, if◌then◌else◌, map, codes}
 use Rattle.std.specs.List.{flat_map}
-use Rattle.iso8583.specs.CodecFault.{element_of_fault}
-use Rattle.iso8583.specs.declared.codec_fault.CodecFault.{CodecFault}
-use Rattle.iso8583.specs.declared.message.Message.{Message}
-use Rattle.iso8583.specs.declared.reply.Reply.{Reply}
+use Rattle.issuer_words.specs.Words.{CodecFault, Frame, Message, Reply, ReplyBody, element_of_fault, fault_body}
 use Rattle.iso_laws.specs.Messages.{fields_of, mti_of}
 use Rattle.iso_laws.specs.Replies.{reply_fields, reply_mti}
 use Rattle.iso_laws.specs.Spelling.{Field}
 use Rattle.iso_laws.specs.Types.{mti_text}
 use Rattle.iso_laws.specs.declared.element.Element.{Element}
 use Rattle.iso_laws.specs.declared.mti.Mti.{Mti}
-use Rattle.issuer_rows.specs.FrameFault.{fault_body}
-use Rattle.issuer_rows.specs.declared.frame.Frame.{Frame}
 use Rattle.issuer_rows.specs.declared.frame.Frame.TheVariants as frame
-use Rattle.issuer_rows.specs.declared.reply_body.ReplyBody.{ReplyBody}
 use Rattle.issuer_rows.specs.declared.reply_body.ReplyBody.TheVariants as body
 use Rattle.json.specs.Token.{Token, key}
 use Rattle.message_text.specs.Names.{name_of}

@@ -3,11 +3,7 @@ use Rattle.std.proofs.Common.{◌≡◌, ℕ, List, [], ◌∷◌, length, map, 
 use Rattle.std.proofs.lemmas.Option.{none-some}
 use Rattle.std.specs.FinMap as finite
 use Rattle.issuer_rows.proofs.KeyLaws.{key_cmp_total, key_cmp_antisymmetric}
-use Rattle.issuer_rows.specs.Fold.{Rows, replies_to, rows_after}
-use Rattle.issuer_rows.specs.declared.frame.Frame.{Frame}
-use Rattle.issuer_rows.specs.declared.reply_body.ReplyBody.{ReplyBody}
-use Rattle.issuer_rows.specs.declared.row_key.RowKey.{RowKey}
-use Rattle.issuer_rows.specs.declared.row_val.RowVal.{RowVal}
+use Rattle.issuer_words.specs.Words.{Frame, ReplyBody, RowKey, RowVal, Rows, replies_to, rows_after}
 use Rattle.issuer_laws.proofs.Parts.{decided_alone, leaves_others}
 use Rattle.issuer_laws.specs.Parts.{IsIn, Parted, bodies, of_part, with_parts, IsOfPart, AreApart}
 use Rattle.engine_parts.proofs.JoinLaws.{get_joined}

@@ -5,12 +5,7 @@ use Rattle.std.proofs.lemmas.List.Sorted.{list_any-IsPermutation}
 use Rattle.std.specs.FinMap as map
 use Rattle.std.specs.List.{list_any}
 use Rattle.issuer_rows.proofs.KeyLaws.{key_cmp_total, key_cmp_antisymmetric, key_eq_decides, same_test}
-use Rattle.issuer_rows.specs.Book.{IsWithin}
-use Rattle.issuer_rows.specs.Fold.{Rows}
-use Rattle.issuer_rows.specs.RowKey.{key_cmp, key_eq}
-use Rattle.issuer_rows.specs.declared.frame.Frame.{Frame}
-use Rattle.issuer_rows.specs.declared.row_key.RowKey.{RowKey}
-use Rattle.issuer_rows.specs.declared.row_val.RowVal.{RowVal}
+use Rattle.issuer_words.specs.Words.{Frame, IsWithin, RowKey, RowVal, Rows, key_cmp, key_eq}
 use Rattle.issuer_laws.specs.Parts.{may_need}
 use Rattle.issuer_laws.specs.Rules.{has}
 use Rattle.book_archive.proofs.Splitting.{any_at, get_retained, none_within, put_seen, step, both_put}

@@ -2,17 +2,7 @@
 use Rattle.std.proofs.Common.{◌≡◌, ◌≢◌, ℕ, Bool, true, false, ◌&&◌, ◌||◌, not, List, [], ◌∷◌, Option, Some, None, ◌⊎◌, inl, inr, refl, sym, ap}
 use Rattle.std.proofs.lemmas.Bool.{false≢true, and_parts, or_cases, or_left}
 use Rattle.std.specs.FinMap as map
-use Rattle.iso8583.specs.declared.account_id.AccountId.{AccountId}
-use Rattle.issuer_rows.specs.Fold.{Rows}
-use Rattle.issuer_rows.specs.Kept.{payment_of_outcome}
-use Rattle.issuer_rows.specs.Typed.{card_in, original_in}
-use Rattle.issuer_rows.specs.declared.card_row.CardRow.{CardRow}
-use Rattle.issuer_rows.specs.declared.frame.Frame.{Frame}
-use Rattle.issuer_rows.specs.declared.original_row.OriginalRow.{OriginalRow}
-use Rattle.issuer_rows.specs.declared.payer.Payer.{Payer}
-use Rattle.issuer_rows.specs.declared.payment.Payment.{Payment}
-use Rattle.issuer_rows.specs.declared.row_key.RowKey.{RowKey}
-use Rattle.issuer_rows.specs.declared.row_val.RowVal.{RowVal}
+use Rattle.issuer_words.specs.Words.{AccountId, CardRow, Frame, OriginalRow, Payer, Payment, RowKey, RowVal, Rows, card_in, original_in, payment_of_outcome}
 use Rattle.issuer_laws.specs.Parts.{IsIn, second_key, account_keys, payer_keys, payment_keys, paying_keys, may_need, Parted, bodies, of_part, IsOfPart, HasPart}
 use Rattle.parts_books.proofs.Listed.{among_in, in_among, in_either, any_of_part, of_part_any, any_of_bodies, of_bodies_any, within_retained, left_passes, passes_left, same_or_gone}
 use Rattle.parts_books.specs.PartBooks.{accounts_of, lent_keys, has_account_at, is_among, is_for, is_for_one, may_need_one, is_of_account, part_rows, rest_rows}

@@ -4,16 +4,7 @@ use Rattle.std.proofs.lemmas.Bool.{false≢true, and_parts, or_right}
 use Rattle.std.specs.Cmp.Derive.{both_true}
 use Rattle.std.specs.FinMap as map
 use Rattle.std.specs.List.{list_any}
-use Rattle.iso8583.specs.declared.account_id.AccountId.{AccountId}
-use Rattle.issuer_rows.specs.CardAccounts.{AccountsOfCard, is_same_account}
-use Rattle.issuer_rows.specs.Fold.{Rows}
-use Rattle.issuer_rows.specs.Kept.{payment_of_outcome}
-use Rattle.issuer_rows.specs.Typed.{account_in}
-use Rattle.issuer_rows.specs.declared.frame.Frame.{Frame}
-use Rattle.issuer_rows.specs.declared.payer.Payer.{Payer}
-use Rattle.issuer_rows.specs.declared.payment.Payment.{Payment}
-use Rattle.issuer_rows.specs.declared.row_key.RowKey.{RowKey}
-use Rattle.issuer_rows.specs.declared.row_val.RowVal.{RowVal}
+use Rattle.issuer_words.specs.Words.{AccountId, AccountsOfCard, Frame, Payer, Payment, RowKey, RowVal, Rows, account_in, is_same_account, payment_of_outcome}
 use Rattle.issuer_laws.specs.Parts.{IsIn, second_key, payer_keys, payment_keys, may_need, Parted, bodies, of_part}
 use Rattle.book_archive.proofs.Sound.{all_retained, in_range, right_numbers}
 use Rattle.book_laws.specs.CheckBook.{has_account, has_payer, is_backed, has_paying_account, has_second, are_accounts, has_accounts, IsSound}

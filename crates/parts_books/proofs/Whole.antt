@@ -7,18 +7,7 @@ use Rattle.std.proofs.lemmas.Option.{none-some}
 use Rattle.std.specs.FinMap as finite
 use Rattle.std.specs.List.{AllByRecursion}
 use Rattle.issuer_rows.proofs.KeyLaws.{key_cmp_total, key_cmp_antisymmetric}
-use Rattle.issuer_rows.specs.Facts.{is_same_currency, prefix_of}
-use Rattle.issuer_rows.specs.Fold.{Rows, overlay, replies_to, rows_after, rows_after_one, writes_of}
-use Rattle.issuer_rows.specs.Plan.{Writes}
-use Rattle.issuer_rows.specs.Typed.{account_in, card_in, original_in}
-use Rattle.issuer_rows.specs.declared.account_row.AccountRow.{AccountRow}
-use Rattle.issuer_rows.specs.declared.frame.Frame.{Frame}
-use Rattle.issuer_rows.specs.declared.row_key.RowKey.{RowKey}
-use Rattle.issuer_rows.specs.declared.row_val.RowVal.{RowVal}
-use Rattle.iso8583.specs.declared.identity.Identity.{Identity}
-use Rattle.iso8583.specs.declared.message.Message.{Message}
-use Rattle.iso8583.specs.declared.pan.Pan.{Pan}
-use Rattle.iso8583.specs.declared.transaction.Transaction.{Transaction}
+use Rattle.issuer_words.specs.Words.{AccountRow, Frame, Identity, Message, Pan, RowKey, RowVal, Rows, Transaction, Writes, account_in, card_in, is_same_currency, original_in, overlay, prefix_of, replies_to, rows_after, rows_after_one, writes_of}
 use Rattle.issuer_laws.proofs.Keys.{get-put, get-other, same_or_other, same_text, texts_same}
 use Rattle.issuer_laws.proofs.Parts.{decided_alone, leaves_others}
 use Rattle.issuer_laws.specs.Parts.{IsIn, account_keys, accounts_at, budget_at, funds_at, if_there, may_need, may_need_first, payer_at, paying_keys, Parted, bodies, of_part, with_parts, IsOfPart, AreApart}

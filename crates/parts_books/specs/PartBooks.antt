@@ -2,15 +2,7 @@
 use Rattle.std.specs.Prelude.{◌≡◌, ℕ, zero, suc, ◌==◌, Bool, true, false, ◌&&◌, ◌||◌, not, List, [], ◌∷◌, ◌++◌, Option, Some, is_some, length, map, zip}
 use Rattle.std.specs.FinMap as map
 use Rattle.std.specs.List.{list_any}
-use Rattle.issuer_rows.specs.Facts.{is_same_currency}
-use Rattle.issuer_rows.specs.Fold.{Rows, replies_to, rows_after}
-use Rattle.issuer_rows.specs.RowKey.{key_eq}
-use Rattle.issuer_rows.specs.Typed.{account_in, card_in, original_in}
-use Rattle.issuer_rows.specs.declared.account_row.AccountRow.{AccountRow}
-use Rattle.issuer_rows.specs.declared.frame.Frame.{Frame}
-use Rattle.issuer_rows.specs.declared.reply_body.ReplyBody.{ReplyBody}
-use Rattle.issuer_rows.specs.declared.row_key.RowKey.{RowKey}
-use Rattle.issuer_rows.specs.declared.row_val.RowVal.{RowVal}
+use Rattle.issuer_words.specs.Words.{AccountRow, Frame, ReplyBody, RowKey, RowVal, Rows, account_in, card_in, is_same_currency, key_eq, original_in, replies_to, rows_after}
 use Rattle.issuer_laws.specs.Parts.{account_keys, may_need, paying_keys, Parted, of_part}
 use Rattle.engine_parts.specs.Decided.{list_at}
 use Rattle.engine_parts.specs.TwoBooks.{joined_all}

@@ -2,11 +2,7 @@
 use Rattle.std.specs.Prelude.{◌≡◌, ◌≢◌, ℕ, ◌<◌, List, None, map}
 use Rattle.std.specs.FinMap as map
 use Rattle.std.specs.List.{AllByRecursion}
-use Rattle.iso8583.specs.declared.account_id.AccountId.{AccountId}
-use Rattle.issuer_rows.specs.Book.{IsWithin}
-use Rattle.issuer_rows.specs.Fold.{Rows, replies_to, rows_after}
-use Rattle.issuer_rows.specs.declared.frame.Frame.{Frame}
-use Rattle.issuer_rows.specs.declared.row_key.RowKey.{RowKey}
+use Rattle.issuer_words.specs.Words.{AccountId, Frame, IsWithin, RowKey, Rows, replies_to, rows_after}
 use Rattle.issuer_laws.specs.Parts.{Parted, bodies, IsOfPart, AreApart}
 use Rattle.book_laws.specs.CheckBook.{IsSound}
 use Rattle.engine_parts.specs.TwoBooks.{joined}

@@ -1,8 +1,7 @@
 ghost use Rattle.std.specs.Prelude.{◌≡◌, ◌&&◌, not, cond, OnOk, IfOk, Some};
 ghost use Rattle.std.specs.FinMap as map;
 ghost use Rattle.engine_parts.specs.TwoBooks.{joined};
-ghost use Rattle.issuer_rows.specs.RowKey.{key_eq};
-ghost use Rattle.issuer_rows.specs.Typed.{account_in};
+ghost use Rattle.issuer_words.specs.Words.{account_in, key_eq};
 ghost use Rattle.issuer_rows.specs.declared.row_key.RowKey.{RowKey as Key};
 ghost use Rattle.parts_books.specs.PartBooks.{is_as_in_rest, is_same_account_row, joined_books, own_rows};
 

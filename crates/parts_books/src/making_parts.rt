@@ -1,9 +1,7 @@
 ghost use Rattle.std.specs.Prelude.{◌≡◌, ◌&&◌, length, zip, IfOk, OnOk, Some, is_some, cond};
 ghost use Rattle.std.specs.FinMap as map;
 ghost use Rattle.issuer_laws.specs.Parts.{of_part};
-ghost use Rattle.issuer_rows.specs.Book.{IsWithin};
-ghost use Rattle.issuer_rows.specs.RowKey.{key_eq};
-ghost use Rattle.issuer_rows.specs.Typed.{account_in};
+ghost use Rattle.issuer_words.specs.Words.{IsWithin, account_in, key_eq};
 ghost use Rattle.issuer_rows.specs.declared.row_key.RowKey.{RowKey as Key};
 ghost use Rattle.parts_books.specs.PartBooks.{each_part, has_account_at, is_among, is_for, part_rows, rows_for};
 

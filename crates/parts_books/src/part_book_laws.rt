@@ -1,8 +1,6 @@
 ghost use Rattle.std.specs.Prelude.{ℕ, List};
 ghost use Rattle.issuer_laws.specs.Parts.{Parted};
-ghost use Rattle.issuer_rows.specs.Fold.{Rows};
-ghost use Rattle.issuer_rows.specs.declared.frame.Frame.{Frame};
-ghost use Rattle.issuer_rows.specs.declared.reply_body.ReplyBody.{ReplyBody};
+ghost use Rattle.issuer_words.specs.Words.{Frame, ReplyBody, Rows};
 ghost use Rattle.parts_books.specs.Together.{AreEnough, HaveTheRows, IsOneOrder, LeavesPartsSound, MakeTheWhole};
 
 /// A batch in parts that share no row: decided apart, each part on its book, by whatever decides one message after another, the parts'

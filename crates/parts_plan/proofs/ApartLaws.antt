@@ -3,9 +3,7 @@ use Rattle.std.proofs.Common.{◌≡◌, ℕ, zero, suc, ◌<◌, List, [], ◌�
 use Rattle.std.proofs.lemmas.Option.{none-some, same_Some}
 use Rattle.std.specs.List.{AllByRecursion}
 use Rattle.issuer_laws.specs.Parts.{IsIn, may_need, AreApart}
-use Rattle.issuer_rows.specs.Fold.{Rows}
-use Rattle.issuer_rows.specs.declared.frame.Frame.{Frame}
-use Rattle.issuer_rows.specs.declared.row_key.RowKey.{RowKey}
+use Rattle.issuer_words.specs.Words.{Frame, RowKey, Rows}
 use Rattle.parts_plan.proofs.TieLaws.{all_kept, of_each}
 use Rattle.parts_plan.specs.Ties.{Numbers, number_in, tie_of, AreLinked, IsTied, AreKept, AreTied, HaveHeads, part_at, IsOfOnePart}
 use Rattle.parts_plan.specs.declared.link.Link.{Link}

@@ -2,12 +2,9 @@
 use Rattle.std.proofs.Common.{◌≡◌, ◌≢◌, ℕ, Bool, true, false, cond, List, [], ◌∷◌, ◌++◌, Some, inl, inr, refl, sym, ap, ◌∙◌, subst}
 use Rattle.std.proofs.lemmas.Option.{none-some, same_Some}
 use Rattle.std.specs.List.{AllByRecursion}
-use Rattle.iso8583.specs.declared.pan.Pan.{Pan}
+use Rattle.issuer_words.specs.Words.{Pan, RowKey, Rows, key_eq}
 use Rattle.issuer_laws.specs.Parts.{IsIn, funds_at}
 use Rattle.issuer_rows.proofs.KeyLaws.{key_eq_decides}
-use Rattle.issuer_rows.specs.Fold.{Rows}
-use Rattle.issuer_rows.specs.RowKey.{key_eq}
-use Rattle.issuer_rows.specs.declared.row_key.RowKey.{RowKey}
 use Rattle.parts_plan.specs.Ties.{Numbers, number_in, number_is, tie_of, HasNumber, AreLinked, IsTied, AreTied, HaveFunds, IsNoCard, HasSameCards, AreKept}
 use Rattle.parts_plan.specs.declared.key_number.KeyNumber.{KeyNumber}
 use Rattle.parts_plan.specs.declared.key_number.KeyNumber.TheVariants.{Known, New}

@@ -2,13 +2,8 @@
 use Rattle.std.specs.Prelude.{◌≡◌, ◌≢◌, ◌⊎◌, ℕ, List, [], ◌∷◌, Option, Some, None, cond, slice_get, slice_index}
 use Rattle.std.specs.List.{AllByRecursion}
 use Rattle.std.specs.Map.{lookup}
-use Rattle.iso8583.specs.declared.pan.Pan.{Pan}
-use Rattle.iso8583.specs.declared.pan_prefix.PanPrefix.{PanPrefix}
+use Rattle.issuer_words.specs.Words.{Frame, Pan, PanPrefix, RowKey, Rows, key_eq}
 use Rattle.issuer_laws.specs.Parts.{IsIn, funds_at, may_need}
-use Rattle.issuer_rows.specs.Fold.{Rows}
-use Rattle.issuer_rows.specs.RowKey.{key_eq}
-use Rattle.issuer_rows.specs.declared.frame.Frame.{Frame}
-use Rattle.issuer_rows.specs.declared.row_key.RowKey.{RowKey}
 use Rattle.parts_plan.specs.declared.key_number.KeyNumber.{KeyNumber}
 use Rattle.parts_plan.specs.declared.key_number.KeyNumber.TheVariants.{Known, New}
 use Rattle.parts_plan.specs.declared.link.Link.{Link}

@@ -1,13 +1,9 @@
 -- The tokens of long rows, part by part, as they are written.
 use Rattle.std.proofs.Common.{◌≡◌, List, [], ◌∷◌, ◌++◌, Option, Some, None, refl, subst, ap, ◌∙◌}
 use Rattle.std.specs.Prelude.{codes}
-use Rattle.iso8583.specs.Number.{fixed_digits}
-use Rattle.iso8583.specs.declared.approval.Approval.{Approval}
-use Rattle.iso8583.specs.declared.identity.Identity.{Identity}
-use Rattle.iso8583.specs.declared.pan.Pan.{Pan}
+use Rattle.issuer_words.specs.Words.{Approval, CardRow, Identity, Pan, fixed_digits}
 use Rattle.iso_shown.specs.Shown.{shown_account, shown_card}
 use Rattle.iso_shown.specs.declared.card_numbers.CardNumbers.{CardNumbers}
-use Rattle.issuer_rows.specs.declared.card_row.CardRow.{CardRow}
 use Rattle.issuer_rows.specs.declared.row_key.RowKey.TheVariants as row
 use Rattle.issuer_rows.specs.declared.row_val.RowVal.TheVariants as val
 use Rattle.json.specs.Token.{Token, begin_object, end_object, key}

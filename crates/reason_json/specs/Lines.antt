@@ -1,12 +1,7 @@
 -- Why a body is decided so, as a line of JSON.
 use Rattle.std.specs.Prelude.{ℕ, List, [], ◌∷◌, ◌++◌, Option, map, codes}
 use Rattle.iso_shown.specs.declared.card_numbers.CardNumbers.{CardNumbers}
-use Rattle.issuer_rows.specs.declared.row_key.RowKey.{RowKey}
-use Rattle.issuer_rows.specs.declared.row_val.RowVal.{RowVal}
-use Rattle.issuer_rows.specs.Agreement.{Reads}
-use Rattle.issuer_rows.specs.Plan.{Writes}
-use Rattle.issuer_rows.specs.declared.frame.Frame.{Frame}
-use Rattle.issuer_rows.specs.declared.reply_body.ReplyBody.{ReplyBody}
+use Rattle.issuer_words.specs.Words.{Frame, Reads, ReplyBody, RowKey, RowVal, Writes}
 use Rattle.issuer_laws.specs.declared.decision_rule.DecisionRule.{DecisionRule}
 use Rattle.issuer_reasons.specs.declared.explanation.Explanation.{Explanation}
 use Rattle.reason_text.specs.Rules.{rule_name, rule_sentence}

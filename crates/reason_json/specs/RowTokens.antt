@@ -1,9 +1,8 @@
 -- For private clauses: parts of rows, token by token.
 use Rattle.std.specs.Prelude.{ℕ, List, [], ◌∷◌, ◌++◌, codes, decimal}
-use Rattle.iso8583.specs.Number.{fixed_digits}
+use Rattle.issuer_words.specs.Words.{CardRow, fixed_digits}
 use Rattle.iso_shown.specs.Shown.{shown_card}
 use Rattle.iso_shown.specs.declared.card_numbers.CardNumbers.{CardNumbers}
-use Rattle.issuer_rows.specs.declared.card_row.CardRow.{CardRow}
 use Rattle.json.specs.Token.{Token, key, string, number}
 use Rattle.book_laws.specs.Text.{approval_data, identity_data, optional_data, tokens_of}
 use Rattle.book_laws.specs.Words.{kind_word, paid_word}

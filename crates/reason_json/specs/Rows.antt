@@ -3,9 +3,8 @@ use Rattle.std.specs.Prelude.{ℕ, List, [], ◌∷◌, ◌++◌, Bool, true, �
 use Rattle.std.specs.Str.{bytes_eq}
 use Rattle.iso_shown.specs.Shown.{shown_account, shown_card}
 use Rattle.iso_shown.specs.declared.card_numbers.CardNumbers.{CardNumbers}
-use Rattle.issuer_rows.specs.declared.row_key.RowKey.{RowKey}
+use Rattle.issuer_words.specs.Words.{RowKey, RowVal}
 use Rattle.issuer_rows.specs.declared.row_key.RowKey.TheVariants as key
-use Rattle.issuer_rows.specs.declared.row_val.RowVal.{RowVal}
 use Rattle.serde_json.specs.Data.{Data, boolean, string, object, Members, no_members, member}
 use Rattle.book_laws.specs.Text.{entry_data, members}
 

@@ -1,8 +1,7 @@
 -- For private clauses: rows, token by token.
 use Rattle.std.specs.Prelude.{List, Option}
 use Rattle.iso_shown.specs.declared.card_numbers.CardNumbers.{CardNumbers}
-use Rattle.issuer_rows.specs.declared.row_key.RowKey.{RowKey}
-use Rattle.issuer_rows.specs.declared.row_val.RowVal.{RowVal}
+use Rattle.issuer_words.specs.Words.{RowKey, RowVal}
 use Rattle.json.specs.Token.{Token}
 use Rattle.book_laws.specs.Text.{tokens_of}
 use Rattle.reason_json.specs.Lines.{read_data, written_data}

@@ -1,10 +1,7 @@
 -- Why a body is decided so, as lines. Each ends at a line feed, 10.
 use Rattle.std.specs.Prelude.{ℕ, List, ◌++◌, Option, codes, decimal}
 use Rattle.std.specs.List.{flat_map}
-use Rattle.issuer_rows.specs.Agreement.{Reads}
-use Rattle.issuer_rows.specs.Plan.{Writes}
-use Rattle.issuer_rows.specs.declared.row_key.RowKey.{RowKey}
-use Rattle.issuer_rows.specs.declared.row_val.RowVal.{RowVal}
+use Rattle.issuer_words.specs.Words.{Reads, RowKey, RowVal, Writes}
 use Rattle.issuer_reasons.specs.declared.explanation.Explanation.{Explanation}
 use Rattle.reason_text.specs.Rules.{rule_words}
 use Rattle.reason_text.specs.Words.{found_words, frame_words, key_words, reply_words, row_words}

@@ -1,54 +1,25 @@
 -- Rows, messages and replies in words. Card numbers are masked, also where an account is named by one; amounts are in minor units, and
 -- times, days and months are as the book has them: YYMMDDhhmmss, YYMMDD and YYMM.
 use Rattle.std.specs.Prelude.{ℕ, if◌then◌else◌, List, [], ◌++◌, Option, Some, None, codes, decimal}
-use Rattle.iso8583.specs.Number.{fixed_digits}
-use Rattle.iso8583.specs.declared.account_id.AccountId.{AccountId}
-use Rattle.iso8583.specs.declared.advice.Advice.{Advice}
+use Rattle.issuer_words.specs.Words.{AccountId, AccountRow, AccountsOfCard, Advice, BudgetMode, BudgetRow, CardRow, CardStatus, CodecFault, Frame, Identity, KeptOriginal, Mark, Message, OriginalKind, OriginalOutcome, Payer, Payment, ReplyBody, Request, Reversal, ReversalScope, RowKey, RowVal, Settlement, Transaction, VelocityRow, Verdict, fault_body, fixed_digits, kind_of_outcome}
 use Rattle.iso8583.specs.declared.answer.Answer.{Answer}
 use Rattle.iso8583.specs.declared.answer.Answer.TheVariants as answer
-use Rattle.iso8583.specs.declared.codec_fault.CodecFault.{CodecFault}
 use Rattle.iso8583.specs.declared.codec_fault.CodecFault.TheVariants as fault
-use Rattle.iso8583.specs.declared.identity.Identity.{Identity}
-use Rattle.iso8583.specs.declared.message.Message.{Message}
 use Rattle.iso8583.specs.declared.message.Message.TheVariants as message
-use Rattle.iso8583.specs.declared.original_kind.OriginalKind.{OriginalKind}
 use Rattle.iso8583.specs.declared.original_kind.OriginalKind.TheVariants as kind
-use Rattle.iso8583.specs.declared.request.Request.{Request}
-use Rattle.iso8583.specs.declared.reversal.Reversal.{Reversal}
-use Rattle.iso8583.specs.declared.reversal_scope.ReversalScope.{ReversalScope}
 use Rattle.iso8583.specs.declared.reversal_scope.ReversalScope.TheVariants.{Full, Partial}
-use Rattle.iso8583.specs.declared.transaction.Transaction.{Transaction}
-use Rattle.iso8583.specs.declared.verdict.Verdict.{Verdict}
 use Rattle.iso8583.specs.declared.verdict.Verdict.TheVariants as verdict
 use Rattle.iso_shown.specs.Masked.{masked}
 use Rattle.iso_shown.specs.Shown.{shown_account}
 use Rattle.iso_shown.specs.declared.card_numbers.CardNumbers.TheVariants.{Masked}
-use Rattle.issuer_rows.specs.CardAccounts.{AccountsOfCard}
-use Rattle.issuer_rows.specs.FrameFault.{fault_body}
-use Rattle.issuer_rows.specs.Kept.{KeptOriginal, kind_of_outcome}
-use Rattle.issuer_rows.specs.declared.account_row.AccountRow.{AccountRow}
-use Rattle.issuer_rows.specs.declared.budget_mode.BudgetMode.{BudgetMode}
 use Rattle.issuer_rows.specs.declared.budget_mode.BudgetMode.TheVariants as mode
-use Rattle.issuer_rows.specs.declared.budget_row.BudgetRow.{BudgetRow}
-use Rattle.issuer_rows.specs.declared.card_row.CardRow.{CardRow}
-use Rattle.issuer_rows.specs.declared.card_status.CardStatus.{CardStatus}
 use Rattle.issuer_rows.specs.declared.card_status.CardStatus.TheVariants as status
-use Rattle.issuer_rows.specs.declared.frame.Frame.{Frame}
 use Rattle.issuer_rows.specs.declared.frame.Frame.TheVariants as frame
-use Rattle.issuer_rows.specs.declared.mark.Mark.{Mark}
-use Rattle.issuer_rows.specs.declared.original_outcome.OriginalOutcome.{OriginalOutcome}
 use Rattle.issuer_rows.specs.declared.original_outcome.OriginalOutcome.TheVariants as outcome
-use Rattle.issuer_rows.specs.declared.payer.Payer.{Payer}
 use Rattle.issuer_rows.specs.declared.payer.Payer.TheVariants as payer
-use Rattle.issuer_rows.specs.declared.payment.Payment.{Payment}
-use Rattle.issuer_rows.specs.declared.reply_body.ReplyBody.{ReplyBody}
 use Rattle.issuer_rows.specs.declared.reply_body.ReplyBody.TheVariants as body
-use Rattle.issuer_rows.specs.declared.row_key.RowKey.{RowKey}
 use Rattle.issuer_rows.specs.declared.row_key.RowKey.TheVariants as key
-use Rattle.issuer_rows.specs.declared.row_val.RowVal.{RowVal}
 use Rattle.issuer_rows.specs.declared.row_val.RowVal.TheVariants as val
-use Rattle.issuer_rows.specs.declared.settlement.Settlement.{Settlement}
-use Rattle.issuer_rows.specs.declared.velocity_row.VelocityRow.{VelocityRow}
 
 -- ---- names
 

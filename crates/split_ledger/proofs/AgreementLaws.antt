@@ -1,7 +1,7 @@
 -- Reads that are looked at one after another.
 use Rattle.std.proofs.Common.{◌≡◌, ◌↔◌, ℕ, ◌+◌, Option, Some, drop, slice_get, sym, subst}
 use Rattle.issuer_rows.proofs.OverlayLaws.{left_at}
-use Rattle.issuer_view.specs.Words.{Agrees, Lookup, Reads, RowKey, RowVal}
+use Rattle.issuer_words.specs.Words.{Agrees, Lookup, Reads, RowKey, RowVal}
 
 -- where the read at this place agrees, it is left to look at those behind it
 pub one_less_left : (reads : Reads) (look : Lookup) (i : ℕ) (read : RowKey × Option RowVal) → slice_get reads i ≡ Some read → look read.0 ≡ read.1

@@ -4,9 +4,7 @@ use Rattle.std.proofs.lemmas.List.{take_more}
 use Rattle.std.proofs.lemmas.Option.{slice_get_within, slice_get-get_or, get_or_from_slice_get}
 use Rattle.std.specs.FinMap as map
 use Rattle.issuer_fold.proofs.FoldLaws.{rows_after-append, replies_to-append}
-use Rattle.issuer_rows.specs.Agreement.{IsLocal}
-use Rattle.issuer_view.specs.Words.{Executed, Frame, IsTrueExecution, Reads, ReplyBody, Rows, Writes, overlay}
-use Rattle.issuer_view.specs.Words.{replies_to, reply_of, rows_after, rows_after_one}
+use Rattle.issuer_words.specs.Words.{Executed, Frame, IsLocal, IsTrueExecution, Reads, ReplyBody, Rows, Writes, overlay, replies_to, reply_of, rows_after, rows_after_one}
 use Rattle.split_ledger.specs.Progress.{Progress, further, IsNext, IsFold, book_of, replies_of}
 
 -- the messages that are committed, and the next one

@@ -2,8 +2,7 @@
 use Rattle.std.specs.Prelude.{◌≡◌, ℕ, ◌+◌, ◌≤◌, List, Some, length, slice_get, take, refl}
 use Rattle.std.specs.Coded.{Coded, code_by, coded×, coded_list, coded_ℕ}
 use Rattle.std.specs.FinMap as map
-use Rattle.issuer_view.specs.Words.{Agrees, Executed, Frame, ReplyBody, Rows, replies_to}
-use Rattle.issuer_view.specs.Words.{rows_after}
+use Rattle.issuer_words.specs.Words.{Agrees, Executed, Frame, ReplyBody, Rows, replies_to, rows_after}
 
 -- the opening book, the bodies, and how many of them are committed
 pub record Progress : Type 0 where

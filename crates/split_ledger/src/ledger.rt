@@ -1,6 +1,6 @@
 ghost use Rattle.std.specs.Prelude.{◌≡◌, ◌≢◌, ◌<◌, ◌≤◌, ◌↔◌, [], Ok, Some, IfOk, IfSome, OnOk, OnErr, IsTrue, length, slice_get};
-ghost use Rattle.issuer_rows.specs.Agreement.{IsLocal};
-ghost use Rattle.issuer_view.specs.Words.{AgreesWithBook, reply_of};
+ghost use Rattle.issuer_words.specs.Words.{IsLocal, reply_of};
+ghost use Rattle.issuer_view.specs.Words.{AgreesWithBook};
 ghost use Rattle.split_ledger.specs.Progress.{opened, further, book_of, replies_of, IsNext};
 ghost use Rattle.split_ledger.specs.declared.commit_outcome.CommitOutcome.TheVariants.{Committed, Stale};
 

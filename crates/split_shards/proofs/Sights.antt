@@ -1,6 +1,6 @@
 -- What is seen of a row by the entry that was found for it.
 use Rattle.std.proofs.Common.{◌≡◌, ℕ, Option, Some, None, IfSome, refl, subst}
-use Rattle.issuer_view.specs.Words.{IsOfKind, RowKey, RowVal}
+use Rattle.issuer_words.specs.Words.{IsOfKind, RowKey, RowVal}
 use Rattle.stm_memory.specs.Words.{IsSeenOfKind, seen_by, seen_of}
 use Rattle.stm_memory.specs.declared.link.Link.{Link}
 use Rattle.stm_memory.specs.declared.version.Version.{Version}

@@ -1,7 +1,7 @@
 -- What is seen of a row in the shards.
 use Rattle.std.specs.Prelude.{◌≡◌, ℕ, Option, Some, None}
 use Rattle.stm_memory.specs.declared.link.Link.{Link}
-use Rattle.issuer_view.specs.Words.{IsOfKind, RowKey, RowVal}
+use Rattle.issuer_words.specs.Words.{IsOfKind, RowKey, RowVal}
 use Rattle.split_shards.specs.declared.sight.Sight.{Sight}
 use Rattle.split_shards.specs.declared.sight.Sight.TheVariants.{Base, Put, Estimate}
 

@@ -2,7 +2,8 @@
 use Rattle.std.proofs.Common.{◌≡◌, ℕ, zero, suc, ◌+◌, ◌<◌, take, Bool, true, false, cond, List, [], ◌∷◌, ◌++◌, length, get_or, Option, Some, None, IfSome, Result, Ok, Err, OnOk, OnErr, map, append_assoc, refl, sym, ap, ◌∙◌, subst, Bor, arith}
 use Rattle.std.proofs.lemmas.Option.{none-some}
 use Rattle.std.specs.Option.{option_copied}
-use Rattle.issuer_view.specs.Words.{Frame, IsOfKind, RowKey, key_eq, value_in}
+use Rattle.issuer_words.specs.Words.{Frame, IsOfKind, RowKey, key_eq}
+use Rattle.issuer_view.specs.Words.{value_in}
 use Rattle.stm_core_laws.specs.State.{ExecutionSlot, Log, empty_slot}
 use Rattle.stm_core_laws.specs.declared.logged.Logged.{Logged}
 use Rattle.issuer_view.proofs.KindLaws.{found_suits}

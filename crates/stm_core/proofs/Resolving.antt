@@ -5,7 +5,8 @@ use Rattle.std.proofs.lemmas.List.Elements.{All-more}
 use Rattle.std.proofs.lemmas.Option.{get_or_from_slice_get, slice_get_within}
 use Rattle.std.specs.FinMap as finite
 use Rattle.issuer_rows.proofs.KeyLaws.{key_cmp_total, key_cmp_antisymmetric}
-use Rattle.issuer_view.specs.Words.{IsOnceEach, Reads, RowKey, RowVal, Rows, Writes}
+use Rattle.issuer_words.specs.Words.{Reads, RowKey, RowVal, Rows, Writes}
+use Rattle.issuer_view.specs.Words.{IsOnceEach}
 use Rattle.stm_memory.specs.Words.{Entries, IsLaidOver, IsNewLocation, Resolves, Shelf, held}
 use Rattle.stm_memory.specs.Words.{seen_by, seen_of}
 use Rattle.stm_core_laws.specs.Words.{AreLogged, Link, Log, ResolvesAs, Seen, Version, logged_in}

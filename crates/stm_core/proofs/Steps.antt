@@ -6,8 +6,8 @@ use Rattle.std.proofs.lemmas.List.Elements.{filter_map-append}
 use Rattle.std.specs.FinMap as finite
 use Rattle.std.specs.List.{cons_option}
 use Rattle.std.proofs.lemmas.Option.{slice_get_within, get_or_from_slice_get, none-some}
-use Rattle.issuer_view.specs.Words.{Executed, Frame, IsTrueExecution, Reads, ReplyBody, RowKey}
-use Rattle.issuer_view.specs.Words.{RowVal, Rows, value_in}
+use Rattle.issuer_words.specs.Words.{Executed, Frame, IsTrueExecution, Reads, ReplyBody, RowKey, RowVal, Rows}
+use Rattle.issuer_view.specs.Words.{value_in}
 use Rattle.stm_memory.specs.Words.{AreEstimated, AreReplaced, Entries, IsNewLocation, Resolves}
 use Rattle.stm_core_laws.specs.Words.{AreLogged, Begin, Block, Call, ClaimStep, Commit, CommitStep}
 use Rattle.stm_core_laws.specs.Words.{End, ExecutionSlot, Finish, Holds, IsAt, IsOfVersion, Log}

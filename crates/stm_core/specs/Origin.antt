@@ -1,7 +1,7 @@
 -- What the log of a version keeps.
 use Rattle.std.specs.Prelude.{◌≡◌, ℕ, List, ◌++◌, map, Option, Some, None, IfSome}
 use Rattle.std.specs.List.{AllByRecursion}
-use Rattle.issuer_view.specs.Words.{IsOfKind, RowKey}
+use Rattle.issuer_words.specs.Words.{IsOfKind, RowKey}
 use Rattle.stm_core_laws.specs.State.{Log}
 use Rattle.stm_core_laws.specs.declared.logged.Logged.{Logged}
 use Rattle.stm_memory.specs.declared.version.Version.{Version}

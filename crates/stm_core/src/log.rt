@@ -1,6 +1,7 @@
 ghost use Rattle.std.specs.Prelude.{◌≡◌, ◌↔◌, ◌<◌, ◌++◌, [], ◌∷◌, Some, None, length, slice_get, vec_capacity, IsTrue, IfSome, OnOk, OnErr};
 ghost use Rattle.std.specs.Option.{option_copied, option_map};
-ghost use Rattle.issuer_view.specs.Words.{IsOfKind, value_in};
+ghost use Rattle.issuer_words.specs.Words.{IsOfKind};
+ghost use Rattle.issuer_view.specs.Words.{value_in};
 ghost use Rattle.stm_core_laws.specs.Log.{logged_in, AreLogged};
 ghost use Rattle.stm_core.specs.Origin.{IsFirstOf};
 

@@ -1,6 +1,6 @@
 ghost use Rattle.std.specs.Prelude.{◌≡◌, ◌↔◌, ◌<◌, ◌+◌, ◌^◌, Some, IsSome, IsTrue, IfOk, IfErr, IfSome, OnOk};
 ghost use Rattle.std.specs.Option.{option_copied};
-ghost use Rattle.issuer_view.specs.Words.{IsOfKind, RowVal};
+ghost use Rattle.issuer_words.specs.Words.{IsOfKind, RowVal};
 ghost use Rattle.stm_memory.specs.Words.{IsNewLocation, IsSeenOfKind, held, seen_of};
 ghost use Rattle.stm_memory.specs.declared.seen.Seen.TheVariants.{Estimate, Value};
 ghost use Rattle.stm_core_laws.specs.Log.{logged_of, ResolvesAs};

@@ -1,5 +1,5 @@
 ghost use Rattle.std.specs.Prelude.{◌≡◌, ◌≢◌, ◌<◌, ◌≤◌, ◌↔◌, Some, None, length, take, IsTrue, IfOk, IfSome, OnOk};
-ghost use Rattle.issuer_view.specs.Words.{IsOfKind, replies_to, rows_after};
+ghost use Rattle.issuer_words.specs.Words.{IsOfKind, replies_to, rows_after};
 ghost use Rattle.stm_scheduler.specs.Board.{floor, mark, IsRunning};
 ghost use Rattle.stm_core_laws.specs.Play.{PlayStep, opening_play};
 ghost use Rattle.stm_core_laws.specs.Run.{IsReached, Claim, Read, Block, Finish, Begin, ValidateOne, End, Commit};

@@ -1,7 +1,7 @@
 -- What a change of a core carries over: sound reads, validations, and what is kept of each message that it leaves alone.
 use Rattle.std.proofs.Common.{◌≡◌, ◌≢◌, ℕ, ◌≤◌, ◌+◌, Bool, true, false, if◌then◌else◌, nat_eq, List, inl, inr, length, Contains, refl, sym, ap, ◌∙◌, subst, Some, arith}
 use Rattle.std.specs.FinMap as finite
-use Rattle.issuer_view.specs.Words.{Executed, Frame, RowKey, RowVal, Rows}
+use Rattle.issuer_words.specs.Words.{Executed, Frame, RowKey, RowVal, Rows}
 use Rattle.stm_memory.specs.Entries.{Entries, Shelf, place_of, value_at}
 use Rattle.stm_scheduler.specs.Board.{IsFloored, woken_status}
 use Rattle.stm_core_laws.specs.Words.{IsAt, Log, MessageState, Resolve, State, message, shelf}

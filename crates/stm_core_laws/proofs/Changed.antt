@@ -2,7 +2,7 @@
 use Rattle.std.proofs.Common.{◌≡◌, ◌≢◌, ℕ, ◌<◌, ◌≤◌, List, ◌⊎◌, inl, inr, length, set, refl, sym, ap, ◌∙◌, subst, Option, Some, None, arith, length-set, get_or-set_same, get_or-set_other}
 use Rattle.std.proofs.lemmas.Bool.{cases_eq, cases_lt}
 use Rattle.std.proofs.lemmas.List.{get_or_past}
-use Rattle.issuer_view.specs.Words.{Frame, RowKey, Rows}
+use Rattle.issuer_words.specs.Words.{Frame, RowKey, Rows}
 use Rattle.stm_scheduler.specs.Board.{Board, floor, fresh_mark, mark, with_mark}
 use Rattle.stm_scheduler.specs.declared.message_progress.MessageProgress.{MessageProgress}
 use Rattle.stm_scheduler.specs.declared.status.Status.{Status}

@@ -6,8 +6,7 @@ use Rattle.std.proofs.lemmas.List.Elements.{recursion_from_All}
 use Rattle.std.proofs.lemmas.Option.{same_Some, none-some}
 use Rattle.std.specs.FinMap as finite
 use Rattle.issuer_rows.proofs.KeyLaws.{key_eq_decides}
-use Rattle.issuer_view.specs.Words.{Agrees, Executed, Frame, Reads, RowKey, RowVal, Rows}
-use Rattle.issuer_view.specs.Words.{key_eq, rows_after, rows_after_one, writes_of}
+use Rattle.issuer_words.specs.Words.{Agrees, Executed, Frame, Reads, RowKey, RowVal, Rows, key_eq, rows_after, rows_after_one, writes_of}
 use Rattle.stm_memory.specs.Words.{Resolves, row_under, value_at, written}
 use Rattle.stm_core_laws.specs.Words.{AreLogged, ExecutionSlot, Follows, Holds, IsDecidedOn}
 use Rattle.stm_core_laws.specs.Words.{IsSoundRead, Log, ResolvesAs, State, empty_slot, logged_in}

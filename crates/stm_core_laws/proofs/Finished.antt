@@ -4,7 +4,7 @@ use Rattle.std.proofs.lemmas.Bool.{cases_eq, cases_lt}
 use Rattle.std.proofs.lemmas.List.{length-map}
 use Rattle.std.proofs.lemmas.Option.{none-some}
 use Rattle.std.specs.FinMap as finite
-use Rattle.issuer_view.specs.Words.{Executed, IsTrueExecution, RowKey, RowVal}
+use Rattle.issuer_words.specs.Words.{Executed, IsTrueExecution, RowKey, RowVal}
 use Rattle.stm_core_laws.proofs.Carries.{Carries, woken_message, Moves, Moves-finished, Moves-aborted_as, Moves-IsLike, IsLike, IsLike-same, IsLike-woken, sound-carried}
 use Rattle.stm_core_laws.proofs.Changed.{Holds-changed, message_by, mark_same, mark_other, slot_same, slot_other, of_other, in_batch, past_committed, ready_not_executed, running_not_executed, executed_not_ready}
 use Rattle.stm_core_laws.proofs.Logs.{running_in_batch}

@@ -2,7 +2,7 @@
 use Rattle.std.proofs.Common.{◌≡◌, ◌≢◌, ℕ, ◌<◌, ◌≤◌, ◌+◌, [], ◌∷◌, ◌++◌, ◌⊎◌, inl, inr, length, Contains, refl, sym, ◌∙◌, subst, Some, arith}
 use Rattle.std.proofs.lemmas.List.Elements.{Contains-push_cases}
 use Rattle.std.proofs.lemmas.Option.{same_Some, none-some}
-use Rattle.issuer_view.specs.Words.{RowKey, RowVal}
+use Rattle.issuer_words.specs.Words.{RowKey, RowVal}
 use Rattle.stm_memory.specs.Words.{Resolves, value_at}
 use Rattle.stm_scheduler.specs.Board.{Board, IsRunning, claimed, mark, unstamped}
 use Rattle.stm_core_laws.specs.Holds.{Holds, IsExecutedIn, IsKept, IsSoundRead}

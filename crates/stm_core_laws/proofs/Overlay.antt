@@ -6,8 +6,7 @@ use Rattle.std.specs.FinMap as finite
 use Rattle.std.specs.List.{cons_option}
 use Rattle.std.specs.Ordering.{eq_by_cmp}
 use Rattle.issuer_rows.proofs.KeyLaws.{key_cmp_total}
-use Rattle.issuer_view.specs.Words.{Frame, ReplyBody, RowKey, RowVal, Rows, Writes, key_cmp}
-use Rattle.issuer_view.specs.Words.{overlay, replies_to, reply_of, rows_after, rows_after_one}
+use Rattle.issuer_words.specs.Words.{Frame, ReplyBody, RowKey, RowVal, Rows, Writes, key_cmp, overlay, replies_to, reply_of, rows_after, rows_after_one}
 use Rattle.stm_memory.specs.Words.{Held, Resolves, Shelf, row_under, value_at, written}
 use Rattle.stm_core_laws.specs.Words.{ExecutionSlot, Follows}
 use Rattle.stm_memory.specs.declared.seen.Seen.{Seen}

@@ -4,7 +4,7 @@ use Rattle.std.proofs.lemmas.Bool.{cases_lt}
 use Rattle.std.proofs.lemmas.List.{length-map, get_or_past, get_or-replicate, length-replicate}
 use Rattle.std.proofs.lemmas.Option.{none-some}
 use Rattle.std.specs.FinMap as finite
-use Rattle.issuer_view.specs.Words.{Executed, Frame, IsTrueExecution, RowKey, Rows}
+use Rattle.issuer_words.specs.Words.{Executed, Frame, IsTrueExecution, RowKey, Rows}
 use Rattle.stm_memory.specs.Entries.{place_cmp, place_of}
 use Rattle.stm_scheduler.specs.Board.{floor, fresh_mark, mark, passed}
 use Rattle.stm_core_laws.specs.Holds.{Holds, IsKept}

@@ -1,7 +1,7 @@
 -- What a message sees of a row stays, where below it values stay and empty places stay empty.
 use Rattle.std.proofs.Common.{◌≡◌, ◌≢◌, ℕ, ◌<◌, ◌⊎◌, inl, inr, refl, sym, ap, ◌∙◌, Option, Some, None, option_map}
 use Rattle.std.proofs.lemmas.Option.{same_Some, none-some}
-use Rattle.issuer_view.specs.Words.{RowKey, RowVal}
+use Rattle.issuer_words.specs.Words.{RowKey, RowVal}
 use Rattle.stm_memory.specs.Entries.{Held, Shelf, estimate_of, value_at}
 use Rattle.stm_core_laws.specs.Words.{Log, Resolve, ResolvesAs}
 use Rattle.stm_memory.specs.declared.version.Version.{Version}

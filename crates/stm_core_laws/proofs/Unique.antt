@@ -4,7 +4,7 @@ use Rattle.std.proofs.lemmas.Bool.{cases_eq, cases_lt}
 use Rattle.std.proofs.lemmas.Option.{same_Some, none-some}
 use Rattle.std.specs.FinMap as finite
 use Rattle.stm_memory.proofs.Placed.{place_cmp_total, place_cmp_antisymmetric}
-use Rattle.issuer_view.specs.Words.{Executed, RowKey, RowVal, Writes}
+use Rattle.issuer_words.specs.Words.{Executed, RowKey, RowVal, Writes}
 use Rattle.stm_memory.specs.Resolves.{Resolves}
 use Rattle.stm_scheduler.specs.Board.{finished, lowered, passed}
 use Rattle.stm_core_laws.specs.Log.{ResolvesAs, logged_of}

@@ -1,6 +1,6 @@
 -- Messages whose replies are the fold's.
 use Rattle.std.specs.Prelude.{◌≡◌, List, [], ◌∷◌, Some}
-use Rattle.issuer_view.specs.Words.{Frame, Rows, reply_of, rows_after_one}
+use Rattle.issuer_words.specs.Words.{Frame, Rows, reply_of, rows_after_one}
 use Rattle.stm_core_laws.specs.State.{ExecutionSlot}
 
 -- Each of these messages has a reply, which is what is decided on the rows after those before it.

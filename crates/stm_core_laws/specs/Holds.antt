@@ -1,8 +1,7 @@
 -- What holds of every state of a run.
 use Rattle.std.specs.Prelude.{◌≡◌, ◌≢◌, ℕ, ◌+◌, ◌<◌, ◌≤◌, length, take, List, Some, None, option_map, Contains, ◌⊎◌}
 use Rattle.std.specs.FinMap as finite
-use Rattle.issuer_view.specs.Words.{Executed, Frame, IsTrueExecution, RowKey, RowVal, Rows}
-use Rattle.issuer_view.specs.Words.{reply_of, rows_after, writes_of}
+use Rattle.issuer_words.specs.Words.{Executed, Frame, IsTrueExecution, RowKey, RowVal, Rows, reply_of, rows_after, writes_of}
 use Rattle.stm_memory.specs.Entries.{Held, Shelf, value_at, written}
 use Rattle.stm_memory.specs.declared.version.Version.{Version}
 use Rattle.stm_scheduler.specs.Board.{floor, IsFloored}

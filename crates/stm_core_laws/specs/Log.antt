@@ -1,7 +1,8 @@
 -- What a version was answered, and whether it would be answered so again.
 use Rattle.std.specs.Prelude.{◌≡◌, ℕ, ◌<◌, All, Option, Some, None, option_map}
 use Rattle.std.specs.FinMap as finite
-use Rattle.issuer_view.specs.Words.{Reads, RowKey, RowVal, Rows, value_in}
+use Rattle.issuer_words.specs.Words.{Reads, RowKey, RowVal, Rows}
+use Rattle.issuer_view.specs.Words.{value_in}
 use Rattle.stm_memory.specs.Words.{Resolves, Shelf}
 use Rattle.stm_memory.specs.declared.seen.Seen.{Seen}
 use Rattle.stm_memory.specs.declared.version.Version.{Version}

@@ -1,7 +1,7 @@
 -- A core with its two cursors, by which it chooses what is claimed next (Block-STM: execution_idx, validation_idx).
 use Rattle.std.specs.Prelude.{◌≡◌, ℕ, ◌+◌, min, nat_lt, List, false, Some, Ok, refl}
 use Rattle.std.specs.Coded.{Coded, code_by, coded×, coded_ℕ}
-use Rattle.issuer_view.specs.Words.{Frame, Rows}
+use Rattle.issuer_words.specs.Words.{Frame, Rows}
 use Rattle.stm_scheduler.specs.Words.{Claims, IsLoweredToWaiting, IsWaitedFor, Schedule}
 use Rattle.stm_memory.specs.Entries.{IsNewLocation}
 use Rattle.stm_core_laws.specs.Run.{Call, Claim, Block, Finish, End, Step}

@@ -1,7 +1,6 @@
 -- Whole lists of calls, in any order, and what is committed after them.
 use Rattle.std.specs.Prelude.{◌≡◌, ℕ, ◌<◌, List, [], ◌∷◌, take, filter_map, Bool, Result}
-use Rattle.issuer_view.specs.Words.{Executed, Frame, IsTrueExecution, ReplyBody, RowKey, Rows}
-use Rattle.issuer_view.specs.Words.{replies_to, rows_after}
+use Rattle.issuer_words.specs.Words.{Executed, Frame, IsTrueExecution, ReplyBody, RowKey, Rows, replies_to, rows_after}
 use Rattle.stm_memory.specs.Resolves.{IsLaidOver}
 use Rattle.stm_memory.specs.declared.version.Version.{Version}
 use Rattle.stm_scheduler.specs.declared.task.Task.{Task}

@@ -2,7 +2,7 @@
 use Rattle.std.specs.Prelude.{◌≡◌, ℕ, ◌<◌, max, List, [], length, map, replicate, slice_index_or, slice_set, Option, None, refl}
 use Rattle.std.specs.Coded.{Coded, code_by, coded×, coded_list, coded_option}
 use Rattle.std.specs.FinMap as finite
-use Rattle.issuer_view.specs.Words.{Frame, ReplyBody, RowKey, Rows}
+use Rattle.issuer_words.specs.Words.{Frame, ReplyBody, RowKey, Rows}
 use Rattle.stm_scheduler.specs.declared.message_progress.MessageProgress.{MessageProgress}
 use Rattle.stm_scheduler.specs.declared.status.Status.{Status}
 use Rattle.stm_memory.specs.Entries.{Entries, Shelf, held}

@@ -1,6 +1,6 @@
 -- Which answer a core may give to a call, and the state after it. A refusal leaves the state as it was.
 use Rattle.std.specs.Prelude.{◌≡◌, ◌≢◌, ℕ, ◌+◌, ◌<◌, Bool, true, false, ◌||◌, nat_eq, [], ◌∷◌, ◌++◌, length, Option, Some, None, IfSome, Result, Ok, Err, ◌⊎◌}
-use Rattle.issuer_view.specs.Words.{Executed, IsOfKind, RowKey, RowVal}
+use Rattle.issuer_words.specs.Words.{Executed, IsOfKind, RowKey, RowVal}
 use Rattle.stm_memory.specs.Words.{AreEstimated, AreReplaced, Entries, IsNewLocation, Resolves}
 use Rattle.stm_memory.specs.declared.seen.Seen.{Seen}
 use Rattle.stm_memory.specs.declared.version.Version.{Version}

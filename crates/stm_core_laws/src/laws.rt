@@ -1,5 +1,5 @@
 ghost use Rattle.std.specs.Prelude.{◌≡◌, List};
-ghost use Rattle.issuer_view.specs.Words.{Frame, Rows};
+ghost use Rattle.issuer_words.specs.Words.{Frame, Rows};
 ghost use Rattle.stm_core_laws.specs.State.{State, start};
 ghost use Rattle.stm_core_laws.specs.Run.{Call, Step, Run, RepliesAreTheFold, RowsAreTheFold};
 ghost use Rattle.stm_core_laws.specs.declared.limits.Limits.{Limits};

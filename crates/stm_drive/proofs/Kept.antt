@@ -4,7 +4,7 @@ use Rattle.std.proofs.Math.Seq.{drop-cons}
 use Rattle.std.proofs.lemmas.List.{take_more}
 use Rattle.std.proofs.lemmas.Option.{slice_get_within, get_or_from_slice_get}
 use Rattle.std.specs.List.{AllByRecursion}
-use Rattle.issuer_view.specs.Words.{Reads, RowKey, RowVal, keys_read}
+use Rattle.issuer_words.specs.Words.{Reads, RowKey, RowVal, keys_read}
 use Rattle.stm_core_laws.specs.Words.{Log, logged_in}
 use Rattle.stm_journal_text.specs.Logged.{IsLogged}
 use Rattle.stm_drive.specs.Turns.{IsFirstUnlogged}

@@ -3,7 +3,7 @@ use Rattle.std.proofs.Common.{◌≡◌, ◌≢◌, ℕ, List, [], ◌∷◌, �
 use Rattle.std.proofs.lemmas.Bool.{false≢true}
 use Rattle.std.specs.List.{AllByRecursion}
 use Rattle.std.specs.Prelude.{slice_set}
-use Rattle.issuer_view.specs.Words.{Executed, Frame, RowKey, Writes, decision}
+use Rattle.issuer_words.specs.Words.{Executed, Frame, RowKey, Writes, decision}
 use Rattle.stm_memory.specs.Entries.{IsNewLocation}
 use Rattle.stm_core_laws.specs.Words.{IsAt, Log, Play, PlayStep, State, Version, slot}
 use Rattle.stm_journal_text.specs.Words.{Answers, CoreFault, IsLogged, entered, log_rows, stands}

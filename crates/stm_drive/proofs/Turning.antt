@@ -1,7 +1,7 @@
 -- A turn of a seat, by what it holds.
 use Rattle.std.proofs.Common.{◌≡◌, ◌≢◌, ℕ, ◌<◌, List, [], ◌∷◌, ◌++◌, length, refl, sym, ap, subst, true, false, Err, inl, inr}
 use Rattle.std.specs.List.{AllByRecursion}
-use Rattle.issuer_view.specs.Words.{Agrees, Executed, Frame, RowKey, keys_read}
+use Rattle.issuer_words.specs.Words.{Agrees, Executed, Frame, RowKey, keys_read}
 use Rattle.stm_core_laws.specs.Words.{FinishStep, IsAt, IsReached, Play, State, slot}
 use Rattle.stm_journal_text.specs.Words.{Answers, EntryStep, FinishAnswers, FinishAnswersTo}
 use Rattle.stm_journal_text.specs.Words.{IsLogged, IsNoFinish, entered, log_rows, stands}

@@ -1,6 +1,6 @@
 -- Turns of workers, one after another, in an order that is given.
 use Rattle.std.specs.Prelude.{◌≡◌, ℕ, List, [], ◌∷◌, ◌++◌, replicate, slice_index_or, slice_set}
-use Rattle.issuer_view.specs.Words.{Frame, Rows}
+use Rattle.issuer_words.specs.Words.{Frame, Rows}
 use Rattle.stm_core_laws.specs.Words.{Play, opening_play, seats}
 use Rattle.stm_journal_text.specs.Logged.{greatest}
 use Rattle.stm_journal_text.specs.declared.entry.Entry.{Entry}

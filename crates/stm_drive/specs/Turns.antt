@@ -1,7 +1,7 @@
 -- What a worker does in its turn, by what its seat holds (Block-STM).
 use Rattle.std.specs.Prelude.{◌≡◌, ◌⊎◌, ℕ, ◌<◌, true, false, List, [], ◌∷◌, ◌++◌}
 use Rattle.std.specs.List.{AllByRecursion}
-use Rattle.issuer_view.specs.Words.{Frame, RowKey, decision}
+use Rattle.issuer_words.specs.Words.{Frame, RowKey, decision}
 use Rattle.stm_core_laws.specs.Words.{IsAt, Log, Play, State, slot}
 use Rattle.stm_journal_text.specs.Words.{Answers, IsLogged, entered, log_rows, stands}
 use Rattle.stm_journal_text.specs.declared.core_answer.CoreAnswer.{CoreAnswer}

@@ -1,5 +1,5 @@
 ghost use Rattle.std.specs.Prelude.{◌≡◌, ℕ, List};
-ghost use Rattle.issuer_view.specs.Words.{Frame, Rows};
+ghost use Rattle.issuer_words.specs.Words.{Frame, Rows};
 ghost use Rattle.stm_drive.specs.Drives.{IsDrive};
 ghost use Rattle.stm_journal_text.specs.declared.entry.Entry.{Entry};
 ghost use Rattle.stm_core_laws.specs.Play.{Play};

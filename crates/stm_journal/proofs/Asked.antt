@@ -1,7 +1,7 @@
 -- A call of the core is what its event asks, and which answers are entered.
 use Rattle.std.proofs.Common.{◌≡◌, ℕ, Bool, true, false, List, ◌∷◌, [], ◌++◌, Option, Result, Ok, Err, inr, refl, sym, ap, ◌∙◌, subst}
 use Rattle.stm_journal_text.proofs.Playing.{IsPlayed-push, stands_where_entered, same_where_not_entered}
-use Rattle.issuer_view.specs.Words.{RowKey, RowVal}
+use Rattle.issuer_words.specs.Words.{RowKey, RowVal}
 use Rattle.stm_core_laws.specs.Play.{Play, PlayStep}
 use Rattle.stm_journal_text.specs.Words.{Answers, CoreFault, IsPlayed, enters}
 use Rattle.stm_journal_text.specs.declared.core_answer.CoreAnswer.{CoreAnswer}

@@ -1,7 +1,7 @@
 -- What a replay does to the core, as steps of a play.
 use Rattle.std.proofs.Common.{◌≡◌, ◌≢◌, ℕ, List, refl, sym, ◌∙◌, subst, Ok, Err, true, Bool, ◌<◌, length, get_or}
 use Rattle.std.proofs.lemmas.List.{get_or_read}
-use Rattle.issuer_view.specs.Words.{Executed, Frame}
+use Rattle.issuer_words.specs.Words.{Executed, Frame}
 use Rattle.stm_core_laws.specs.Words.{IsAt, Play, PlayStep}
 use Rattle.stm_journal_text.specs.Words.{Answers, EntryStep, IsNoFinish, stands}
 use Rattle.stm_journal_text.specs.declared.core_answer.CoreAnswer.{CoreAnswer}

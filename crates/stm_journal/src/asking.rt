@@ -1,5 +1,5 @@
 ghost use Rattle.std.specs.Prelude.{◌≡◌, true, Option, IfSome, OnOk};
-ghost use Rattle.issuer_view.specs.Words.{IsOfKind, RowVal};
+ghost use Rattle.issuer_words.specs.Words.{IsOfKind, RowVal};
 ghost use Rattle.stm_journal_text.specs.Answers.{Answers, FinishAnswers, IsNoFinish, IsAnswerOfKind, enters};
 ghost use Rattle.stm_journal.specs.Answered.{was_read, validated, ended};
 

@@ -1,5 +1,5 @@
 ghost use Rattle.std.specs.Prelude.{◌≡◌, ◌≤◌, ◌⊎◌, Err, ℕ, length, IfOk, OnOk, IsTrue, IsFalse};
-ghost use Rattle.issuer_view.specs.Words.{Agrees, decision, keys_read};
+ghost use Rattle.issuer_words.specs.Words.{Agrees, decision, keys_read};
 ghost use Rattle.stm_core_laws.specs.Words.{opening_play, slot};
 ghost use Rattle.stm_journal_text.specs.Logged.{log_rows, IsUnlogged, IsUnloggedEvent, IsFirstUnlogged, greatest};
 ghost use Rattle.stm_journal_text.specs.Plays.{EntryStep, Plays};

@@ -8,9 +8,8 @@ use Rattle.std.proofs.lemmas.Bool.{and_parts, leb-true}
 use Rattle.std.proofs.lemmas.Fmt.{decimal_is_IsNumeral}
 use Rattle.hex.specs.Hex.{IsBytes, encode_lower, decode_of}
 use Rattle.hex.proofs.HexLemmas.{decode_of-encode_lower}
-use Rattle.iso8583.specs.Class.{IsPrintable}
+use Rattle.issuer_words.specs.Words.{IsPrintable, RowKey}
 use Rattle.stm_memory.specs.declared.version.Version.{Version}
-use Rattle.issuer_rows.specs.declared.row_key.RowKey.{RowKey}
 use Rattle.issuer_rows.specs.declared.row_key.RowKey.TheVariants as key
 use Rattle.stm_journal_text.specs.Marks.{Lacks}
 use Rattle.stm_journal_text.specs.Texts.{IsEvent, IsKey, IsVersion, event_text, key_text, version_text}

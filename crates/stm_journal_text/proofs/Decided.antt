@@ -6,14 +6,13 @@ use Rattle.std.specs.FinMap as finite
 use Rattle.std.specs.List.{AllByRecursion}
 use Rattle.std.specs.Option.{option_flatten}
 use Rattle.std.specs.Ordering.{eq_by_cmp}
-use Rattle.issuer_view.specs.Words.{Frame, RowKey, RowVal, Rows, decision}
-use Rattle.issuer_view.specs.Words.{key_cmp, key_eq, value_in}
+use Rattle.issuer_words.specs.Words.{Agrees, AreRead, ComesTo, Executed, Frame, IsTrueExecution, Reads, RowKey, RowVal, Rows, decision, key_cmp, key_eq, keys_read}
+use Rattle.issuer_view.specs.Words.{value_in}
 use Rattle.stm_memory.specs.Entries.{IsNewLocation}
 use Rattle.stm_core_laws.specs.Words.{AreLogged, FinishStep, IsAt, IsOfVersion, Log, Play, PlayStep}
 use Rattle.stm_core_laws.specs.Words.{State, Version, logged_in, slot}
 use Rattle.stm_core_laws.specs.declared.logged.Logged.{Logged}
 use Rattle.issuer_rows.proofs.KeyLaws.{key_cmp_total, same_test}
-use Rattle.issuer_rows.specs.Agreement.{Executed, IsTrueExecution, Reads, Agrees, AreRead, ComesTo, keys_read}
 use Rattle.stm_core_laws.proofs.Validations.{one_at}
 use Rattle.stm_core_laws.proofs.Members.{Contains-nil}
 use Rattle.stm_core_laws.specs.Run as call

@@ -8,11 +8,7 @@ use Rattle.std.proofs.lemmas.Slice.Eq.{slice_eq-Decides}
 use Rattle.hex.specs.Hex.{decode_sized, decode_pairs, encode_lower, lower_digits}
 use Rattle.hex.specs.declared.error.FromHexError.{FromHexError}
 use Rattle.hex.proofs.HexLemmas.{IsDigits-lower_digits, length-encode_with, decode_pairs-encode_with}
-use Rattle.iso8583.specs.Calendar.{IsDay}
-use Rattle.iso8583.specs.Class.{IsPrintable}
-use Rattle.iso8583.specs.Padded.{HasDigits, HasPrintable}
-use Rattle.iso8583.specs.declared.identity.Identity.{Identity}
-use Rattle.issuer_rows.specs.declared.row_key.RowKey.{RowKey}
+use Rattle.issuer_words.specs.Words.{HasDigits, HasPrintable, Identity, IsDay, IsPrintable, RowKey}
 use Rattle.issuer_rows.specs.declared.row_key.RowKey.TheVariants as key
 use Rattle.stm_journal_text.specs.Words.{IsIdentity, IsKey, Lacks, identity_text, key_text}
 use Rattle.stm_journal_text.proofs.Back.{key_back, key_back_is, printable_bytes}

@@ -6,8 +6,7 @@ use Rattle.std.specs.Fmt.{decimal}
 use Rattle.std.proofs.lemmas.Option.{none-some}
 use Rattle.hex.specs.Hex.{IsBytes, encode_with, encode_lower, lower_digits, hex_digit_value}
 use Rattle.hex.proofs.HexLemmas.{IsDigits-lower_digits}
-use Rattle.iso8583.specs.declared.identity.Identity.{Identity}
-use Rattle.issuer_rows.specs.declared.row_key.RowKey.{RowKey}
+use Rattle.issuer_words.specs.Words.{Identity, RowKey}
 use Rattle.issuer_rows.specs.declared.row_key.RowKey.TheVariants as key
 use Rattle.stm_journal_text.specs.Journal.{entry_text, line_of, journal_text, IsEntry, AreEntries, BeginsWithNoLine, IsFirstWrongLine}
 use Rattle.stm_journal_text.specs.Marks.{Lacks}

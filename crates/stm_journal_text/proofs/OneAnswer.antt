@@ -2,7 +2,7 @@
 use Rattle.std.proofs.Common.{◌≡◌, ◌≢◌, ℕ, inl, inr, refl, sym, ap, ◌∙◌, subst, Option, Some, Result, Ok, Err, Bool, true, false, rules}
 use Rattle.std.proofs.lemmas.Bool.{false≢true}
 use Rattle.std.proofs.lemmas.Option.{none-some, same_Some}
-use Rattle.issuer_view.specs.Words.{RowKey, RowVal}
+use Rattle.issuer_words.specs.Words.{RowKey, RowVal}
 use Rattle.stm_scheduler.specs.Words.{Claims, IsOpen}
 use Rattle.stm_core_laws.specs.Words.{BeginStep, BlockStep, CanAbort, CommitStep, EndStep}
 use Rattle.stm_core_laws.specs.Words.{HasValidation, Play, ReadStep, Seen, State, Task, Validated}

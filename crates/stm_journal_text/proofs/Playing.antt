@@ -1,7 +1,7 @@
 -- A play goes on by the entry of each answer.
 use Rattle.std.proofs.Common.{◌≡◌, ℕ, List, [], ◌∷◌, ◌++◌, refl, sym, ap, ◌∙◌, subst, ◌<◌, ◌+◌, length, take, drop, get_or, arith, true, false, Ok, Err}
 use Rattle.std.proofs.lemmas.List.{take_more, at_drop_more, take-append-drop, length-take-le}
-use Rattle.issuer_view.specs.Words.{Frame, Rows}
+use Rattle.issuer_words.specs.Words.{Frame, Rows}
 use Rattle.stm_core_laws.specs.Words.{Play, PlayStep, State, opening_play}
 use Rattle.stm_journal_text.specs.Words.{Answers, EntryStep, IsFirstUnlogged, IsPlayed}
 use Rattle.stm_journal_text.specs.Words.{IsUnloggedEvent, Plays, enters, stands}

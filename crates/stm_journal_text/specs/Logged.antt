@@ -3,7 +3,7 @@ use Rattle.std.specs.Prelude.{◌≡◌, ◌≢◌, ℕ, ◌+◌, List, [], ◌�
 use Rattle.std.specs.FinMap as finite
 use Rattle.std.specs.List.{AllByRecursion}
 use Rattle.std.specs.Option.{option_flatten}
-use Rattle.issuer_view.specs.Words.{Frame, Lookup, RowKey, Rows, decision}
+use Rattle.issuer_words.specs.Words.{Frame, Lookup, RowKey, Rows, decision}
 use Rattle.stm_core_laws.specs.Words.{IsAt, Log, Play, State, logged_in, slot}
 use Rattle.stm_core_laws.specs.declared.limits.Limits.{Limits}
 use Rattle.stm_memory.specs.declared.version.Version.{Version}

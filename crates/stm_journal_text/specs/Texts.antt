@@ -2,12 +2,8 @@
 use Rattle.std.specs.Prelude.{◌≡◌, ℕ, ◌<◌, ◌≤◌, ◌^◌, List, ◌∷◌, ◌++◌, length, slice_index, codes}
 use Rattle.std.specs.Fmt.{decimal}
 use Rattle.hex.specs.Hex.{encode_lower}
-use Rattle.iso8583.specs.Calendar.{IsDay, IsLocalStamp}
-use Rattle.iso8583.specs.Class.{IsDigits}
-use Rattle.iso8583.specs.Padded.{HasDigits, HasPrintable}
-use Rattle.iso8583.specs.declared.identity.Identity.{Identity}
+use Rattle.issuer_words.specs.Words.{HasDigits, HasPrintable, Identity, IsDay, IsDigits, IsLocalStamp, RowKey}
 use Rattle.stm_memory.specs.declared.version.Version.{Version}
-use Rattle.issuer_rows.specs.declared.row_key.RowKey.{RowKey}
 use Rattle.issuer_rows.specs.declared.row_key.RowKey.TheVariants as key
 use Rattle.stm_journal_text.specs.declared.event.Event.{Event}
 use Rattle.stm_journal_text.specs.declared.event.Event.TheVariants as event

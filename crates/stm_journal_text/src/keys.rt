@@ -2,11 +2,8 @@
 
 ghost use Rattle.std.specs.Prelude.{◌≡◌, ◌≢◌, ◌/◌, ◌++◌, length, IfSome, IfNone, codes};
 ghost use Rattle.hex.specs.Hex.{encode_lower};
-ghost use Rattle.iso8583.specs.Padded.{HasPrintable};
-ghost use Rattle.iso8583.specs.declared.account_id.AccountId.{AccountId};
-ghost use Rattle.iso8583.specs.declared.identity.Identity.{Identity};
+ghost use Rattle.issuer_words.specs.Words.{AccountId, HasPrintable, Identity, RowKey};
 ghost use Rattle.stm_journal_text.specs.Texts.{identity_text, key_text, IsIdentity, IsKey};
-ghost use Rattle.issuer_rows.specs.declared.row_key.RowKey.{RowKey};
 
 use crate::fields::parted;
 use crate::hexadecimal::name_digits;

@@ -3,7 +3,8 @@ use Rattle.std.proofs.Common.{◌≡◌, ◌≢◌, ℕ, zero, suc, ◌<◌, ◌
 use Rattle.std.proofs.lemmas.Bool.{cases_eq}
 use Rattle.std.proofs.lemmas.Option.{none-some, same_Some}
 use Rattle.std.specs.List.{IsDistinct}
-use Rattle.issuer_view.specs.Words.{IsOnceEach, RowKey, key_eq, value_in}
+use Rattle.issuer_words.specs.Words.{RowKey, key_eq}
+use Rattle.issuer_view.specs.Words.{IsOnceEach, value_in}
 use Rattle.stm_memory.specs.Words.{Chain, Chains, Held, room_in, room_of, row_at, rows_of, stands}
 use Rattle.stm_memory.proofs.Loops.{same_length, same_row}
 use Rattle.stm_memory.specs.Memory.{WrittenRows, AreListed, AreKept, HasRoomOf, list_at}

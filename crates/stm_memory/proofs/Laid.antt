@@ -5,7 +5,8 @@ use Rattle.std.proofs.lemmas.Option.{none-some, same_Some, slice_get_within}
 use Rattle.std.specs.FinMap as finite
 use Rattle.std.specs.Ordering.{eq_by_cmp}
 use Rattle.issuer_rows.proofs.KeyLaws.{key_cmp_total}
-use Rattle.issuer_view.specs.Words.{IsOnceEach, RowKey, RowVal, Rows, key_cmp, value_in}
+use Rattle.issuer_words.specs.Words.{RowKey, RowVal, Rows, key_cmp}
+use Rattle.issuer_view.specs.Words.{IsOnceEach, value_in}
 use Rattle.stm_memory.specs.Words.{Chain, Chains, Entries, IsLaidOver, Resolves, found, held}
 use Rattle.stm_memory.specs.Words.{links_in, placed, row_at, row_under, stands}
 use Rattle.stm_memory.specs.declared.seen.Seen.{Seen}

@@ -7,7 +7,8 @@ use Rattle.std.specs.FinMap as finite
 use Rattle.std.specs.List.{IsDistinct, remove}
 use Rattle.std.specs.Ordering.{eq_by_cmp, is_eq}
 use Rattle.issuer_rows.proofs.KeyLaws.{key_eq_decides, key_cmp_total, key_cmp_antisymmetric}
-use Rattle.issuer_view.specs.Words.{IsOnceEach, RowKey, RowVal, Rows, key_cmp, key_eq, overlay}
+use Rattle.issuer_words.specs.Words.{RowKey, RowVal, Rows, key_cmp, key_eq, overlay}
+use Rattle.issuer_view.specs.Words.{IsOnceEach}
 use Rattle.issuer_view.specs.Words.{value_in}
 use Rattle.stm_memory.specs.Entries.{written}
 use Rattle.stm_memory.proofs.RowLaws.{rows_cases, all_at, key_other}

@@ -4,7 +4,8 @@ use Rattle.std.proofs.lemmas.Bool.{cases_lt, false≢true}
 use Rattle.std.proofs.lemmas.List.{length-map}
 use Rattle.std.proofs.lemmas.Option.{none-some, same_Some, slice_get_within}
 use Rattle.std.specs.List.{remove}
-use Rattle.issuer_view.specs.Words.{IsOnceEach, RowKey, RowVal, value_in}
+use Rattle.issuer_words.specs.Words.{RowKey, RowVal}
+use Rattle.issuer_view.specs.Words.{IsOnceEach, value_in}
 use Rattle.stm_memory.specs.Words.{AreListed, Chains, Held, IsChangedAt, estimate_of, room_of}
 use Rattle.stm_memory.specs.Words.{row_at, rows_of, stands, value_at}
 use Rattle.stm_memory.proofs.ListLaws.{apart, valued, before_removed, was_there, still_there, pushed_before, pushed_last, pushed_cases}

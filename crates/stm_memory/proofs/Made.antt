@@ -5,7 +5,8 @@ use Rattle.std.specs.List.{position_or_len}
 use Rattle.indexmap.proofs.CallerLemmas.{insert_entry-new}
 use Rattle.indexmap.specs.IndexMap.{IndexMap, insert_index}
 use Rattle.issuer_rows.proofs.KeyLaws.{key_eq_decides}
-use Rattle.issuer_view.specs.Words.{IsOnceEach, RowKey, key_eq, value_in}
+use Rattle.issuer_words.specs.Words.{RowKey, key_eq}
+use Rattle.issuer_view.specs.Words.{IsOnceEach, value_in}
 use Rattle.stm_memory.proofs.RowLaws.{row_at-append}
 use Rattle.stm_memory.specs.Chains.{Chain, Chains, found, links_in, room_in, stands, room_of, rows_of, row_at, AreSound, IsMade}
 use Rattle.stm_memory.specs.declared.link.Link.{Link}

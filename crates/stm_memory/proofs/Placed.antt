@@ -7,7 +7,8 @@ use Rattle.std.specs.Cmp.{IsTotalOrder, then_total, on_total, nat_cmp_total}
 use Rattle.std.specs.FinMap as finite
 use Rattle.std.specs.Ordering.{nat_cmp, ordering_then, is_eq, eq_by_cmp, match_ordering}
 use Rattle.issuer_rows.proofs.KeyLaws.{key_cmp_total, key_cmp_antisymmetric, key_eq_decides}
-use Rattle.issuer_view.specs.Words.{IsOnceEach, RowKey, key_cmp, key_eq, value_in}
+use Rattle.issuer_words.specs.Words.{RowKey, key_cmp, key_eq}
+use Rattle.issuer_view.specs.Words.{IsOnceEach, value_in}
 use Rattle.stm_memory.specs.Chains.{AreInOrder, Chain, Chains, found, held_of, links_in, stands}
 use Rattle.stm_memory.specs.Resolves.{row_count}
 use Rattle.stm_memory.specs.declared.link.Link.{Link}

@@ -1,7 +1,8 @@
 -- What a version wrote stands in place of its index's entries.
 use Rattle.std.proofs.Common.{◌≡◌, ◌≢◌, ◌↔◌, ◌⊎◌, ℕ, Bool, Some, None, IsSome, IsTrue, option_map, refl, sym, ap, ◌∙◌, inl, inr}
 use Rattle.std.specs.FinMap as finite
-use Rattle.issuer_view.specs.Words.{IsOnceEach, RowKey, RowVal, Writes, value_in}
+use Rattle.issuer_words.specs.Words.{RowKey, RowVal, Writes}
+use Rattle.issuer_view.specs.Words.{IsOnceEach, value_in}
 use Rattle.stm_memory.specs.Words.{AreEstimated, AreReplaced, Chains, Entries, IsNewLocation}
 use Rattle.stm_memory.specs.Words.{estimate_of, held, placed, rows_of, stands, value_at}
 use Rattle.stm_memory.specs.declared.version.Version.{Version}

@@ -1,7 +1,8 @@
 -- Room is made beside the entries, and no entry changes.
 use Rattle.std.proofs.Common.{◌≡◌, ℕ, ◌<◌, ◌≤◌, List, length, IsSome, Result, Ok, Err, OnOk, sym, ◌∙◌}
 use Rattle.std.specs.FinMap as finite
-use Rattle.issuer_view.specs.Words.{IsOnceEach, RowKey, Writes, value_in}
+use Rattle.issuer_words.specs.Words.{RowKey, Writes}
+use Rattle.issuer_view.specs.Words.{IsOnceEach, value_in}
 use Rattle.stm_memory.specs.Words.{Chains, Entries, room_of, stands}
 use Rattle.stm_memory.proofs.Kept.{told_list, told_room}
 use Rattle.stm_memory.proofs.Placed.{held_placed, place_cmp_total, place_cmp_antisymmetric}

@@ -6,7 +6,8 @@ use Rattle.std.proofs.lemmas.Option.{slice_get-get_or, none-some, same_Some}
 use Rattle.std.specs.List.{AllByRecursion, IsDistinct}
 use Rattle.indexmap.specs.IndexMap.{set_value_at}
 use Rattle.issuer_rows.proofs.KeyLaws.{key_eq_decides}
-use Rattle.issuer_view.specs.Words.{IsOfKind, IsOnceEach, RowKey, key_eq, value_in}
+use Rattle.issuer_words.specs.Words.{IsOfKind, RowKey, key_eq}
+use Rattle.issuer_view.specs.Words.{IsOnceEach, value_in}
 use Rattle.stm_memory.specs.Chains.{AreSound, Chain, Chains, IsChangedAt, found, links_in, room_in, room_of, row_at, rows_of, stands}
 use Rattle.stm_memory.specs.Entries.{Held, value_at}
 use Rattle.stm_memory.specs.Resolves.{IsSeenOfKind, Resolves}

@@ -2,7 +2,8 @@
 use Rattle.std.specs.Prelude.{◌≡◌, ◌≢◌, ◌⊎◌, ℕ, ◌<◌, ◌≤◌, List, [], ◌∷◌, ◌==◌, length, map, slice_index_or, slice_get, if◌then◌else◌, Option, Some, None, IfSome}
 use Rattle.std.specs.List.{AllPairs}
 use Rattle.indexmap.specs.IndexMap.{insert_entry}
-use Rattle.issuer_view.specs.Words.{IsOfKind, IsOnceEach, RowKey, RowVal, key_eq, value_in}
+use Rattle.issuer_words.specs.Words.{IsOfKind, RowKey, RowVal, key_eq}
+use Rattle.issuer_view.specs.Words.{IsOnceEach, value_in}
 use Rattle.stm_memory.specs.Entries.{Held, Shelf}
 use Rattle.stm_memory.specs.declared.link.Link.{Link}
 use Rattle.stm_memory.specs.declared.seen.Seen.{Seen}

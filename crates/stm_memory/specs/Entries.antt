@@ -3,7 +3,7 @@ use Rattle.std.specs.Prelude.{◌≡◌, ◌≢◌, ℕ, Option, Some, None, opt
 use Rattle.std.specs.FinMap as map
 use Rattle.std.specs.Ordering.{nat_cmp, on, then_cmp}
 use Rattle.std.specs.declared.cmp.Ordering.{Ordering}
-use Rattle.issuer_view.specs.Words.{RowKey, RowVal, Writes, key_cmp, overlay}
+use Rattle.issuer_words.specs.Words.{RowKey, RowVal, Writes, key_cmp, overlay}
 use Rattle.stm_memory.specs.declared.version.Version.{Version}
 
 -- a row and an index: where an entry stands

@@ -2,7 +2,8 @@
 use Rattle.std.specs.Prelude.{◌≡◌, ℕ, ◌<◌, ◌≤◌, List, [], ◌∷◌, ◌++◌, length, map, slice_get, slice_index_or, Option, Some, IsSome, refl}
 use Rattle.std.specs.Coded.{Coded, code_by, coded×, coded_list, coded_ℕ, coded_option}
 use Rattle.std.specs.FinMap as finite
-use Rattle.issuer_view.specs.Words.{IsOnceEach, RowKey, RowVal, Writes, value_in}
+use Rattle.issuer_words.specs.Words.{RowKey, RowVal, Writes}
+use Rattle.issuer_view.specs.Words.{IsOnceEach, value_in}
 use Rattle.stm_memory.specs.Chains.{Chains, held_of, row_at, stands}
 use Rattle.stm_memory.specs.Entries.{Entries, Held, Place, place_of}
 use Rattle.stm_memory.specs.declared.link.Link.{Link}

@@ -1,7 +1,7 @@
 -- What a message sees of a row (Block-STM: read): what the nearest message before it wrote.
 use Rattle.std.specs.Prelude.{◌≡◌, ℕ, ◌<◌, ◌≤◌, ◌^◌, filter, length, Option, Some, None}
 use Rattle.std.specs.FinMap as map
-use Rattle.issuer_view.specs.Words.{IsOfKind, RowKey, RowVal, Rows, key_eq}
+use Rattle.issuer_words.specs.Words.{IsOfKind, RowKey, RowVal, Rows, key_eq}
 use Rattle.stm_memory.specs.Entries.{Entries, Held, Shelf, value_at}
 use Rattle.stm_memory.specs.declared.seen.Seen.{Seen}
 use Rattle.stm_memory.specs.declared.seen.Seen.TheVariants.{Base, Value, Estimate}

@@ -1,6 +1,7 @@
 ghost use Rattle.std.specs.Prelude.{◌≡◌, ◌≢◌, ◌↔◌, ℕ, ◌<◌, ◌≤◌, [], length, Some, None, IsTrue, IfOk, IfSome, IfNone, IsSome, OnOk, OnErr, option_map};
 ghost use Rattle.indexmap.specs.IndexMap.{insert_index};
-ghost use Rattle.issuer_view.specs.Words.{IsOfKind, IsOnceEach, RowKey, key_eq, value_in};
+ghost use Rattle.issuer_words.specs.Words.{IsOfKind, RowKey, key_eq};
+ghost use Rattle.issuer_view.specs.Words.{IsOnceEach, value_in};
 ghost use Rattle.std.specs.Option.{option_copied};
 ghost use Rattle.stm_memory.specs.Chains.{stands, seen_of, row_at, rows_of, room_of, links_in, AreInOrder, IsChangedAt, IsMade};
 ghost use Rattle.stm_memory.specs.Entries.{estimate_of, value_at};

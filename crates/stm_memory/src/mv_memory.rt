@@ -1,6 +1,7 @@
 ghost use Rattle.std.specs.Prelude.{◌≡◌, ◌≢◌, ◌⊎◌, ◌↔◌, ℕ, ◌<◌, ◌≤◌, length, Some, None, IsSome, IsTrue, IfOk, OnOk, option_map};
 ghost use Rattle.std.specs.FinMap as map;
-ghost use Rattle.issuer_view.specs.Words.{IsOnceEach, RowKey, RowVal, value_in};
+ghost use Rattle.issuer_words.specs.Words.{RowKey, RowVal};
+ghost use Rattle.issuer_view.specs.Words.{IsOnceEach, value_in};
 ghost use Rattle.std.specs.Option.{option_copied};
 ghost use Rattle.stm_memory.specs.Chains.{seen_of, stands, rows_of, room_of, row_at};
 ghost use Rattle.stm_memory.specs.Entries.{held, value_at, estimate_of, AreReplaced, AreEstimated, IsNewLocation};

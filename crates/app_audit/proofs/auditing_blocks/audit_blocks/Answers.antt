@@ -2,7 +2,7 @@ use Rattle.std.proofs.Common.{◌≡◌, ◌≤◌, ◌<◌, ℕ, List, IfOk, le
 use Rattle.std.proofs.lemmas.Bool.{false≢true}
 use Rattle.std.proofs.lemmas.Result.{IfOk-weaker}
 use Rattle.file_batch_laws.specs.Blocks.{replies_to_blocks}
-use Rattle.issuer_view.specs.Words.{ReplyBody, Rows, replies_to}
+use Rattle.issuer_words.specs.Words.{ReplyBody, Rows, replies_to}
 use Rattle.app_audit.specs.Blocks.{FindsInBlocks}
 use Rattle.app_audit.specs.Difference.{IsFirstDifference}
 use Rattle.app_audit.proofs.BlockSteps.{goes_on, ends, differs, counts_of_replies, same_lengths, same_count}

@@ -1,6 +1,6 @@
 use Rattle.std.proofs.Common.{◌≡◌, Result, Err, inl, inr, List, length, refl, sym, ap, subst, ◌∙◌}
 use Rattle.stm_journal_text.specs.declared.replay_fault.ReplayFault.{ReplayFault}
-use Rattle.issuer_view.specs.Words.{ReplyBody, Rows, rows_after}
+use Rattle.issuer_words.specs.Words.{ReplyBody, Rows, rows_after}
 use Rattle.app_audit.specs.Finding.{Finds}
 use Rattle.app_audit.proofs.Counts.{few_replies}
 use Rattle.app_audit.proofs.Played.{all_replies, all_rows}

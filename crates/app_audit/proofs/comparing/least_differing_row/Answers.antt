@@ -4,7 +4,7 @@ use Rattle.std.specs.Map.Iter.{deref_pair}
 use Rattle.std.proofs.lemmas.Iterator.Consumers.{YieldsList-from_rest}
 use Rattle.itertools.specs.List.{merge_join_by}
 use Rattle.itertools.proofs.TwoLemmas.{YieldsList-from_front_of_both}
-use Rattle.issuer_view.specs.Words.{RowKey, Rows}
+use Rattle.issuer_words.specs.Words.{RowKey, Rows}
 use Rattle.app_audit.specs.Difference.{IsLeastDifference}
 use Rattle.app_audit.proofs.Joined.{agree, join, joined, lent, lent_by_key, row_of, FindsFirst, found}
 use Rattle.app_audit.proofs.LeastKey.{least}

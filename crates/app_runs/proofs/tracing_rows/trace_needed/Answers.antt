@@ -1,6 +1,5 @@
 use Rattle.std.proofs.Common.{rules, ◌≡◌, ◌∙◌, ap, List, subst}
-use Rattle.issuer_rows.specs.Fold.{Rows, replies_to}
-use Rattle.issuer_rows.specs.declared.reply_body.ReplyBody.{ReplyBody}
+use Rattle.issuer_words.specs.Words.{ReplyBody, Rows, replies_to}
 use Rattle.engine_locked.specs.Journals.{IsJournalOf}
 use Rattle.stm_core_laws.specs.Play.{opening_play}
 use Rattle.stm_journal_text.specs.Logged.{greatest}

@@ -3,9 +3,7 @@ use Rattle.std.proofs.ByRecursion.{all_shuffled}
 use Rattle.std.specs.FinMap as map
 use Rattle.std.specs.List.{AllByRecursion}
 use Rattle.issuer_rows.proofs.ListedRows.{listed_found}
-use Rattle.issuer_rows.specs.Book.{IsWithin}
-use Rattle.issuer_rows.specs.Fold.{Rows}
-use Rattle.issuer_rows.specs.RowKey.{key_eq}
+use Rattle.issuer_words.specs.Words.{IsWithin, Rows, key_eq}
 use Rattle.book_archive.specs.Archive.{has_paid, is_past, new_rows, old_rows}
 use Rattle.book_archive.proofs.Splitting.{Row, IsGoing, stays, moves, goes_on, goes_by, has_gone, put_seen, new_begins, old_begins, nothing_within}
 use Rattle.book_archive.proofs.archiving.archive_book.Goals as goal

@@ -2,9 +2,7 @@ use Rattle.std.proofs.Common.{◌≡◌, Bool, true, false, cond, ◌||◌, Opti
 use Rattle.std.proofs.lemmas.Bool.{false≢true}
 use Rattle.std.specs.FinMap as map
 use Rattle.issuer_rows.proofs.KeyLaws.{key_eq_decides}
-use Rattle.issuer_rows.specs.Fold.{Rows}
-use Rattle.issuer_rows.specs.RowKey.{key_eq}
-use Rattle.issuer_rows.specs.declared.row_val.RowVal.{RowVal}
+use Rattle.issuer_words.specs.Words.{RowVal, Rows, key_eq}
 use Rattle.book_archive.specs.Archive.{has_paid}
 use Rattle.book_archive.proofs.Splitting.{put_seen, none_within, both_put}
 use Rattle.book_archive.proofs.archiving.put_past.Goals as goal

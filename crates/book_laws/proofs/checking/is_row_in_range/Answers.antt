@@ -1,13 +1,6 @@
 use Rattle.std.proofs.Common.{◌≤◌, ◌+◌, ◌^◌, ◌↔◌, ◌≡◌, Bool, true, IsTrue, sym, ◌∙◌, ap, arith}
-use Rattle.iso8583.specs.declared.identity.Identity.{Identity}
-use Rattle.iso8583.specs.declared.pan_prefix.PanPrefix.{PanPrefix}
-use Rattle.issuer_rows.specs.Backing.{stays, is_from_budget, budget_paid}
-use Rattle.issuer_rows.specs.Facts.{prefix_of}
-use Rattle.issuer_rows.specs.Fold.{Rows}
-use Rattle.issuer_rows.specs.Kept.{KeptOriginal, payment_of_outcome}
-use Rattle.issuer_rows.specs.declared.row_key.RowKey.{RowKey}
+use Rattle.issuer_words.specs.Words.{Identity, KeptOriginal, PanPrefix, RowKey, RowVal, Rows, budget_paid, is_from_budget, payment_of_outcome, prefix_of, stays}
 use Rattle.issuer_rows.specs.declared.row_key.RowKey.TheVariants as key
-use Rattle.issuer_rows.specs.declared.row_val.RowVal.{RowVal}
 use Rattle.issuer_rows.specs.declared.row_val.RowVal.TheVariants as val
 use Rattle.book_laws.specs.CheckBook.{IsRowInRange, is_among}
 use Rattle.book_laws.specs.declared.paid_from.PaidFrom.TheVariants as from

@@ -1,8 +1,6 @@
 use Rattle.std.proofs.Common.{◌≡◌, ℕ, false, subst, List, ap, sym, ◌∙◌}
 use Rattle.std.specs.FinMap as map
-use Rattle.issuer_rows.specs.Fold.{Rows}
-use Rattle.issuer_rows.specs.declared.row_key.RowKey.{RowKey}
-use Rattle.issuer_rows.specs.declared.row_val.RowVal.{RowVal}
+use Rattle.issuer_words.specs.Words.{RowKey, RowVal, Rows}
 use Rattle.book_laws.specs.Reading.{reading}
 use Rattle.book_laws.specs.Text.{Adds, JsonText, tokens_of, top_data, book_data}
 use Rattle.book_laws.proofs.WrittenTokens.{printed}

@@ -1,9 +1,7 @@
 use Rattle.std.proofs.Common.{◌≡◌, ◌+◌, ◌∷◌, List, ap, sym, ◌∙◌, subst, drop, map}
 use Rattle.std.proofs.lemmas.List.{drop_more, drop_all}
 use Rattle.std.specs.Map.Iter.{deref_pair}
-use Rattle.issuer_rows.specs.RowVal.{IsOfKind}
-use Rattle.issuer_rows.specs.declared.row_key.RowKey.{RowKey}
-use Rattle.issuer_rows.specs.declared.row_val.RowVal.{RowVal}
+use Rattle.issuer_words.specs.Words.{IsOfKind, RowKey, RowVal}
 use Rattle.book_laws.specs.Text.{Adds, JsonText, rows_of}
 use Rattle.book_laws.proofs.WrittenTokens.{then}
 use Rattle.book_text.specs.Left.{tokens_of_entries, entries_tokens}

@@ -1,6 +1,6 @@
 use Rattle.std.proofs.Common.{◌≡◌, ℕ, ◌+◌, ◌<◌, ◌++◌, ◌∷◌, [], List, Some, Vec, Global, drop, zip, get_or, sym, ap, ◌∙◌, length, arith, append_assoc, append-nil, length-append}
 use Rattle.std.proofs.lemmas.Option.{slice_get-get_or}
-use Rattle.issuer_view.specs.Words.{Frame}
+use Rattle.issuer_words.specs.Words.{Frame}
 use Rattle.issuer_laws.specs.Parts.{of_part}
 use Rattle.engine_parts.proofs.OrderLaws.{zip_done}
 use Rattle.engine_parts.proofs.QueueLaws.{some_at}

@@ -1,7 +1,7 @@
 use Rattle.std.proofs.Common.{◌≡◌, ◌≤◌, ◌<◌, ◌+◌, ℕ, List, length, get_or, slice_get, slice_index, replicate, subst, sym, ap, ◌∙◌, arith, rules, length-set}
 use Rattle.std.proofs.Math.ListN.{set}
 use Rattle.std.proofs.lemmas.Option.{get_or_from_slice_get, slice_get-get_or}
-use Rattle.issuer_view.specs.Words.{ReplyBody}
+use Rattle.issuer_words.specs.Words.{ReplyBody}
 use Rattle.engine_parts.proofs.QueueLaws.{below_at, in_order_all, in_order_first, in_order_next, length_replies, small_next, zeros}
 use Rattle.engine_parts.specs.Decided.{AreInOrder, list_at, replies_of, with_next}
 use Rattle.engine_parts.proofs.joining.in_order.Goals as goal

@@ -2,7 +2,7 @@ use Rattle.std.proofs.Common.{◌≡◌, ℕ, ◌+◌, ◌-◌, ◌<◌, List, S
 use Rattle.std.specs.List.{AllByRecursion}
 use Rattle.issuer_fold.proofs.FoldLaws.{length-replies_to}
 use Rattle.issuer_laws.specs.Parts.{AreApart}
-use Rattle.issuer_view.specs.Words.{replies_to, rows_after}
+use Rattle.issuer_words.specs.Words.{replies_to, rows_after}
 use Rattle.engine_parts.specs.Decided.{bodies_of}
 use Rattle.engine_parts.specs.declared.decided_part.DecidedPart.{DecidedPart}
 use Rattle.engine_parts.proofs.WholeLaws.{have_parts, whole_book}

@@ -1,7 +1,7 @@
 use Rattle.std.proofs.Common.{◌≡◌, Some}
 use Rattle.std.specs.FinMap as map
 use Rattle.std.specs.List.{AllByRecursion}
-use Rattle.issuer_view.specs.Words.{overlay}
+use Rattle.issuer_words.specs.Words.{overlay}
 use Rattle.engine_parts.specs.TwoBooks.{joined}
 use Rattle.engine_parts.proofs.writing.put_book.Given as goal
 

@@ -1,6 +1,5 @@
 use Rattle.std.proofs.Common.{◌≡◌, ◌∷◌, ◌++◌, ◌≤◌, List, [], length, refl, ap, subst, ◌∙◌, arith}
-use Rattle.issuer_rows.specs.Fold.{rows_after, replies_to}
-use Rattle.issuer_rows.specs.declared.reply_body.ReplyBody.{ReplyBody}
+use Rattle.issuer_words.specs.Words.{ReplyBody, replies_to, rows_after}
 use Rattle.rtrb.specs.Ring.{sent, received, known_items}
 use Rattle.std.specs.Prelude.{count_by}
 use Rattle.file_batch.specs.Counting.{is_unreadable}

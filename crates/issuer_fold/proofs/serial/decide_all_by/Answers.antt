@@ -1,5 +1,5 @@
 use Rattle.std.proofs.Common.{◌++◌, List, ap, ◌∙◌}
-use Rattle.issuer_view.specs.Words.{Frame, replies_to, rows_after}
+use Rattle.issuer_words.specs.Words.{Frame, replies_to, rows_after}
 use Rattle.issuer_fold.proofs.FoldLaws.{rest_is}
 use Rattle.issuer_fold.proofs.serial.decide_all_by.Goals as goal
 

@@ -1,6 +1,5 @@
 use Rattle.std.proofs.Common.{◌≡◌, ◌-◌, [], ◌∷◌, None, refl, ap, ◌∙◌}
-use Rattle.issuer_rows.specs.AdviceTable.{kept_of_advice, accepted_writes}
-use Rattle.issuer_rows.specs.Funds.{balance_of, with_balance, key_of_funds, row_of_funds, paid_by}
+use Rattle.issuer_words.specs.Words.{accepted_writes, balance_of, kept_of_advice, key_of_funds, paid_by, row_of_funds, with_balance}
 use Rattle.issuer_rows.specs.declared.original_outcome.OriginalOutcome.TheVariants as outcome
 use Rattle.issuer_rows.specs.declared.row_key.RowKey.TheVariants as key
 use Rattle.issuer_rules.proofs.PutLaws.{without_puts, two_puts, payer_unput}

@@ -1,6 +1,5 @@
 use Rattle.std.proofs.Common.{sym, ap, ◌∙◌}
-use Rattle.issuer_rows.specs.AdviceTable.{reply_to_advice}
-use Rattle.issuer_rows.specs.Kept.{action_of_outcome}
+use Rattle.issuer_words.specs.Words.{action_of_outcome, reply_to_advice}
 use Rattle.issuer_rules.proofs.FollowingLaws.{follows_then, follows_else, concluded_with_none}
 use Rattle.issuer_rules.proofs.advice_answers.answer_kept.Goals as goal
 

@@ -1,9 +1,5 @@
 use Rattle.std.proofs.Common.{◌≡◌, ◌-◌, [], ◌∷◌, None, refl, ap, ◌∙◌}
-use Rattle.issuer_rows.specs.Facts.{identity_of, day_of}
-use Rattle.issuer_rows.specs.Plan.{Writes}
-use Rattle.issuer_rows.specs.Funds.{balance_of, with_balance, key_of_funds, row_of_funds, paid_by}
-use Rattle.iso8583.specs.Number.{fixed_digits}
-use Rattle.issuer_rows.specs.RequestTable.{approval_code, kept_of_request, reply_to_request, approved_writes}
+use Rattle.issuer_words.specs.Words.{Writes, approval_code, approved_writes, balance_of, day_of, fixed_digits, identity_of, kept_of_request, key_of_funds, paid_by, reply_to_request, row_of_funds, with_balance}
 use Rattle.issuer_rows.specs.declared.original_outcome.OriginalOutcome.TheVariants as outcome
 use Rattle.iso8583.specs.declared.verdict.Verdict.TheVariants as verdict
 use Rattle.issuer_rows.specs.declared.row_key.RowKey.TheVariants as key

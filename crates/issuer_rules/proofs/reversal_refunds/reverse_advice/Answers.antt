@@ -1,6 +1,5 @@
 use Rattle.std.proofs.Common.{◌≡◌, ◌+◌, [], ◌∷◌, refl, ap, ◌∙◌}
-use Rattle.issuer_rows.specs.Funds.{balance_of, with_balance, key_of_funds, row_of_funds}
-use Rattle.issuer_rows.specs.ReversalTable.{advice_back, given_back}
+use Rattle.issuer_words.specs.Words.{advice_back, balance_of, given_back, key_of_funds, row_of_funds, with_balance}
 use Rattle.issuer_rows.specs.declared.row_key.RowKey.TheVariants as key
 use Rattle.issuer_rows.specs.declared.row_val.RowVal.TheVariants as val
 use Rattle.issuer_rules.proofs.FollowingLaws.{follows_then, follows_else}

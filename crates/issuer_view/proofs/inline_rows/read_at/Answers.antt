@@ -1,8 +1,7 @@
 use Rattle.std.proofs.Common.{◌≡◌, ℕ, ◌+◌, ◌<◌, length, take, set, None, Option, OnOk, IfSome, sym, ap, subst}
 use Rattle.std.specs.FinMap as map
-use Rattle.issuer_rows.specs.Agreement.{Reads}
-use Rattle.issuer_rows.specs.declared.row_key.RowKey.{RowKey}
-use Rattle.issuer_view.specs.Words.{IsOfKind, RowVal, Rows, latest}
+use Rattle.issuer_words.specs.Words.{IsOfKind, Reads, RowKey, RowVal, Rows}
+use Rattle.issuer_view.specs.Words.{latest}
 use Rattle.issuer_view.specs.Recording.{answer_of}
 use Rattle.issuer_view.proofs.ListLaws.{on_ok}
 use Rattle.issuer_view.proofs.LogLaws.{latest_set}

@@ -1,6 +1,7 @@
 use Rattle.std.proofs.Common.{◌≡◌, inl, None, Option, Ok, IfSome, sym, ap, subst, ◌∙◌}
 use Rattle.std.specs.FinMap as map
-use Rattle.issuer_view.specs.Words.{IsOfKind, Reads, RowVal, Rows, latest, logged}
+use Rattle.issuer_words.specs.Words.{IsOfKind, Reads, RowVal, Rows}
+use Rattle.issuer_view.specs.Words.{latest, logged}
 use Rattle.issuer_view.proofs.LogLaws.{latest_last, logged_last}
 use Rattle.issuer_view.proofs.spilled_rows.ask_map.Goals as goal
 

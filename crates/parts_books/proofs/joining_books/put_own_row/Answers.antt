@@ -1,9 +1,6 @@
 use Rattle.std.proofs.Common.{Bool, not, ◌&&◌, cond, Option, sym, ap, ◌∙◌}
 use Rattle.std.specs.FinMap as map
-use Rattle.issuer_rows.specs.Fold.{Rows}
-use Rattle.issuer_rows.specs.RowKey.{key_eq}
-use Rattle.issuer_rows.specs.Typed.{account_in}
-use Rattle.issuer_rows.specs.declared.row_val.RowVal.{RowVal}
+use Rattle.issuer_words.specs.Words.{RowVal, Rows, account_in, key_eq}
 use Rattle.parts_books.specs.PartBooks.{is_same_account_row}
 use Rattle.parts_books.proofs.Going.{put_here}
 use Rattle.parts_books.proofs.joining_books.put_own_row.Goals as goal

@@ -2,9 +2,7 @@ use Rattle.std.proofs.Common.{◌+◌, List, drop, sym, subst}
 use Rattle.std.specs.FinMap as map
 use Rattle.book_archive.proofs.Splitting.{nothing_within, within_on}
 use Rattle.issuer_fold.proofs.FoldLaws.{left_in_turn}
-use Rattle.issuer_rows.specs.Book.{IsWithin}
-use Rattle.issuer_rows.specs.Fold.{Rows}
-use Rattle.issuer_rows.specs.declared.frame.Frame.{Frame}
+use Rattle.issuer_words.specs.Words.{Frame, IsWithin, Rows}
 use Rattle.parts_books.specs.PartBooks.{is_for, rows_for}
 use Rattle.parts_books.proofs.Going.{IsGoing, all_gone, goes_on, none_left, part_begins}
 use Rattle.parts_books.proofs.making_parts.book_for.Goals as goal

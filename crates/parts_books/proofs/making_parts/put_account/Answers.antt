@@ -1,8 +1,6 @@
 use Rattle.std.proofs.Common.{◌≡◌, true, Some, Option, is_some, sym, ap, ◌∙◌}
 use Rattle.std.specs.FinMap as map
-use Rattle.issuer_rows.specs.Fold.{Rows}
-use Rattle.issuer_rows.specs.Typed.{account_in}
-use Rattle.issuer_rows.specs.declared.row_val.RowVal.{RowVal}
+use Rattle.issuer_words.specs.Words.{RowVal, Rows, account_in}
 use Rattle.parts_books.proofs.Going.{passing, put_here}
 use Rattle.parts_books.specs.PartBooks.{has_account_at}
 use Rattle.parts_books.proofs.making_parts.put_account.Goals as goal

@@ -1,7 +1,6 @@
 use Rattle.std.proofs.Common.{◌≡◌, cond, take}
 use Rattle.std.specs.FinMap as map
-use Rattle.issuer_rows.specs.Book.{IsWithin}
-use Rattle.issuer_rows.specs.declared.row_key.RowKey.{RowKey}
+use Rattle.issuer_words.specs.Words.{IsWithin, RowKey}
 use Rattle.parts_books.specs.PartBooks.{is_among}
 use Rattle.parts_books.proofs.making_parts.put_rows.Given as goal
 

@@ -2,9 +2,7 @@ use Rattle.std.proofs.Common.{◌≡◌, ◌+◌, not, List, None, drop, sym, ap
 use Rattle.std.specs.FinMap as map
 use Rattle.issuer_fold.proofs.FoldLaws.{left_in_turn}
 use Rattle.issuer_laws.specs.Parts.{may_need}
-use Rattle.issuer_rows.specs.Fold.{Rows}
-use Rattle.issuer_rows.specs.declared.frame.Frame.{Frame}
-use Rattle.issuer_rows.specs.declared.row_key.RowKey.{RowKey}
+use Rattle.issuer_words.specs.Words.{Frame, RowKey, Rows}
 use Rattle.parts_books.specs.PartBooks.{is_among, is_of_account, rest_rows}
 use Rattle.parts_books.proofs.Going.{IsGoing, all_gone, goes_on, is_taken, none_left, rest_begins}
 use Rattle.parts_books.proofs.making_rest.rest_book.Goals as goal

@@ -1,7 +1,6 @@
 use Rattle.std.proofs.Common.{◌&&◌, not, None, sym, ap, ◌∙◌}
 use Rattle.std.specs.FinMap as map
-use Rattle.issuer_rows.specs.Fold.{Rows}
-use Rattle.issuer_rows.specs.RowKey.{key_eq}
+use Rattle.issuer_words.specs.Words.{Rows, key_eq}
 use Rattle.parts_books.specs.PartBooks.{is_of_account}
 use Rattle.parts_books.proofs.Going.{HasGone, failing, get-removed, goes_again, passing}
 use Rattle.parts_books.proofs.making_rest.take_rows.Goals.{then-not-is_of_account, else-not-is_of_account}

@@ -1,5 +1,5 @@
 use Rattle.std.proofs.Common.{◌≡◌, ℕ, ◌<◌, Some, IsSome, slice_get}
-use Rattle.issuer_view.specs.Words.{RowKey, RowVal}
+use Rattle.issuer_words.specs.Words.{RowKey, RowVal}
 use Rattle.stm_memory.specs.Entries.{held}
 use Rattle.stm_core.proofs.logging.puts_new_location.Given as goal
 

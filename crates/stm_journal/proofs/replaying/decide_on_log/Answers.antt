@@ -1,5 +1,6 @@
 use Rattle.std.proofs.Common.{◌≡◌, ◌∙◌, ap, sym, subst}
-use Rattle.issuer_view.specs.Words.{Agrees, AgreesWithBook, Executed, Reads, keys_read}
+use Rattle.issuer_words.specs.Words.{Agrees, Executed, Reads, keys_read}
+use Rattle.issuer_view.specs.Words.{AgreesWithBook}
 use Rattle.stm_core_laws.specs.State.{slot}
 use Rattle.stm_journal_text.specs.Logged.{log_rows}
 use Rattle.stm_journal_text.proofs.Decided.{agrees_log}

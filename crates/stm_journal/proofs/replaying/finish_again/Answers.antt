@@ -1,6 +1,6 @@
 use Rattle.std.proofs.Common.{◌≡◌, ◌<◌, List, length, sym, subst}
 use Rattle.std.proofs.lemmas.Bool.{false≢true}
-use Rattle.issuer_view.specs.Words.{Frame, decision, keys_read}
+use Rattle.issuer_words.specs.Words.{Frame, decision, keys_read}
 use Rattle.stm_core_laws.specs.State.{slot, IsAt}
 use Rattle.stm_journal_text.specs.Logged.{log_rows}
 use Rattle.stm_journal_text.proofs.Decided.{undecided}

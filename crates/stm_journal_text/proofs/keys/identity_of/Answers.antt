@@ -1,7 +1,5 @@
 use Rattle.std.proofs.Common.{◌≡◌, ℕ, List, length, sym, subst}
-use Rattle.iso8583.specs.Calendar.{IsLocalStamp}
-use Rattle.iso8583.specs.Class.{IsDigits}
-use Rattle.iso8583.specs.Padded.{HasDigits}
+use Rattle.issuer_words.specs.Words.{HasDigits, IsDigits, IsLocalStamp}
 use Rattle.stm_journal_text.specs.Marks.{Lacks}
 use Rattle.stm_journal_text.proofs.KeyTexts.{identity_marked, identity_first, identity_last}
 use Rattle.stm_journal_text.proofs.Marks.{not_lacking}

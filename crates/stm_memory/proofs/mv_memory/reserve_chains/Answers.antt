@@ -1,7 +1,8 @@
 use Rattle.std.proofs.Common.{◌≡◌, ◌<◌, slice_get, sym, ap, ◌∙◌, subst, inl, inr, arith}
 use Rattle.std.proofs.lemmas.Bool.{cases_lt}
 use Rattle.std.proofs.lemmas.Option.{slice_get_within, same_Some}
-use Rattle.issuer_view.specs.Words.{RowKey, RowVal, value_in}
+use Rattle.issuer_words.specs.Words.{RowKey, RowVal}
+use Rattle.issuer_view.specs.Words.{value_in}
 use Rattle.stm_memory.proofs.ListLaws.{standing}
 use Rattle.stm_memory.proofs.Loops.{some_of}
 use Rattle.stm_memory.specs.Chains.{room_of}

@@ -1,5 +1,6 @@
 use Rattle.std.proofs.Common.{◌≡◌, ◌<◌, ℕ, slice_get, Some}
-use Rattle.issuer_view.specs.Words.{IsOnceEach, RowKey, RowVal}
+use Rattle.issuer_words.specs.Words.{RowKey, RowVal}
+use Rattle.issuer_view.specs.Words.{IsOnceEach}
 use Rattle.stm_memory.specs.Chains.{stands, row_at, room_of}
 use Rattle.stm_memory.proofs.mv_memory.reserve_chains.Given as goal
 

@@ -2,7 +2,8 @@ use Rattle.std.proofs.Common.{ℕ, List, length, IsSome, Option, sym, subst, ap,
 use Rattle.std.proofs.lemmas.Bool.{false≢true}
 use Rattle.std.proofs.lemmas.List.Edits.{length-remove}
 use Rattle.std.proofs.lemmas.Option.{slice_get_within}
-use Rattle.issuer_view.specs.Words.{RowVal, value_in}
+use Rattle.issuer_words.specs.Words.{RowVal}
+use Rattle.issuer_view.specs.Words.{value_in}
 use Rattle.stm_memory.proofs.Loops.{TakingOut, passed_over, taken_out}
 use Rattle.stm_memory.proofs.mv_memory.take_out_others.Goals as goal
 

@@ -1,7 +1,6 @@
 use Rattle.std.proofs.Common.{◌≡◌, List, [], rules, subst, sym, ◌∙◌}
 use Rattle.std.specs.List.{AllByRecursion}
-use Rattle.issuer_rows.specs.declared.row_key.RowKey.{RowKey}
-use Rattle.issuer_rows.specs.declared.row_val.RowVal.{RowVal}
+use Rattle.issuer_words.specs.Words.{RowKey, RowVal}
 use Rattle.book_laws.specs.Text.{IsReadAgain}
 use Rattle.book_laws.proofs.BookAgain.{book_text_again}
 use Rattle.book_text.proofs.listed_rows.ListedRows.new.Goals as goal

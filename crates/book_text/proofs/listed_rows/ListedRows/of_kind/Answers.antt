@@ -4,8 +4,7 @@ use Rattle.std.proofs.lemmas.List.{take_rest}
 use Rattle.std.proofs.lemmas.List.Sorted.{IsNonDecreasingBy-drop, IsNonDecreasingBy-take, IsPartitionPoint-from_clause, IsPartitionedBy-leb, IsPartitionedBy-ltb}
 use Rattle.std.specs.Map.Iter.{deref_pair}
 use lib.Dec.{leb, ltb}
-use Rattle.issuer_rows.specs.Book.{AllOfKind}
-use Rattle.issuer_rows.specs.RowKey.{kind_of}
+use Rattle.issuer_words.specs.Words.{AllOfKind, kind_of}
 use Rattle.book_laws.specs.Text.{rows_of}
 use Rattle.book_text.specs.ByKind.{kind_of_list}
 use Rattle.book_text.proofs.ByKind.{Ref, all_in, kinds_within, order_of_refs}

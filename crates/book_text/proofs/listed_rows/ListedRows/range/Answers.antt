@@ -1,6 +1,5 @@
 use Rattle.std.proofs.Common.{List, ap, slice_range, sym, subst, ◌∙◌}
-use Rattle.issuer_rows.specs.declared.row_key.RowKey.{RowKey}
-use Rattle.issuer_rows.specs.declared.row_val.RowVal.{RowVal}
+use Rattle.issuer_words.specs.Words.{RowKey, RowVal}
 use Rattle.book_text.specs.ByKind.{StandByKind}
 use Rattle.book_text.proofs.ByKind.{range_of_refs, range_stands}
 use Rattle.book_text.proofs.listed_rows.ListedRows.range.Goals as goal

@@ -1,7 +1,6 @@
 use Rattle.std.proofs.Common.{List, ap, ◌∙◌}
 use Rattle.json.specs.Print.{print_from}
-use Rattle.issuer_rows.specs.declared.row_key.RowKey.{RowKey}
-use Rattle.issuer_rows.specs.declared.row_val.RowVal.{RowVal}
+use Rattle.issuer_words.specs.Words.{RowKey, RowVal}
 use Rattle.book_laws.specs.Text.{ends_after}
 use Rattle.book_text.specs.Left.{entries_tokens}
 use Rattle.book_writer.proofs.span.Span.write.Goals as goal

@@ -1,6 +1,5 @@
 use Rattle.std.proofs.Common.{ℕ, ◌++◌, List, false, ap, sym, ◌∙◌, append-nil}
-use Rattle.issuer_rows.specs.declared.row_key.RowKey.{RowKey}
-use Rattle.issuer_rows.specs.declared.row_val.RowVal.{RowVal}
+use Rattle.issuer_words.specs.Words.{RowKey, RowVal}
 use Rattle.book_text.specs.Left.{text_left}
 use Rattle.book_writer.specs.Rest.{rest_at}
 use Rattle.book_writer.specs.declared.text_left.TextPlace.{TextPlace}

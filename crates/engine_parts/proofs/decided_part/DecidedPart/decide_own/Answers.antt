@@ -1,7 +1,7 @@
 use Rattle.std.proofs.Common.{◌≡◌, ℕ, ◌+◌, ◌<◌, [], List, Some, drop, zip, get_or, length, sym, ap, ◌∙◌, subst, arith}
 use Rattle.std.proofs.lemmas.Option.{slice_get-get_or}
 use Rattle.issuer_laws.specs.Parts.{of_part}
-use Rattle.issuer_view.specs.Words.{Frame}
+use Rattle.issuer_words.specs.Words.{Frame}
 use Rattle.engine_parts.specs.Decided.{AreDecidedTo, bodies_of}
 use Rattle.engine_parts.specs.declared.decided_part.DecidedPart.{DecidedPart}
 use Rattle.engine_parts.proofs.OrderLaws.{zip_done}

@@ -1,5 +1,5 @@
 use Rattle.std.proofs.Common.{ℕ, ◌++◌, ap, ◌∙◌, append_assoc, arith}
-use Rattle.issuer_view.specs.Words.{Rows, rows_after_one}
+use Rattle.issuer_words.specs.Words.{Rows, rows_after_one}
 use Rattle.issuer_view.proofs.ListLaws.{on_err}
 use Rattle.issuer_fold.specs.Begun.{AreDecided}
 use Rattle.issuer_fold.proofs.FoldLaws.{rows_of_one_more, replies_of_one_more}

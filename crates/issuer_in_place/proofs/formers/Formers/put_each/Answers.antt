@@ -1,6 +1,6 @@
 use Rattle.std.proofs.Common.{◌+◌, drop, ap, ◌∙◌}
 use Rattle.issuer_rows.proofs.OverlayLaws.{overlay-drop}
-use Rattle.issuer_view.specs.Words.{Rows, overlay}
+use Rattle.issuer_words.specs.Words.{Rows, overlay}
 use Rattle.issuer_in_place.proofs.BackLaws.{leads_back_still}
 use Rattle.issuer_in_place.proofs.formers.Formers.put_each.Goals as goal
 

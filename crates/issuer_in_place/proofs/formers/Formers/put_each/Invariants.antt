@@ -1,5 +1,5 @@
 use Rattle.std.proofs.Common.{◌≡◌, drop}
-use Rattle.issuer_view.specs.Words.{Rows, overlay}
+use Rattle.issuer_words.specs.Words.{Rows, overlay}
 use Rattle.issuer_in_place.specs.Formers.{LeadsBack}
 use Rattle.issuer_in_place.proofs.formers.Formers.put_each.Given as goal
 

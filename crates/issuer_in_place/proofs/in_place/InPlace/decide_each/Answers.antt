@@ -1,5 +1,5 @@
 use Rattle.std.proofs.Common.{rules, ap, ◌∙◌}
-use Rattle.issuer_view.specs.Words.{Rows, rows_after_one}
+use Rattle.issuer_words.specs.Words.{Rows, rows_after_one}
 use Rattle.issuer_fold.proofs.FoldLaws.{rows_of_one_more, replies_of_one_more}
 use Rattle.issuer_in_place.proofs.BackLaws.{leads_back_at_once}
 use Rattle.issuer_in_place.proofs.in_place.InPlace.decide_each.Goals as goal

@@ -1,12 +1,7 @@
 use Rattle.std.proofs.Common.{◌≡◌, Result, Ok, Err, IfOk, refl, sym, ap, subst, ◌∙◌}
-use Rattle.iso8583.specs.declared.codec_fault.CodecFault.{CodecFault}
+use Rattle.issuer_words.specs.Words.{CodecFault, Frame, IsLocal, Reads, ReplyBody, Writes, reply_to_request}
 use Rattle.iso8583.specs.declared.message.Message.TheVariants as message
-use Rattle.issuer_rows.specs.Agreement.{Reads, IsLocal}
-use Rattle.issuer_rows.specs.Plan.{Writes}
-use Rattle.issuer_rows.specs.RequestTable.{reply_to_request}
-use Rattle.issuer_rows.specs.declared.frame.Frame.{Frame}
 use Rattle.issuer_rows.specs.declared.frame.Frame.TheVariants.{Good, Bad}
-use Rattle.issuer_rows.specs.declared.reply_body.ReplyBody.{ReplyBody}
 use Rattle.issuer_rows.specs.declared.reply_body.ReplyBody.TheVariants.{Fault}
 use Rattle.issuer_rules.proofs.FollowingLaws.{begins, concluded_with_none, concluded_local, concluded_all}
 use Rattle.issuer_rules.proofs.StageLaws.{starts}

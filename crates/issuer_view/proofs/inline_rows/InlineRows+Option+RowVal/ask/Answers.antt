@@ -1,6 +1,7 @@
 use Rattle.std.proofs.Common.{◌≡◌, Ok, IfSome, inl, ◌∙◌}
 use Rattle.std.specs.FinMap as map
-use Rattle.issuer_view.specs.Words.{IsOfKind, Rows, latest}
+use Rattle.issuer_words.specs.Words.{IsOfKind, Rows}
+use Rattle.issuer_view.specs.Words.{latest}
 use Rattle.issuer_view.proofs.LogLaws.{as_written, asked_last}
 use Rattle.issuer_view.proofs.inline_rows.InlineRows+Option+RowVal.ask.Goals as goal
 

@@ -1,5 +1,6 @@
 use Rattle.std.proofs.Common.{◌≡◌, ◌-◌, suc, length, None, ap, arith, ◌∙◌}
-use Rattle.issuer_view.specs.Words.{Reads, latest}
+use Rattle.issuer_words.specs.Words.{Reads}
+use Rattle.issuer_view.specs.Words.{latest}
 use Rattle.issuer_view.proofs.LogLaws.{last_place}
 use Rattle.issuer_view.proofs.inline_rows.InlineRows+Option+RowVal.latest.Goals as goal
 

@@ -2,7 +2,7 @@ use Rattle.std.proofs.Common.{◌≡◌, ◌<◌, length, take, set, sym, ap, �
 use Rattle.std.proofs.Math.Seq.{take-set-lt}
 use Rattle.std.proofs.lemmas.Grind.{common_steps}
 use Rattle.std.proofs.lemmas.List.{length-set, with_items_is}
-use Rattle.issuer_view.specs.Words.{RowKey, RowVal, Writes}
+use Rattle.issuer_words.specs.Words.{RowKey, RowVal, Writes}
 use Rattle.issuer_view.proofs.inline_rows.InlineRows+RowVal.set_copy.Goals as goal
 
 pub returns : goal.returns

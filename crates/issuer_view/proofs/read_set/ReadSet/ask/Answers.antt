@@ -1,6 +1,6 @@
 use Rattle.std.proofs.Common.{◌≡◌, ◌++◌, ◌∷◌, [], Option, None, Ok, IfSome, sym, ap, subst, ◌∙◌, rules}
 use Rattle.std.specs.FinMap as map
-use Rattle.issuer_view.specs.Words.{IsOfKind, Reads, RowKey, RowVal, Rows, key_eq}
+use Rattle.issuer_words.specs.Words.{IsOfKind, Reads, RowKey, RowVal, Rows, key_eq}
 use Rattle.indexmap.specs.IndexMap.{insert_entry}
 use Rattle.issuer_view.proofs.KindLaws.{inserted_suits}
 use Rattle.std.proofs.lemmas.List.{append_assoc}

@@ -1,6 +1,7 @@
 use Rattle.std.proofs.Common.{◌≡◌, ◌++◌, List, get_or, slice_get, Option, Some, IfSome, sym, ap, subst, ◌∙◌, rules}
 use Rattle.std.proofs.lemmas.Option.{get_or_from_slice_get}
-use Rattle.issuer_view.specs.Words.{IsOfKind, RowKey, RowVal, value_in}
+use Rattle.issuer_words.specs.Words.{IsOfKind, RowKey, RowVal}
+use Rattle.issuer_view.specs.Words.{value_in}
 use Rattle.issuer_view.proofs.KindLaws.{found_suits}
 use Rattle.issuer_view.proofs.ListLaws.{found_at, found_behind}
 use Rattle.issuer_view.proofs.read_set.ReadSet.get.Goals as goal

@@ -1,5 +1,6 @@
 use Rattle.std.proofs.Common.{◌≡◌, ◌-◌, suc, length, None, ap, sym, rules, ◌∙◌}
-use Rattle.issuer_view.specs.Words.{Reads, latest}
+use Rattle.issuer_words.specs.Words.{Reads}
+use Rattle.issuer_view.specs.Words.{latest}
 use Rattle.issuer_view.proofs.LogLaws.{latest_behind}
 use Rattle.issuer_view.proofs.read_set.ReadSet.latest.Goals as goal
 

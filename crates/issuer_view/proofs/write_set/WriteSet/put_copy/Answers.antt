@@ -1,6 +1,7 @@
 use Rattle.std.proofs.Common.{◌≡◌, ◌<◌, ℕ, ◌++◌, length, slice_get, sym, ap, subst, ◌∙◌, rules}
 use Rattle.std.proofs.lemmas.List.{length-set}
-use Rattle.issuer_view.specs.Words.{Writes, key_eq, put, value_in}
+use Rattle.issuer_words.specs.Words.{Writes, key_eq}
+use Rattle.issuer_view.specs.Words.{put, value_in}
 use Rattle.indexmap.specs.IndexMap.{insert_entry}
 use Rattle.issuer_view.proofs.KindLaws.{all_put}
 use Rattle.issuer_view.proofs.ListLaws.{put_front, put_behind, put_among, found_behind, on_err}

@@ -1,5 +1,6 @@
 use Rattle.std.proofs.Common.{◌≡◌, ◌++◌, None, sym, ap, ◌∙◌, rules}
-use Rattle.issuer_view.specs.Words.{Writes, key_eq, put, value_in}
+use Rattle.issuer_words.specs.Words.{Writes, key_eq}
+use Rattle.issuer_view.specs.Words.{put, value_in}
 use Rattle.indexmap.specs.IndexMap.{insert_entry}
 use Rattle.issuer_view.proofs.KindLaws.{all_put}
 use Rattle.issuer_view.proofs.ListLaws.{put_behind, put_among, absent_front}

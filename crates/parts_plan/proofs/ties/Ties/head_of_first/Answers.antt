@@ -1,7 +1,6 @@
 use Rattle.std.proofs.Common.{refl, inl, subst, ◌∙◌}
-use Rattle.iso8583.specs.declared.identity.Identity.{Identity}
+use Rattle.issuer_words.specs.Words.{Identity, RowKey}
 use Rattle.issuer_laws.specs.Parts.{funds_at}
-use Rattle.issuer_rows.specs.declared.row_key.RowKey.{RowKey}
 use Rattle.parts_plan.proofs.TieLaws.{all_kept, funds_kept, kept_twice}
 use Rattle.parts_plan.specs.Ties.{IsTied}
 use Rattle.parts_plan.proofs.ties.Ties.head_of_first.Goals as goal

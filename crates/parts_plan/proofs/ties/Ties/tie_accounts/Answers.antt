@@ -1,8 +1,6 @@
 use Rattle.std.proofs.Common.{Option, sym, subst}
-use Rattle.iso8583.specs.declared.account_id.AccountId.{AccountId}
+use Rattle.issuer_words.specs.Words.{AccountId, CardRow, RowKey}
 use Rattle.issuer_laws.specs.Parts.{account_keys, second_key}
-use Rattle.issuer_rows.specs.declared.card_row.CardRow.{CardRow}
-use Rattle.issuer_rows.specs.declared.row_key.RowKey.{RowKey}
 use Rattle.parts_plan.proofs.TieLaws.{tied_kept, kept_twice, same_cards_twice}
 use Rattle.parts_plan.specs.Ties.{AreTied, IsTied}
 use Rattle.parts_plan.proofs.ties.Ties.tie_accounts.Goals as goal

@@ -1,6 +1,5 @@
 use Rattle.std.proofs.Common.{◌<◌, IfSome, OnOk, length, slice_get, subst, sym}
-use Rattle.issuer_rows.specs.Agreement.{IsLocal}
-use Rattle.issuer_view.specs.Words.{Frame, reply_of}
+use Rattle.issuer_words.specs.Words.{Frame, IsLocal, reply_of}
 use Rattle.split_ledger.proofs.LedgerLaws.{decided_or_kept, next_local}
 use Rattle.split_ledger.specs.Progress.{Progress, book_of}
 use Rattle.split_ledger.proofs.ledger.Ledger.decide_next.Goals as goal

@@ -1,6 +1,7 @@
 use Rattle.std.proofs.Common.{◌≡◌, get_or, Some, ap, sym, ◌∙◌, arith}
 use Rattle.std.specs.Option.{option_copied}
-use Rattle.issuer_view.specs.Words.{key_eq, value_in}
+use Rattle.issuer_words.specs.Words.{key_eq}
+use Rattle.issuer_view.specs.Words.{value_in}
 use Rattle.stm_core_laws.specs.State.{Log}
 use Rattle.stm_core.specs.Origin.{log_of}
 use Rattle.stm_core.specs.declared.read.Read.{Read}

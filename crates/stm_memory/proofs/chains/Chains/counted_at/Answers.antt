@@ -3,7 +3,8 @@ use Rattle.stm_memory.proofs.RowLaws.{chain_here, seen_of_kind}
 use Rattle.std.specs.Option.{option_copied}
 use Rattle.stm_memory.specs.Chains.{Chain, Chains, found, links_in, row_at, seen_of, stands, AreInOrder}
 use Rattle.stm_memory.specs.Resolves.{IsNearestBelow, IsWithinDigitsOf, Resolves}
-use Rattle.issuer_view.specs.Words.{RowKey, value_in}
+use Rattle.issuer_words.specs.Words.{RowKey}
+use Rattle.issuer_view.specs.Words.{value_in}
 use Rattle.stm_memory.proofs.chains.Chains.counted_at.Goals as goal
 
 -- the row's chain

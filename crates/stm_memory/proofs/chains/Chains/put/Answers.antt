@@ -3,7 +3,7 @@ use Rattle.std.proofs.lemmas.Option.{same_Some}
 use Rattle.std.specs.List.{slice_get}
 use Rattle.stm_memory.proofs.RowLaws.{row_within}
 use Rattle.stm_memory.specs.Chains.{room_of}
-use Rattle.issuer_view.specs.Words.{IsOfKind, RowKey}
+use Rattle.issuer_words.specs.Words.{IsOfKind, RowKey}
 use Rattle.stm_memory.proofs.chains.Chains.put.Goals as goal
 
 pub put_at-is_new-requires-clause-within : goal.put_at-is_new-requires-clause-within

@@ -1,7 +1,8 @@
 use Rattle.std.proofs.Common.{◌≡◌, ◌<◌, ℕ, Option, Some, None, IfSome, IsSome, ap, sym, subst, ◌∙◌}
 use Rattle.stm_memory.proofs.RowLaws.{chain_here}
 use Rattle.stm_memory.specs.Chains.{Chain, Chains, found, links_in, row_at, stands}
-use Rattle.issuer_view.specs.Words.{RowKey, value_in}
+use Rattle.issuer_words.specs.Words.{RowKey}
+use Rattle.issuer_view.specs.Words.{value_in}
 use Rattle.stm_memory.proofs.chains.Chains.superseded.Goals as goal
 
 pub returns : goal.returns
