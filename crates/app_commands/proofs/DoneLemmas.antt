@@ -3,7 +3,7 @@ use Rattle.std.proofs.Common.{◌≡◌, ℕ, List, Option, Some, None, Result, 
 use Rattle.file_batch.specs.declared.strictness.Strictness.{Strictness}
 use Rattle.file_batch.specs.declared.strictness.Strictness.TheVariants.{Lenient}
 use Rattle.std.specs.Global.{Vec}
-use Rattle.file_batch_laws.specs.declared.batch_fault.BatchFault.{BatchFault}
+use Rattle.file_batch.specs.Words.{AreAsTheyWere, BatchFault, Failing}
 use Rattle.app_jobs.specs.DecidedBlocks.{AreBlocksKept}
 use Rattle.app_jobs.specs.BlockFaults.{IsBlocksFault}
 use Rattle.app_arguments.specs.declared.engine_choice.EngineChoice.{EngineChoice}
@@ -16,8 +16,6 @@ use Rattle.app_arguments.specs.declared.line_fault.LineFault.{LineFault}
 use Rattle.app_arguments.specs.declared.line_fault.LineFault.TheVariants as line
 use Rattle.app_commands.specs.Answered.{IsAskedFor, IsClaimFault, IsDoneAs, IsFaultIn, IsFaultOf, IsOneInUse, IsRefusalIn, IsRefusalOf, IsTold, IsToldFor}
 use Rattle.app_commands.specs.Apart.{AreApart, IsApartFault, names_apart}
-use Rattle.file_devices.specs.Failing.{Failing}
-use Rattle.file_devices.specs.Holding.{AreAsTheyWere}
 use Rattle.app_jobs.proofs.AnsweredFiles.{untouched}
 use Rattle.app_commands.specs.Fault.{fault_and_kept, fault_of_line}
 use Rattle.app_commands.specs.declared.fault.Fault.{Fault}

@@ -10,12 +10,10 @@ use Rattle.app_audit.specs.declared.block_audit.BlockAudit.{BlockAudit}
 use Rattle.app_audit.specs.declared.block_audit.BlockAudit.TheVariants as block_found
 use Rattle.file_batch.specs.Counting.{Admits}
 use Rattle.file_batch.specs.declared.strictness.Strictness.TheVariants.{Lenient}
-use Rattle.file_batch_laws.specs.declared.batch_fault.BatchFault.{BatchFault}
+use Rattle.file_batch.specs.Words.{AreAsTheyWere, BatchFault, Failing, IsAsItWas, IsThere}
 use Rattle.app_jobs.specs.AuditedBlocks.{AreBlocksAudited}
 use Rattle.app_jobs.specs.DecidedBlocks.{AreBlocksDecided, AreBlocksKept}
 use Rattle.app_jobs.specs.BlockFaults.{IsBlockAuditingFault, IsBlocksFault}
-use Rattle.file_devices.specs.Failing.{Failing}
-use Rattle.file_devices.specs.Holding.{AreAsTheyWere, IsAsItWas, IsThere}
 use Rattle.app_commands.specs.Apart.{AreApart, HasOneFile, names_apart}
 use Rattle.app_jobs.specs.Audited.{IsAudited}
 use Rattle.app_jobs.specs.Decided.{Holding, IsDecided}

@@ -4,14 +4,8 @@ use Rattle.file_batch.specs.Counting.{Admits, count_of}
 use Rattle.file_batch.specs.declared.body_count.BodyCount.{BodyCount}
 use Rattle.file_batch.specs.declared.strictness.Strictness.{Strictness}
 use Rattle.file_batch.specs.declared.strictness.Strictness.TheVariants.{Strict}
-use Rattle.file_batch_laws.specs.Blocks.{IsBlockFileOf, all_messages}
-use Rattle.file_batch_laws.specs.Frames.{IsBatchOf}
-use Rattle.file_devices.specs.BatchNames.{Names}
-use Rattle.file_devices.specs.Failing.{Failing}
-use Rattle.file_devices.specs.Holding.{AreAsTheyWere, ArePlaced, HasOneNamed, IsAsItWas, IsNoneNamed, IsThere}
-use Rattle.file_devices.specs.declared.write_fault.WriteFault.{WriteFault}
+use Rattle.file_batch.specs.Words.{AreAsTheyWere, ArePlaced, Failing, HasOneNamed, IsAsItWas, IsBatchOf, IsBlockFileOf, IsNoneNamed, IsThere, Names, WriteFault, Written, all_messages}
 use Rattle.file_devices.specs.declared.write_fault.WriteFault.TheVariants as write
-use Rattle.file_devices.specs.declared.written.Written.{Written}
 use Rattle.file_devices.proofs.Placing.{none_of_two, one_of_two, placed_two}
 use Rattle.issuer_words.specs.Words.{Frame, Rows}
 use Rattle.app_jobs.specs.BlockFaults.{IsStrictBlocksFault}

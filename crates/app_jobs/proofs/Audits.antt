@@ -1,8 +1,7 @@
 -- Faults of what an audit opens, as those of the audit.
 use Rattle.std.proofs.Common.{List, inl, inr}
 use Rattle.issuer_words.specs.Words.{Frame, ReplyBody, Rows}
-use Rattle.file_devices.specs.BatchNames.{Names}
-use Rattle.file_devices.specs.Failing.{Failing}
+use Rattle.file_batch.specs.Words.{Failing, Names}
 use Rattle.app_jobs.specs.Audited.{AreDecided, AreHeld}
 use Rattle.app_jobs.specs.Decided.{Holding}
 use Rattle.app_jobs.specs.Faults.{IsAnswersFault, IsOpeningFault, IsFaultInOrder}

@@ -3,10 +3,7 @@ use Rattle.std.proofs.Common.{◌≡◌, ℕ, List, [], ◌++◌, refl, sym, ◌
 use Rattle.std.proofs.lemmas.Bool.{or_parts}
 use Rattle.std.proofs.lemmas.List.{append-nil}
 use Rattle.file_blocks.specs.Blocks.{StopsBefore, StopsInHead, StopsInBlocks}
-use Rattle.file_batch_laws.specs.BatchFault.{failed_at, is_of_bytes}
-use Rattle.file_batch_laws.specs.Blocks.{block_replies_magic, blocks_text, replies_to_blocks}
-use Rattle.file_batch_laws.specs.Files.{head_text}
-use Rattle.file_batch_laws.specs.declared.batch_fault.BatchFault.{BatchFault}
+use Rattle.file_batch.specs.Words.{BatchFault, block_replies_magic, blocks_text, failed_at, head_text, is_of_bytes, replies_to_blocks}
 use Rattle.file_batch_laws.specs.declared.batch_fault.BatchFault.TheVariants.{Device}
 use Rattle.issuer_rows.specs.Fold.{Rows}
 use Rattle.app_jobs.specs.DecidedBlocks.{AreFirstAnswered}

@@ -1,6 +1,6 @@
 -- Faults of an audit's journal.
 use Rattle.std.proofs.Common.{◌≡◌, ℕ, List, Result, Err, refl}
-use Rattle.file_batch_laws.specs.Frames.{IsBatchOf}
+use Rattle.file_batch.specs.Words.{IsBatchOf, Names}
 use Rattle.stm_journal_text.specs.Logged.{IsFirstUnlogged, greatest}
 use Rattle.stm_journal_text.specs.Journal.{AreEntries, journal_text}
 use Rattle.stm_journal_text.specs.declared.entry.Entry.{Entry}
@@ -8,7 +8,6 @@ use Rattle.stm_journal_text.specs.declared.replay_fault.ReplayFault.{ReplayFault
 use Rattle.stm_journal_text.specs.declared.replay_fault.ReplayFault.TheVariants as replay
 use Rattle.issuer_words.specs.Words.{Frame, Rows}
 use Rattle.stm_core_laws.specs.Play.{opening_play}
-use Rattle.file_devices.specs.BatchNames.{Names}
 use Rattle.app_jobs.specs.Decided.{Holding, IsBookOf}
 use Rattle.app_jobs.specs.JournalFaults.{IsUnplayed}
 

@@ -2,11 +2,8 @@
 use Rattle.std.specs.Prelude.{ℕ, List}
 use Rattle.app_audit.specs.Finding.{Finds}
 use Rattle.app_audit.specs.declared.audited.Audit.{Audit}
-use Rattle.file_batch_laws.specs.Frames.{IsBatchOf}
-use Rattle.file_batch_laws.specs.Replies.{IsReplyFileOf}
+use Rattle.file_batch.specs.Words.{IsBatchOf, IsReplyFileOf, IsThere, Names}
 use Rattle.issuer_words.specs.Words.{Frame, ReplyBody, Rows, replies_to, rows_after}
-use Rattle.file_devices.specs.BatchNames.{Names}
-use Rattle.file_devices.specs.Holding.{IsThere}
 use Rattle.app_jobs.specs.Decided.{Holding, IsBookOf}
 
 -- The files, as far as it is known what they hold, are there and hold this book and this batch.

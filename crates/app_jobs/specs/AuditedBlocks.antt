@@ -2,10 +2,8 @@
 use Rattle.std.specs.Prelude.{ℕ, List}
 use Rattle.app_audit.specs.Blocks.{FindsInBlocks}
 use Rattle.app_audit.specs.declared.block_audit.BlockAudit.{BlockAudit}
-use Rattle.file_batch_laws.specs.Blocks.{IsBlockFileOf, IsBlockReplyFileOf, rows_after_blocks, replies_to_blocks}
+use Rattle.file_batch.specs.Words.{IsBlockFileOf, IsBlockReplyFileOf, IsThere, Names, replies_to_blocks, rows_after_blocks}
 use Rattle.issuer_words.specs.Words.{Frame, ReplyBody, Rows}
-use Rattle.file_devices.specs.BatchNames.{Names}
-use Rattle.file_devices.specs.Holding.{IsThere}
 use Rattle.app_jobs.specs.Decided.{Holding, IsBookOf}
 
 -- Replies and new book, as the files hold them, are compared with what deciding these blocks on these rows, one after another, comes to.

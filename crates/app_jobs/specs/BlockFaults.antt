@@ -5,13 +5,9 @@ use Rattle.file_batch.specs.Counting.{count_of}
 use Rattle.file_batch.specs.declared.strictness.Strictness.{Strictness}
 use Rattle.file_batch.specs.declared.strictness.Strictness.TheVariants.{Strict}
 use Rattle.file_blocks.specs.BlockFiles.{FailsAmong}
-use Rattle.file_batch_laws.specs.BatchFault.{is_of_bytes}
-use Rattle.file_batch_laws.specs.Blocks.{FailsAsBlockReplies, IsBlockFileOf, all_messages, IsBlockReplyFileOf, block_head_at, blocks_magic}
-use Rattle.file_batch_laws.specs.declared.batch_fault.BatchFault.{BatchFault}
+use Rattle.file_batch.specs.Words.{BatchFault, Failing, FailsAsBlockReplies, IsBlockFileOf, IsBlockReplyFileOf, Names, all_messages, block_head_at, blocks_magic, is_of_bytes}
 use Rattle.file_batch_laws.specs.declared.batch_fault.BatchFault.TheVariants.{Device}
 use Rattle.issuer_words.specs.Words.{Frame, ReplyBody}
-use Rattle.file_devices.specs.BatchNames.{Names}
-use Rattle.file_devices.specs.Failing.{Failing}
 use Rattle.app_jobs.specs.Decided.{Holding}
 use Rattle.app_jobs.specs.Faults.{IsBookFault, IsPuttingFault, IsSomeBook, IsWritingFaultOf, MayNotBeAnswered}
 use Rattle.app_jobs.specs.declared.job_fault.JobFault.{JobFault}

@@ -1,13 +1,9 @@
 -- What files hold after a batch was decided.
-use Rattle.file_devices.specs.BatchNames.{Names}
+use Rattle.file_batch.specs.Words.{AreReplyBodies, IsBatchOf, IsThere, Names, replies_text}
 pub use Rattle.file_devices.specs.Holding.{Holding}
-use Rattle.file_devices.specs.Holding.{IsThere}
 use Rattle.std.specs.Prelude.{◌≡◌, ◌≢◌, ℕ, List, Ok}
 use Rattle.file_batch.specs.Counting.{count_of}
 use Rattle.file_batch.specs.declared.body_count.BodyCount.{BodyCount}
-use Rattle.file_batch_laws.specs.Files.{replies_text}
-use Rattle.file_batch_laws.specs.Frames.{IsBatchOf}
-use Rattle.file_batch_laws.specs.Replies.{AreReplyBodies}
 use Rattle.book_laws.specs.Reading.{IsAnswer, reading}
 use Rattle.book_laws.specs.Text.{book_text}
 use Rattle.issuer_words.specs.Words.{Frame, Rows, replies_to, rows_after}

@@ -2,15 +2,10 @@
 use Rattle.std.specs.Prelude.{◌≡◌, ◌≢◌, ◌⊎◌, ℕ, List, [], ◌++◌, length, Ok, Err, IsTrue}
 use Rattle.file_batch.specs.Counting.{count_of}
 use Rattle.file_batch.specs.declared.body_count.BodyCount.{BodyCount}
-use Rattle.file_batch_laws.specs.BatchFault.{is_of_bytes}
-use Rattle.file_batch_laws.specs.Blocks.{AreBlocks, AreBlocksOfReplies, IsBlock, IsBlockFileOf, FailsBehind, block_head_at, blocks_magic, block_replies_magic, block_replies_text, blocks_text, block_text, all_messages, rows_after_blocks, replies_to_blocks}
-use Rattle.file_batch_laws.specs.Files.{head_text}
-use Rattle.file_batch_laws.specs.declared.batch_fault.BatchFault.{BatchFault}
+use Rattle.file_batch.specs.Words.{AreBlocks, AreBlocksOfReplies, BatchFault, FailsBehind, IsBlock, IsBlockFileOf, IsThere, Names, all_messages, block_head_at, block_replies_magic, block_replies_text, block_text, blocks_magic, blocks_text, head_text, is_of_bytes, replies_to_blocks, rows_after_blocks}
 use Rattle.book_laws.specs.Reading.{reading}
 use Rattle.book_laws.specs.Text.{book_text}
 use Rattle.issuer_words.specs.Words.{Frame, Rows, replies_to}
-use Rattle.file_devices.specs.BatchNames.{Names}
-use Rattle.file_devices.specs.Holding.{IsThere}
 use Rattle.app_jobs.specs.Decided.{Holding, IsBookOf}
 
 -- The book and the blocks that the files held were decided, each block on the book after those before it. Where it is known what files

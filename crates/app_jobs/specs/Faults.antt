@@ -4,16 +4,10 @@ use Rattle.std.specs.Prelude.{◌≡◌, ◌≢◌, ◌⊎◌, ◌<◌, ℕ, Lis
 use Rattle.file_batch.specs.Counting.{count_of}
 use Rattle.file_batch.specs.declared.strictness.Strictness.{Strictness}
 use Rattle.file_batch.specs.declared.strictness.Strictness.TheVariants.{Strict}
-use Rattle.file_batch_laws.specs.BatchFault.{is_of_bytes}
-use Rattle.file_batch_laws.specs.Reading.{bodies_of, batch_magic}
-use Rattle.file_batch_laws.specs.Frames.{IsBatchOf}
-use Rattle.file_batch_laws.specs.Replies.{FailsAsReplies, IsReplyFileOf}
-use Rattle.file_batch_laws.specs.declared.batch_fault.BatchFault.{BatchFault}
+use Rattle.file_batch.specs.Words.{BatchFault, Failing, FailsAsReplies, IsBatchOf, IsReplyFileOf, Names, batch_magic, bodies_of, is_of_bytes}
 use Rattle.file_batch_laws.specs.declared.batch_fault.BatchFault.TheVariants.{Device}
 use Rattle.book_laws.specs.Reading.{IsAnswer, reading}
 use Rattle.issuer_words.specs.Words.{Frame, ReplyBody, Rows}
-use Rattle.file_devices.specs.BatchNames.{Names}
-use Rattle.file_devices.specs.Failing.{Failing}
 use Rattle.app_jobs.specs.Decided.{Holding, IsBookOf}
 use Rattle.app_jobs.specs.declared.job_fault.JobFault.{JobFault}
 use Rattle.app_jobs.specs.declared.job_fault.JobFault.TheVariants.{Unreadable, Unwritable, Book, Batch, Bodies, OutOfMemory}

@@ -1,12 +1,9 @@
 -- Faults of jobs: what they are of, and their numbers there.
 use Rattle.std.specs.Prelude.{ℕ, List, codes}
-use Rattle.file_batch_laws.specs.BatchFault.{number_of_fault}
+use Rattle.file_batch.specs.Words.{ClaimFault, ReadFault, WriteFault, number_of_fault}
 use Rattle.book_laws.specs.JsonFault.{number_of_json_fault}
-use Rattle.file_devices.specs.declared.claim_fault.ClaimFault.{ClaimFault}
 use Rattle.file_devices.specs.declared.claim_fault.ClaimFault.TheVariants as claim
-use Rattle.file_devices.specs.declared.read_fault.ReadFault.{ReadFault}
 use Rattle.file_devices.specs.declared.read_fault.ReadFault.TheVariants as read
-use Rattle.file_devices.specs.declared.write_fault.WriteFault.{WriteFault}
 use Rattle.file_devices.specs.declared.write_fault.WriteFault.TheVariants as write
 use Rattle.file_batch_laws.specs.declared.batch_fault.BatchFault.TheVariants as batch
 use Rattle.file_listing.specs.declared.listing_fault.ListingFault.{ListingFault}

@@ -1,6 +1,6 @@
 -- Why an audit with a journal finds nothing.
 use Rattle.std.specs.Prelude.{◌≡◌, ◌⊎◌, ℕ, List}
-use Rattle.file_batch_laws.specs.Frames.{IsBatchOf}
+use Rattle.file_batch.specs.Words.{Failing, IsBatchOf, Names}
 use Rattle.stm_journal_text.specs.Logged.{IsFirstUnlogged, greatest}
 use Rattle.stm_journal_text.specs.Journal.{AreEntries, IsFirstWrongLine, journal_text}
 use Rattle.stm_journal_text.specs.declared.entry.Entry.{Entry}
@@ -8,8 +8,6 @@ use Rattle.stm_journal_text.specs.declared.replay_fault.ReplayFault.{ReplayFault
 use Rattle.stm_journal_text.specs.declared.replay_fault.ReplayFault.TheVariants as replay
 use Rattle.issuer_words.specs.Words.{Frame, Rows}
 use Rattle.stm_core_laws.specs.Play.{opening_play}
-use Rattle.file_devices.specs.BatchNames.{Names}
-use Rattle.file_devices.specs.Failing.{Failing}
 use Rattle.app_jobs.specs.Decided.{Holding, IsBookOf}
 use Rattle.app_jobs.specs.Faults.{IsFaultInOrder}
 use Rattle.app_jobs.specs.declared.job_fault.JobFault.{JobFault}

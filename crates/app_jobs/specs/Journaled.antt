@@ -5,9 +5,8 @@ use Rattle.app_audit.specs.declared.audited.Audit.{Audit}
 use Rattle.stm_journal_text.specs.Journal.{AreEntries, journal_text}
 use Rattle.stm_journal_text.specs.declared.entry.Entry.{Entry}
 use Rattle.issuer_words.specs.Words.{Frame, ReplyBody, Rows}
-use Rattle.file_devices.specs.BatchNames.{Names}
+use Rattle.file_batch.specs.Words.{IsThere, Names}
 use Rattle.app_jobs.specs.Audited.{AreHeld}
-use Rattle.file_devices.specs.Holding.{IsThere}
 use Rattle.app_jobs.specs.Decided.{Holding}
 
 -- Replies and new book, as the files hold them, are compared with what the journal, as its file holds it, plays to.

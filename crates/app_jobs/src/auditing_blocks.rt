@@ -1,9 +1,7 @@
 ghost use Rattle.std.specs.Prelude.{◌≤◌, ℕ, List, IfOk, IfErr, OnOk, length};
 ghost use Rattle.std.specs.List.{All};
 ghost use Rattle.file_blocks.specs.BlockFiles.{frames_of, replies_of};
-ghost use Rattle.file_batch_laws.specs.Blocks.{IsBlockFileOf, IsBlockReplyFileOf};
-ghost use Rattle.file_devices.specs.BatchNames.{names_of};
-ghost use Rattle.file_devices.specs.Holding.{IsThere};
+ghost use Rattle.file_batch.specs.Words.{IsBlockFileOf, IsBlockReplyFileOf, IsThere, names_of};
 ghost use Rattle.app_jobs.specs.AuditedBlocks.{AreAnswersAudited, AreBlocksAudited};
 ghost use Rattle.app_jobs.specs.BlockFaults.{IsBlockAnswersFault, IsBlockAuditingFault, IsBlockFileFault, IsBlockRepliesFault};
 

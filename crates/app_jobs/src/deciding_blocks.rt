@@ -2,8 +2,7 @@ ghost use Rattle.std.specs.Prelude.{◌≡◌, ◌≢◌, ℕ, List, Some, None,
 ghost use Rattle.book_laws.specs.Reading.{reading};
 ghost use Rattle.book_laws.specs.Text.{book_text};
 ghost use Rattle.file_blocks.specs.BlockDecider.{IsBlockDecider};
-ghost use Rattle.file_devices.specs.BatchNames.{names_of};
-ghost use Rattle.file_devices.specs.Holding.{AreAsTheyWere, IsAsItWas, IsThere};
+ghost use Rattle.file_batch.specs.Words.{AreAsTheyWere, IsAsItWas, IsThere, names_of};
 ghost use Rattle.app_jobs.specs.Deciding.{DecidesBlockFiles, PutsAnswer};
 ghost use Rattle.app_jobs.specs.DecidedBlocks.{AreBlocksAnswered, AreFirstAnswered};
 ghost use Rattle.app_jobs.specs.BlockFaults.{IsBlocksReplyingFault};

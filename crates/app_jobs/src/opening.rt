@@ -1,10 +1,7 @@
 ghost use Rattle.std.specs.Prelude.{◌≡◌, ◌≤◌, ℕ, List, IfOk, IfErr, OnOk, length};
 ghost use Rattle.std.specs.Thread.{IsSync};
 ghost use Rattle.book_laws.specs.Reading.{IsAnswer, reading};
-ghost use Rattle.file_batch_laws.specs.Frames.{IsBatchOf};
-ghost use Rattle.file_batch_laws.specs.Replies.{IsReplyFileOf};
-ghost use Rattle.file_devices.specs.BatchNames.{names_of};
-ghost use Rattle.file_devices.specs.Holding.{IsThere};
+ghost use Rattle.file_batch.specs.Words.{IsBatchOf, IsReplyFileOf, IsThere, names_of};
 ghost use Rattle.stm_journal_text.specs.Journal.{AreEntries, journal_text};
 ghost use Rattle.app_jobs.specs.Audited.{AreDecided};
 ghost use Rattle.app_jobs.specs.Decided.{IsBookOf};

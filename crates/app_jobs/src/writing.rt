@@ -5,9 +5,7 @@ ghost use Rattle.book_laws.specs.Text.{book_text};
 ghost use Rattle.book_text.specs.Back.{IsReadAsBook};
 ghost use Rattle.issuer_rows.specs.Fold.{Rows};
 ghost use Rattle.file_batch.specs.Device.{UsesDevice};
-ghost use Rattle.file_batch_laws.specs.BatchFault.{is_of_bytes};
-ghost use Rattle.file_batch_laws.specs.Files.{replies_text};
-ghost use Rattle.file_batch_laws.specs.Replies.{AreReplyBodies};
+ghost use Rattle.file_batch.specs.Words.{AreReplyBodies, is_of_bytes, replies_text};
 ghost use Rattle.app_jobs.specs.Faults.{IsWritingBothFault, IsPuttingFault, IsWritingFault, MayNotBePut};
 
 use crate::job_fault::JobFault;

@@ -31,8 +31,7 @@ use Rattle.app_jobs.specs.declared.job_fault.JobFault.{JobFault}
 use Rattle.app_runs.specs.Journaled.{IsDecidedWithJournal}
 use Rattle.app_arguments.specs.declared.engine_choice.EngineChoice.{EngineChoice}
 use Rattle.file_batch.specs.declared.strictness.Strictness.{Strictness}
-use Rattle.file_devices.specs.Failing.{Failing}
-use Rattle.file_devices.specs.Holding.{Holding, IsAsItWas}
+use Rattle.file_batch.specs.Words.{Failing, Holding, IsAsItWas}
 use Rattle.app_laws.specs.Acted.{Acts, HasStopped, IsAuditOf, IsFromOutside, Reports, ReportsNothing, SaysSame, SaysSameByJournal, of_blocks, of_run, of_run_with_journal, of_serial}
 use Rattle.app_laws.specs.Faults.{IsOfNoFile, MayNotBeRead}
 use Rattle.app_laws.specs.Journals.{IsFoundByJournal}

@@ -4,16 +4,13 @@ use Rattle.issuer_words.specs.Words.{Frame, Rows, rows_after}
 use Rattle.book_changes.proofs.Sound.{stays_sound}
 use Rattle.book_laws.specs.CheckBook.{IsSound}
 use Rattle.book_laws.specs.Text.{book_text}
-use Rattle.file_batch_laws.specs.Blocks.{replies_to_blocks, rows_after_blocks}
+use Rattle.file_batch.specs.Words.{Failing, Holding, Names, replies_to_blocks, rows_after_blocks}
 use Rattle.app_audit.specs.declared.block_audit.BlockAudit.{BlockAudit}
 use Rattle.app_audit.specs.declared.block_audit.BlockAudit.TheVariants as in_blocks
 use Rattle.app_jobs.specs.AuditedBlocks.{AreBlocksAudited}
 use Rattle.app_jobs.specs.BlockFaults.{IsBlockAuditingFault}
 use Rattle.app_jobs.specs.DecidedBlocks.{AreBlocksDecided}
 use Rattle.app_jobs.specs.declared.job_fault.JobFault.{JobFault}
-use Rattle.file_devices.specs.BatchNames.{Names}
-use Rattle.file_devices.specs.Failing.{Failing}
-use Rattle.file_devices.specs.Holding.{Holding}
 use Rattle.app_laws.specs.Faults.{IsOfNoFile, MayNotBeRead}
 use Rattle.app_laws.specs.Kept.{AreInputsKept}
 use Rattle.app_laws.proofs.Audited.{same_blocks}

@@ -8,8 +8,7 @@ use Rattle.book_laws.specs.declared.book_fault.BookFault.TheVariants as wrong
 use Rattle.book_laws.specs.declared.json_fault.JsonFault.TheVariants as json
 use Rattle.book_laws.specs.declared.text_fault.TextFault.{TextFault}
 use Rattle.book_laws.specs.declared.text_fault.TextFault.TheVariants as wrong_text
-use Rattle.file_devices.specs.Failing.{Failing}
-use Rattle.file_devices.specs.Holding.{Holding}
+use Rattle.file_batch.specs.Words.{Failing, Holding}
 use Rattle.app_jobs.specs.Decided.{IsBookOf}
 use Rattle.app_jobs.specs.Faults.{IsBookFault}
 use Rattle.app_jobs.specs.declared.job_fault.JobFault.{JobFault}

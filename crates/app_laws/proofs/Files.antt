@@ -1,18 +1,10 @@
 -- Batches, replies and their blocks that files hold.
 use Rattle.std.proofs.Common.{◌≡◌, ℕ, List, IsTrue, inl, inr, refl}
 use Rattle.issuer_words.specs.Words.{Frame, ReplyBody}
-use Rattle.file_batch_laws.specs.BatchFault.{is_of_bytes}
-use Rattle.file_batch_laws.specs.Blocks.{AreBlocksOfReplies, IsBlockFileOf, IsBlockReplyFileOf, block_replies_text}
-use Rattle.file_batch_laws.specs.Files.{replies_text}
-use Rattle.file_batch_laws.specs.Frames.{IsBatchOf}
-use Rattle.file_batch_laws.specs.Reading.{batch_magic, bodies_of}
-use Rattle.file_batch_laws.specs.Replies.{AreReplyBodies, IsReplyFileOf}
-use Rattle.file_batch_laws.specs.declared.batch_fault.BatchFault.{BatchFault}
+use Rattle.file_batch.specs.Words.{AreBlocksOfReplies, AreReplyBodies, BatchFault, Failing, Holding, IsBatchOf, IsBlockFileOf, IsBlockReplyFileOf, IsReplyFileOf, batch_magic, block_replies_text, bodies_of, is_of_bytes, replies_text}
 use Rattle.file_batch_laws.specs.declared.batch_fault.BatchFault.TheVariants as batch
 use Rattle.file_batch_laws.proofs.ReadBack.{replies_again, replies_alone}
 use Rattle.file_batch_laws.proofs.ReadBackBlocks.{blocks_again, blocks_alone}
-use Rattle.file_devices.specs.Failing.{Failing}
-use Rattle.file_devices.specs.Holding.{Holding}
 use Rattle.app_jobs.specs.BlockFaults.{IsBlockFileFault, IsBlockRepliesFault}
 use Rattle.app_jobs.specs.Faults.{IsBatchFault, IsReplyFileFault}
 use Rattle.app_jobs.specs.declared.job_fault.JobFault.{JobFault}

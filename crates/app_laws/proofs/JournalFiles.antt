@@ -12,9 +12,7 @@ use Rattle.app_jobs.specs.Journaled.{IsAuditedWithJournal}
 use Rattle.app_jobs.specs.declared.job_fault.JobFault.{JobFault}
 use Rattle.app_jobs.specs.declared.job_fault.JobFault.TheVariants.{Unreadable, Unwritable, InUse, Book, Batch, Journal, Text, Bodies, OutOfMemory}
 use Rattle.app_runs.specs.Journaled.{IsDecidedWithJournal}
-use Rattle.file_devices.specs.BatchNames.{Names}
-use Rattle.file_devices.specs.Failing.{Failing}
-use Rattle.file_devices.specs.Holding.{Holding}
+use Rattle.file_batch.specs.Words.{Failing, Holding, Names}
 use Rattle.stm_core_laws.specs.Play.{Play, opening_play}
 use Rattle.stm_journal_text.specs.Journal.{AreEntries, journal_text}
 use Rattle.stm_journal_text.specs.Logged.{IsFirstUnlogged, greatest}

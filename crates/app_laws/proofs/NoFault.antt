@@ -1,10 +1,7 @@
 -- A file that is read has no fault.
 use Rattle.std.proofs.Common.{◌≡◌, ◌<◌, ℕ, zero, suc, List, [], ◌∷◌, length, Result, Ok, Err, sym, ap, ◌∙◌, subst, arith, inl, inr}
 use Rattle.issuer_words.specs.Words.{Frame, ReplyBody}
-use Rattle.file_batch_laws.specs.Blocks.{AreBlocks, AreReplyBlocks, FailsAsBlockReplies, FailsInReplyBlock, InTurn, IsBlock, IsBlockFileOf, IsBlockReplyFileOf, IsReplyBlock, all_replies, block_at, block_head_at, block_replies_magic, blocks_magic}
-use Rattle.file_batch_laws.specs.Reading.{◌>>=◌, bodies_at, bodies_of, body_at, count_at, ended, head_at, replies_magic}
-use Rattle.file_batch_laws.specs.Replies.{AreRepliesOf, FailsAsReplies, FailsAt, IsReplyFileOf, IsReplyText}
-use Rattle.file_batch_laws.specs.declared.batch_fault.BatchFault.{BatchFault}
+use Rattle.file_batch.specs.Words.{AreBlocks, AreRepliesOf, AreReplyBlocks, BatchFault, FailsAsBlockReplies, FailsAsReplies, FailsAt, FailsInReplyBlock, InTurn, IsBlock, IsBlockFileOf, IsBlockReplyFileOf, IsReplyBlock, IsReplyFileOf, IsReplyText, all_replies, block_at, block_head_at, block_replies_magic, blocks_magic, bodies_at, bodies_of, body_at, count_at, ended, head_at, replies_magic, ◌>>=◌}
 use Rattle.app_jobs.specs.BlockFaults.{FailsAsBlocks}
 use Rattle.file_batch_laws.proofs.Steps.{bind_ok, ok_injective}
 

@@ -1,9 +1,7 @@
 -- A batch file is read as one list of frames, a block file as one list of blocks, and a book's text as one book.
 use Rattle.std.proofs.Common.{◌≡◌, ◌∙◌, ℕ, List, [], ◌∷◌, length, Result, Ok, ap, refl, sym, subst, arith}
 use Rattle.issuer_words.specs.Words.{Frame, Rows}
-use Rattle.file_batch_laws.specs.Blocks.{AreBlocks, IsBlock, IsBlockFileOf, block_at, block_head_at, blocks_magic}
-use Rattle.file_batch_laws.specs.Frames.{IsBatchOf}
-use Rattle.file_batch_laws.specs.declared.batch_fault.BatchFault.{BatchFault}
+use Rattle.file_batch.specs.Words.{AreBlocks, BatchFault, IsBatchOf, IsBlock, IsBlockFileOf, block_at, block_head_at, blocks_magic}
 use Rattle.book_laws.specs.Reading.{IsAnswer, reading as reading_of_book}
 use Rattle.app_laws.proofs.NoFault.{one_value}
 use Rattle.app_laws.proofs.Once.{same_ok}

@@ -3,9 +3,7 @@ use Rattle.std.proofs.Common.{◌≡◌, ◌⊎◌, ℕ, List, inl, inr}
 use Rattle.issuer_words.specs.Words.{Frame, ReplyBody, Rows, replies_to, rows_after}
 use Rattle.book_changes.proofs.Sound.{stays_sound}
 use Rattle.book_laws.specs.Text.{book_text}
-use Rattle.file_batch_laws.specs.Files.{replies_text}
-use Rattle.file_batch_laws.specs.Frames.{IsBatchOf}
-use Rattle.file_batch_laws.specs.Replies.{AreReplyBodies}
+use Rattle.file_batch.specs.Words.{AreReplyBodies, Failing, Holding, IsBatchOf, IsThere, Names, replies_text}
 use Rattle.app_audit.specs.Finding.{Finds}
 use Rattle.app_audit.specs.declared.audited.Audit.{Audit}
 use Rattle.app_audit.specs.declared.audited.Audit.TheVariants as in_batch
@@ -14,9 +12,6 @@ use Rattle.app_jobs.specs.Decided.{IsBookOf, IsDecided}
 use Rattle.app_jobs.specs.Faults.{IsAuditingFault, IsFaultInOrder}
 use Rattle.app_jobs.specs.declared.job_fault.JobFault.{JobFault}
 use Rattle.app_jobs.specs.declared.job_fault.JobFault.TheVariants.{OutOfMemory}
-use Rattle.file_devices.specs.BatchNames.{Names}
-use Rattle.file_devices.specs.Failing.{Failing}
-use Rattle.file_devices.specs.Holding.{Holding, IsThere}
 use Rattle.app_laws.specs.Faults.{IsOfNoFile, MayNotBeRead}
 use Rattle.app_laws.specs.Files.{IsReadAgain}
 use Rattle.app_laws.specs.Kept.{AreInputsKept}

@@ -3,8 +3,7 @@ use Rattle.std.specs.Prelude.{◌⊎◌}
 use Rattle.file_batch_laws.specs.declared.batch_fault.BatchFault.TheVariants as batch
 use Rattle.book_laws.specs.declared.json_fault.JsonFault.TheVariants as json
 use Rattle.stm_journal_text.specs.declared.replay_fault.ReplayFault.TheVariants as replay
-use Rattle.file_devices.specs.BatchNames.{Names}
-use Rattle.file_devices.specs.Failing.{Failing}
+use Rattle.file_batch.specs.Words.{Failing, Names}
 use Rattle.app_jobs.specs.declared.job_fault.JobFault.{JobFault}
 use Rattle.app_jobs.specs.declared.job_fault.JobFault.TheVariants.{Unreadable, Book, Batch, Journal, OutOfMemory}
 

@@ -1,9 +1,7 @@
 -- What is read from the files of a run.
 use Rattle.std.specs.Prelude.{◌≡◌, List, Ok}
 use Rattle.issuer_words.specs.Words.{Frame, ReplyBody, Rows, replies_to, rows_after}
-use Rattle.file_batch_laws.specs.Blocks.{AreBlocksOfReplies, IsBlockReplyFileOf, block_replies_text, rows_after_blocks, replies_to_blocks}
-use Rattle.file_batch_laws.specs.Files.{replies_text}
-use Rattle.file_batch_laws.specs.Replies.{AreReplyBodies, IsReplyFileOf}
+use Rattle.file_batch.specs.Words.{AreBlocksOfReplies, AreReplyBodies, IsBlockReplyFileOf, IsReplyFileOf, block_replies_text, replies_text, replies_to_blocks, rows_after_blocks}
 use Rattle.book_laws.specs.Reading.{reading, IsAnswer}
 use Rattle.book_laws.specs.Text.{book_text}
 

@@ -1,7 +1,6 @@
 -- What of the files of a run is as it was.
 use Rattle.std.specs.Prelude.{◌≢◌}
-use Rattle.file_devices.specs.BatchNames.{Names}
-use Rattle.file_devices.specs.Holding.{Holding, IsAsItWas}
+use Rattle.file_batch.specs.Words.{Holding, IsAsItWas, Names}
 
 -- It is known what the files held before the run. Behind it the book and the batch are as they were then, and the replies and the new
 -- book are of two files.

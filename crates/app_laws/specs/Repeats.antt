@@ -4,9 +4,7 @@ use Rattle.std.specs.List.{slice_get}
 use Rattle.issuer_words.specs.Words.{Frame, Message, OriginalKind, ReplyBody, Rows, rows_after}
 use Rattle.issuer_laws.specs.Again.{again}
 use Rattle.issuer_laws.specs.Repeated.{IsFirst}
-use Rattle.file_batch_laws.specs.Replies.{IsReplyFileOf}
-use Rattle.file_devices.specs.BatchNames.{Names}
-use Rattle.file_devices.specs.Holding.{Holding}
+use Rattle.file_batch.specs.Words.{Holding, IsReplyFileOf, Names}
 
 -- a request or an advice that is the first of its identity on this book
 abbrev pub IsFirstSent : Rows → Frame → Type 0

@@ -2,14 +2,8 @@
 use Rattle.std.specs.Prelude.{◌≡◌, ⊤, ℕ, List, Option, None, Err, take, if◌then◌else◌}
 use Rattle.std.specs.Io.KnownBytes.{Appends}
 use Rattle.std.specs.Str.{bytes_eq}
-use Rattle.file_batch_laws.specs.Blocks.{IsBlockFileOf, IsBlockReplyFileOf, block_replies_magic, blocks_magic}
-use Rattle.file_batch_laws.specs.Frames.{GivesBatch, IsBatchOf}
-use Rattle.file_batch_laws.specs.Reading.{replies_magic}
-use Rattle.file_batch_laws.specs.Replies.{GivesReplyFile, IsReplyFileOf}
-use Rattle.file_batch_laws.specs.declared.batch_fault.BatchFault.{BatchFault}
+use Rattle.file_batch.specs.Words.{BatchFault, Failing, GivesBatch, GivesReplyFile, Holding, IsBatchOf, IsBlockFileOf, IsBlockReplyFileOf, IsReplyFileOf, IsThere, block_replies_magic, blocks_magic, replies_magic}
 use Rattle.file_blocks.specs.BlockFiles.{GivesBlockFile, GivesBlockReplyFile}
-use Rattle.file_devices.specs.Failing.{Failing}
-use Rattle.file_devices.specs.Holding.{Holding, IsThere}
 use Rattle.issuer_words.specs.Words.{Frame, ReplyBody}
 use Rattle.iso_shown.specs.declared.card_numbers.CardNumbers.{CardNumbers}
 use Rattle.app_jobs.specs.declared.job_fault.JobFault.{JobFault}

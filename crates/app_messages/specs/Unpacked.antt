@@ -1,11 +1,9 @@
 -- The bodies of a batch, or of a block of a file, as a text, by what the file holds.
 use Rattle.std.specs.Prelude.{◌≡◌, ◌≤◌, ⊤, ℕ, List, Option, Some, Err, length, slice_get}
 use Rattle.std.specs.Io.KnownBytes.{Appends}
-use Rattle.file_batch_laws.specs.Reading.{batch_magic, bodies_of}
+use Rattle.file_batch.specs.Words.{Failing, Holding, IsThere, batch_magic, bodies_of}
 use Rattle.file_listing.specs.BlockLines.{AreTextsOf, FailsAsBlockFile}
 use Rattle.file_listing.specs.BodyLines.{IsTextOf}
-use Rattle.file_devices.specs.Failing.{Failing}
-use Rattle.file_devices.specs.Holding.{Holding, IsThere}
 use Rattle.app_jobs.specs.declared.job_fault.JobFault.{JobFault}
 use Rattle.app_jobs.specs.declared.job_fault.JobFault.TheVariants.{Unreadable, Batch, OutOfMemory}
 use Rattle.app_messages.specs.declared.unpack_asking.UnpackAsked.{UnpackAsked}

@@ -4,10 +4,7 @@ use Rattle.std.proofs.lemmas.List.{length-append, map-append}
 use Rattle.std.specs.Prelude.{IsTrue}
 use Rattle.sha2.specs.Sha256.{sha256}
 use Rattle.book_laws.specs.Reading.{IsAnswer, reading}
-use Rattle.file_batch_laws.specs.BatchFault.{is_of_bytes}
-use Rattle.file_batch_laws.specs.Replies.{FailsAsReplies, IsReplyFileOf}
-use Rattle.file_devices.specs.Failing.{Failing}
-use Rattle.file_devices.specs.Holding.{Holding}
+use Rattle.file_batch.specs.Words.{Failing, FailsAsReplies, Holding, IsReplyFileOf, is_of_bytes}
 use Rattle.issuer_rows.specs.declared.reply_body.ReplyBody.{ReplyBody}
 use Rattle.app_jobs.specs.declared.job_fault.JobFault.{JobFault}
 use Rattle.app_jobs.specs.declared.job_fault.JobFault.TheVariants as job

@@ -3,9 +3,7 @@ use Rattle.std.proofs.Common.{◌≡◌, ◌≤◌, inl, inr, ℕ, List, Err, So
 use Rattle.std.specs.List.{AllByRecursion}
 use Rattle.book_laws.specs.Reading.{IsAnswer, reading}
 use Rattle.book_laws.specs.declared.json_fault.JsonFault.{JsonFault}
-use Rattle.file_batch_laws.specs.Reading.{bodies_of, batch_magic}
-use Rattle.file_devices.specs.Failing.{Failing}
-use Rattle.file_devices.specs.Holding.{Holding}
+use Rattle.file_batch.specs.Words.{Failing, Holding, batch_magic, bodies_of}
 use Rattle.app_jobs.specs.Faults.{IsBatchFault, IsBookFault}
 use Rattle.app_jobs.specs.declared.job_fault.JobFault.{JobFault}
 use Rattle.app_jobs.specs.declared.job_fault.JobFault.TheVariants as job

@@ -5,10 +5,7 @@ use Rattle.sha2.specs.Sha256.{sha256}
 use Rattle.book_laws.specs.Reading.{reading}
 use Rattle.book_laws.specs.Text.{book_text}
 use Rattle.file_batch_laws.proofs.ReadBack.{same_replies, texts_of}
-use Rattle.file_batch_laws.specs.Files.{reply_text}
-use Rattle.file_batch_laws.specs.Replies.{AreRepliesOf, AreReplyBodies, IsReplyBody, IsReplyFileOf, IsReplyText}
-use Rattle.file_devices.specs.Failing.{Failing}
-use Rattle.file_devices.specs.Holding.{Holding}
+use Rattle.file_batch.specs.Words.{AreRepliesOf, AreReplyBodies, Failing, Holding, IsReplyBody, IsReplyFileOf, IsReplyText, reply_text}
 use Rattle.issuer_words.specs.Words.{ReplyBody, Rows}
 use Rattle.issuer_rows.specs.declared.reply_body.ReplyBody.TheVariants.{Reply, Fault}
 use Rattle.app_jobs.specs.declared.job_fault.JobFault.{JobFault}

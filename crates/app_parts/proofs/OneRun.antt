@@ -10,9 +10,7 @@ use Rattle.book_laws.specs.Reading.{IsAnswer, reading}
 use Rattle.book_laws.specs.Text.{book_text}
 use Rattle.book_laws.specs.declared.text_fault.TextFault.{TextFault}
 use Rattle.file_batch_laws.proofs.ReadBack.{replies_alone}
-use Rattle.file_batch_laws.specs.Files.{replies_text}
-use Rattle.file_batch_laws.specs.Replies.{IsReplyFileOf}
-use Rattle.file_devices.specs.Holding.{Holding}
+use Rattle.file_batch.specs.Words.{Holding, IsReplyFileOf, replies_text}
 use Rattle.issuer_laws.specs.Parts.{bodies}
 use Rattle.issuer_words.specs.Words.{Frame, ReplyBody, Rows, replies_to, rows_after}
 use Rattle.engine_parts.proofs.OrderLaws.{bodies_zip, parts_zip, zip_below}

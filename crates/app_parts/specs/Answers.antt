@@ -2,8 +2,7 @@
 use Rattle.std.specs.Prelude.{◌≡◌, ◌≢◌, ◌⊎◌, ◌++◌, ℕ, List, Ok, map}
 use Rattle.sha2.specs.Sha256.{sha256}
 use Rattle.book_laws.specs.Reading.{IsAnswer, reading}
-use Rattle.file_devices.specs.Failing.{Failing}
-use Rattle.file_devices.specs.Holding.{Holding}
+use Rattle.file_batch.specs.Words.{Failing, Holding}
 use Rattle.issuer_words.specs.Words.{ReplyBody, Rows}
 use Rattle.app_jobs.specs.Faults.{IsBookFault}
 use Rattle.parts_books.specs.PartBooks.{AreInArrivalOrder}

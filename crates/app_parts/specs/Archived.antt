@@ -7,8 +7,7 @@ use Rattle.book_laws.specs.CheckBook.{IsSound}
 use Rattle.book_laws.specs.Reading.{reading}
 use Rattle.book_laws.specs.Text.{book_text}
 use Rattle.book_archive.specs.Archive.{new_rows, old_rows}
-use Rattle.file_devices.specs.Failing.{Failing}
-use Rattle.file_devices.specs.Holding.{AreAsTheyWere, Holding, IsThere}
+use Rattle.file_batch.specs.Words.{AreAsTheyWere, Failing, Holding, IsThere}
 use Rattle.app_jobs.specs.Decided.{IsBookOf}
 use Rattle.app_parts.specs.Faults.{Names, names_of, IsArchiveFault, status_of}
 use Rattle.app_parts.specs.declared.archive_count.ArchiveCount.{ArchiveCount}

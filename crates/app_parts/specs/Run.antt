@@ -2,9 +2,7 @@
 use Rattle.std.specs.Prelude.{◌≡◌, ◌<◌, ℕ, List, Ok, map}
 use Rattle.book_laws.specs.Reading.{reading}
 use Rattle.book_laws.specs.Text.{book_text}
-use Rattle.file_batch_laws.specs.Files.{replies_text}
-use Rattle.file_batch_laws.specs.Replies.{AreReplyBodies}
-use Rattle.file_devices.specs.Holding.{Holding}
+use Rattle.file_batch.specs.Words.{AreReplyBodies, Holding, replies_text}
 use Rattle.issuer_words.specs.Words.{ReplyBody, Rows, replies_to, rows_after}
 use Rattle.parts_books.specs.PartBooks.{joined_books, part_replies, part_rows_after}
 use Rattle.app_parts_folder.specs.PlanTexts.{plan_text}

@@ -1,8 +1,7 @@
 -- What is said of parts, and the exit status.
 use Rattle.std.specs.Prelude.{◌≡◌, ◌≤◌, ◌⊎◌, ℕ, suc, List, [], ◌∷◌, ◌++◌, Option, codes, decimal}
 use Rattle.std.specs.Io.KnownBytes.{Appends}
-use Rattle.file_devices.specs.Failing.{Failing}
-use Rattle.file_devices.specs.Holding.{AreAsTheyWere, Holding}
+use Rattle.file_batch.specs.Words.{AreAsTheyWere, Failing, Holding}
 use Rattle.app_parts_folder.specs.Faults.{IsDecidingFault, IsJoiningFault, IsPartingFault, status_of}
 use Rattle.app_parts_folder.specs.Joining as joining
 use Rattle.app_parts_folder.specs.Joining.{IsJoined, IsPartDecided}

@@ -1,8 +1,7 @@
 ghost use Rattle.std.specs.Prelude.{◌≡◌, ◌≢◌, ℕ, List, IfOk, IfErr, OnErr, OnOk, Ok, map};
 ghost use Rattle.book_laws.specs.Reading.{reading};
 ghost use Rattle.book_laws.specs.Text.{book_text};
-ghost use Rattle.file_batch_laws.specs.Replies.{AreReplyBodies};
-ghost use Rattle.file_devices.specs.Holding.{AreAsTheyWere, IsAsItWas};
+ghost use Rattle.file_batch.specs.Words.{AreAsTheyWere, AreReplyBodies, IsAsItWas};
 ghost use Rattle.parts_books.specs.PartBooks.{AreInArrivalOrder};
 ghost use Rattle.app_parts.specs.Answers.{IsNoOrder, IsRest, IsRestFault};
 ghost use Rattle.app_parts_folder.specs.Faults.{IsJoiningFault};

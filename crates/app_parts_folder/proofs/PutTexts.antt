@@ -2,13 +2,9 @@
 use Rattle.std.proofs.Common.{◌≡◌, inl, inr, ℕ, zero, suc, arith, ◌+◌, ◌<◌, ◌≤◌, List, [], ◌∷◌, ◌++◌, length, get_or, take, string_bytes, refl, sym, subst, ◌∙◌}
 use Rattle.std.proofs.lemmas.List.{take_more, take_all}
 use Rattle.std.proofs.lemmas.Slice.Zip.{all_zipped_more}
-use Rattle.file_devices.specs.Failing.{Failing}
-use Rattle.file_devices.specs.Holding.{ArePlaced, HasOneNamed, Holding, IsNoneNamed}
-use Rattle.file_devices.specs.declared.claim_fault.ClaimFault.{ClaimFault}
+use Rattle.file_batch.specs.Words.{ArePlaced, ClaimFault, Failing, HasOneNamed, Holding, IsNoneNamed, WriteFault, Written}
 use Rattle.file_devices.specs.declared.claim_fault.ClaimFault.TheVariants as claim
-use Rattle.file_devices.specs.declared.write_fault.WriteFault.{WriteFault}
 use Rattle.file_devices.specs.declared.write_fault.WriteFault.TheVariants as write
-use Rattle.file_devices.specs.declared.written.Written.{Written}
 use Rattle.app_jobs.specs.Faults.{IsPuttingFault, MayNotBePut}
 use Rattle.app_jobs.specs.JobFault.{fault_of_claim, fault_of_write}
 use Rattle.app_jobs.specs.declared.job_fault.JobFault.{JobFault}

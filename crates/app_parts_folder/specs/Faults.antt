@@ -1,8 +1,7 @@
 -- Why a batch isn't put in parts, a part isn't decided, and parts aren't put together.
 use Rattle.std.specs.Prelude.{◌≡◌, ◌≢◌, ◌⊎◌, ◌≤◌, ◌++◌, ℕ, List, Some, length, map, slice_get}
 use Rattle.sha2.specs.Sha256.{sha256}
-use Rattle.file_devices.specs.Failing.{Failing}
-use Rattle.file_devices.specs.Holding.{Holding}
+use Rattle.file_batch.specs.Words.{Failing, Holding}
 use Rattle.issuer_words.specs.Words.{ReplyBody, Rows}
 use Rattle.app_jobs.specs.Faults.{IsBatchFault, IsBookFault, IsReplyFileFault, MayNotBePut}
 use Rattle.app_jobs.specs.declared.job_fault.JobFault.{JobFault}

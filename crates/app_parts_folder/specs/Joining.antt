@@ -3,10 +3,7 @@ use Rattle.std.specs.Prelude.{◌≡◌, ℕ, suc, List, [], ◌∷◌, ⊤, Som
 use Rattle.sha2.specs.Sha256.{sha256}
 use Rattle.book_laws.specs.Reading.{IsAnswer, reading}
 use Rattle.book_laws.specs.Text.{book_text}
-use Rattle.file_batch_laws.specs.Files.{replies_text}
-use Rattle.file_batch_laws.specs.Frames.{IsBatchOf}
-use Rattle.file_batch_laws.specs.Replies.{AreReplyBodies, IsReplyFileOf}
-use Rattle.file_devices.specs.Holding.{Holding}
+use Rattle.file_batch.specs.Words.{AreReplyBodies, Holding, IsBatchOf, IsReplyFileOf, replies_text}
 use Rattle.issuer_words.specs.Words.{Frame, ReplyBody, Rows, replies_to, rows_after}
 use Rattle.parts_books.specs.PartBooks.{AreInArrivalOrder, joined_books}
 use Rattle.app_parts_folder.specs.PlanTexts.{IsPlan, Plan, decided_text, plan_text}

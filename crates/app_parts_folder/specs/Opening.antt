@@ -1,8 +1,7 @@
 -- Files of a folder that are opened.
 use Rattle.std.specs.Prelude.{◌≡◌, ◌≢◌, ◌⊎◌, ◌++◌, ℕ, List}
 use Rattle.sha2.specs.Sha256.{sha256}
-use Rattle.file_devices.specs.Failing.{Failing}
-use Rattle.file_devices.specs.Holding.{Holding}
+use Rattle.file_batch.specs.Words.{Failing, Holding}
 use Rattle.app_jobs.specs.declared.job_fault.JobFault.{JobFault}
 use Rattle.app_jobs.specs.declared.job_fault.JobFault.TheVariants.{OutOfMemory}
 use Rattle.app_parts_folder.specs.PlanTexts.{IsPlan, decided_head, decided_text, plan_of, plan_text}

@@ -5,10 +5,7 @@ use Rattle.std.specs.List.{AllByRecursion, flat_map}
 use Rattle.sha2.specs.Sha256.{sha256}
 use Rattle.book_laws.specs.Reading.{IsAnswer, reading}
 use Rattle.book_laws.specs.Text.{book_text}
-use Rattle.file_batch_laws.specs.Files.{batch_text}
-use Rattle.file_batch_laws.specs.Frames.{AreFramesOf}
-use Rattle.file_batch_laws.specs.Reading.{bodies_of, batch_magic}
-use Rattle.file_devices.specs.Holding.{Holding}
+use Rattle.file_batch.specs.Words.{AreFramesOf, Holding, batch_magic, batch_text, bodies_of}
 use Rattle.issuer_laws.specs.Parts.{AreApart, Parted, of_part}
 use Rattle.issuer_words.specs.Words.{Frame, Rows}
 use Rattle.parts_books.specs.PartBooks.{each_part, part_rows, rest_rows}

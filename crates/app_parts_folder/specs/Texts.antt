@@ -1,8 +1,7 @@
 -- Texts that files are to hold.
 use Rattle.std.specs.Prelude.{◌≡◌, ◌≢◌, ◌⊎◌, ⊤, ℕ, List, [], ◌∷◌, map, string_bytes}
 use Rattle.std.specs.List.{AllByRecursion}
-use Rattle.file_devices.specs.Failing.{Failing}
-use Rattle.file_devices.specs.Holding.{Holding}
+use Rattle.file_batch.specs.Words.{Failing, Holding}
 use Rattle.app_jobs.specs.Faults.{MayNotBePut}
 use Rattle.app_jobs.specs.declared.job_fault.JobFault.{JobFault}
 use Rattle.app_jobs.specs.declared.job_fault.JobFault.TheVariants.{InUse, Unreadable, Unwritable, OutOfMemory}

@@ -1,7 +1,6 @@
 ghost use Rattle.std.specs.Prelude.{◌≡◌, ◌≤◌, IfOk, length, map, zip};
 ghost use Rattle.file_batch.specs.Bodies.{bytes_of};
-ghost use Rattle.file_batch_laws.specs.Files.{batch_text, replies_text};
-ghost use Rattle.file_batch_laws.specs.Replies.{AreReplyBodies};
+ghost use Rattle.file_batch.specs.Words.{AreReplyBodies, batch_text, replies_text};
 ghost use Rattle.issuer_laws.specs.Parts.{of_part};
 
 use file_batch::{write_batch, write_replies};

@@ -1,7 +1,6 @@
 ghost use Rattle.std.specs.Prelude.{◌≡◌, ◌≤◌, IfErr, IfOk, Ok, length};
 ghost use Rattle.file_batch.specs.Bodies.{bytes_of};
-ghost use Rattle.file_batch_laws.specs.Frames.{IsBatchOf};
-ghost use Rattle.file_batch_laws.specs.Reading.{batch_magic, bodies_of};
+ghost use Rattle.file_batch.specs.Words.{IsBatchOf, batch_magic, bodies_of};
 ghost use Rattle.app_parts_folder.specs.Parting.{IsCut, IsPlanned};
 ghost use Rattle.app_parts_folder.specs.Planning.{IsBatchFaultOf};
 

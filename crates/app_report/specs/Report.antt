@@ -1,10 +1,7 @@
 -- How a day went, by what the files of its batch and of its replies hold.
 use Rattle.std.specs.Prelude.{◌≡◌, ◌≢◌, ◌⊎◌, ⊤, ℕ, List, Option, length}
 use Rattle.std.specs.Io.KnownBytes.{Appends}
-use Rattle.file_batch_laws.specs.Frames.{IsBatchOf}
-use Rattle.file_batch_laws.specs.Replies.{IsReplyFileOf}
-use Rattle.file_devices.specs.Failing.{Failing}
-use Rattle.file_devices.specs.Holding.{Holding, IsThere}
+use Rattle.file_batch.specs.Words.{Failing, Holding, IsBatchOf, IsReplyFileOf, IsThere}
 use Rattle.issuer_words.specs.Words.{Frame, ReplyBody}
 use Rattle.app_jobs.specs.Faults.{IsBatchFault, IsReplyFileFault, IsSomeBatch}
 use Rattle.day_totals.specs.Totals.{AreDayTotals, IsDayOf}

@@ -1,11 +1,7 @@
 -- Runs whose replies, journal and new book are put in place.
 use Rattle.std.proofs.Common.{◌≡◌, ◌∙◌, ℕ, List, [], ◌∷◌, inl, inr, sym, string_bytes, Ok, Err}
-use Rattle.file_devices.specs.BatchNames.{Names}
-use Rattle.file_devices.specs.Failing.{Failing}
-use Rattle.file_devices.specs.Holding.{AreAsTheyWere, ArePlaced, HasOneNamed, Holding, IsAsItWas, IsNoneNamed}
-use Rattle.file_devices.specs.declared.write_fault.WriteFault.{WriteFault}
+use Rattle.file_batch.specs.Words.{AreAsTheyWere, ArePlaced, Failing, HasOneNamed, Holding, IsAsItWas, IsNoneNamed, Names, WriteFault, Written}
 use Rattle.file_devices.specs.declared.write_fault.WriteFault.TheVariants as write
-use Rattle.file_devices.specs.declared.written.Written.{Written}
 use Rattle.file_devices.proofs.Placing.{none_of_three, one_of_three, placed_three}
 use Rattle.app_jobs.proofs.Faults.{unput_file}
 use Rattle.app_jobs.specs.JobFault.{fault_of_write}

@@ -1,8 +1,7 @@
 -- What one body is answered, from bytes to bytes.
 use Rattle.std.specs.Prelude.{◌≡◌, ℕ, List}
 use Rattle.hex.specs.Hex.{encode_lower}
-use Rattle.file_batch_laws.specs.Frames.{IsFrameOf}
-use Rattle.iso_laws.specs.Replies.{reply_spelling}
+use Rattle.file_batch.specs.Words.{IsFrameOf, reply_spelling}
 use Rattle.issuer_words.specs.Words.{Frame, ReplyBody, Rows, fault_body, reply_of}
 use Rattle.issuer_rows.specs.declared.reply_body.ReplyBody.TheVariants.{Reply, Fault}
 

@@ -3,9 +3,7 @@ use Rattle.std.specs.Prelude.{◌≡◌, ◌≢◌, ◌⊎◌, ℕ, List, Result
 use Rattle.file_batch.specs.Counting.{count_of}
 use Rattle.file_batch.specs.declared.body_count.BodyCount.{BodyCount}
 use Rattle.file_batch.specs.declared.strictness.Strictness.{Strictness}
-use Rattle.file_batch_laws.specs.Files.{replies_text}
-use Rattle.file_batch_laws.specs.Frames.{IsBatchOf}
-use Rattle.file_batch_laws.specs.Replies.{AreReplyBodies}
+use Rattle.file_batch.specs.Words.{AreAsTheyWere, AreReplyBodies, Failing, IsAsItWas, IsBatchOf, IsThere, Names, replies_text}
 use Rattle.book_laws.specs.Reading.{reading}
 use Rattle.book_laws.specs.Text.{book_text}
 use Rattle.engine_locked.specs.Journals.{IsJournalOf}
@@ -14,9 +12,6 @@ use Rattle.stm_journal_text.specs.Journal.{AreEntries, journal_text}
 use Rattle.stm_journal_text.specs.declared.entry.Entry.{Entry}
 use Rattle.issuer_words.specs.Words.{Frame, Rows, replies_to, rows_after}
 use Rattle.stm_core_laws.specs.Play.{opening_play}
-use Rattle.file_devices.specs.BatchNames.{Names}
-use Rattle.file_devices.specs.Failing.{Failing}
-use Rattle.file_devices.specs.Holding.{AreAsTheyWere, IsAsItWas, IsThere}
 use Rattle.app_jobs.specs.Faults.{IsAnsweringFault, IsBookFault, IsPuttingFault, IsSomeBook, IsStrictFault, MayBeRefused, MayNotBeAnswered, MayNotBePut}
 use Rattle.app_jobs.specs.declared.job_fault.JobFault.{JobFault}
 use Rattle.app_runs.specs.declared.traced_answer.TracedAnswer.{TracedAnswer}

@@ -1,7 +1,6 @@
 ghost use Rattle.std.specs.Prelude.{◌≡◌, ◌≢◌, ◌⊎◌, ◌≤◌, [], ◌∷◌, List, ℕ, IfOk, IfErr, OnErr, length, string_bytes};
 ghost use Rattle.file_batch.specs.Counting.{Admits};
-ghost use Rattle.file_devices.specs.BatchNames.{names_of};
-ghost use Rattle.file_devices.specs.Holding.{AreAsTheyWere, IsAsItWas};
+ghost use Rattle.file_batch.specs.Words.{AreAsTheyWere, IsAsItWas, names_of};
 ghost use Rattle.stm_journal_text.specs.Journal.{AreEntries, journal_text};
 ghost use Rattle.app_jobs.specs.Audited.{AreDecided};
 ghost use Rattle.app_jobs.specs.Faults.{IsAnsweringFault, IsPuttingFault, MayNotBePut};

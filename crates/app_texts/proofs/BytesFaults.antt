@@ -4,8 +4,7 @@ use Rattle.std.specs.Prelude.{IsTrue}
 use Rattle.std.specs.List.{starts_with}
 use Rattle.std.proofs.lemmas.Bool.Decides.{Decides-eqb}
 use Rattle.std.proofs.lemmas.Slice.Eq.{starts_is}
-use Rattle.file_batch_laws.specs.BatchFault.{failed_at, is_of_bytes}
-use Rattle.file_batch_laws.specs.declared.batch_fault.BatchFault.{BatchFault}
+use Rattle.file_batch.specs.Words.{BatchFault, failed_at, is_of_bytes}
 use Rattle.file_batch_laws.specs.declared.batch_fault.BatchFault.TheVariants.{Device, OutOfMemory}
 use Rattle.app_texts.specs.Shown.{BeginsWith}
 

@@ -4,9 +4,7 @@ use Rattle.std.specs.List.{flat_map, AllByRecursion, AllZip}
 use Rattle.std.proofs.lemmas.List.{append-nil}
 use Rattle.byteorder.specs.Endian.{big_bytes}
 use Rattle.issuer_rows.specs.declared.frame.Frame.{Frame}
-use Rattle.file_batch_laws.specs.Blocks.{AreBlocks, IsBlock, IsBlockFileOf, block_at, block_head_at, blocks_magic}
-use Rattle.file_batch_laws.specs.Files.{AreBodies, framed, head_text}
-use Rattle.file_batch_laws.specs.Frames.{AreFramesOf}
+use Rattle.file_batch.specs.Words.{AreBlocks, AreBodies, AreFramesOf, IsBlock, IsBlockFileOf, block_at, block_head_at, blocks_magic, framed, head_text}
 use Rattle.file_batch_laws.proofs.Again.{bodies_again, count_again, magic_again, version_again}
 use Rattle.file_listing.specs.BlockText.{AreBlocksOfBodies, block_file_text, block_text}
 use Rattle.file_batch_laws.proofs.ReadBackBlocks.{block_count_again}

@@ -4,9 +4,8 @@ use Rattle.std.specs.Prelude.{String}
 use Rattle.std.specs.Global.{Global}
 use Rattle.std.specs.List.{AllByRecursion}
 use Rattle.std.proofs.lemmas.List.{append-nil, length-append}
-use Rattle.file_batch_laws.specs.Files.{AreBodies, IsBody}
+use Rattle.file_batch.specs.Words.{AreBodies, Failing, IsBody}
 use Rattle.file_batch_laws.specs.declared.batch_fault.BatchFault.TheVariants.{Count}
-use Rattle.file_devices.specs.Failing.{Failing}
 use Rattle.app_jobs.specs.Decided.{Holding}
 use Rattle.app_jobs.specs.declared.job_fault.JobFault.{JobFault}
 use Rattle.app_jobs.specs.declared.job_fault.JobFault.TheVariants.{Batch}

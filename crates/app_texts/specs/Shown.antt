@@ -1,14 +1,8 @@
 -- The lines of files of messages and of their replies.
 use Rattle.std.specs.Prelude.{◌≡◌, ◌⊎◌, ℕ, ◌+◌, List, [], ◌∷◌, ◌++◌, Err, IsTrue, codes, decimal}
-use Rattle.file_batch_laws.specs.BatchFault.{is_of_bytes}
-use Rattle.file_batch_laws.specs.Blocks.{FailsAsBlockReplies, IsBlockFileOf, IsBlockReplyFileOf, block_replies_magic, blocks_magic}
-use Rattle.file_batch_laws.specs.Frames.{IsBatchOf}
-use Rattle.file_batch_laws.specs.Reading.{batch_magic, bodies_of, replies_magic}
-use Rattle.file_batch_laws.specs.Replies.{FailsAsReplies, IsReplyFileOf}
-use Rattle.file_batch_laws.specs.declared.batch_fault.BatchFault.{BatchFault}
+use Rattle.file_batch.specs.Words.{BatchFault, Failing, FailsAsBlockReplies, FailsAsReplies, IsBatchOf, IsBlockFileOf, IsBlockReplyFileOf, IsReplyFileOf, batch_magic, block_replies_magic, blocks_magic, bodies_of, is_of_bytes, replies_magic}
 use Rattle.file_listing.specs.Lines.{frame_line, reply_line}
 use Rattle.issuer_words.specs.Words.{Frame, ReplyBody}
-use Rattle.file_devices.specs.Failing.{Failing}
 use Rattle.app_jobs.specs.BlockFaults.{FailsAsBlocks}
 use Rattle.app_jobs.specs.Decided.{Holding}
 use Rattle.app_jobs.specs.declared.job_fault.JobFault.{JobFault}

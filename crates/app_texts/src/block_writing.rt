@@ -2,8 +2,7 @@ ghost use Rattle.std.specs.Prelude.{◌≡◌, ◌<◌, ◌^◌, ◌++◌, lengt
 ghost use Rattle.byteorder.specs.Endian.{big_bytes};
 ghost use Rattle.file_batch.specs.Bodies.{bytes_of};
 ghost use Rattle.file_batch.specs.Device.{UsesDevice};
-ghost use Rattle.file_batch_laws.specs.BatchFault.{is_of_bytes};
-ghost use Rattle.file_batch_laws.specs.Files.{AreBodies, framed};
+ghost use Rattle.file_batch.specs.Words.{AreBodies, framed, is_of_bytes};
 ghost use Rattle.file_listing.specs.BlockText.{AreBlocksOfBodies, block_file_text, block_text};
 ghost use Rattle.app_texts.specs.Handed.{bodies_of_blocks};
 

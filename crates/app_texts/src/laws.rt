@@ -1,8 +1,7 @@
 ghost use Rattle.std.specs.Prelude.{List, ℕ};
 ghost use Rattle.std.specs.List.{AllZip};
 ghost use Rattle.issuer_rows.specs.declared.frame.Frame.{Frame};
-ghost use Rattle.file_batch_laws.specs.Blocks.{IsBlockFileOf};
-ghost use Rattle.file_batch_laws.specs.Frames.{AreFramesOf};
+ghost use Rattle.file_batch.specs.Words.{AreFramesOf, IsBlockFileOf};
 ghost use Rattle.file_listing.specs.BlockText.{AreBlocksOfBodies, block_file_text};
 
 /// What blocks are packed into is a block file of the messages of their bodies, block by block.

@@ -1,8 +1,7 @@
 ghost use Rattle.std.specs.Prelude.{◌≡◌, ◌≤◌, ℕ, List, Ok, IfOk, IfErr, OnOk, length, map, string_bytes};
 ghost use Rattle.std.specs.List.{AllByRecursion};
 ghost use Rattle.file_batch.specs.Bodies.{bytes_of};
-ghost use Rattle.file_batch_laws.specs.Files.{AreBodies};
-ghost use Rattle.file_devices.specs.Holding.{IsThere};
+ghost use Rattle.file_batch.specs.Words.{AreBodies, IsThere};
 ghost use Rattle.file_listing.specs.BlockText.{AreBlocksOfBodies};
 ghost use Rattle.app_texts.specs.Handed.{bodies_of_blocks};
 ghost use Rattle.app_texts.specs.Packed.{AreThere, HasBodies, HaveBlocks, HaveBodies, IsBlocksFault, IsBodiesFault, IsOneTextFault, IsTextFault};

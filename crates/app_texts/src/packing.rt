@@ -1,7 +1,6 @@
 ghost use Rattle.std.specs.Prelude.{◌≡◌, ◌≢◌, ℕ, List, IfOk, IfErr, OnOk, OnErr, map, string_bytes};
 ghost use Rattle.file_batch.specs.Bodies.{bytes_of};
-ghost use Rattle.file_batch_laws.specs.Files.{AreBodies, batch_text};
-ghost use Rattle.file_devices.specs.Holding.{AreAsTheyWere, IsAsItWas};
+ghost use Rattle.file_batch.specs.Words.{AreAsTheyWere, AreBodies, IsAsItWas, batch_text};
 ghost use Rattle.app_jobs.specs.Faults.{IsWritingFaultOf};
 ghost use Rattle.app_texts.specs.Packed.{ArePacked, IsPackingFault};
 

@@ -1,9 +1,5 @@
 ghost use Rattle.std.specs.Prelude.{◌≡◌, ◌≢◌, ◌⊎◌, ℕ, List, Err, IfOk, IfErr, OnOk, IsTrue};
-ghost use Rattle.file_batch_laws.specs.BatchFault.{is_of_bytes};
-ghost use Rattle.file_batch_laws.specs.Blocks.{FailsAsBlockReplies};
-ghost use Rattle.file_batch_laws.specs.Reading.{batch_magic, bodies_of};
-ghost use Rattle.file_batch_laws.specs.Replies.{FailsAsReplies};
-ghost use Rattle.file_devices.specs.Holding.{IsThere};
+ghost use Rattle.file_batch.specs.Words.{FailsAsBlockReplies, FailsAsReplies, IsThere, batch_magic, bodies_of, is_of_bytes};
 ghost use Rattle.app_jobs.specs.BlockFaults.{FailsAsBlocks};
 ghost use Rattle.app_texts.specs.Shown.{AreShownAsBlockReplies, AreShownAsBlocks, FailsAsShown, IsShowingFault, IsShown, IsShownAsBatch, IsShownAsReplies};
 

@@ -1,4 +1,5 @@
 pub mod Device
+pub mod Words
 pub mod Writing
 pub mod Window
 pub mod Bodies

@@ -3,12 +3,7 @@ use Rattle.std.proofs.Common.{◌≡◌, ◌⊎◌, ℕ, ◌+◌, ◌<◌, ◌�
 use Rattle.std.specs.Prelude.{IsTrue}
 use Rattle.std.proofs.lemmas.List.{append-nil, length-append}
 use Rattle.issuer_words.specs.Words.{Frame, Rows, replies_to, rows_after}
-use Rattle.file_batch_laws.specs.BatchFault.{is_of_bytes}
-use Rattle.file_batch_laws.specs.Blocks.{IsBlock, AreBlocks, block_at, block_head_at, blocks_magic, block_replies_magic, block_text, blocks_text, replies_to_blocks}
-use Rattle.file_batch_laws.specs.Files.{head_text}
-use Rattle.file_batch_laws.specs.Reading.{ended}
-use Rattle.file_batch_laws.specs.Replies.{AreReplyBodies}
-use Rattle.file_batch_laws.specs.declared.batch_fault.BatchFault.{BatchFault}
+use Rattle.file_batch.specs.Words.{AreBlocks, AreReplyBodies, BatchFault, IsBlock, block_at, block_head_at, block_replies_magic, block_text, blocks_magic, blocks_text, ended, head_text, is_of_bytes, replies_to_blocks}
 use Rattle.file_blocks.specs.Blocks.{AreDecided, AreAllDecided, BeginsBlock, StopsBehind, StopsBefore, StopsInHead, StopsInBlocks, IsAnswered}
 use Rattle.file_batch.specs.Counting.{count_of, plus}
 use Rattle.file_batch.specs.Writing.{AppendsPart}

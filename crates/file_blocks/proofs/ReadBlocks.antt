@@ -2,8 +2,7 @@
 use Rattle.std.proofs.Common.{◌≡◌, ℕ, List, [], ◌∷◌, ◌++◌, length, map, Ok, sym, subst, ◌∙◌}
 use Rattle.std.specs.Global.{Vec}
 use Rattle.std.proofs.lemmas.List.{length-map, map-append}
-use Rattle.file_batch_laws.specs.Blocks.{InTurn, IsFileInTurn, block_head_at}
-use Rattle.file_batch_laws.specs.Reading.{ended}
+use Rattle.file_batch.specs.Words.{InTurn, IsFileInTurn, block_head_at, ended}
 use Rattle.file_batch_laws.proofs.InTurn.{one_more}
 use Rattle.file_batch_laws.proofs.Steps.{nothing_left}
 

@@ -4,10 +4,7 @@ use Rattle.std.specs.Global.{Vec}
 use Rattle.std.proofs.lemmas.List.{append-nil, length-append, map-append}
 use Rattle.std.proofs.lemmas.List.Concat.{flat_map-append}
 use Rattle.issuer_rows.specs.declared.reply_body.ReplyBody.{ReplyBody}
-use Rattle.file_batch_laws.specs.Blocks.{all_replies, block_at}
-use Rattle.file_batch_laws.specs.Reading.{count_at}
-use Rattle.file_batch_laws.specs.Replies.{GivesReplies}
-use Rattle.file_batch_laws.specs.declared.batch_fault.BatchFault.{BatchFault}
+use Rattle.file_batch.specs.Words.{BatchFault, GivesReplies, all_replies, block_at, count_at}
 use Rattle.file_blocks.specs.BlockFiles.{replies_of, GivesReplyBlock}
 
 -- a block of replies is its count and so many replies

@@ -2,9 +2,7 @@
 use Rattle.std.specs.Prelude.{◌≡◌, ◌⊎◌, ℕ, List, length, map, Result, Ok, Err, IsTrue}
 use Rattle.std.specs.Global.{Vec}
 use Rattle.issuer_words.specs.Words.{Frame, ReplyBody}
-use Rattle.file_batch_laws.specs.BatchFault.{is_of_bytes}
-use Rattle.file_batch_laws.specs.Blocks.{AreBlocks, IsBlockFileOf, FailsBehind, block_head_at, blocks_magic, IsReplyBlock, AreReplyBlocks, IsBlockReplyFileOf, FailsInReplyBlock, FailsAmongReplies, FailsAsBlockReplies}
-use Rattle.file_batch_laws.specs.declared.batch_fault.BatchFault.{BatchFault}
+use Rattle.file_batch.specs.Words.{AreBlocks, AreReplyBlocks, BatchFault, FailsAmongReplies, FailsAsBlockReplies, FailsBehind, FailsInReplyBlock, IsBlockFileOf, IsBlockReplyFileOf, IsReplyBlock, block_head_at, blocks_magic, is_of_bytes}
 
 -- the frames of each block
 abbrev pub frames_of : List (Vec Frame) → List (List Frame)

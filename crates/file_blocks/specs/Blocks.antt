@@ -2,11 +2,7 @@
 use Rattle.std.specs.Prelude.{◌≡◌, ◌⊎◌, ◌+◌, ◌<◌, ◌≤◌, ◌^◌, ℕ, List, ◌++◌, length, Ok, Err, IsTrue}
 use Rattle.std.specs.List.{AllByRecursion}
 use Rattle.issuer_words.specs.Words.{Frame, Rows, replies_to, rows_after}
-use Rattle.file_batch_laws.specs.BatchFault.{is_of_bytes}
-use Rattle.file_batch_laws.specs.Blocks.{IsBlock, AreBlocks, IsBlockFileOf, AreBlocksOfReplies, FailsBehind, block_replies_text, block_head_at, blocks_magic, block_replies_magic, block_text, blocks_text, rows_after_blocks, replies_to_blocks, all_messages}
-use Rattle.file_batch_laws.specs.Files.{head_text}
-use Rattle.file_batch_laws.specs.Replies.{AreReplyBodies}
-use Rattle.file_batch_laws.specs.declared.batch_fault.BatchFault.{BatchFault}
+use Rattle.file_batch.specs.Words.{AreBlocks, AreBlocksOfReplies, AreReplyBodies, BatchFault, FailsBehind, IsBlock, IsBlockFileOf, all_messages, block_head_at, block_replies_magic, block_replies_text, block_text, blocks_magic, blocks_text, head_text, is_of_bytes, replies_to_blocks, rows_after_blocks}
 use Rattle.file_batch.specs.Counting.{count_of, plus}
 use Rattle.file_batch.specs.Writing.{AppendsPart}
 use Rattle.file_batch.specs.declared.body_count.BodyCount.{BodyCount}

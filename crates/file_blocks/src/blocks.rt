@@ -1,12 +1,8 @@
 ghost use Rattle.std.specs.Prelude.{◌≡◌, ◌⊎◌, ◌<◌, ◌≤◌, ◌++◌, length, vec_len, IfOk, IfErr, OnOk, OnErr, IsTrue, Err};
 ghost use Rattle.std.specs.List.{AllByRecursion};
 ghost use Rattle.issuer_rows.specs.declared.frame.Frame.{Frame};
-ghost use Rattle.file_batch_laws.specs.BatchFault.{is_of_bytes};
+ghost use Rattle.file_batch.specs.Words.{AreReplyBodies, Gives, GivesFrames, IsReplyBody, block_at, block_count_at, block_head_at, block_text, is_of_bytes};
 ghost use Rattle.file_batch.specs.Device.{UsesDevice};
-ghost use Rattle.file_batch_laws.specs.Blocks.{block_text, block_at, block_count_at, block_head_at};
-ghost use Rattle.file_batch_laws.specs.Reading.{Gives};
-ghost use Rattle.file_batch_laws.specs.Frames.{GivesFrames};
-ghost use Rattle.file_batch_laws.specs.Replies.{IsReplyBody, AreReplyBodies};
 ghost use Rattle.file_batch.specs.Writing.{AppendsPart};
 ghost use Rattle.file_batch.specs.Window.{ahead};
 

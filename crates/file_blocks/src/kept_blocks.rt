@@ -1,10 +1,7 @@
 ghost use Rattle.std.specs.Prelude.{◌≡◌, ◌⊎◌, ◌+◌, ◌<◌, ◌≤◌, ◌^◌, ◌++◌, [], length, OnOk, OnErr, IfErr, IsTrue, Err};
 ghost use Rattle.issuer_words.specs.Words.{Frame, replies_to, rows_after};
-ghost use Rattle.file_batch_laws.specs.BatchFault.{is_of_bytes};
+ghost use Rattle.file_batch.specs.Words.{AreReplyBodies, block_at, block_replies_magic, block_text, head_text, is_of_bytes};
 ghost use Rattle.file_batch.specs.Device.{UsesDevice, UsesDevices};
-ghost use Rattle.file_batch_laws.specs.Blocks.{block_text, block_at, block_replies_magic};
-ghost use Rattle.file_batch_laws.specs.Files.{head_text};
-ghost use Rattle.file_batch_laws.specs.Replies.{AreReplyBodies};
 ghost use Rattle.file_blocks.specs.BlockDecider.{IsBlockDecider};
 ghost use Rattle.file_blocks.specs.Blocks.{AreDecided, AreAllDecided, BeginsBlock, StopsBehind, StopsBefore, StopsInHead, StopsInBlocks, IsAnswered, HasRoom, IsWithinBlock};
 ghost use Rattle.file_batch.specs.Counting.{count_of, plus};

@@ -6,9 +6,7 @@ use Rattle.app_jobs.specs.JobFault.{fault_of_write}
 use Rattle.app_jobs.specs.declared.job_fault.JobFault.{JobFault}
 use Rattle.app_jobs.specs.declared.job_fault.JobFault.TheVariants as job
 use Rattle.file_batch_laws.specs.declared.batch_fault.BatchFault.TheVariants as batch
-use Rattle.file_devices.specs.BatchNames.{Names}
-use Rattle.file_devices.specs.Failing.{Failing}
-use Rattle.file_devices.specs.declared.write_fault.WriteFault.{WriteFault}
+use Rattle.file_batch.specs.Words.{Failing, Names, WriteFault}
 use Rattle.file_devices.specs.declared.write_fault.WriteFault.TheVariants as write
 use Rattle.issuer_rows.specs.Fold.{Rows}
 use Rattle.log_devices.specs.declared.open_fault.OpenFault.{OpenFault}

@@ -5,9 +5,7 @@ use Rattle.app_jobs.specs.Deciding.{PutsAnswer}
 use Rattle.app_jobs.specs.Faults.{MayBeRefused}
 use Rattle.app_jobs.proofs.AnsweredFiles.{untouched}
 use Rattle.app_jobs.specs.declared.job_fault.JobFault.{JobFault}
-use Rattle.file_devices.specs.BatchNames.{Names}
-use Rattle.file_devices.specs.Failing.{Failing}
-use Rattle.file_devices.specs.Holding.{IsThere}
+use Rattle.file_batch.specs.Words.{Failing, IsThere, Names}
 use Rattle.issuer_rows.specs.Fold.{Rows}
 use Rattle.log_commands.specs.Faults.{IsReplayRefusal}
 use Rattle.log_commands.specs.Replayed.{IsAnswered}

@@ -4,8 +4,7 @@ use Rattle.std.specs.Io.KnownBytes.{Appends}
 use Rattle.app_audit.specs.Texts.{block_audit_text}
 use Rattle.app_audit.specs.declared.block_audit.BlockAudit.{BlockAudit}
 use Rattle.app_jobs.specs.Decided.{Holding}
-use Rattle.file_devices.specs.BatchNames.{Names}
-use Rattle.file_devices.specs.Failing.{Failing}
+use Rattle.file_batch.specs.Words.{Failing, Names}
 use Rattle.log_commands.specs.Audited.{IsAudited, IsAuditRefusal, status_of_audit}
 use Rattle.log_commands.specs.CommandFault.{status_of}
 use Rattle.log_commands.specs.declared.command_fault.CommandFault.{CommandFault}

@@ -5,8 +5,7 @@ use Rattle.app_jobs.specs.Faults.{IsBookFault, MayNotBePut}
 use Rattle.app_jobs.specs.declared.job_fault.JobFault.{JobFault}
 use Rattle.app_jobs.specs.declared.job_fault.JobFault.TheVariants as job
 use Rattle.file_batch_laws.specs.declared.batch_fault.BatchFault.TheVariants as batch
-use Rattle.file_devices.specs.BatchNames.{Names}
-use Rattle.file_devices.specs.Failing.{Failing}
+use Rattle.file_batch.specs.Words.{Failing, Names}
 use Rattle.issuer_rows.specs.Fold.{Rows}
 use Rattle.log_laws.specs.Reading.{IsReading}
 use Rattle.log_laws.specs.declared.log_fault.LogFault.{LogFault}

@@ -5,9 +5,7 @@ use Rattle.book_laws.specs.Reading.{reading}
 use Rattle.book_laws.specs.Text.{book_text}
 use Rattle.file_batch.specs.Counting.{count_of}
 use Rattle.file_batch.specs.declared.body_count.BodyCount.{BodyCount}
-use Rattle.file_batch_laws.specs.Blocks.{AreBlocksOfReplies, block_replies_text, replies_to_blocks}
-use Rattle.file_devices.specs.BatchNames.{Names}
-use Rattle.file_devices.specs.Holding.{IsThere}
+use Rattle.file_batch.specs.Words.{AreBlocksOfReplies, IsThere, Names, block_replies_text, replies_to_blocks}
 use Rattle.issuer_words.specs.Words.{Frame, Rows, rows_after}
 use Rattle.log_replay.specs.Blocks.{AreBlocksOf}
 use Rattle.log_replay.specs.Logged.{IsLogOfMessages, book_digest}

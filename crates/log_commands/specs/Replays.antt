@@ -2,9 +2,7 @@
 use Rattle.std.specs.Prelude.{◌≡◌, ◌≢◌, ◌⊎◌, ℕ, List, Result, IfOk, IfErr, OnErr}
 use Rattle.app_jobs.specs.Decided.{Holding}
 use Rattle.file_batch.specs.declared.body_count.BodyCount.{BodyCount}
-use Rattle.file_devices.specs.BatchNames.{Names}
-use Rattle.file_devices.specs.Failing.{Failing}
-use Rattle.file_devices.specs.Holding.{AreAsTheyWere, IsAsItWas}
+use Rattle.file_batch.specs.Words.{AreAsTheyWere, Failing, IsAsItWas, Names}
 use Rattle.log_commands.specs.CommandFault.{status_of}
 use Rattle.log_commands.specs.Faults.{IsReplayRefusal}
 use Rattle.log_commands.specs.Replayed.{IsReplayed}

@@ -1,7 +1,6 @@
 ghost use Rattle.std.specs.Prelude.{◌≡◌, ◌≤◌, ℕ, List, IfErr, IfOk, OnOk, length, map};
 ghost use Rattle.std.specs.List.{All};
-ghost use Rattle.file_batch_laws.specs.Blocks.{IsBlockReplyFileOf};
-ghost use Rattle.file_devices.specs.Holding.{IsThere};
+ghost use Rattle.file_batch.specs.Words.{IsBlockReplyFileOf, IsThere};
 ghost use Rattle.issuer_rows.specs.declared.frame.Frame.{Frame};
 ghost use Rattle.app_jobs.specs.BlockFaults.{IsBlockRepliesFault};
 ghost use Rattle.log_replay.specs.Blocks.{AreBlocksOf};

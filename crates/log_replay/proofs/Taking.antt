@@ -5,8 +5,7 @@ use Rattle.std.proofs.lemmas.List.{append-nil, length-append}
 use Rattle.issuer_words.specs.Words.{Frame, Rows, replies_to, rows_after}
 use Rattle.file_batch.specs.Counting.{count_of, plus}
 use Rattle.file_batch.specs.declared.body_count.BodyCount.{BodyCount}
-use Rattle.file_batch_laws.specs.Blocks.{all_messages, block_text, blocks_text, replies_to_blocks, rows_after_blocks}
-use Rattle.file_batch_laws.specs.Replies.{AreReplyBodies}
+use Rattle.file_batch.specs.Words.{AreReplyBodies, all_messages, block_text, blocks_text, replies_to_blocks, rows_after_blocks}
 use Rattle.log_replay.specs.Answering.{AnswersBlock, Finishes, HasTaken, Takes, taken}
 use Rattle.log_replay.specs.declared.answering.Answering.{Answering}
 use Rattle.log_replay.proofs.Cutting.{full_cut, last_cut, one_more_full}

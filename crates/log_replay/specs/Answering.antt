@@ -3,9 +3,7 @@ use Rattle.std.specs.Prelude.{◌≡◌, ◌<◌, ◌≤◌, ◌+◌, ℕ, List,
 use Rattle.std.specs.List.{AllByRecursion}
 use Rattle.issuer_words.specs.Words.{Frame, Rows, replies_to, rows_after}
 use Rattle.file_batch.specs.Counting.{count_of, plus}
-use Rattle.file_batch_laws.specs.Blocks.{all_messages, block_text, blocks_text, replies_to_blocks, rows_after_blocks}
-use Rattle.file_batch_laws.specs.Frames.{AreFramesOf}
-use Rattle.file_batch_laws.specs.Replies.{AreReplyBodies}
+use Rattle.file_batch.specs.Words.{AreFramesOf, AreReplyBodies, all_messages, block_text, blocks_text, replies_to_blocks, rows_after_blocks}
 use Rattle.log_replay.specs.Blocks.{AreBlocksOf}
 use Rattle.log_replay.specs.declared.answering.Answering.{Answering}
 

@@ -2,8 +2,7 @@
 use Rattle.std.specs.Prelude.{◌≡◌, ◌<◌, ℕ, List, ◌++◌, length, map}
 use Rattle.std.specs.List.{AllByRecursion}
 use Rattle.issuer_rows.specs.declared.frame.Frame.{Frame}
-use Rattle.file_batch_laws.specs.Blocks.{all_messages}
-use Rattle.file_batch_laws.specs.Frames.{AreFramesOf}
+use Rattle.file_batch.specs.Words.{AreFramesOf, all_messages}
 use Rattle.log_file.specs.Reads.{HasRead}
 use Rattle.log_file.specs.declared.log_reader.LogReader.{LogReader}
 use Rattle.log_replay.specs.Logged.{IsLogOfMessages, all_bodies}

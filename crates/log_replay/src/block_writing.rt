@@ -1,8 +1,6 @@
 ghost use Rattle.std.specs.Prelude.{◌≡◌, ◌≤◌, ◌++◌, length, IfErr, IfOk, OnOk};
 ghost use Rattle.std.specs.List.{AllByRecursion};
-ghost use Rattle.file_batch_laws.specs.Blocks.{block_replies_magic, block_text};
-ghost use Rattle.file_batch_laws.specs.Files.{head_text};
-ghost use Rattle.file_batch_laws.specs.Replies.{AreReplyBodies, IsReplyBody};
+ghost use Rattle.file_batch.specs.Words.{AreReplyBodies, IsReplyBody, block_replies_magic, block_text, head_text};
 ghost use Rattle.log_replay.specs.Writing.{Writes};
 
 use crate::replay_fault::ReplayFault;

@@ -1,10 +1,8 @@
 use Rattle.std.proofs.Common.{◌≡◌, ◌∙◌, Err, ap, inl, inr, length}
 use Rattle.book_laws.specs.Text.{book_text}
-use Rattle.file_batch_laws.specs.Files.{replies_text}
+use Rattle.file_batch.specs.Words.{WriteFault, names_of, replies_text}
 use Rattle.issuer_fold.proofs.FoldLaws.{length-replies_to}
 use Rattle.std.proofs.lemmas.Result.{err_from_is_err_and}
-use Rattle.file_devices.specs.BatchNames.{names_of}
-use Rattle.file_devices.specs.declared.write_fault.WriteFault.{WriteFault}
 use Rattle.app_jobs.proofs.AnsweredFiles.{answer_unmade, answer_unwritten}
 use Rattle.app_jobs.proofs.Held.{all_written}
 use Rattle.app_jobs.proofs.deciding.answer_batch.Goals as goal

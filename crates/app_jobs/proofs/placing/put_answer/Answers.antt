@@ -1,7 +1,6 @@
 use Rattle.std.proofs.Common.{◌∙◌, ap, Err}
 use Rattle.std.proofs.lemmas.Result.{err_from_is_err_and}
-use Rattle.file_devices.specs.BatchNames.{names_of}
-use Rattle.file_devices.specs.declared.write_fault.WriteFault.{WriteFault}
+use Rattle.file_batch.specs.Words.{WriteFault, names_of}
 use Rattle.app_jobs.proofs.AnsweredFiles.{answer_placed, answer_unput}
 use Rattle.app_jobs.proofs.placing.put_answer.Goals as goal
 

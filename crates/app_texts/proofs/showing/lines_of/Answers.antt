@@ -1,7 +1,6 @@
 use Rattle.std.proofs.Common.{inl, inr}
 use Rattle.std.proofs.lemmas.Result.{IfErr-weaker}
-use Rattle.file_batch_laws.specs.Blocks.{block_replies_magic, blocks_magic}
-use Rattle.file_batch_laws.specs.Reading.{replies_magic}
+use Rattle.file_batch.specs.Words.{block_replies_magic, blocks_magic, replies_magic}
 use Rattle.app_texts.proofs.BytesFaults.{begins, begins_not}
 use Rattle.app_texts.proofs.showing.lines_of.Goals as goal
 

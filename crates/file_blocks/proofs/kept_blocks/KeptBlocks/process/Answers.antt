@@ -1,7 +1,6 @@
 use Rattle.std.proofs.Common.{◌≡◌, ◌++◌, refl, inl, inr, IsTrue}
 use Rattle.std.proofs.lemmas.Result.{err_from_is_err_and}
-use Rattle.file_batch_laws.specs.Blocks.{block_replies_magic}
-use Rattle.file_batch_laws.specs.Files.{head_text}
+use Rattle.file_batch.specs.Words.{block_replies_magic, head_text}
 use Rattle.file_batch.specs.Window.{ahead}
 use Rattle.file_blocks.proofs.Blocking.{finishes, halts_behind, halts_in_head, halts_moved, moved}
 use Rattle.file_blocks.proofs.kept_blocks.KeptBlocks.process.Goals as goal
