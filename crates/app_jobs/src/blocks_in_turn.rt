@@ -7,7 +7,7 @@ use crate::deciding_blocks::decide_blocks;
 use crate::halt::Halt;
 use file_batch::Strictness;
 use file_devices::{BatchNames, Files};
-use issuer_in_place::{InPlace, decide_in_place};
+use issuer_fold::{InPlace, decide_in_place};
 use issuer_rows::{Book, Frame};
 use issuer_rules::Shipped;
 use std::alloc::{AllocError, Global};

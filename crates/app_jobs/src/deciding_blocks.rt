@@ -18,7 +18,7 @@ use crate::writing::write_book;
 use file_batch::Strictness;
 use file_blocks::{BlocksOutcome, Halted, process_blocks};
 use file_devices::{BatchNames, Files};
-use issuer_in_place::InPlace;
+use issuer_fold::InPlace;
 use issuer_rows::{Book, Frame};
 use std::alloc::{AllocError, Global};
 use std::sync::Wait;

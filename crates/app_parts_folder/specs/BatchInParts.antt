@@ -3,7 +3,7 @@ use Rattle.std.specs.Prelude.{◌≡◌, ◌≤◌, ℕ, List, length}
 use Rattle.std.specs.Global.{Vec}
 use Rattle.file_batch.specs.Bodies.{bytes_of}
 use Rattle.issuer_words.specs.Words.{Frame, Rows}
-use Rattle.parts_plan.specs.Plan.{Planned}
+use Rattle.engine_parts.specs.Plan.{Planned}
 use Rattle.app_parts_folder.specs.Parting.{IsPlanned, Parting}
 
 -- what it is, of these rows, these bodies and frames, and this plan

@@ -10,7 +10,7 @@ use app_jobs::JobFault;
 use file_batch::read_batch;
 use file_listing::bodies_of_batch;
 use issuer_rows::{Book, Frame};
-use parts_plan::plan_parts;
+use engine_parts::plan_parts;
 use std::alloc::Global;
 
 /// Puts the batch of these bytes in at most so many parts, on this book.

@@ -8,7 +8,7 @@ use app_jobs::{BlockCount, Halt, decide_blocks};
 use engine_workers::{Engine, Workers};
 use file_batch::Strictness;
 use file_devices::{BatchNames, Files};
-use issuer_in_place::InPlace;
+use issuer_fold::InPlace;
 use issuer_rows::{Book, Frame};
 use std::alloc::{AllocError, Global};
 use std::sync::Wait;

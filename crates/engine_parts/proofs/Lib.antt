@@ -4,3 +4,5 @@ pub mod PartLaws
 pub mod QueueLaws
 pub mod StepLaws
 pub mod WholeLaws
+pub mod ApartLaws
+pub mod TieLaws

@@ -1,2 +1,4 @@
 pub mod Decided
 pub mod TwoBooks
+pub mod Plan
+pub mod Ties

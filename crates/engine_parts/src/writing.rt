@@ -1,10 +1,10 @@
 ghost use Rattle.std.specs.Prelude.{◌≡◌, OnOk, Some};
 ghost use Rattle.std.specs.FinMap as map;
 ghost use Rattle.engine_parts.specs.TwoBooks.{joined};
-ghost use Rattle.issuer_in_place.specs.Formers.{LeadsBack};
+ghost use Rattle.issuer_fold.specs.Formers.{LeadsBack};
 ghost use Rattle.issuer_words.specs.Words.{IsOfKind, Rows};
 
-use issuer_in_place::Formers;
+use issuer_fold::Formers;
 use issuer_rows::{Book, Places, RowKey, RowVal};
 use std::alloc::AllocError;
 

@@ -1,13 +1,13 @@
 ghost use Rattle.std.specs.Prelude.{◌≡◌, ◌≢◌, ◌<◌, ◌≤◌, ◌↔◌, Ok, IfOk, IsTrue, OnOk, OnErr, length};
-ghost use Rattle.split_ledger.specs.Progress.{IsNext};
-ghost use Rattle.split_ledger.specs.declared.commit_outcome.CommitOutcome.TheVariants.{Committed, Stale};
-ghost use Rattle.split_ledger.specs.Standing.{advanced, told};
+ghost use Rattle.split_state.specs.Progress.{IsNext};
+ghost use Rattle.split_state.specs.declared.commit_outcome.CommitOutcome.TheVariants.{Committed, Stale};
+ghost use Rattle.split_state.specs.Standing.{advanced, told};
 ghost use Rattle.std.specs.Coded.{Coded-set};
 ghost use Rattle.engine_split.specs.RunBrands.{rows_coded};
 
 use crate::run_brand::RunBrand;
 use issuer_view::{Decide, Execution, ReadSet, WriteSet};
-use split_ledger::{CommitOutcome, Cursors, Ledger, Published};
+use split_state::{CommitOutcome, Cursors, Ledger, Published};
 use std::alloc::AllocError;
 use std::marker::PhantomData;
 

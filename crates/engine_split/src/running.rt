@@ -7,7 +7,7 @@ use engine_workers::{Hook, Workers};
 use issuer_fold::RunOutcome;
 use issuer_rows::{Book, Frame};
 use issuer_view::Decide;
-use split_ledger::Ledger;
+use split_state::Ledger;
 use std::alloc::{AllocError, Global};
 use std::sync::Wait;
 use std::thread::Threads;

@@ -1,5 +1,5 @@
 ghost use Rattle.std.specs.Prelude.{◌≡◌, ℕ, ◌≤◌, [], length, IfOk};
-ghost use Rattle.split_ledger.specs.CursorRule.{publisher};
+ghost use Rattle.split_state.specs.CursorRule.{publisher};
 ghost use Rattle.issuer_fold.specs.Run.{IsRun, IsStarted};
 
 use crate::board::{Board, Storage};
@@ -13,7 +13,7 @@ use issuer_fold::{Prefix, RunOutcome};
 use issuer_rows::{Book, Frame};
 use issuer_rules::decide_all;
 use issuer_view::Decide;
-use split_ledger::{CursorSeat, Cursors, Ledger, Published};
+use split_state::{CursorSeat, Cursors, Ledger, Published};
 use std::alloc::{AllocError, Global};
 use std::marker::Brand;
 use std::sync::Wait;

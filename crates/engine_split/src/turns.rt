@@ -5,7 +5,7 @@ use crate::worker_state::WorkerState;
 use engine_workers::Hook;
 use issuer_rows::{Book, Frame};
 use issuer_view::{Decide, Execution, Recorder, Stop};
-use split_shards::{AbortOutcome, Attempt, MessageSlot, ShardRows};
+use split_state::{AbortOutcome, Attempt, MessageSlot, ShardRows};
 use std::alloc::{AllocError, Global};
 use std::sync::Wait;
 use std::thread;

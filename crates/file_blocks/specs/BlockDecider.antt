@@ -1,8 +1,8 @@
 -- What decides the blocks of a block file.
 use Rattle.std.specs.Prelude.{◌≡◌, ◌≤◌, List, length, Result, IfOk, OnErr}
 use Rattle.std.specs.declared.alloc.AllocError.{AllocError}
-use Rattle.issuer_in_place.specs.InPlace.{IsInPlace}
-use Rattle.issuer_in_place.specs.declared.in_place.InPlace.{InPlace}
+use Rattle.issuer_fold.specs.InPlace.{IsInPlace}
+use Rattle.issuer_fold.specs.declared.in_place.InPlace.{InPlace}
 use Rattle.issuer_words.specs.Words.{Frame, Rows}
 
 -- a block of these bodies was decided on the book itself, which can be given back what it was; or, without memory, the book is what it was

@@ -7,7 +7,7 @@ use crate::kept_blocks::KeptBlocks;
 use file_batch::BodyCount;
 use file_batch_laws::BatchFault;
 use file_devices::{Sink, Source};
-use issuer_in_place::InPlace;
+use issuer_fold::InPlace;
 use issuer_rows::{Book, Frame};
 use std::alloc::{AllocError, Global};
 

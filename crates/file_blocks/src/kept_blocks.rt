@@ -12,7 +12,7 @@ use crate::blocks::{read_block, read_block_head, write_block};
 use file_batch::{BodyCount, Window, add_head, put_all};
 use file_batch_laws::BatchFault;
 use file_devices::{Sink, Source};
-use issuer_in_place::InPlace;
+use issuer_fold::InPlace;
 use issuer_rows::{Book, Frame};
 use std::alloc::{AllocError, Global};
 

@@ -1,2 +1,3 @@
 pub mod FoldLaws
 pub mod UndoLaws
+pub mod BackLaws

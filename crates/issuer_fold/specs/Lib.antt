@@ -1,3 +1,5 @@
 pub mod Begun
 pub mod Former
 pub mod Run
+pub mod Formers
+pub mod InPlace

@@ -1,6 +1,6 @@
 //! How batches fall into parts. No clause says that a batch has as many parts as it may.
 
-use parts_plan::plan_parts;
+use engine_parts::plan_parts;
 use std::alloc::Global;
 use std::process::Abort;
 use test_fixtures::{frames, opening};

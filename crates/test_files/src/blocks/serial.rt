@@ -5,7 +5,7 @@ ghost use Rattle.file_blocks.specs.BlockDecider.{DecidesInPlace};
 use file_batch::BatchFault;
 use file_blocks::process_blocks;
 use file_devices::{Sink, Source};
-use issuer_in_place::{InPlace, decide_in_place};
+use issuer_fold::{InPlace, decide_in_place};
 use issuer_rows::{Book, Frame};
 use issuer_rules::Shipped;
 use std::alloc::{AllocError, Global};

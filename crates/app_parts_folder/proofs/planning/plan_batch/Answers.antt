@@ -2,7 +2,7 @@ use Rattle.std.proofs.Common.{◌≡◌, ℕ, ◌≤◌, length, List, ap, subst
 use Rattle.std.specs.Global.{Vec}
 use Rattle.issuer_laws.specs.Parts.{AreApart}
 use Rattle.issuer_words.specs.Words.{Frame, Rows}
-use Rattle.parts_plan.specs.Plan.{IsNumbered, Planned}
+use Rattle.engine_parts.specs.Plan.{IsNumbered, Planned}
 use Rattle.app_parts_folder.proofs.InParts.{in_parts}
 use Rattle.app_parts_folder.specs.BatchInParts.{parting_of}
 use Rattle.app_parts_folder.specs.Parting.{IsPlanned}

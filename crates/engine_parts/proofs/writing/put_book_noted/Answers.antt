@@ -1,5 +1,5 @@
 use Rattle.std.proofs.Common.{rules}
-use Rattle.issuer_in_place.proofs.BackLaws.{leads_back_still}
+use Rattle.issuer_fold.proofs.BackLaws.{leads_back_still}
 use Rattle.engine_parts.proofs.JoinLaws.{to_write}
 use Rattle.engine_parts.proofs.writing.put_book_noted.Goals as goal
 

@@ -1,7 +1,7 @@
 use Rattle.std.proofs.Common.{◌≡◌, Some}
 use Rattle.std.specs.FinMap as map
 use Rattle.std.specs.List.{AllByRecursion}
-use Rattle.issuer_in_place.specs.Formers.{LeadsBack}
+use Rattle.issuer_fold.specs.Formers.{LeadsBack}
 use Rattle.issuer_words.specs.Words.{Rows, overlay}
 use Rattle.engine_parts.specs.TwoBooks.{joined}
 use Rattle.engine_parts.proofs.writing.put_book_noted.Given as goal

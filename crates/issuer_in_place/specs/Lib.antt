@@ -1,2 +1,0 @@
-pub mod Formers
-pub mod InPlace

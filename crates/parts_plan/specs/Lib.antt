@@ -1,2 +1,0 @@
-pub mod Plan
-pub mod Ties

@@ -1,3 +1,0 @@
-pub mod AgreementLaws
-pub mod LedgerLaws
-mod StepLaws

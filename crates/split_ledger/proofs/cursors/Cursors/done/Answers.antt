@@ -1,6 +1,0 @@
-use Rattle.std.proofs.Common.{rules, arith}
-use Rattle.split_ledger.proofs.StepLaws.{sees}
-use Rattle.split_ledger.proofs.cursors.Cursors.done.Goals as goal
-
-pub load-requires : goal.load-requires
-load-requires c = (search rules, omega (arith, c.self.invariant.0), sees _ _ _ _)

@@ -1,6 +1,0 @@
-use Rattle.std.proofs.Common.{arith}
-use Rattle.split_ledger.proofs.StepLaws.{enters}
-use Rattle.split_ledger.proofs.cursors.Cursors.enter.Goals as goal
-
-pub load_new_seat-requires : goal.load_new_seat-requires
-load_new_seat-requires c = (omega (arith, c.self.invariant.0), enters _ _)

@@ -1,3 +1,0 @@
-pub mod CursorRule
-pub mod Progress
-pub mod Standing

@@ -1,2 +1,0 @@
-pub mod Sighted
-pub mod Staged

@@ -1,0 +1,4 @@
+pub mod AgreementLaws
+pub mod LedgerLaws
+mod StepLaws
+pub mod Sights

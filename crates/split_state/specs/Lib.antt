@@ -1,0 +1,5 @@
+pub mod CursorRule
+pub mod Progress
+pub mod Standing
+pub mod Sighted
+pub mod Staged
