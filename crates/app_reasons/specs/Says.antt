@@ -6,11 +6,11 @@ use Rattle.file_batch_laws.specs.Reading.{bodies_of, batch_magic, replies_magic}
 use Rattle.file_batch_laws.specs.Replies.{IsReplyFileOf}
 use Rattle.file_batch_laws.specs.declared.batch_fault.BatchFault.{BatchFault}
 use Rattle.file_batch_laws.specs.declared.batch_fault.BatchFault.TheVariants.{Trailing}
-use Rattle.file_places.specs.Places.{IsBatchPlace, IsBlocksPlace, IsUnread, IsWholeBlockFile, fault_of_batch, fault_of_blocks}
-use Rattle.file_places.specs.declared.batch_place.BatchPlace.TheVariants as batch
-use Rattle.file_places.specs.declared.blocks_place.BlocksPlace.TheVariants as blocks
-use Rattle.file_places.specs.declared.body_kind.BodyKind.{BodyKind}
-use Rattle.file_places.specs.declared.body_kind.BodyKind.TheVariants.{Message, Reply}
+use Rattle.file_listing.specs.Places.{IsBatchPlace, IsBlocksPlace, IsUnread, IsWholeBlockFile, fault_of_batch, fault_of_blocks}
+use Rattle.file_listing.specs.declared.batch_place.BatchPlace.TheVariants as batch
+use Rattle.file_listing.specs.declared.blocks_place.BlocksPlace.TheVariants as blocks
+use Rattle.file_listing.specs.declared.body_kind.BodyKind.{BodyKind}
+use Rattle.file_listing.specs.declared.body_kind.BodyKind.TheVariants.{Message, Reply}
 use Rattle.iso_shown.specs.Opening.{opening_of}
 use Rattle.app_reasons.specs.declared.file_kind.FileKind.{FileKind}
 use Rattle.app_reasons.specs.declared.file_kind.FileKind.TheVariants as kind

@@ -5,14 +5,14 @@ use Rattle.iso_shown.specs.declared.opening.Opening.{Opening}
 use Rattle.iso_shown.specs.declared.opening.Opening.TheVariants.{Mti, LengthHeader, Tpdu, Ebcdic, Bcd}
 use Rattle.book_places.specs.Words.{book_words}
 use Rattle.file_devices.specs.HostReason.{host_text}
-use Rattle.file_places.specs.declared.block_place.BlockPlace.{BlockPlace}
-use Rattle.file_places.specs.declared.body_place.BodyPlace.{BodyPlace}
-use Rattle.file_places.specs.declared.head_fault.HeadFault.{HeadFault}
-use Rattle.file_places.specs.declared.head_fault.HeadFault.TheVariants as head
-use Rattle.file_places.specs.declared.wrong_block.WrongBlock.{WrongBlock}
-use Rattle.file_places.specs.declared.wrong_block.WrongBlock.TheVariants as wrong_block
-use Rattle.file_places.specs.declared.wrong_body.WrongBody.{WrongBody}
-use Rattle.file_places.specs.declared.wrong_body.WrongBody.TheVariants as wrong
+use Rattle.file_listing.specs.declared.block_place.BlockPlace.{BlockPlace}
+use Rattle.file_listing.specs.declared.body_place.BodyPlace.{BodyPlace}
+use Rattle.file_listing.specs.declared.head_fault.HeadFault.{HeadFault}
+use Rattle.file_listing.specs.declared.head_fault.HeadFault.TheVariants as head
+use Rattle.file_listing.specs.declared.wrong_block.WrongBlock.{WrongBlock}
+use Rattle.file_listing.specs.declared.wrong_block.WrongBlock.TheVariants as wrong_block
+use Rattle.file_listing.specs.declared.wrong_body.WrongBody.{WrongBody}
+use Rattle.file_listing.specs.declared.wrong_body.WrongBody.TheVariants as wrong
 use Rattle.app_reasons.specs.OneLine.{shown}
 use Rattle.app_reasons.specs.Says.{letters_of}
 use Rattle.app_reasons.specs.declared.file_kind.FileKind.{FileKind}

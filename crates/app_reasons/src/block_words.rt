@@ -1,5 +1,5 @@
 use crate::body_words::BodyWords;
-use file_places::{BlockPlace, WrongBlock};
+use file_listing::{BlockPlace, WrongBlock};
 use std::fmt;
 
 /// Which block is wrong, and why.

@@ -1,4 +1,4 @@
-use file_places::{BodyPlace, WrongBody};
+use file_listing::{BodyPlace, WrongBody};
 use std::fmt;
 
 /// Which body is wrong, and why.

@@ -1,5 +1,5 @@
 use crate::file_kind::FileKind;
-use file_places::HeadFault;
+use file_listing::HeadFault;
 use std::fmt;
 
 /// What is wrong with the head of a file that is to be of this kind, and begins as one of that kind.

@@ -7,7 +7,7 @@ use crate::unread_words::UnreadWords;
 use book_places::BookPlace;
 use file_batch_laws::BatchFault;
 use file_devices::HostReason;
-use file_places::{
+use file_listing::{
     BatchPlace, BlocksPlace, first_unread, place_in_batch, place_in_block_replies, place_in_blocks,
     place_in_replies,
 };
@@ -45,8 +45,8 @@ pub enum Reason {
 
 impl Reason {
     ghost use Rattle.std.specs.Prelude.{◌≡◌, List, ℕ, IfSome, IfNone};
-    ghost use Rattle.file_places.specs.Places.{IsBatchPlace, IsBlocksPlace, fault_of_batch, fault_of_blocks};
-    ghost use Rattle.file_places.specs.declared.body_kind.BodyKind.{BodyKind};
+    ghost use Rattle.file_listing.specs.Places.{IsBatchPlace, IsBlocksPlace, fault_of_batch, fault_of_blocks};
+    ghost use Rattle.file_listing.specs.declared.body_kind.BodyKind.{BodyKind};
     ghost use Rattle.app_reasons.specs.Says.{SaysOfBodies, SaysOfBlocks, Says, SaysUnread, IsFileOf};
 
     // Of a file of bodies.

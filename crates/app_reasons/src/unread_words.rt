@@ -1,4 +1,4 @@
-use file_places::UnreadBody;
+use file_listing::UnreadBody;
 use iso_shown::Opening;
 use iso8583::Digits;
 use std::fmt;

@@ -4,3 +4,5 @@ mod BlockSteps
 mod PackedAgain
 mod Fronts
 mod BlocksPackedAgain
+pub mod Faults
+pub mod OneMore

@@ -4,3 +4,4 @@ pub mod Lines
 pub mod BlockLines
 pub mod BlockText
 pub mod BodyLines
+pub mod Places

@@ -1,6 +1,6 @@
 use Rattle.file_batch_laws.specs.Blocks.{blocks_magic, block_replies_magic}
 use Rattle.file_batch_laws.specs.Reading.{batch_magic, replies_magic}
-use Rattle.file_places.specs.declared.body_kind.BodyKind.TheVariants.{Message, Reply}
+use Rattle.file_listing.specs.declared.body_kind.BodyKind.TheVariants.{Message, Reply}
 use Rattle.app_reasons.proofs.reason.Reason.of_file.Goals as goal
 
 pub returns-in-Some-clause-says : goal.returns-in-Some-clause-says

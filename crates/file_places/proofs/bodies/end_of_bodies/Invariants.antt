@@ -1,6 +1,0 @@
-use Rattle.file_places.specs.Places.{AreBodies}
-use Rattle.file_places.proofs.bodies.end_of_bodies.Given as goal
-
--- so many bodies were read
-abbrev pub invariant-loop-number : goal.invariant-loop-number
-invariant-loop-number l = AreBodies l.kind l.file l.at l.number l.end
