@@ -6,7 +6,7 @@ use Rattle.issuer_rows.specs.Fold.{Rows}
 use Rattle.book_laws.specs.CheckBook.{IsSound}
 use Rattle.book_laws.specs.Reading.{reading}
 use Rattle.book_laws.specs.Text.{book_text}
-use Rattle.book_archive.specs.Archive.{new_rows, old_rows}
+use Rattle.book_changes.specs.Archive.{new_rows, old_rows}
 use Rattle.file_batch.specs.Words.{AreAsTheyWere, Failing, Holding, IsThere}
 use Rattle.app_jobs.specs.Decided.{IsBookOf}
 use Rattle.app_parts.specs.Faults.{Names, names_of, IsArchiveFault, status_of}

@@ -10,7 +10,7 @@ use crate::archive_names::ArchiveNames;
 use crate::archive_placing::put_books;
 use crate::claiming::claim_books;
 use app_jobs::{open_book, write_book};
-use book_archive::archive_book;
+use book_changes::archive_book;
 use file_devices::Files;
 use iso8583::Day;
 use std::alloc::Global;

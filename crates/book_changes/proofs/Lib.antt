@@ -6,3 +6,9 @@ pub mod Reversible
 pub mod Reversing
 pub mod Shapes
 pub mod Sound
+pub mod Alike
+pub mod Days
+pub mod Joined
+pub mod Late
+pub mod SoundBooks
+pub mod Splitting

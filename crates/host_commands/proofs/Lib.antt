@@ -4,3 +4,5 @@ pub mod SettingWords
 pub mod LinkWords
 pub mod Together
 pub mod Following
+pub mod Repeats
+pub mod OneReading

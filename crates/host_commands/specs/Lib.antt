@@ -6,3 +6,5 @@ pub mod Together
 pub mod Again
 pub mod Opening
 pub mod OpeningFault
+pub mod Standing
+pub mod GivenAgain

@@ -4,7 +4,7 @@ use Rattle.issuer_words.specs.Words.{Frame, Rows}
 use Rattle.book_laws.specs.Reading.{reading}
 pub use Rattle.book_text.specs.Digest.{book_digest}
 use Rattle.log_laws.specs.Reading.{IsLogOf, IsUnbegun}
-use Rattle.host_laws.specs.Standing.{StandsBehind}
+use Rattle.host_commands.specs.Standing.{StandsBehind}
 use Rattle.host_serving.specs.declared.host.Host.{Host}
 
 -- the bytes are the log of these entries, and a torn tail perhaps; or no log was begun, and there are none

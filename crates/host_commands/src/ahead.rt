@@ -1,16 +1,15 @@
 //! A link that is served while it is read ahead.
 
 ghost use Rattle.std.specs.Prelude.{◌≡◌, [], Err, IfSome, IfNone, IfErr, OnOk, IsFalse};
-ghost use Rattle.link_ahead.specs.Ahead.{IsBehind, HasReadNone};
+ghost use Rattle.link_frames.specs.Ahead.{IsBehind, HasReadNone};
 ghost use Rattle.link_frames.specs.declared.link_fault.LinkFault.TheVariants.{Unreadable};
 ghost use Rattle.host_serving.specs.Serving.{Served, Stopped};
 ghost use Rattle.host_serving.specs.declared.host_fault.HostFault.TheVariants.{Link as OfLink};
 
 use file_devices::{Sink, Source};
-use host_serving::{Host, HostFault, MaxBatch};
-use host_telling::Teller;
+use host_serving::{Host, HostFault, MaxBatch, Teller};
 use issuer_rules::Shipped;
-use link_ahead::{Link, Reading, Signals, ends_of_link};
+use link_frames::{Link, Reading, Signals, ends_of_link};
 use log_devices::GrowingFile;
 use std::alloc::Global;
 use std::io::Write;

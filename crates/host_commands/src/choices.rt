@@ -1,6 +1,5 @@
 use crate::link_names::LinkNames;
-use host_serving::MaxBatch;
-use host_telling::StatsInterval;
+use host_serving::{MaxBatch, StatsInterval};
 use std::alloc::Global;
 
 /// What the options of a host say.

@@ -1,4 +1,5 @@
-//! What the program does for `switch serve`: a live host over standard input and output, or over named pipes.
+//! What the program does for `switch serve`: a live host is opened, and serves standard input and output, or named pipes. What its log means to
+//! its clients, and what a replay of it means to whoever ran the host, as laws.
 #![tactic(auto)]
 
 mod again;
@@ -7,6 +8,7 @@ mod asked_links;
 mod asking;
 mod choices;
 mod help;
+mod laws;
 mod link_names;
 mod links_teller;
 mod links_words;
@@ -15,6 +17,7 @@ mod opened;
 mod opening;
 mod opening_fault;
 mod pipes;
+mod replaying;
 mod serve_fault;
 mod serving;
 mod serving_links;
@@ -25,6 +28,7 @@ pub use asked_links::AskedLinks;
 pub use asking::{HostAsked, host_asked};
 pub use choices::Choices;
 pub use help::SERVE_HELP;
+pub use laws::{a_host_stays_behind_its_log, a_repeat_after_any_restart_is_safe, replies_go_on};
 pub use link_names::LinkNames;
 pub use links_teller::LinksTeller;
 pub use links_words::links_asked;
@@ -33,6 +37,7 @@ pub use opened::Opened;
 pub use opening::open_host;
 pub use opening_fault::OpeningFault;
 pub use pipes::{PipeSink, PipeSource};
+pub use replaying::a_replay_gives_what_the_host_gave;
 pub use serve_fault::ServeFault;
 pub use serving::serve;
 pub use serving_links::serve_links;

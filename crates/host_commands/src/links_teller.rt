@@ -1,7 +1,6 @@
 use crate::link_names::LinkNames;
 use host_links::WatchLinks;
-use host_serving::{HostFault, Tally, Watch};
-use host_telling::Teller;
+use host_serving::{HostFault, Tally, Teller, Watch};
 use issuer_rows::Frame;
 use link_frames::LinkFault;
 use std::fmt;
@@ -40,7 +39,7 @@ impl<'a, E: Write> LinksTeller<'a, E> {
 }
 
 impl<E: Write> Watch for LinksTeller<'_, E> {
-    ghost use Rattle.host_telling.specs.Telling.{TellsEntry};
+    ghost use Rattle.host_serving.specs.Telling.{TellsEntry};
 
     ghost hears = { λ old before messages new. TellsEntry E.contents old.teller before messages new.teller };
 

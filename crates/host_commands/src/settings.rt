@@ -1,5 +1,4 @@
-use host_serving::MaxBatch;
-use host_telling::StatsInterval;
+use host_serving::{MaxBatch, StatsInterval};
 
 /// How a host is to serve.
 #[derive(Clone, Copy)]

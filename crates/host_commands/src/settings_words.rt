@@ -8,8 +8,7 @@ ghost use Rattle.host_commands.specs.declared.settings.Settings.{Settings as Sai
 
 use crate::settings::Settings;
 use app_words::is_word;
-use host_serving::MaxBatch;
-use host_telling::StatsInterval;
+use host_serving::{MaxBatch, StatsInterval};
 
 // How many frames a word says.
 pub(crate) fn max_batch_in(word: &str) -> Option<MaxBatch>

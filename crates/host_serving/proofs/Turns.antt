@@ -8,7 +8,7 @@ use Rattle.link_frames.specs.Incoming.{Incoming, Network, Body, IsIncoming, body
 use Rattle.link_frames.specs.Link.{AreFrames}
 use Rattle.link_frames.specs.declared.network_request.NetworkRequest.{NetworkRequest}
 use Rattle.link_frames.proofs.InOrder.{frames_more, bodies_more, requests_more, bodies_behind_more}
-use Rattle.link_network.specs.declared.network_message.NetworkMessage.{NetworkMessage}
+use Rattle.link_frames.specs.declared.network_message.NetworkMessage.{NetworkMessage}
 use Rattle.host_serving.specs.Entries.{all_bodies, HasBody}
 use Rattle.host_serving.specs.Turn.{IsTurn, HasTaken, entry_of}
 use Rattle.host_serving.specs.declared.turn.Turn.{Turn}

@@ -6,3 +6,5 @@ pub mod Watched
 pub mod Turn
 pub mod Entering
 pub mod Serving
+pub mod Lines
+pub mod Telling

@@ -1,6 +1,5 @@
 use crate::decoding::push_copy;
-use link_frames::NetworkRequest;
-use link_network::{NetworkMessage, decode_network};
+use link_frames::{NetworkMessage, NetworkRequest, decode_network};
 use log_file::Bodies;
 use std::alloc::{AllocError, Global};
 

@@ -3,3 +3,5 @@ pub mod Once
 pub mod Parts
 pub mod Runs
 pub mod InOrder
+pub mod Tails
+pub mod AheadFronts

@@ -2,8 +2,8 @@
 use Rattle.std.specs.Prelude.{ℕ, ◌+◌, List, [], ◌∷◌, ◌++◌, take, drop}
 use Rattle.issuer_rows.specs.declared.reply_body.ReplyBody.{ReplyBody}
 use Rattle.file_batch_laws.specs.Files.{framed}
-use Rattle.link_network.specs.Network.{IsNetwork, SpellsNetwork, network_spelling, network_reply_spelling}
-use Rattle.link_network.specs.declared.network_message.NetworkMessage.{NetworkMessage}
+use Rattle.link_frames.specs.Network.{IsNetwork, SpellsNetwork, network_spelling, network_reply_spelling}
+use Rattle.link_frames.specs.declared.network_message.NetworkMessage.{NetworkMessage}
 use Rattle.link_frames.specs.Replies.{reply_frame, reply_frames}
 use Rattle.link_frames.specs.declared.network_request.NetworkRequest.{NetworkRequest}
 

@@ -4,3 +4,5 @@ pub mod Front
 pub mod Reader
 pub mod Replies
 pub mod Incoming
+pub mod Network
+pub mod Ahead

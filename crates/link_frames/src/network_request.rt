@@ -1,4 +1,4 @@
-use link_network::NetworkMessage;
+use crate::network_message::NetworkMessage;
 
 /// A network management request that came on a link, and where: how many bodies came between it and the one before it.
 #[derive(Clone, Copy)]

@@ -8,7 +8,7 @@ use file_devices::Sink;
 use iso_encoder::encode_reply;
 use iso8583::Reply;
 use issuer_rows::ReplyBody;
-use link_network::add_network_reply;
+use crate::network_answering::add_network_reply;
 use std::alloc::{AllocError, Global};
 
 /// Memory for the replies that are written on a link.

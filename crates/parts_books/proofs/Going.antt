@@ -8,7 +8,7 @@ use Rattle.issuer_rows.proofs.KeyLaws.{key_cmp_total, key_cmp_antisymmetric, key
 use Rattle.issuer_words.specs.Words.{Frame, IsWithin, RowKey, RowVal, Rows, key_cmp, key_eq}
 use Rattle.issuer_laws.specs.Parts.{may_need}
 use Rattle.issuer_laws.specs.Rules.{has}
-use Rattle.book_archive.proofs.Splitting.{any_at, get_retained, none_within, put_seen, step, both_put}
+use Rattle.book_changes.proofs.Splitting.{any_at, get_retained, none_within, put_seen, step, both_put}
 use Rattle.engine_parts.proofs.JoinLaws.{get_joined}
 use Rattle.engine_parts.specs.TwoBooks.{first_of, joined}
 use Rattle.parts_books.specs.PartBooks.{accounts_of, each_from, is_among, is_as_in_rest, is_for, is_for_one, is_of_account, lent_keys, may_need_one, own_rows, rest_rows, rows_for}

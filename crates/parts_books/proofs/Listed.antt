@@ -7,7 +7,7 @@ use Rattle.std.specs.List.{list_any}
 use Rattle.issuer_rows.proofs.KeyLaws.{key_eq_decides}
 use Rattle.issuer_words.specs.Words.{Frame, IsWithin, RowKey, RowVal, Rows, key_eq}
 use Rattle.issuer_laws.specs.Parts.{IsIn, Parted, bodies, of_part}
-use Rattle.book_archive.proofs.Splitting.{get_retained, own_value}
+use Rattle.book_changes.proofs.Splitting.{get_retained, own_value}
 use Rattle.parts_books.specs.PartBooks.{is_among}
 
 -- ---- keys

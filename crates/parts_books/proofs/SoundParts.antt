@@ -6,7 +6,7 @@ use Rattle.std.specs.FinMap as map
 use Rattle.std.specs.List.{list_any}
 use Rattle.issuer_words.specs.Words.{AccountId, AccountsOfCard, Frame, Payer, Payment, RowKey, RowVal, Rows, account_in, is_same_account, payment_of_outcome}
 use Rattle.issuer_laws.specs.Parts.{IsIn, second_key, payer_keys, payment_keys, may_need, Parted, bodies, of_part}
-use Rattle.book_archive.proofs.Sound.{all_retained, in_range, right_numbers}
+use Rattle.book_changes.proofs.SoundBooks.{all_retained, in_range, right_numbers}
 use Rattle.book_laws.specs.CheckBook.{has_account, has_payer, is_backed, has_paying_account, has_second, are_accounts, has_accounts, IsSound}
 use Rattle.parts_books.proofs.Listed.{among_in, in_among, in_front, in_back, passes_left}
 use Rattle.parts_books.proofs.Places.{is_left}

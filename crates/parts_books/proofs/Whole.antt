@@ -11,7 +11,7 @@ use Rattle.issuer_words.specs.Words.{AccountRow, Frame, Identity, Message, Pan, 
 use Rattle.issuer_laws.proofs.Keys.{get-put, get-other, same_or_other, same_text, texts_same}
 use Rattle.issuer_laws.proofs.Parts.{decided_alone, leaves_others}
 use Rattle.issuer_laws.specs.Parts.{IsIn, account_keys, accounts_at, budget_at, funds_at, if_there, may_need, may_need_first, payer_at, paying_keys, Parted, bodies, of_part, with_parts, IsOfPart, AreApart}
-use Rattle.book_archive.proofs.Splitting.{get_retained}
+use Rattle.book_changes.proofs.Splitting.{get_retained}
 use Rattle.engine_parts.proofs.JoinLaws.{get_joined}
 use Rattle.engine_parts.proofs.PartLaws.{of_or_not, others_stay}
 use Rattle.engine_parts.specs.Decided.{list_at}

@@ -5,7 +5,7 @@ ghost use Rattle.issuer_words.specs.Words.{account_in, key_eq};
 ghost use Rattle.issuer_rows.specs.declared.row_key.RowKey.{RowKey as Key};
 ghost use Rattle.parts_books.specs.PartBooks.{is_as_in_rest, is_same_account_row, joined_books, own_rows};
 
-use book_archive::put_row;
+use book_changes::put_row;
 use issuer_rows::{Book, RowKey, RowVal};
 use std::alloc::AllocError;
 

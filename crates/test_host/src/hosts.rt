@@ -6,8 +6,7 @@ use crate::{
 };
 use file_devices::{FailingSink, Source};
 use host_commands::{HostAsked, Logs, OpeningFault, Settings, host_asked, serve};
-use host_serving::MaxBatch;
-use host_telling::StatsInterval;
+use host_serving::{MaxBatch, StatsInterval};
 use issuer_rows::Book;
 use log_devices::{MemoryLog, OpenFault};
 use log_file::LogFault;

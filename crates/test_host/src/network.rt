@@ -1,6 +1,6 @@
 //! Network messages and their replies, byte for byte, by hand.
 
-use link_network::{NetworkFunction, add_network_reply, decode_network};
+use link_frames::{NetworkFunction, add_network_reply, decode_network};
 use std::alloc::Global;
 
 // An echo test, 1804 with elements 11, 12 and 24; and its reply in its frame, 1814 with element 39, too.

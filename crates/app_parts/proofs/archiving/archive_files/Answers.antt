@@ -1,7 +1,7 @@
 use Rattle.std.proofs.Common.{◌≡◌, ◌⊎◌, ℕ, ◌-◌, List, Ok, inl, inr, ap, ◌∙◌, subst}
 use Rattle.std.proofs.lemmas.Result.{err_from_is_err_and}
 use Rattle.std.specs.FinMap as map
-use Rattle.book_archive.proofs.Sound.{both_sound}
+use Rattle.book_changes.proofs.SoundBooks.{both_sound}
 use Rattle.book_laws.specs.Reading.{reading}
 use Rattle.book_laws.specs.Text.{book_text}
 use Rattle.issuer_rows.specs.Fold.{Rows}

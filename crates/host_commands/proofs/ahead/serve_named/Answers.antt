@@ -1,7 +1,7 @@
 use Rattle.std.proofs.Common.{ℕ, List, length, drop, ap}
 use Rattle.std.proofs.lemmas.Result.{on_ok_weaker, IfErr-weaker}
 use Rattle.rtrb.specs.Ring.{received}
-use Rattle.link_ahead.proofs.Fronts.{none_taken}
+use Rattle.link_frames.proofs.AheadFronts.{none_taken}
 use Rattle.host_commands.proofs.SameLink.{served_for, stopped_for, stopped_at_once}
 use Rattle.host_commands.proofs.ahead.serve_named.Goals as goal
 

@@ -1,6 +1,6 @@
 use Rattle.std.proofs.Common.{◌+◌, List, drop, sym, subst}
 use Rattle.std.specs.FinMap as map
-use Rattle.book_archive.proofs.Splitting.{nothing_within, within_on}
+use Rattle.book_changes.proofs.Splitting.{nothing_within, within_on}
 use Rattle.issuer_fold.proofs.FoldLaws.{left_in_turn}
 use Rattle.issuer_words.specs.Words.{Frame, IsWithin, Rows}
 use Rattle.parts_books.specs.PartBooks.{is_for, rows_for}

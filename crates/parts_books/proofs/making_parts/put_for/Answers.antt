@@ -4,7 +4,7 @@ use Rattle.issuer_laws.specs.Parts.{may_need}
 use Rattle.issuer_rows.specs.declared.row_key.RowKey.{RowKey}
 use Rattle.parts_books.specs.PartBooks.{has_account_at, is_among, lent_keys}
 use Rattle.parts_books.proofs.making_parts.put_for.Goals as goal
-use Rattle.book_archive.proofs.Splitting.{both_put}
+use Rattle.book_changes.proofs.Splitting.{both_put}
 
 pub returns : goal.returns
 returns c q =

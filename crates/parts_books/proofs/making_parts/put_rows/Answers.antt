@@ -1,6 +1,6 @@
 use Rattle.std.proofs.Common.{true, sym, ap, ◌∙◌}
 use Rattle.std.specs.FinMap as map
-use Rattle.book_archive.proofs.Splitting.{within_on}
+use Rattle.book_changes.proofs.Splitting.{within_on}
 use Rattle.issuer_words.specs.Words.{Rows, key_eq}
 use Rattle.parts_books.proofs.Going.{HasGone, goes_again, none_here, put_here}
 use Rattle.parts_books.proofs.making_parts.put_rows.Goals.{in-Some+in_ok-put_copy, in_default}

@@ -1,5 +1,0 @@
-use Rattle.book_archive.proofs.Sound.{both_sound}
-use Rattle.book_archive.proofs.archive_laws.both_books_are_sound.Goals as goal
-
-pub returns : goal.returns
-returns c = both_sound

@@ -1,5 +1,0 @@
-use Rattle.book_archive.proofs.Joined.{parted}
-use Rattle.book_archive.proofs.archive_laws.both_books_are_the_book.Goals as goal
-
-pub returns : goal.returns
-returns c = parted

@@ -1,5 +1,0 @@
-use Rattle.book_archive.proofs.Alike.{answers_alike}
-use Rattle.book_archive.proofs.archive_laws.what_needs_no_past_is_answered_alike.Goals as goal
-
-pub returns : goal.returns
-returns c = answers_alike

@@ -1,4 +1,0 @@
-pub mod Archive
-pub mod Days
-pub mod Deciding
-pub mod Joining
