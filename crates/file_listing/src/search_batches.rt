@@ -5,8 +5,8 @@ ghost use Rattle.file_batch_laws.specs.Replies.{IsReplyFileOf, FailsAsReplies};
 ghost use Rattle.file_listing.specs.Places.{IsWholeFile, IsBatchPlace, fault_of_batch};
 
 use crate::batch_place::BatchPlace;
-use crate::search_bodies::end_of_bodies;
 use crate::body_kind::BodyKind;
+use crate::search_bodies::end_of_bodies;
 use crate::search_heads::head;
 
 // Where the first body begins.

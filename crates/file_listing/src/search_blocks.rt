@@ -4,8 +4,8 @@ ghost use Rattle.file_listing.specs.Places.{AreBlocks, IsBlockAt, IsBlockPlace, 
 
 use crate::block_place::BlockPlace;
 use crate::blocks_place::BlocksPlace;
-use crate::search_bodies::end_of_bodies;
 use crate::body_kind::BodyKind;
+use crate::search_bodies::end_of_bodies;
 use crate::search_fields::long;
 use crate::search_heads::block_head;
 use crate::wrong_block::WrongBlock;

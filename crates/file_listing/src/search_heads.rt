@@ -1,8 +1,8 @@
 ghost use Rattle.std.specs.Prelude.{◌≡◌, ◌≤◌, length, IfOk, IfErr};
 ghost use Rattle.file_listing.specs.Places.{HasLetters, IsHead, IsBlockHead, IsHeadFault, IsBlockHeadFault};
 
-use crate::search_fields::{field, long, short};
 use crate::head_fault::HeadFault;
+use crate::search_fields::{field, long, short};
 
 // Sees that the file begins with these letters and version 1.
 #[tactic(auto, unfolding(file_batch_laws::specs::Reading::magic_at, file_batch_laws::specs::Reading::version_at, file_batch_laws::specs::Reading::head_at, file_batch_laws::specs::Blocks::block_head_at))]

@@ -15,3 +15,4 @@ mod values;
 
 pub use decoding::{decode, decode_reply};
 pub use iso_encoder::{ROOM, encode, encode_reply};
+pub use value_test::is_text_of;

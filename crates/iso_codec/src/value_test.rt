@@ -1,11 +1,11 @@
 //! Classes of characters and value tests of the elements.
 
-ghost use Rattle.std.specs.Prelude.{◌≡◌, ℕ, ◌≤◌, length, IsTrue};
+ghost use Rattle.std.specs.Prelude.{◌≡◌, ◌↔◌, ℕ, ◌≤◌, length, IsTrue};
 ghost use Rattle.std.specs.Str.{bytes_eq};
 ghost use Rattle.iso8583.specs.Class.{IsDigits};
-ghost use Rattle.iso_laws.specs.Elements.{shape_of, class_of, is_of_class, is_original_amount, is_original_type, is_original, has_value, HasShape};
+ghost use Rattle.iso_laws.specs.Elements.{shape_of, class_of, is_of_class, is_original_amount, is_original_type, is_original, has_value, HasShape, IsText};
 
-use iso_laws::{Class, Element};
+use iso_laws::{Class, Element, Shape};
 use iso8583::{is_alphanumeric, is_digits, is_local_stamp, is_printable, number_of};
 
 /// Whether the text is this one.
@@ -73,4 +73,23 @@ pub(crate) fn has_value(element: Element, text: &[u8]) -> bool
         Element::Original => is_original(text),
         _ => true,
     }
+}
+
+// Whether the text is as long as the shape says.
+fn has_shape(shape: Shape, text: &[u8]) -> bool
+    ensures { IsTrue result ↔ HasShape shape text.now }
+{
+    match shape {
+        Shape::Fixed(size) => text.len() == size,
+        Shape::UpTo(min, max) => min <= text.len() && text.len() <= max,
+    }
+}
+
+/// Whether the text is one that the element can have: of its length, of its characters, and a value.
+pub fn is_text_of(element: Element, text: &[u8]) -> bool
+    ensures { IsTrue result ↔ IsText element text.now }
+{
+    has_shape(element.shape(), text)
+        && is_of_class(element.class(), text)
+        && has_value(element, text)
 }

@@ -1,6 +1,7 @@
 ghost use Rattle.std.specs.Prelude.{◌≡◌, take, drop};
 
 use crate::link_fault::LinkFault;
+use crate::network_answering::add_network_reply;
 use crate::network_request::NetworkRequest;
 use crate::writing::put_all;
 use byteorder::{BigEndian, ByteOrder};
@@ -8,7 +9,6 @@ use file_devices::Sink;
 use iso_encoder::encode_reply;
 use iso8583::Reply;
 use issuer_rows::ReplyBody;
-use crate::network_answering::add_network_reply;
 use std::alloc::{AllocError, Global};
 
 /// Memory for the replies that are written on a link.

@@ -15,7 +15,6 @@ mod names;
 mod place;
 mod reply_values;
 mod spelling;
-mod text_test;
 mod texts;
 mod transaction_values;
 mod types;

@@ -6,8 +6,8 @@ ghost use Rattle.message_text.specs.Made.{IsGivingFault, IsWordFault};
 use crate::given::{Given, is_given};
 use crate::make_fault::MakeFault;
 use crate::names::element_named;
-use crate::text_test::is_text;
 use crate::texts::text_of;
+use iso_codec::is_text_of;
 use memchr::memchr;
 use std::alloc::Global;
 
@@ -32,7 +32,7 @@ fn given_by(alloc: Global, place: usize, word: &[u8]) -> Result<Given, MakeFault
         return Err(MakeFault::Word(place));
     };
     let text = text_of(alloc, element, value)?;
-    if !is_text(element, &text) {
+    if !is_text_of(element, &text) {
         return Err(MakeFault::Value(element));
     }
     Ok(Given { element, text })
