@@ -21,8 +21,8 @@ use Rattle.app_jobs.specs.Faults.{IsAuditingFault, IsDecidingFault}
 use Rattle.app_jobs.specs.JournalFaults.{IsJournalAuditingFault}
 use Rattle.app_jobs.specs.Journaled.{IsAuditedWithJournal}
 use Rattle.app_runs.specs.Journaled.{IsDecidedWithJournal, IsDecidingFaultWithJournal}
-use Rattle.app_texts.specs.Packed.{ArePacked, ArePackedInBlocks, IsBlockPackingFault, IsPackingFault}
-use Rattle.app_texts.specs.Shown.{IsShowingFault, IsShown}
+use Rattle.app_messages.specs.Packed.{ArePacked, ArePackedInBlocks, IsBlockPackingFault, IsPackingFault}
+use Rattle.app_messages.specs.ShownFile.{IsShowingFault, IsShown}
 use Rattle.app_jobs.specs.declared.job_fault.JobFault.{JobFault}
 use Rattle.app_jobs.specs.declared.job_fault.JobFault.TheVariants.{Batch, InUse}
 use Rattle.app_jobs.specs.declared.job_fault.JobFault.TheVariants as job

@@ -19,7 +19,7 @@ use app_jobs::{
 };
 use app_reasons::words_of;
 use app_runs::{decide_one, run_batch, run_batch_with_journal, run_blocks};
-use app_texts::{pack_batch, pack_blocks, show_file};
+use app_messages::{pack_batch, pack_blocks, show_file};
 use engine_workers::Workers;
 use file_batch::{BodyCount, Strictness};
 use file_devices::{BatchNames, Files};

@@ -1,0 +1,6 @@
+mod BlockSteps
+mod BytesFaults
+mod PackedAgain
+mod PutFaults
+mod TextFaults
+mod TextSteps

@@ -5,3 +5,6 @@ pub mod Made
 pub mod Lines
 pub mod Shown
 pub mod ShowAsked
+pub mod Handed
+pub mod Packed
+pub mod ShownFile

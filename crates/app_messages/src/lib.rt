@@ -1,13 +1,21 @@
-//! What the program does for `switch make`, a message from words; for `switch unpack`, the bodies of a batch or a block as a text; and for
-//! `switch show FILE --json`, a file's messages or replies as lines of JSON.
+//! Messages as texts: what the program does for `switch make`, a message from words; for `switch pack`, a batch or blocks from a text; for
+//! `switch unpack`, the bodies as a text again; and for `switch show`, a file as lines for people or of JSON.
 #![tactic(auto)]
 
 mod block_fault;
+mod block_packing;
 mod block_unpacking;
+mod block_writing;
+mod file_showing;
 mod help;
+mod laws;
+mod lines;
 mod make_asking;
 mod make_words;
 mod making;
+mod opening;
+mod packing;
+mod placing;
 mod show_asking;
 mod show_help;
 mod show_listing;
@@ -18,10 +26,14 @@ mod unpack_telling;
 mod unpacking;
 
 pub use block_fault::BlockFault;
+pub use block_packing::pack_blocks;
 pub use block_unpacking::unpack_block;
+pub use file_showing::show_file;
 pub use help::{MAKE_HELP, UNPACK_HELP};
+pub use laws::packed_blocks_are_read;
 pub use make_asking::{MakeAsked, make_asked};
 pub use making::answer_make;
+pub use packing::pack_batch;
 pub use show_asking::{ShowAsked, show_asked};
 pub use show_help::SHOW_JSON_HELP;
 pub use show_telling::answer_show;

@@ -1,7 +1,7 @@
 use crate::progress::Progress;
 use crate::progress_log::ProgressLog;
 use log_commands::LockedLogs;
-use log_devices::OpenFault;
+use log_file::OpenFault;
 
 /// Logs that tell how far they are read.
 #[derive(Drop)]

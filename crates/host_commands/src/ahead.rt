@@ -10,7 +10,7 @@ use file_devices::{Sink, Source};
 use host_serving::{Host, HostFault, MaxBatch, Teller};
 use issuer_rules::Shipped;
 use link_frames::{Link, Reading, Signals, ends_of_link};
-use log_devices::GrowingFile;
+use log_file::GrowingFile;
 use std::alloc::Global;
 use std::io::Write;
 use std::marker::Brand;

@@ -9,7 +9,7 @@ ghost use Rattle.host_commands.specs.Standing.{StandsBehind, IsSafe};
 
 use host_serving::Host;
 use issuer_laws::a_repeat_is_answered_alike;
-use log_devices::GrowingFile;
+use log_file::GrowingFile;
 
 /// A host that stands behind its log does so when entries were appended and their messages decided, as `serve_link` does with each link.
 pub fn a_host_stays_behind_its_log<G: GrowingFile + Drop>(old: &Host<G>, new: &Host<G>)

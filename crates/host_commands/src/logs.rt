@@ -1,6 +1,6 @@
 ghost use Rattle.std.specs.Prelude.{◌≡◌, ℕ, List, ◌++◌, IfOk};
 
-use log_devices::{GrowingFile, HostLog, OpenFault};
+use log_file::{GrowingFile, HostLog, OpenFault};
 use std::fs::File;
 use std::rt;
 

@@ -6,7 +6,7 @@ ghost use Rattle.log_replay.specs.Logged.{IsLogOfMessages, book_digest};
 ghost use Rattle.host_commands.specs.GivenAgain.{AreGivenAgain};
 
 use host_serving::Host;
-use log_devices::GrowingFile;
+use log_file::GrowingFile;
 
 /// A replay of the log that a host wrote gives what the host gave: the messages are those that the host decided, in order; the replies of
 /// all blocks, one block after another, are the host's to them, and those of the readable ones are, in order, what its clients got; and

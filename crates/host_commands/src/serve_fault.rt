@@ -3,7 +3,7 @@ ghost use Rattle.host_commands.specs.declared.serve_fault.ServeFault.TheVariants
 
 use crate::opening_fault::OpeningFault;
 use host_serving::HostFault;
-use log_devices::OpenFault;
+use log_file::OpenFault;
 use log_laws::LogFault;
 use std::fmt;
 

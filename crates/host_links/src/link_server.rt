@@ -18,7 +18,7 @@ use file_devices::{Sink, Source};
 use host_serving::{HostFault, MaxBatch, take_turn};
 use issuer_view::Decide;
 use link_frames::{LinkFault, put_all};
-use log_devices::GrowingFile;
+use log_file::GrowingFile;
 use std::alloc::Global;
 use std::sync::{Mutex, Wait};
 use std::thread::Threads;

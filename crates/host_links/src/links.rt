@@ -15,7 +15,7 @@ use crate::shared_host::SharedHost;
 use crate::watch_links::WatchLinks;
 use host_serving::{Host, HostFault, MaxBatch};
 use issuer_view::Decide;
-use log_devices::GrowingFile;
+use log_file::GrowingFile;
 use std::alloc::Global;
 use std::marker::Brand;
 use std::sync::{Mutex, Wait};

@@ -8,7 +8,7 @@ use crate::turning::{messages_behind, turn_at};
 use crate::watch_links::WatchLinks;
 use host_serving::{Host, HostFault};
 use issuer_view::Decide;
-use log_devices::GrowingFile;
+use log_file::GrowingFile;
 use std::alloc::Global;
 use std::marker::PhantomData;
 use std::thread::Threads;

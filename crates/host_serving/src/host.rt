@@ -1,6 +1,5 @@
 use crate::decider::Decider;
-use log_devices::GrowingFile;
-use log_file::LogWriter;
+use log_file::{GrowingFile, LogWriter};
 
 /// A live host: a book in memory, and the log of all that was decided on it.
 #[derive(Drop)]

@@ -9,7 +9,7 @@ use crate::watch::Watch;
 use file_devices::{Sink, Source};
 use issuer_view::Decide;
 use link_frames::{LinkFault, LinkReader, ReplyWriter};
-use log_devices::GrowingFile;
+use log_file::GrowingFile;
 use std::alloc::{AllocError, Global};
 use std::mem;
 use std::thread::Threads;

@@ -6,8 +6,7 @@ ghost use Rattle.host_serving.specs.Tally.{counted};
 
 use crate::decider::Decider;
 use issuer_view::Decide;
-use log_devices::GrowingFile;
-use log_file::{Bodies, LogWriter, Synced};
+use log_file::{Bodies, GrowingFile, LogWriter, Synced};
 use log_laws::LogFault;
 use std::alloc::{AllocError, Global};
 use std::thread::{Threads, join_mut};

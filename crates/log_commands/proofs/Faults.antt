@@ -9,8 +9,8 @@ use Rattle.file_batch_laws.specs.declared.batch_fault.BatchFault.TheVariants as 
 use Rattle.file_batch.specs.Words.{Failing, Names, WriteFault}
 use Rattle.file_devices.specs.declared.write_fault.WriteFault.TheVariants as write
 use Rattle.issuer_rows.specs.Fold.{Rows}
-use Rattle.log_devices.specs.declared.open_fault.OpenFault.{OpenFault}
-use Rattle.log_devices.specs.declared.open_fault.OpenFault.TheVariants as opening
+use Rattle.log_file.specs.declared.open_fault.OpenFault.{OpenFault}
+use Rattle.log_file.specs.declared.open_fault.OpenFault.TheVariants as opening
 use Rattle.log_laws.specs.declared.log_fault.LogFault.TheVariants as log
 use Rattle.log_replay.specs.Faults.{IsMeasuringFault}
 use Rattle.log_replay.specs.Faults.{IsReplayFault as IsDecidingFault}

@@ -2,8 +2,8 @@
 use Rattle.std.specs.Prelude.{ℕ}
 use Rattle.app_jobs.specs.declared.job_fault.JobFault.TheVariants as job
 use Rattle.file_batch_laws.specs.declared.batch_fault.BatchFault.TheVariants as batch
-use Rattle.log_devices.specs.declared.open_fault.OpenFault.{OpenFault}
-use Rattle.log_devices.specs.declared.open_fault.OpenFault.TheVariants as opening
+use Rattle.log_file.specs.declared.open_fault.OpenFault.{OpenFault}
+use Rattle.log_file.specs.declared.open_fault.OpenFault.TheVariants as opening
 use Rattle.log_laws.specs.declared.log_fault.LogFault.TheVariants as log
 use Rattle.log_replay.specs.declared.replay_fault.ReplayFault.{ReplayFault}
 use Rattle.log_replay.specs.declared.replay_fault.ReplayFault.TheVariants as replay

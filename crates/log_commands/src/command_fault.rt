@@ -7,7 +7,7 @@ ghost use Rattle.log_commands.specs.declared.command_fault.CommandFault.TheVaria
 use app_jobs::JobFault;
 use file_batch_laws::BatchFault;
 use file_devices::{ClaimFault, WriteFault};
-use log_devices::OpenFault;
+use log_file::OpenFault;
 use log_laws::LogFault;
 use log_replay::ReplayFault;
 use std::alloc::{AllocError, AllocFailed};

@@ -3,7 +3,7 @@ ghost use Rattle.std.specs.Prelude.{[]};
 use crate::locked_log::LockedLog;
 use crate::locked_logs::LockedLogs;
 use file_devices::Broken;
-use log_devices::OpenFault;
+use log_file::OpenFault;
 use std::fs::{File, OpenFile, OpenOptions, TryLockError};
 use std::io::ErrorKind;
 use std::os::unix::prelude::FileExt;

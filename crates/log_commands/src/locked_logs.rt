@@ -1,7 +1,7 @@
 ghost use Rattle.std.specs.Prelude.{◌≡◌, ℕ, List, Err, IfOk};
 
 use crate::locked_log::LockedLog;
-use log_devices::OpenFault;
+use log_file::OpenFault;
 
 /// Logs by the names of their files.
 pub trait LockedLogs {

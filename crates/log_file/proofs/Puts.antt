@@ -2,7 +2,7 @@
 use Rattle.std.proofs.Common.{◌≡◌, ℕ, ◌-◌, List, [], ◌++◌, take, Result, Ok, Err, refl, sym, ap, ◌∙◌, append_assoc}
 use Rattle.std.proofs.lemmas.List.{append-nil}
 use Rattle.std.specs.Prelude.{OnErr}
-use Rattle.log_devices.specs.Growing.{AddsPart}
+use Rattle.log_file.specs.Growing.{AddsPart}
 use Rattle.file_devices.proofs.Puts.{IsPut}
 
 pub begins : (old bytes : List ℕ) → IsPut old old bytes bytes

@@ -4,3 +4,4 @@ pub mod Ahead
 pub mod Parts
 pub mod Reads
 pub mod Writes
+pub mod Growing

@@ -1,13 +1,13 @@
 ghost use Rattle.std.specs.Prelude.{◌≡◌, ◌≤◌, ◌++◌, [], length, take, IfOk, IfErr, OnOk, OnErr};
 ghost use Rattle.byteorder.specs.Endian.{big_bytes};
 ghost use Rattle.file_batch_laws.specs.Files.{AreBodies};
-ghost use Rattle.log_devices.specs.Growing.{AddsPart, Begins};
+ghost use Rattle.log_file.specs.Growing.{AddsPart, Begins};
 ghost use Rattle.log_laws.specs.Texts.{entry_text, next_digest};
 ghost use Rattle.log_file.specs.Device.{UsesFile};
 
 use crate::bodies::Bodies;
 use crate::chain::digest_of;
-use log_devices::GrowingFile;
+use crate::growing_file::GrowingFile;
 use log_laws::LogFault;
 use std::alloc::AllocError;
 

@@ -2,10 +2,10 @@ use crate::appending::{cut_and_sync, make_entry, put_and_sync};
 use crate::begun::Begun;
 use crate::bodies::Bodies;
 use crate::chain::digest_of;
+use crate::growing_file::GrowingFile;
 use crate::log_end::LogEnd;
 use crate::synced::Synced;
 use crate::unbegun::{is_unbegun, make_header};
-use log_devices::GrowingFile;
 use log_laws::LogFault;
 use std::alloc::{AllocError, Global};
 

@@ -3,9 +3,10 @@ ghost use Rattle.log_laws.specs.LogFault.{is_of_bytes};
 ghost use Rattle.log_laws.specs.Reading.{IsUnbegun};
 ghost use Rattle.log_laws.specs.Texts.{header_text};
 
+use crate::growing_file::GrowingFile;
 use crate::input::Input;
+use crate::log_input::LogInput;
 use crate::part_reading::are_zeros;
-use log_devices::{GrowingFile, LogInput};
 use log_laws::LogFault;
 use std::alloc::{AllocError, Global};
 

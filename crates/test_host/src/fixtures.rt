@@ -4,7 +4,7 @@ use host_commands::{Opened, OpeningFault, open_host};
 use host_serving::{MaxBatch, Unwatched};
 use issuer_rows::Book;
 use issuer_rules::Shipped;
-use log_devices::MemoryLog;
+use log_file::MemoryLog;
 use std::alloc::Global;
 use std::sync::Wait;
 use std::thread::Threads;

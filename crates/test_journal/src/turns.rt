@@ -10,8 +10,7 @@ use std::alloc::{AllocError, Global};
 use std::process::Abort;
 use std::test::Fail;
 use stm_core_laws::Seat;
-use stm_drive::drive;
-use stm_journal::{Event, Traced};
+use stm_journal::{Event, Traced, drive};
 use test_fixtures::first_book_with;
 
 // How many turns are chosen, in every way. Turns of the three seats in their order follow, as many as are allowed in all.

@@ -3,8 +3,7 @@
 use crate::vectors::{BOOK, LOG};
 use crate::writing::{begun, bodies_of, file_of};
 use file_devices::FailingSource;
-use log_devices::MemoryLog;
-use log_file::{LogFault, LogWriter, read_log};
+use log_file::{LogFault, LogWriter, MemoryLog, read_log};
 use std::alloc::Global;
 use std::test::Fail;
 

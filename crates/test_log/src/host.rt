@@ -2,8 +2,7 @@
 
 use crate::vectors::{BOOK, LOG};
 use crate::writing::{begun, bodies_of};
-use log_devices::{HostLog, LogInput, OpenFault};
-use log_file::{Begun, LogFault, LogReader, LogStep, LogWriter};
+use log_file::{Begun, HostLog, LogFault, LogInput, LogReader, LogStep, LogWriter, OpenFault};
 use std::alloc::Global;
 use std::fs::File;
 use std::test::Fail;

@@ -9,7 +9,7 @@ use log_commands::{
     HostLockedLogs, LockedLog, LockedLogs, LogAsked, LogNames, audit_log, audit_log_asked, replay,
     replay_asked,
 };
-use log_devices::OpenFault;
+use log_file::OpenFault;
 use std::alloc::Global;
 use std::fs;
 use std::sync::Wait;

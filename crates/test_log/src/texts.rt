@@ -2,8 +2,7 @@
 
 use crate::vectors::{BOOK, LOG};
 use crate::writing::{begun, bodies_of, file_of};
-use log_devices::{GrowingFile, LogInput, MemoryLog};
-use log_file::{Begun, Bodies, LogFault, LogWriter, read_log};
+use log_file::{Begun, Bodies, GrowingFile, LogFault, LogInput, LogWriter, MemoryLog, read_log};
 use std::alloc::Global;
 use std::test::Fail;
 

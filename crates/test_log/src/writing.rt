@@ -1,7 +1,6 @@
 //! Entries that are written.
 
-use log_devices::{GrowingFile, MemoryLog};
-use log_file::{Begun, Bodies, LogFault, LogWriter};
+use log_file::{Begun, Bodies, GrowingFile, LogFault, LogWriter, MemoryLog};
 use std::alloc::{AllocError, Global};
 
 /// The bodies of these texts.

@@ -2,8 +2,7 @@
 //! makes the file again.
 
 use crate::files::file_with;
-use app_messages::{UnpackAsked, answer_unpack, unpack_asked};
-use app_texts::pack_blocks;
+use app_messages::{UnpackAsked, answer_unpack, pack_blocks, unpack_asked};
 use file_devices::{Files, MemoryFiles, read_file};
 use std::alloc::Global;
 use std::process::Abort;

@@ -5,7 +5,7 @@ use Rattle.app_audit.specs.Blocks.{FindsInBlocks}
 use Rattle.file_batch_laws.proofs.FoldedBlocks.{one_book}
 use Rattle.file_batch_laws.specs.Blocks.{replies_to_blocks}
 use Rattle.issuer_words.specs.Words.{Frame, ReplyBody, Rows, rows_after}
-use Rattle.log_devices.specs.declared.open_fault.OpenFault.{OpenFault}
+use Rattle.log_file.specs.declared.open_fault.OpenFault.{OpenFault}
 use Rattle.log_commands.specs.Names.{names_of}
 use Rattle.log_commands.proofs.Audits.{not_opened, not_read}
 use Rattle.log_commands.proofs.auditing.audit_log_files.Goals as goal

@@ -1,6 +1,6 @@
 use Rattle.std.proofs.Common.{inr, refl, ap, Err}
 use Rattle.std.proofs.lemmas.Result.{err_from_is_err_and}
-use Rattle.log_devices.specs.declared.open_fault.OpenFault.{OpenFault}
+use Rattle.log_file.specs.declared.open_fault.OpenFault.{OpenFault}
 use Rattle.log_commands.specs.Names.{names_of}
 use Rattle.log_commands.proofs.Faults.{unanswered, unopened}
 use Rattle.log_commands.proofs.Placed.{not_put, put, refused}

@@ -1,6 +1,0 @@
-mod BlockSteps
-mod BytesFaults
-mod PackedAgain
-mod PutFaults
-mod TextFaults
-mod TextSteps

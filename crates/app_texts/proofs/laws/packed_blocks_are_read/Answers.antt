@@ -1,5 +1,0 @@
-use Rattle.app_texts.proofs.PackedAgain.{packed_are_read}
-use Rattle.app_texts.proofs.laws.packed_blocks_are_read.Goals as goal
-
-pub returns : goal.returns
-returns c = packed_are_read

@@ -1,4 +1,0 @@
-mod Drives
-mod Kept
-mod OneDrive
-mod Turning
