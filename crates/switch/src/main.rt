@@ -9,8 +9,7 @@ use app_messages::{
 use app_parts::{
     ArchiveAsked, PartsAsked, answer_archive, answer_parts, archive_asked, parts_asked,
 };
-use app_report::{ReportAsked, answer_report, report_asked};
-use app_why::{answer_why, why_asked};
+use app_reports::{ReportAsked, answer_report, answer_why, report_asked, why_asked};
 use app_words::{names_standard_output, take_progress, topic_asked, with_streams};
 use file_devices::{Files, FromRead, HostFiles, IntoWrite};
 use file_progress::{Advance, Progress, ProgressFiles, ProgressLogs};

@@ -1,7 +1,7 @@
 //! The command over files in memory: its statuses, and what stands on standard output and standard error.
 
 use crate::files::files_with;
-use app_report::{ReportAsked, answer_report};
+use app_reports::{ReportAsked, answer_report};
 use std::alloc::Global;
 use std::process::Abort;
 

@@ -1,7 +1,7 @@
 //! The command over files in memory: its statuses, and what stands on standard error.
 
 use crate::files::files_with;
-use app_why::{Form, WhyAsked, answer_why, why_asked};
+use app_reports::{Form, WhyAsked, answer_why, why_asked};
 use std::alloc::Global;
 use std::process::Abort;
 use std::sync::Wait;

@@ -1,2 +1,0 @@
-pub mod Report
-pub mod ReportAsked

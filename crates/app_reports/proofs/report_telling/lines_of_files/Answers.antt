@@ -1,0 +1,4 @@
+use Rattle.app_reports.proofs.report_telling.lines_of_files.Goals as goal
+
+pub returns-clause-lines : goal.returns-clause-lines
+returns-clause-lines g c = (c.in_ok-totals.totals, c.in_ok-totals.ensures.report, c.in_ok-lines_of.ensures)

@@ -1,4 +1,0 @@
-pub mod FormAsked
-pub mod Sought
-pub mod Why
-pub mod WhyAsked
