@@ -4,6 +4,7 @@
 mod batch_fault;
 mod frames;
 mod laws;
+mod reply_texts;
 
 pub use batch_fault::BatchFault;
 pub use frames::frame_of;
@@ -11,3 +12,4 @@ pub use laws::{
     a_batch_is_read_as_its_bodies, a_batch_that_is_read_is_its_text, blocks_are_one_fold,
     replies_are_read_back, replies_of_blocks_are_read_back,
 };
+pub use reply_texts::reply_of;

@@ -24,7 +24,6 @@ mod search_blocks;
 mod search_bodies;
 mod search_fields;
 mod search_heads;
-mod search_replies;
 mod search_unread;
 mod unread_body;
 mod writing;

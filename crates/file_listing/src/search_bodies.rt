@@ -5,8 +5,8 @@ ghost use Rattle.file_listing.specs.declared.body_kind.BodyKind.{BodyKind};
 use crate::body_kind::BodyKind;
 use crate::body_place::BodyPlace;
 use crate::search_fields::{field, short};
-use crate::search_replies::reply_of;
 use crate::wrong_body::WrongBody;
+use file_batch_laws::reply_of;
 
 // Whether the body is one of this kind.
 fn is_body_of(kind: BodyKind, body: &[u8]) -> bool

@@ -5,7 +5,6 @@ mod advices;
 mod card_facts;
 mod explaining;
 mod explanation;
-mod message_facts;
 mod messages;
 mod requests;
 mod reversal_facts;

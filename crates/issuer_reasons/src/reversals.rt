@@ -4,11 +4,11 @@ ghost use Rattle.issuer_rows.specs.declared.original_row.OriginalRow.TheVariants
 ghost use Rattle.issuer_laws.specs.Rules.{reversal_rule};
 ghost use Rattle.issuer_reasons.specs.Behind.{reversal_rule_behind};
 
-use crate::message_facts::{is_same_identity, is_same_kind};
 use crate::reversal_facts::ReversalFacts;
 use iso8583::{Amount, OriginalKind, Reversal, ReversalScope};
 use issuer_laws::DecisionRule;
 use issuer_rows::{Funds, Kept, OriginalRow, VelocityRow};
+use issuer_rules::{is_same_identity, is_same_kind};
 
 // The most that an account or a budget may have, in minor units.
 const GREATEST_BALANCE: u64 = 1_000_000_000_000_000;

@@ -1,10 +1,10 @@
 ghost use Rattle.std.specs.Prelude.{◌≡◌, ◌&&◌, [], ◌∷◌};
 ghost use Rattle.issuer_laws.specs.Rules.{first_of, is_mark, is_own_mark, is_same_kept};
 
-use crate::message_facts::{is_marked, is_of_same};
 use iso8583::{OriginalKind, Transaction};
 use issuer_laws::DecisionRule;
 use issuer_rows::OriginalRow;
+use issuer_rules::{is_marked, is_of_same};
 
 // The rule of a request or an advice of whose identity something is known.
 pub(crate) fn rule_of_seen(

@@ -2,18 +2,18 @@ ghost use Rattle.std.specs.Prelude.{◌≡◌, ◌≤◌};
 ghost use Rattle.issuer_rows.specs.Facts as facts;
 ghost use Rattle.issuer_rows.specs.Kept.{payment_of_outcome, stay_of_payment};
 
-use iso8583::{OriginalKind, Transaction};
+use iso8583::{Identity, OriginalKind, Transaction};
 use issuer_rows::{Kept, Mark, OriginalOutcome, RowVal};
 
-// Whether the message's card and kind are those that the mark names.
-pub(crate) fn is_marked(mark: &Mark, transaction: &Transaction, kind: OriginalKind) -> bool
+/// Whether the message's card and kind are those that the mark names.
+pub fn is_marked(mark: &Mark, transaction: &Transaction, kind: OriginalKind) -> bool
     ensures { result ≡ facts.is_marked mark.now transaction.now kind }
 {
     mark.card == transaction.pan && is_same_kind(mark.kind, kind)
 }
 
-// Whether what is kept is of this kind, and has the message's card, amount and processing code.
-pub(crate) fn is_of_same(kept: &Kept, transaction: &Transaction, kind: OriginalKind) -> bool
+/// Whether what is kept is of this kind, and has the message's card, amount and processing code.
+pub fn is_of_same(kept: &Kept, transaction: &Transaction, kind: OriginalKind) -> bool
     ensures { result ≡ facts.is_of_same kept.now transaction.now kind }
 {
     is_same_kind(kept.outcome().kind(), kind)
@@ -22,8 +22,8 @@ pub(crate) fn is_of_same(kept: &Kept, transaction: &Transaction, kind: OriginalK
         && kept.processing() == transaction.processing
 }
 
-// Whether the kinds of two originals are the same.
-pub(crate) fn is_same_kind(kind: OriginalKind, other: OriginalKind) -> bool
+/// Whether the kinds of two originals are the same.
+pub fn is_same_kind(kind: OriginalKind, other: OriginalKind) -> bool
     ensures { result ≡ facts.is_same_kind kind other }
 {
     match (kind, other) {
@@ -32,6 +32,15 @@ pub(crate) fn is_same_kind(kind: OriginalKind, other: OriginalKind) -> bool
         (OriginalKind::Request, OriginalKind::Advice)
         | (OriginalKind::Advice, OriginalKind::Request) => false,
     }
+}
+
+/// Whether two identities are the same.
+pub fn is_same_identity(identity: &Identity, other: &Identity) -> bool
+    ensures { result ≡ facts.is_same_identity identity.now other.now }
+{
+    identity.acquirer == other.acquirer
+        && identity.stan == other.stan
+        && identity.stamp == other.stamp
 }
 
 // What is kept of a message with this outcome.

@@ -17,5 +17,6 @@ mod serial;
 mod shipped;
 mod typed;
 
+pub use facts::{is_marked, is_of_same, is_same_identity, is_same_kind};
 pub use serial::decide_all;
 pub use shipped::{Shipped, decide};

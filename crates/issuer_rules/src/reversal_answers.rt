@@ -6,7 +6,7 @@ ghost use Rattle.issuer_rows.specs.declared.frame.Frame.TheVariants.{Good};
 ghost use Rattle.issuer_rules.specs.Following.{Follows, Concludes};
 ghost use Rattle.issuer_rules.specs.Stage.{DecidesReversal};
 
-use crate::reversal_facts::is_same_identity;
+use crate::facts::is_same_identity;
 use iso8583::{Action, Amount, Answer, Identity, Reply, Reversal};
 use issuer_rows::{Kept, Mark, ReplyBody, RowKey, RowVal};
 use issuer_view::{Recorder, RowSource, Stop};

@@ -1,10 +1,9 @@
 ghost use Rattle.std.specs.Prelude.{◌≡◌, option_map};
-ghost use Rattle.issuer_rows.specs.Facts.{is_same_identity};
 ghost use Rattle.issuer_rows.specs.ReversalTable as table;
 ghost use Rattle.issuer_rows.specs.declared.funds.Funds.TheVariants as funds;
 
 use crate::facts::is_same_kind;
-use iso8583::{AccountId, Amount, Identity, PanPrefix, Reversal, ReversalScope};
+use iso8583::{AccountId, Amount, PanPrefix, Reversal, ReversalScope};
 use issuer_rows::{AccountRow, BudgetRow, Funds, Kept, VelocityRow};
 
 // Whether the original is of the reversal's card and of the kind that it names.
@@ -13,15 +12,6 @@ pub(crate) fn is_named(reversal: &Reversal, kept: &Kept) -> bool
 {
     kept.card() == reversal.transaction.pan
         && is_same_kind(kept.outcome().kind(), reversal.original.kind)
-}
-
-// Whether two identities are the same.
-pub(crate) fn is_same_identity(identity: &Identity, other: &Identity) -> bool
-    ensures { result ≡ is_same_identity identity.now other.now }
-{
-    identity.acquirer == other.acquirer
-        && identity.stan == other.stan
-        && identity.stamp == other.stamp
 }
 
 // Whether a partial reversal names another amount of the original, or leaves no less than that.

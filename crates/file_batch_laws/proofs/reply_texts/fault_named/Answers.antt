@@ -1,8 +1,8 @@
 use Rattle.std.proofs.Common.{◌≡◌, ◌∙◌, sym, arith}
 use Rattle.iso8583.specs.CodecFault.{element_of_fault}
 use Rattle.file_batch_laws.proofs.FaultTexts.{text_length, text_digits, text_number, text_element, clash}
-use Rattle.file_listing.proofs.search_replies.fault_named.Goals as goal
-use Rattle.file_listing.proofs.search_replies.fault_named.Goals.{then-body-ne6-via-then-body-ne6, then-body-ne6-via-else-body-ne6+then-not-is_digits}
+use Rattle.file_batch_laws.proofs.reply_texts.fault_named.Goals as goal
+use Rattle.file_batch_laws.proofs.reply_texts.fault_named.Goals.{then-body-ne6-via-then-body-ne6, then-body-ne6-via-else-body-ne6+then-not-is_digits}
 
 pub returns-then-body-ne6 : goal.returns-then-body-ne6
 returns-then-body-ne6 c = λ fault is.
