@@ -1,6 +1,6 @@
 //! Message types (ISO 8583:1993).
 
-ghost use Rattle.std.specs.Prelude.{◌≡◌};
+ghost use Rattle.std.specs.Prelude.{◌≡◌, IfErr};
 ghost use Rattle.iso_codec.specs.Sides.{types_of};
 ghost use Rattle.iso_laws.specs.Types.{taken_in, given_out};
 ghost use Rattle.iso_laws.specs.Reading.{Gives, mti_at};
@@ -10,10 +10,11 @@ use crate::value_test::is_text;
 use iso_laws::Mti;
 use iso8583::CodecFault;
 
-/// The type that the text names among those that are taken in.
+/// The type that the text names among those that are taken in, if it is one; else it is `BadMti`.
 #[tactic(auto, unfolding(iso_laws::specs::Reading::mti_at))]
-fn taken_in(text: &[u8]) -> Result<Mti, CodecFault>
-    ensures { Gives (λ t. t) result (mti_at taken_in text.now) }
+pub fn taken_in(text: &[u8]) -> Result<Mti, CodecFault>
+    ensures gives { Gives (λ t. t) result (mti_at taken_in text.now) }
+    ensures fault { IfErr result (λ e. e ≡ CodecFault.BadMti) }
 {
     if is_text(text, b"1100") {
         Ok(Mti::Request)

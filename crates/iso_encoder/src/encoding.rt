@@ -12,8 +12,8 @@ use crate::writer::{Line, ROOM, put, put_field};
 use iso_laws::{COMMON, Element, Mti};
 use iso8583::{CodecFault, Digits, Message, OriginalKind, OriginalRef, Reply};
 
-/// The text of a type.
-fn mti_text(mti: Mti) -> &'static [u8]
+/// The text of a type: its four digits.
+pub fn mti_text(mti: Mti) -> &'static [u8]
     ensures text { result.now ≡ mti_text mti }
     ensures len { length result.now ≡ 4 }
 {

@@ -6,5 +6,5 @@ mod parts;
 mod values;
 mod writer;
 
-pub use encoding::{encode, encode_reply};
+pub use encoding::{encode, encode_reply, mti_text};
 pub use writer::ROOM;

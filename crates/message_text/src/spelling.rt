@@ -6,7 +6,7 @@ ghost use Rattle.message_text.specs.Givens.{texts_of};
 use crate::bitmap::{bitmap_of, put_bitmap};
 use crate::given::{Given, text_in};
 use crate::names::elements;
-use crate::types::digits_of;
+use iso_codec::mti_text;
 use iso_laws::{Element, Mti, Shape};
 use iso8583::Digits;
 use std::alloc::{AllocError, Global};
@@ -41,7 +41,7 @@ pub(crate) fn spelling_of(alloc: Global, mti: Mti, givens: &[Given]) -> Result<V
     ensures { IfOk result (λ bytes. bytes.items ≡ spelling mti (fields (texts_of givens.now))) }
 {
     let mut bytes = Vec::new(alloc);
-    bytes.extend_from_slice(digits_of(mti))?;
+    bytes.extend_from_slice(mti_text(mti))?;
     put_bitmap(&mut bytes, bitmap_of(givens))?;
     put_fields(&mut bytes, givens)?;
     Ok(bytes)
