@@ -4,11 +4,8 @@ use Rattle.file_batch.specs.declared.strictness.Strictness.{Strictness}
 use Rattle.file_batch.specs.declared.strictness.Strictness.TheVariants.{Lenient}
 use Rattle.std.specs.Global.{Vec}
 use Rattle.file_batch.specs.Words.{AreAsTheyWere, BatchFault, Failing}
-use Rattle.app_jobs.specs.DecidedBlocks.{AreBlocksKept}
-use Rattle.app_jobs.specs.BlockFaults.{IsBlocksFault}
+use Rattle.app_runs.specs.Words.{AreBlocksKept, Holding, IsBlocksFault, JobFault}
 use Rattle.app_arguments.specs.declared.engine_choice.EngineChoice.{EngineChoice}
-use Rattle.app_jobs.specs.Decided.{Holding}
-use Rattle.app_jobs.specs.declared.job_fault.JobFault.{JobFault}
 use Rattle.app_jobs.specs.declared.job_fault.JobFault.TheVariants.{Batch}
 use Rattle.app_arguments.specs.Asked.{Asked, Names, blocks}
 use Rattle.app_arguments.specs.Arguments.{Asks, IsRead}

@@ -3,27 +3,16 @@ use Rattle.std.specs.Prelude.{◌≡◌, ◌≢◌, ◌⊎◌, ℕ, Bool, true, 
 use Rattle.std.specs.Global.{Vec}
 use Rattle.app_runs.specs.Answers.{IsAnswerInDigits}
 use Rattle.app_runs.specs.SampleBook.{sample_rows}
-use Rattle.app_audit.specs.Texts.{audit_text, block_audit_text}
-use Rattle.app_audit.specs.declared.audited.Audit.{Audit}
+use Rattle.app_runs.specs.Words.{AreBlocksAudited, AreBlocksDecided, AreBlocksKept, Audit, BlockAudit, Holding, IsAudited, IsAuditedWithJournal, IsAuditingFault, IsBlockAuditingFault, IsBlocksFault, IsDecided, IsDecidingFault, IsJournalAuditingFault, JobFault, audit_text, block_audit_text}
 use Rattle.app_audit.specs.declared.audited.Audit.TheVariants as found
-use Rattle.app_audit.specs.declared.block_audit.BlockAudit.{BlockAudit}
 use Rattle.app_audit.specs.declared.block_audit.BlockAudit.TheVariants as block_found
 use Rattle.file_batch.specs.Counting.{Admits}
 use Rattle.file_batch.specs.declared.strictness.Strictness.TheVariants.{Lenient}
 use Rattle.file_batch.specs.Words.{AreAsTheyWere, BatchFault, Failing, IsAsItWas, IsThere}
-use Rattle.app_jobs.specs.AuditedBlocks.{AreBlocksAudited}
-use Rattle.app_jobs.specs.DecidedBlocks.{AreBlocksDecided, AreBlocksKept}
-use Rattle.app_jobs.specs.BlockFaults.{IsBlockAuditingFault, IsBlocksFault}
 use Rattle.app_commands.specs.Apart.{AreApart, HasOneFile, names_apart}
-use Rattle.app_jobs.specs.Audited.{IsAudited}
-use Rattle.app_jobs.specs.Decided.{Holding, IsDecided}
-use Rattle.app_jobs.specs.Faults.{IsAuditingFault, IsDecidingFault}
-use Rattle.app_jobs.specs.JournalFaults.{IsJournalAuditingFault}
-use Rattle.app_jobs.specs.Journaled.{IsAuditedWithJournal}
 use Rattle.app_runs.specs.Journaled.{IsDecidedWithJournal, IsDecidingFaultWithJournal}
 use Rattle.app_messages.specs.Packed.{ArePacked, ArePackedInBlocks, IsBlockPackingFault, IsPackingFault}
 use Rattle.app_messages.specs.ShownFile.{IsShowingFault, IsShown}
-use Rattle.app_jobs.specs.declared.job_fault.JobFault.{JobFault}
 use Rattle.app_jobs.specs.declared.job_fault.JobFault.TheVariants.{Batch, InUse}
 use Rattle.app_jobs.specs.declared.job_fault.JobFault.TheVariants as job
 use Rattle.app_arguments.specs.Asked.{Asked, Names, help, version, one, serial, run, run_with_journal, blocks, audit, audit_blocks, show, pack, pack_blocks}

@@ -1,8 +1,6 @@
 -- Faults of the program: their texts and exit statuses.
 use Rattle.std.specs.Prelude.{ℕ, List, ◌∷◌, ◌++◌, Option, Some, None, codes, string_bytes}
-use Rattle.app_jobs.specs.JobFault.{part_of, number_of}
-use Rattle.app_jobs.specs.declared.halt.Halt.{Halt}
-use Rattle.app_jobs.specs.declared.job_fault.JobFault.{JobFault}
+use Rattle.app_runs.specs.Words.{Halt, JobFault, number_of, part_of}
 use Rattle.app_arguments.specs.declared.line_fault.LineFault.{LineFault}
 use Rattle.app_arguments.specs.declared.line_fault.LineFault.TheVariants as line
 use Rattle.app_commands.specs.Printed.{numbered}

@@ -17,9 +17,9 @@ use app_jobs::{
     BlockCount, Halt, JobFault, audit_batch, audit_batch_with_journal, audit_block_files,
     serial_batch, serial_blocks,
 };
+use app_messages::{pack_batch, pack_blocks, show_file};
 use app_reasons::words_of;
 use app_runs::{decide_one, run_batch, run_batch_with_journal, run_blocks};
-use app_messages::{pack_batch, pack_blocks, show_file};
 use engine_workers::Workers;
 use file_batch::{BodyCount, Strictness};
 use file_devices::{BatchNames, Files};

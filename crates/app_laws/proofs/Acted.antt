@@ -7,10 +7,8 @@ use Rattle.clap.specs.declared.error.kind.ErrorKind.TheVariants as kinds
 use Rattle.app_arguments.specs.Asked.{Asked, Names, audit, audit_blocks, blocks, help, one, pack, pack_blocks, run, run_with_journal, serial, show, version}
 use Rattle.app_arguments.specs.Arguments.{Asks, asked_in}
 use Rattle.app_arguments.specs.CommandLine.{command_line}
-use Rattle.app_audit.specs.Texts.{audit_text, block_audit_text}
-use Rattle.app_audit.specs.declared.audited.Audit.{Audit}
+use Rattle.app_runs.specs.Words.{AreBlocksAudited, AreBlocksDecided, Audit, BlockAudit, IsAudited, IsAuditedWithJournal, IsAuditingFault, IsBlockAuditingFault, IsDecided, JobFault, audit_text, block_audit_text}
 use Rattle.app_audit.specs.declared.audited.Audit.TheVariants as in_batch
-use Rattle.app_audit.specs.declared.block_audit.BlockAudit.{BlockAudit}
 use Rattle.app_audit.specs.declared.block_audit.BlockAudit.TheVariants as in_blocks
 use Rattle.app_commands.specs.Answered.{IsActed, IsAuditedInUse, IsAskedFor, IsDoneAs, IsFaultIn, IsFaultOfWords, IsHaltedAs, IsJobFault, IsOneInUse, Pages, Spares, status_of_audit, status_of_block_audit, status_of_report, text_of_report}
 use Rattle.app_commands.specs.Apart.{AreApart, HasOneFile, batch_apart, names_apart}
@@ -20,14 +18,6 @@ use Rattle.app_commands.specs.declared.fault.Fault.{Fault}
 use Rattle.app_commands.specs.declared.fault.Fault.TheVariants.{Usage, OutOfMemory, Job, Halted}
 use Rattle.app_commands.specs.declared.report.Report.{Report}
 use Rattle.app_commands.specs.declared.report.Report.TheVariants as report
-use Rattle.app_jobs.specs.Audited.{IsAudited}
-use Rattle.app_jobs.specs.AuditedBlocks.{AreBlocksAudited}
-use Rattle.app_jobs.specs.BlockFaults.{IsBlockAuditingFault}
-use Rattle.app_jobs.specs.Decided.{IsDecided}
-use Rattle.app_jobs.specs.DecidedBlocks.{AreBlocksDecided}
-use Rattle.app_jobs.specs.Faults.{IsAuditingFault}
-use Rattle.app_jobs.specs.Journaled.{IsAuditedWithJournal}
-use Rattle.app_jobs.specs.declared.job_fault.JobFault.{JobFault}
 use Rattle.app_runs.specs.Journaled.{IsDecidedWithJournal}
 use Rattle.app_arguments.specs.declared.engine_choice.EngineChoice.{EngineChoice}
 use Rattle.file_batch.specs.declared.strictness.Strictness.{Strictness}

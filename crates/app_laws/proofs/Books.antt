@@ -9,9 +9,7 @@ use Rattle.book_laws.specs.declared.json_fault.JsonFault.TheVariants as json
 use Rattle.book_laws.specs.declared.text_fault.TextFault.{TextFault}
 use Rattle.book_laws.specs.declared.text_fault.TextFault.TheVariants as wrong_text
 use Rattle.file_batch.specs.Words.{Failing, Holding}
-use Rattle.app_jobs.specs.Decided.{IsBookOf}
-use Rattle.app_jobs.specs.Faults.{IsBookFault}
-use Rattle.app_jobs.specs.declared.job_fault.JobFault.{JobFault}
+use Rattle.app_runs.specs.Words.{IsBookFault, IsBookOf, JobFault}
 use Rattle.app_jobs.specs.declared.job_fault.JobFault.TheVariants.{Unreadable, Unwritable, InUse, Book, Batch, Journal, Text, Bodies, OutOfMemory}
 use Rattle.app_laws.specs.Faults.{IsOfNoFile}
 use Rattle.app_laws.proofs.Once.{same_ok}

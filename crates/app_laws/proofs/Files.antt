@@ -5,9 +5,7 @@ use Rattle.file_batch.specs.Words.{AreBlocksOfReplies, AreReplyBodies, BatchFaul
 use Rattle.file_batch_laws.specs.declared.batch_fault.BatchFault.TheVariants as batch
 use Rattle.file_batch_laws.proofs.ReadBack.{replies_again, replies_alone}
 use Rattle.file_batch_laws.proofs.ReadBackBlocks.{blocks_again, blocks_alone}
-use Rattle.app_jobs.specs.BlockFaults.{IsBlockFileFault, IsBlockRepliesFault}
-use Rattle.app_jobs.specs.Faults.{IsBatchFault, IsReplyFileFault}
-use Rattle.app_jobs.specs.declared.job_fault.JobFault.{JobFault}
+use Rattle.app_runs.specs.Words.{IsBatchFault, IsBlockFileFault, IsBlockRepliesFault, IsReplyFileFault, JobFault}
 use Rattle.app_jobs.specs.declared.job_fault.JobFault.TheVariants.{Unreadable, Unwritable, InUse, Book, Batch, Journal, Text, Bodies, OutOfMemory}
 use Rattle.app_laws.specs.Faults.{IsOfNoFile}
 use Rattle.app_laws.proofs.NoFault.{no_block_fault, no_block_reply_fault, no_both, no_reply_fault}

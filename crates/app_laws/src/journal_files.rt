@@ -1,11 +1,6 @@
 ghost use Rattle.std.specs.Prelude.{◌≡◌, ◌≢◌, ◌⊎◌};
-ghost use Rattle.app_audit.specs.declared.audited.Audit.{Audit};
+ghost use Rattle.app_runs.specs.Words.{Audit, IsAudited, IsAuditedWithJournal, IsAuditingFault, IsJournalAuditingFault, JobFault};
 ghost use Rattle.app_audit.specs.declared.audited.Audit.TheVariants.{Same};
-ghost use Rattle.app_jobs.specs.Audited.{IsAudited};
-ghost use Rattle.app_jobs.specs.Faults.{IsAuditingFault};
-ghost use Rattle.app_jobs.specs.JournalFaults.{IsJournalAuditingFault};
-ghost use Rattle.app_jobs.specs.Journaled.{IsAuditedWithJournal};
-ghost use Rattle.app_jobs.specs.declared.job_fault.JobFault.{JobFault};
 ghost use Rattle.app_runs.specs.Journaled.{IsDecidedWithJournal};
 ghost use Rattle.file_devices.specs.BatchNames.{names_of};
 ghost use Rattle.app_laws.specs.Faults.{IsOfNoFile, MayNotBeRead};

@@ -1,15 +1,7 @@
 ghost use Rattle.std.specs.Prelude.{◌≡◌};
-ghost use Rattle.app_audit.specs.declared.audited.Audit.{Audit};
+ghost use Rattle.app_runs.specs.Words.{AreBlocksAudited, AreBlocksDecided, Audit, BlockAudit, IsAudited, IsAuditingFault, IsBlockAuditingFault, IsDecided, JobFault};
 ghost use Rattle.app_audit.specs.declared.audited.Audit.TheVariants.{Same};
-ghost use Rattle.app_audit.specs.declared.block_audit.BlockAudit.{BlockAudit};
 ghost use Rattle.app_audit.specs.declared.block_audit.BlockAudit.TheVariants as in_blocks;
-ghost use Rattle.app_jobs.specs.Audited.{IsAudited};
-ghost use Rattle.app_jobs.specs.AuditedBlocks.{AreBlocksAudited};
-ghost use Rattle.app_jobs.specs.BlockFaults.{IsBlockAuditingFault};
-ghost use Rattle.app_jobs.specs.Decided.{IsDecided};
-ghost use Rattle.app_jobs.specs.DecidedBlocks.{AreBlocksDecided};
-ghost use Rattle.app_jobs.specs.Faults.{IsAuditingFault};
-ghost use Rattle.app_jobs.specs.declared.job_fault.JobFault.{JobFault};
 ghost use Rattle.file_devices.specs.BatchNames.{names_of};
 ghost use Rattle.app_laws.specs.Faults.{IsOfNoFile, MayNotBeRead};
 ghost use Rattle.app_laws.specs.Kept.{AreInputsKept};

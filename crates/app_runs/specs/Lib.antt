@@ -1,4 +1,5 @@
 pub mod Answers
+pub mod Words
 pub mod Journaled
 pub mod SampleBook
 pub mod ReadAlike
