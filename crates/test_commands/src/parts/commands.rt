@@ -203,54 +203,29 @@ fn refuses_changed_parts(rt: HostRuntime) {
     }
 }
 
+// What `part`, `decide` and `join` say where files or folders are missing, or are others.
+const MISSING: &[(&str, &str)] = &[
+    ("switch part none batch 2 parts", "file 1\n"),
+    ("switch part batch batch 2 parts", "book 1\n"),
+    ("switch part book book 2 parts", "batch 1\n"),
+    ("switch decide parts 0", "file 1\n"),
+    ("switch join parts joined new", "file 1\n"),
+];
+
 #[test]
 fn refuses_what_is_missing(rt: HostRuntime) {
     let mut files = files(rt.alloc()).expect(&rt, "room");
-    assert!(rt;
-        is_refused(
-            &rt,
-            rt.alloc(),
-            &mut files,
-            "switch part none batch 2 parts",
-            "file 1\n"
-        )
-    );
-    assert!(rt;
-        is_refused(
-            &rt,
-            rt.alloc(),
-            &mut files,
-            "switch part batch batch 2 parts",
-            "book 1\n"
-        )
-    );
-    assert!(rt;
-        is_refused(
-            &rt,
-            rt.alloc(),
-            &mut files,
-            "switch part book book 2 parts",
-            "batch 1\n"
-        )
-    );
-    assert!(rt;
-        is_refused(
-            &rt,
-            rt.alloc(),
-            &mut files,
-            "switch decide parts 0",
-            "file 1\n"
-        )
-    );
-    assert!(rt;
-        is_refused(
-            &rt,
-            rt.alloc(),
-            &mut files,
-            "switch join parts joined new",
-            "file 1\n"
-        )
-    );
+    for (line, said) in MISSING {
+        assert!(rt;
+            is_refused(&rt, rt.alloc(), &mut files, line, said),
+            "{line}"
+        );
+    }
+}
+
+#[test]
+fn refuses_parts_that_are_not_there(rt: HostRuntime) {
+    let mut files = files(rt.alloc()).expect(&rt, "room");
     assert!(rt; done(&rt, rt.alloc(), &mut files, THREE[0]));
     assert!(rt;
         is_refused(
