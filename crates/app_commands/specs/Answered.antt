@@ -12,7 +12,7 @@ use Rattle.file_batch.specs.Words.{AreAsTheyWere, BatchFault, Failing, IsAsItWas
 use Rattle.app_commands.specs.Apart.{AreApart, HasOneFile, names_apart}
 use Rattle.app_runs.specs.Journaled.{IsDecidedWithJournal, IsDecidingFaultWithJournal}
 use Rattle.app_messages.specs.Packed.{ArePacked, ArePackedInBlocks, IsBlockPackingFault, IsPackingFault}
-use Rattle.app_messages.specs.ShownFile.{IsShowingFault, IsShown}
+use Rattle.app_messages.specs.ShownAsLines.{IsShowingFault, IsShown}
 use Rattle.app_jobs.specs.declared.job_fault.JobFault.TheVariants.{Batch, InUse}
 use Rattle.app_jobs.specs.declared.job_fault.JobFault.TheVariants as job
 use Rattle.app_arguments.specs.Asked.{Asked, Names, help, version, one, serial, run, run_with_journal, blocks, audit, audit_blocks, show, pack, pack_blocks}

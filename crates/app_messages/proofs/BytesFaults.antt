@@ -6,7 +6,7 @@ use Rattle.std.proofs.lemmas.Bool.Decides.{Decides-eqb}
 use Rattle.std.proofs.lemmas.Slice.Eq.{starts_is}
 use Rattle.file_batch.specs.Words.{BatchFault, failed_at, is_of_bytes}
 use Rattle.file_batch_laws.specs.declared.batch_fault.BatchFault.TheVariants.{Device, OutOfMemory}
-use Rattle.app_messages.specs.ShownFile.{BeginsWith}
+use Rattle.app_messages.specs.ShownAsLines.{BeginsWith}
 
 -- no device failed
 pub of_memory : (e : BatchFault) → false ≡ failed_at e false → e ≢ OutOfMemory → IsTrue (is_of_bytes e)

@@ -3,8 +3,8 @@ pub mod UnpackAsked
 pub mod MakeAsked
 pub mod Made
 pub mod Lines
-pub mod Shown
+pub mod ShownAsJson
 pub mod ShowAsked
 pub mod Handed
 pub mod Packed
-pub mod ShownFile
+pub mod ShownAsLines

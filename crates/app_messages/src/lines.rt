@@ -3,7 +3,7 @@
 ghost use Rattle.std.specs.Prelude.{◌≡◌, ◌≤◌, ◌++◌, ◌∷◌, [], IfOk, OnOk, length, codes, decimal};
 ghost use Rattle.std.specs.List.{All};
 ghost use Rattle.file_blocks.specs.BlockFiles.{frames_of, replies_of};
-ghost use Rattle.app_messages.specs.ShownFile.{block_lines, frame_lines, reply_block_lines, reply_lines};
+ghost use Rattle.app_messages.specs.ShownAsLines.{block_lines, frame_lines, reply_block_lines, reply_lines};
 
 use file_listing::{frame_line, reply_line};
 use issuer_rows::{Frame, ReplyBody};

@@ -1,9 +1,9 @@
 ghost use Rattle.std.specs.Prelude.{◌≡◌, ◌≤◌};
-ghost use Rattle.app_messages.specs.Shown.{IsSaid};
+ghost use Rattle.app_messages.specs.ShownAsJson.{IsSaid};
 
+use crate::json_showing::show_json;
 use crate::show_asking::ShowAsked;
 use crate::show_help::{SHOW_JSON_HELP, USAGE};
-use crate::showing::show_json;
 use app_reasons::tell_of_any_file;
 use app_words::{put, status_of};
 use file_devices::Files;

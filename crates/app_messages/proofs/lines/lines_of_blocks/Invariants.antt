@@ -1,7 +1,7 @@
 use Rattle.std.proofs.Common.{◌≡◌, ◌+◌, ◌≤◌, ◌++◌, length}
 use Rattle.std.specs.List.{AllByRecursion}
 use Rattle.file_blocks.specs.BlockFiles.{frames_of}
-use Rattle.app_messages.specs.ShownFile.{block_lines}
+use Rattle.app_messages.specs.ShownAsLines.{block_lines}
 use Rattle.app_messages.proofs.lines.lines_of_blocks.Given as goal
 
 -- the lines so far, and those of the rest

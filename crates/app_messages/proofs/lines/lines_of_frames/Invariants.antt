@@ -1,5 +1,5 @@
 use Rattle.std.proofs.Common.{◌≡◌, ◌+◌, ◌≤◌, ◌++◌, length}
-use Rattle.app_messages.specs.ShownFile.{frame_lines}
+use Rattle.app_messages.specs.ShownAsLines.{frame_lines}
 use Rattle.app_messages.proofs.lines.lines_of_frames.Given as goal
 
 -- the lines so far, and those of the rest

@@ -1,5 +1,5 @@
 use Rattle.std.proofs.Common.{◌≡◌, ◌+◌, ◌≤◌, ◌++◌, length}
-use Rattle.app_messages.specs.ShownFile.{reply_lines}
+use Rattle.app_messages.specs.ShownAsLines.{reply_lines}
 use Rattle.app_messages.proofs.lines.lines_of_replies.Given as goal
 
 -- the lines so far, and those of the rest

@@ -1,7 +1,7 @@
 use Rattle.std.proofs.Common.{◌≡◌, ◌+◌, ◌≤◌, ◌++◌, length}
 use Rattle.std.specs.List.{AllByRecursion}
 use Rattle.file_blocks.specs.BlockFiles.{replies_of}
-use Rattle.app_messages.specs.ShownFile.{reply_block_lines}
+use Rattle.app_messages.specs.ShownAsLines.{reply_block_lines}
 use Rattle.app_messages.proofs.lines.lines_of_reply_blocks.Given as goal
 
 -- the lines so far, and those of the rest

@@ -1,5 +1,5 @@
 use Rattle.std.proofs.Common.{inl, inr}
-use Rattle.app_messages.proofs.file_showing.show_file.Goals as goal
+use Rattle.app_messages.proofs.line_showing.show_file.Goals as goal
 
 pub returns-in-Ok-clause-shown : goal.returns-in-Ok-clause-shown
 returns-in-Ok-clause-shown g c bytes h = rw (← c.in_ok-bytes.ensures.read bytes h, ← c.deref.ensures.value) c.in-Ok.ensures.shown

@@ -2,7 +2,7 @@ use Rattle.std.proofs.Common.{inl, inr}
 use Rattle.std.proofs.lemmas.Result.{IfErr-weaker}
 use Rattle.file_batch.specs.Words.{block_replies_magic, blocks_magic, replies_magic}
 use Rattle.app_messages.proofs.BytesFaults.{begins, begins_not}
-use Rattle.app_messages.proofs.file_showing.lines_of.Goals as goal
+use Rattle.app_messages.proofs.line_showing.lines_of.Goals as goal
 
 pub returns-then-starts_with-3-clause-fault : goal.returns-then-starts_with-3-clause-fault
 returns-then-starts_with-3-clause-fault c = IfErr-weaker c.of_block_replies.result _ _ (λ fault h other. (

@@ -1,6 +1,6 @@
 ghost use Rattle.std.specs.Prelude.{◌≡◌, IfOk, IfErr, take};
 ghost use Rattle.std.specs.Str.{bytes_eq};
-ghost use Rattle.app_messages.specs.Shown.{AreLinesAs, FailsAs, IsShowFault, IsShown, kind_of, kind_named};
+ghost use Rattle.app_messages.specs.ShownAsJson.{AreLinesAs, FailsAs, IsShowFault, IsShown, kind_of, kind_named};
 ghost use Rattle.app_reasons.specs.declared.file_kind.FileKind.TheVariants.{Batch, Replies, Blocks, BlockReplies};
 
 use crate::show_listing::{

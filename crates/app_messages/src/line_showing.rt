@@ -1,7 +1,7 @@
 ghost use Rattle.std.specs.Prelude.{◌≡◌, ◌≢◌, ◌⊎◌, ℕ, List, Err, IfOk, IfErr, OnOk, IsTrue};
 ghost use Rattle.file_batch.specs.Words.{FailsAsBlockReplies, FailsAsReplies, IsThere, batch_magic, bodies_of, is_of_bytes};
 ghost use Rattle.app_jobs.specs.BlockFaults.{FailsAsBlocks};
-ghost use Rattle.app_messages.specs.ShownFile.{AreShownAsBlockReplies, AreShownAsBlocks, FailsAsShown, IsShowingFault, IsShown, IsShownAsBatch, IsShownAsReplies};
+ghost use Rattle.app_messages.specs.ShownAsLines.{AreShownAsBlockReplies, AreShownAsBlocks, FailsAsShown, IsShowingFault, IsShown, IsShownAsBatch, IsShownAsReplies};
 
 use crate::lines::{lines_of_blocks, lines_of_frames, lines_of_replies, lines_of_reply_blocks};
 use app_jobs::JobFault;
