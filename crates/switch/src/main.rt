@@ -1,6 +1,16 @@
 //! `switch`: decides card messages for an issuer.
 #![tactic(auto)]
 
+mod advance;
+mod estimate;
+mod progress;
+mod progress_file;
+mod progress_files;
+mod progress_log;
+mod progress_logs;
+mod reading;
+
+use advance::Advance;
 use app_commands::{Fault, Printer, act, print_fault};
 use app_messages::{
     MakeAsked, ShowAsked, UnpackAsked, answer_make, answer_show, answer_unpack, make_asked,
@@ -12,7 +22,6 @@ use app_parts::{
 use app_reports::{ReportAsked, answer_report, answer_why, report_asked, why_asked};
 use app_words::{names_standard_output, take_progress, topic_asked, with_streams};
 use file_devices::{Files, FromRead, HostFiles, IntoWrite};
-use file_progress::{Advance, Progress, ProgressFiles, ProgressLogs};
 use host_commands::{
     AskedLinks, HostAsked, HostLogs, PipeSink, PipeSource, SERVE_HELP, host_asked, links_asked,
     serve, serve_links,
@@ -22,6 +31,9 @@ use log_commands::{
     AUDIT_LOG_HELP, HostLockedLogs, LogAsked, REPLAY_HELP, audit_log, audit_log_asked, replay,
     replay_asked,
 };
+use progress::Progress;
+use progress_files::ProgressFiles;
+use progress_logs::ProgressLogs;
 use std::alloc::{AllocError, Global};
 use std::io::{ErrorKind, IsTerminal, Write};
 use std::process::ExitCode;

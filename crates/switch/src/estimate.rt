@@ -2,24 +2,24 @@ use std::num::NonZeroU64;
 
 /// What follows for a whole file from how far it is read. All numbers are rounded down.
 #[derive(Clone, Copy)]
-pub struct Estimate {
+pub(crate) struct Estimate {
     /// How many bytes the file has.
-    pub whole: u64,
+    pub(crate) whole: u64,
     /// How much of it is read, in per cent.
-    pub percent: u64,
+    pub(crate) percent: u64,
     /// How many bytes were read a second.
-    pub rate: u64,
+    pub(crate) rate: u64,
     /// In how many seconds the rest is read, if it is read as fast.
-    pub left: u128,
+    pub(crate) left: u128,
 }
 
 impl Estimate {
     ghost use Rattle.std.specs.Prelude.{◌≡◌, ◌≤◌};
     ghost use Rattle.std.specs.Int.NonZero.{non_zero_u64_get};
-    ghost use Rattle.file_progress.specs.Advancing.{estimated, left_of, percent_of};
+    ghost use Rattle.switch.specs.Advancing.{estimated, left_of, percent_of};
 
     /// Of so many bytes that are read in so many seconds, of a file that has as many as the third number says.
-    pub fn new(read: NonZeroU64, seconds: NonZeroU64, whole: u64) -> Estimate
+    pub(crate) fn new(read: NonZeroU64, seconds: NonZeroU64, whole: u64) -> Estimate
         ensures { result ≡ estimated (non_zero_u64_get read) (non_zero_u64_get seconds) whole }
     {
         Estimate {

@@ -5,21 +5,21 @@ use std::num::NonZeroU64;
 /// How far a file is read. Its text is what a person is told, as `read 120 of 400 MiB, 30 %, in 3 s, 40 MiB/s, 7 s left`, or where that isn't
 /// known, `read 120 MiB in 3 s`.
 #[derive(Clone, Copy)]
-pub struct Advance {
+pub(crate) struct Advance {
     /// How many bytes are read.
-    pub read: u64,
+    pub(crate) read: u64,
     /// How many seconds have gone by since it was opened.
-    pub seconds: u64,
+    pub(crate) seconds: u64,
     /// How many bytes it has, where that is known.
-    pub whole: Option<u64>,
+    pub(crate) whole: Option<u64>,
 }
 
 impl Advance {
     ghost use Rattle.std.specs.Prelude.{◌≡◌};
-    ghost use Rattle.file_progress.specs.Advancing.{estimate_of};
+    ghost use Rattle.switch.specs.Advancing.{estimate_of};
 
     /// What follows for the whole file: nothing where its size isn't known, before something is read, and within the first second.
-    pub fn estimate(&self) -> Option<Estimate>
+    pub(crate) fn estimate(&self) -> Option<Estimate>
         ensures { result ≡ estimate_of self.now }
     {
         let whole = self.whole?;
@@ -31,7 +31,7 @@ impl Advance {
 
 impl fmt::Display for Advance {
     ghost use Rattle.std.specs.Prelude.{Some};
-    ghost use Rattle.file_progress.specs.Advancing.{advance_words};
+    ghost use Rattle.switch.specs.Advancing.{advance_words};
 
     ghost output = { λ advance. Some (advance_words advance) };
 

@@ -1,7 +1,7 @@
 use crate::advance::Advance;
 
 /// Where it is told how far files are read. What can't be told is dropped.
-pub trait Progress: Copy {
+pub(crate) trait Progress: Copy {
     /// A file of this name is opened to be read.
     fn is_opened(&self, name: &str);
 

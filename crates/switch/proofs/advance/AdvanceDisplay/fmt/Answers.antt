@@ -1,6 +1,6 @@
 use Rattle.std.proofs.Common.{◌≡◌, Some, sym, ◌∙◌, append_assoc}
-use Rattle.file_progress.specs.Advancing.{estimate_of}
-use Rattle.file_progress.proofs.advance.AdvanceDisplay.fmt.Goals as goal
+use Rattle.switch.specs.Advancing.{estimate_of}
+use Rattle.switch.proofs.advance.AdvanceDisplay.fmt.Goals as goal
 
 pub returns-in-Some-clause-writes : goal.returns-in-Some-clause-writes
 returns-in-Some-clause-writes g c =

@@ -1,7 +1,7 @@
 -- How far a file is read, and what follows for the whole of it, in whole numbers that are rounded down.
 use Rattle.std.specs.Prelude.{ℕ, ◌-◌, ◌*◌, ◌/◌, ◌&&◌, nat_le, nat_lt, if◌then◌else◌, List, ◌++◌, Option, Some, None, codes, decimal}
-use Rattle.file_progress.specs.declared.advance.Advance.{Advance}
-use Rattle.file_progress.specs.declared.estimate.Estimate.{Estimate}
+use Rattle.switch.specs.declared.advance.Advance.{Advance}
+use Rattle.switch.specs.declared.estimate.Estimate.{Estimate}
 
 -- how much is read, in per cent: all of it, where the file has no more
 abbrev pub percent_of : ℕ → ℕ → ℕ

@@ -8,14 +8,14 @@ use std::alloc::AllocError;
 
 /// Files that tell how far they are read.
 #[derive(Drop)]
-pub struct ProgressFiles<F, P> {
+pub(crate) struct ProgressFiles<F, P> {
     files: F,
     progress: Option<P>,
 }
 
 impl<F: Files, P: Progress> ProgressFiles<F, P> {
     /// These files. Without a place to tell it, nothing is told.
-    pub fn new(files: F, progress: Option<P>) -> ProgressFiles<F, P>
+    pub(crate) fn new(files: F, progress: Option<P>) -> ProgressFiles<F, P>
         ensures files { result.files ≡ files }
     {
         ProgressFiles { files, progress }

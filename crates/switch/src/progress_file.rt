@@ -4,7 +4,7 @@ use file_devices::{Broken, Source};
 
 /// A file that tells how far it is read.
 #[derive(Drop)]
-pub struct ProgressFile<S, P> {
+pub(crate) struct ProgressFile<S, P> {
     source: S,
     reading: Reading<P>,
     // How many bytes were read. It stays at 2^64 - 1 once it is there.
@@ -15,7 +15,7 @@ impl<S: Source, P: Progress> ProgressFile<S, P> {
     ghost use Rattle.std.specs.Prelude.{◌≡◌};
 
     /// A file of this name, of which nothing is read yet. Without a place to tell it, nothing is told.
-    pub fn new(source: S, progress: Option<P>, name: &str) -> ProgressFile<S, P>
+    pub(crate) fn new(source: S, progress: Option<P>, name: &str) -> ProgressFile<S, P>
         ensures source { result.source ≡ source }
     {
         ProgressFile {

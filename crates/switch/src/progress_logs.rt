@@ -5,7 +5,7 @@ use log_file::OpenFault;
 
 /// Logs that tell how far they are read.
 #[derive(Drop)]
-pub struct ProgressLogs<L, P> {
+pub(crate) struct ProgressLogs<L, P> {
     logs: L,
     progress: Option<P>,
 }
@@ -14,7 +14,7 @@ impl<L: LockedLogs, P: Progress> ProgressLogs<L, P> {
     ghost use Rattle.std.specs.Prelude.{◌≡◌};
 
     /// These logs. Without a place to tell it, nothing is told.
-    pub fn new(logs: L, progress: Option<P>) -> ProgressLogs<L, P>
+    pub(crate) fn new(logs: L, progress: Option<P>) -> ProgressLogs<L, P>
         ensures logs { result.logs ≡ logs }
     {
         ProgressLogs { logs, progress }

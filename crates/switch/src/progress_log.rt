@@ -5,7 +5,7 @@ use log_commands::LockedLog;
 
 /// A log that tells how far it is read.
 #[derive(Drop)]
-pub struct ProgressLog<L, P> {
+pub(crate) struct ProgressLog<L, P> {
     log: L,
     reading: Reading<P>,
 }
@@ -14,7 +14,7 @@ impl<L: LockedLog, P: Progress> ProgressLog<L, P> {
     ghost use Rattle.std.specs.Prelude.{◌≡◌};
 
     /// This log, of this name. Without a place to tell it, nothing is told.
-    pub fn new(log: L, progress: Option<P>, name: &str) -> ProgressLog<L, P>
+    pub(crate) fn new(log: L, progress: Option<P>, name: &str) -> ProgressLog<L, P>
         ensures log { result.log ≡ log }
     {
         ProgressLog {
