@@ -38,8 +38,8 @@ pub fn decide_part<R: Threads + Wait + Sync, F: Files>(
     ensures others { (other : List ℕ) → ¬ IsOfDecided folder.now part other → IsAsItWas (F.holds files.old) (F.holds files.new) other }
     ensures known { F.is_known files.old → F.is_known files.new }
 {
-    let open = open_plan(alloc, files, folder)?;
-    let digests = digests_of_part(&open, part)?;
+    let opened = open_plan(alloc, files, folder)?;
+    let digests = digests_of_part(&opened, part)?;
     let book = open_planned(
         alloc,
         files,
@@ -63,7 +63,7 @@ pub fn decide_part<R: Threads + Wait + Sync, F: Files>(
         alloc,
         folder,
         part,
-        &open.digest,
+        &opened.digest,
         decided.replies,
         decided.new_book,
     )?;
@@ -80,11 +80,11 @@ struct DecidedBytes {
 }
 
 // The digests of the part of this number.
-fn digests_of_part(open: &OpenPlan, part: u32) -> Result<PartDigests, PartsFault>
-    ensures ok { IfOk result (λ digests. slice_get open.now.plan.digests.items part ≡ Some digests) }
-    ensures fault { IfErr result (λ fault. (fault ≡ PartsFault.NoPart) × (length open.now.plan.digests.items ≤ part)) }
+fn digests_of_part(opened: &OpenPlan, part: u32) -> Result<PartDigests, PartsFault>
+    ensures ok { IfOk result (λ digests. slice_get opened.now.plan.digests.items part ≡ Some digests) }
+    ensures fault { IfErr result (λ fault. (fault ≡ PartsFault.NoPart) × (length opened.now.plan.digests.items ≤ part)) }
 {
-    match open.plan.digests.get(part as usize) {
+    match opened.plan.digests.get(part as usize) {
         Some(digests) => Ok(*digests),
         None => Err(PartsFault::NoPart),
     }

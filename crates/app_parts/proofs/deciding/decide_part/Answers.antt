@@ -10,13 +10,13 @@ pub returns-in_err-book-clause-fault : goal.returns-in_err-book-clause-fault
 returns-in_err-book-clause-fault g c =
     let p = err_from_is_err_and c.from_residual-in_err-book.result c.from_residual-in_err-book.ensures.1 in
     rw (p.1, p.2) (book_fault (g.F.Files.is_known c.args.files.now) (g.F.Files.holds c.args.files.now) (g.F.Files.failing c.args.files.now) c.args.folder.now c.args.part
-    c.in_ok-open.open c.in_ok-digests.digests c.in_err-book.field-0.0 c.in_ok-open.ensures.plan c.in_ok-digests.ensures.ok c.in_err-book.ensures.fault)
+    c.in_ok-opened.opened c.in_ok-digests.digests c.in_err-book.field-0.0 c.in_ok-opened.ensures.plan c.in_ok-digests.ensures.ok c.in_err-book.ensures.fault)
 
 pub returns-in_err-batch-clause-fault : goal.returns-in_err-batch-clause-fault
 returns-in_err-batch-clause-fault g c =
     let p = err_from_is_err_and c.from_residual-in_err-batch.result c.from_residual-in_err-batch.ensures.1 in
     rw (p.1, p.2) (batch_fault (g.F.Files.is_known c.args.files.now) (g.F.Files.holds c.args.files.now) (g.F.Files.failing c.args.files.now) c.args.folder.now c.args.part
-    c.in_ok-open.open c.in_ok-digests.digests c.in_err-batch.field-0.0 c.in_ok-open.ensures.plan c.in_ok-digests.ensures.ok c.in_err-batch.ensures.fault)
+    c.in_ok-opened.opened c.in_ok-digests.digests c.in_err-batch.field-0.0 c.in_ok-opened.ensures.plan c.in_ok-digests.ensures.ok c.in_err-batch.ensures.fault)
 
 pub returns-in_err-decided-clause-fault : goal.returns-in_err-decided-clause-fault
 returns-in_err-decided-clause-fault g c =
@@ -32,7 +32,7 @@ pub returns-in_err-put_texts-clause-fault : goal.returns-in_err-put_texts-clause
 returns-in_err-put_texts-clause-fault g c =
     let p = err_from_is_err_and c.from_residual-in_err-put_texts.result c.from_residual-in_err-put_texts.ensures.1 in
     rw (p.1, p.2) (decided_put_fault (g.F.Files.is_known c.args.files.now) (g.F.Files.holds c.args.files.now) (g.F.Files.failing c.args.files.now) c.args.folder.now c.args.part
-    c.in_ok-open.open.digest c.in_ok-decided.decided.replies.items c.in_ok-decided.decided.new_book.items (texts_of c.deref-3.result.now) c.in_err-put_texts.field-0.0
+    c.in_ok-opened.opened.digest c.in_ok-decided.decided.replies.items c.in_ok-decided.decided.new_book.items (texts_of c.deref-3.result.now) c.in_err-put_texts.field-0.0
     (rw c.deref-3.ensures.value c.in_ok-texts.ensures) c.in_err-put_texts.ensures.fault)
 
 pub returns-clause-decided : goal.returns-clause-decided
@@ -45,6 +45,6 @@ returns-clause-decided g c =
     subst (λ (batch : List ℕ). IsDecidedText book batch replies new_book count) c.deref-2.ensures.value
     (subst (λ (bytes : List ℕ). IsDecidedText bytes c.deref-2.result.now replies new_book count) c.deref.ensures.value c.in_ok-decided.ensures.decided) in
     part_decided (g.F.Files.is_known c.args.files.now) (g.F.Files.holds c.args.files.now) (g.F.Files.holds c.put_texts.new.files) c.args.folder.now c.args.part
-    c.in_ok-open.open c.in_ok-digests.digests book c.in_ok-batch.batch.items replies new_book count (texts_of c.deref-3.result.now)
-    c.in_ok-open.ensures.plan c.in_ok-digests.ensures.ok c.in_ok-book.ensures.held c.in_ok-book.ensures.digest c.in_ok-batch.ensures.held c.in_ok-batch.ensures.digest
+    c.in_ok-opened.opened c.in_ok-digests.digests book c.in_ok-batch.batch.items replies new_book count (texts_of c.deref-3.result.now)
+    c.in_ok-opened.ensures.plan c.in_ok-digests.ensures.ok c.in_ok-book.ensures.held c.in_ok-book.ensures.digest c.in_ok-batch.ensures.held c.in_ok-batch.ensures.digest
     decided (rw c.deref-3.ensures.value c.in_ok-texts.ensures) c.in_ok-put_texts.ensures.held
