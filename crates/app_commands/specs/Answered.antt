@@ -8,11 +8,12 @@ use Rattle.app_audit.specs.declared.audited.Audit.TheVariants as found
 use Rattle.app_audit.specs.declared.block_audit.BlockAudit.TheVariants as block_found
 use Rattle.file_batch.specs.Counting.{Admits}
 use Rattle.file_batch.specs.declared.strictness.Strictness.TheVariants.{Lenient}
-use Rattle.file_batch.specs.Words.{AreAsTheyWere, BatchFault, Failing, IsAsItWas, IsThere}
+use Rattle.file_batch.specs.Words.{AreAsTheyWere, BatchFault, Failing, IsAsItWas}
 use Rattle.app_commands.specs.Apart.{AreApart, HasOneFile, names_apart}
 use Rattle.app_runs.specs.Journaled.{IsDecidedWithJournal, IsDecidingFaultWithJournal}
 use Rattle.app_messages.specs.Packed.{ArePacked, ArePackedInBlocks, IsBlockPackingFault, IsPackingFault}
-use Rattle.app_messages.specs.ShownAsLines.{IsShowingFault, IsShown}
+use Rattle.app_words.specs.declared.form.Form.TheVariants.{Lines}
+use Rattle.app_messages.specs.Shown.{IsShowFault, IsShown}
 use Rattle.app_jobs.specs.declared.job_fault.JobFault.TheVariants.{Batch, InUse}
 use Rattle.app_jobs.specs.declared.job_fault.JobFault.TheVariants as job
 use Rattle.app_arguments.specs.Asked.{Asked, Names, help, version, one, serial, run, run_with_journal, blocks, audit, audit_blocks, show, pack, pack_blocks}
@@ -80,7 +81,7 @@ IsDoneAs known old new (audit names (Some journal)) (report.Audited found text) 
     IsAuditedWithJournal known old names journal found × (text.items ≡ audit_text found)
 IsDoneAs known old new (audit_blocks names) (report.AuditedBlocks found text) =
     AreBlocksAudited known old names found × (text.items ≡ block_audit_text found)
-IsDoneAs known old new (show file) (report.Lines text) = (known → IsThere old file) × ((bytes : List ℕ) → old file bytes → IsShown bytes text.items)
+IsDoneAs known old new (show file) (report.Lines text) = IsShown known old Lines file text.items
 IsDoneAs known old new (pack texts batch) (report.Packed count) = ArePacked known old new texts batch count
 IsDoneAs known old new (pack_blocks texts file) (report.PackedBlocks bodies count) =
     ArePackedInBlocks known old new texts file bodies × (count ≡ length texts)
@@ -117,7 +118,7 @@ IsJobFault old devices (blocks names workers engine strictness) fault = IsBlocks
 IsJobFault old devices (audit names None) fault = IsAuditingFault old devices names fault
 IsJobFault old devices (audit names (Some journal)) fault = IsJournalAuditingFault old devices names journal fault
 IsJobFault old devices (audit_blocks names) fault = IsBlockAuditingFault old devices names fault
-IsJobFault old devices (show file) fault = IsShowingFault old devices file fault
+IsJobFault old devices (show file) fault = IsShowFault old devices file fault
 IsJobFault old devices (pack texts batch) fault = IsPackingFault old devices texts batch fault
 IsJobFault old devices (pack_blocks texts file) fault = IsBlockPackingFault old devices texts file fault
 

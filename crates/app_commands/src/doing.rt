@@ -20,6 +20,7 @@ use app_jobs::{
 use app_messages::{pack_batch, pack_blocks, show_file};
 use app_reasons::words_of;
 use app_runs::{decide_one, run_batch, run_batch_with_journal, run_blocks};
+use app_words::Form;
 use engine_workers::Workers;
 use file_batch::{BodyCount, Strictness};
 use file_devices::{BatchNames, Files};
@@ -275,7 +276,7 @@ fn audited_blocks<R: Threads + Wait + Sync, F: Files>(
 fn show<F: Files>(alloc: Global, files: &F, file: &str) -> Result<Report, Fault>
     ensures { IsDoneOrFault (F.is_known files.now) (F.holds files.now) (F.holds files.now) (F.failing files.now) (show file.now) result }
 {
-    let text = show_file(alloc, files, file)?;
+    let text = show_file(alloc, files, Form::Lines, file)?;
     Ok(Report::Lines(text))
 }
 

@@ -1,5 +1,4 @@
 mod BlockSteps
-mod BytesFaults
 mod PackedAgain
 mod PutFaults
 mod TextFaults

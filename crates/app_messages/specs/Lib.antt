@@ -3,8 +3,7 @@ pub mod UnpackAsked
 pub mod MakeAsked
 pub mod Made
 pub mod Lines
-pub mod ShownAsJson
+pub mod Shown
 pub mod ShowAsked
 pub mod Handed
 pub mod Packed
-pub mod ShownAsLines

@@ -1,11 +1,11 @@
 ghost use Rattle.std.specs.Prelude.{◌≡◌, ◌≤◌};
-ghost use Rattle.app_messages.specs.ShownAsJson.{IsSaid};
+ghost use Rattle.app_messages.specs.Shown.{IsSaid};
 
-use crate::json_showing::show_json;
 use crate::show_asking::ShowAsked;
 use crate::show_help::{SHOW_JSON_HELP, USAGE};
+use crate::showing::show_file;
 use app_reasons::tell_of_any_file;
-use app_words::{put, status_of};
+use app_words::{Form, put, status_of};
 use file_devices::Files;
 use std::alloc::Global;
 use std::io::Write;
@@ -23,7 +23,7 @@ pub fn answer_show<F: Files, O: Write, E: Write>(
     ensures said { result ≡ 0 → IsSaid (F.is_known files.now) (F.holds files.now) asked.now (O.contents out.old) (O.contents out.new) }
 {
     let said = match asked {
-        ShowAsked::File(name, cards) => match show_json(alloc, files, *cards, name) {
+        ShowAsked::File(name, cards) => match show_file(alloc, files, Form::Json(*cards), name) {
             Ok(text) => put(out, &text),
             Err(fault) => {
                 tell_of_any_file(alloc, files, name, &fault, err);

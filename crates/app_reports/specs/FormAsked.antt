@@ -1,8 +1,8 @@
 -- What words ask of how it is told.
 use Rattle.std.specs.Prelude.{◌≡◌, ◌⊎◌, ◌+◌, ℕ, List, Some, codes, length, slice_get}
 use Rattle.iso_shown.specs.declared.card_numbers.CardNumbers.TheVariants.{Masked, Full}
-use Rattle.app_reports.specs.declared.form.Form.{Form}
-use Rattle.app_reports.specs.declared.form.Form.TheVariants.{Lines, Json}
+use Rattle.app_words.specs.declared.form.Form.{Form}
+use Rattle.app_words.specs.declared.form.Form.TheVariants.{Lines, Json}
 
 -- the word at this place is `--json` and the next one `--full-pan`, or the other way around
 abbrev pub SaysFull : List (List ℕ) → ℕ → Type 0

@@ -6,8 +6,8 @@ use Rattle.iso_laws.specs.Messages.{transaction_of}
 use Rattle.issuer_rows.specs.declared.frame.Frame.TheVariants.{Good, Bad}
 use Rattle.reason_text.specs.Words.{frame_words}
 use Rattle.message_text.specs.Lines.{frame_line}
-use Rattle.app_reports.specs.declared.form.Form.{Form}
-use Rattle.app_reports.specs.declared.form.Form.TheVariants.{Lines, Json}
+use Rattle.app_words.specs.declared.form.Form.{Form}
+use Rattle.app_words.specs.declared.form.Form.TheVariants.{Lines, Json}
 use Rattle.app_reports.specs.declared.sought.Sought.{Sought}
 use Rattle.app_reports.specs.declared.sought.Sought.TheVariants.{Trace, Card}
 

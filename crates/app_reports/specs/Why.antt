@@ -11,8 +11,8 @@ use Rattle.app_jobs.specs.Decided.{IsBookOf}
 use Rattle.app_jobs.specs.Faults.{IsBatchFault, IsBookFault, IsSomeBook}
 use Rattle.reason_json.specs.Lines.{why_line}
 use Rattle.reason_text.specs.Lines.{lines_of}
-use Rattle.app_reports.specs.declared.form.Form.{Form}
-use Rattle.app_reports.specs.declared.form.Form.TheVariants.{Lines, Json}
+use Rattle.app_words.specs.declared.form.Form.{Form}
+use Rattle.app_words.specs.declared.form.Form.TheVariants.{Lines, Json}
 use Rattle.app_reports.specs.declared.why_asking.WhyAsked.{WhyAsked}
 use Rattle.app_reports.specs.declared.why_asking.WhyAsked.TheVariants.{Message, Messages, Help, Wrong}
 use Rattle.app_reports.specs.Sought.{sought_lines}

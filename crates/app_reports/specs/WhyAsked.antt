@@ -3,7 +3,7 @@ use Rattle.std.specs.Prelude.{◌≡◌, ◌⊎◌, ℕ, List, Some, codes, slic
 use Rattle.app_words.specs.Numbers.{IsNumber, number_said}
 use Rattle.app_words.specs.Words.{AsksHelp}
 use Rattle.app_reports.specs.FormAsked.{SaysForm}
-use Rattle.app_reports.specs.declared.form.Form.{Form}
+use Rattle.app_words.specs.declared.form.Form.{Form}
 use Rattle.app_reports.specs.declared.why_asking.WhyAsked.{WhyAsked}
 use Rattle.app_reports.specs.declared.why_asking.WhyAsked.TheVariants.{Message, Messages, Help, Wrong}
 use Rattle.app_reports.specs.declared.sought.Sought.{Sought}

@@ -1,9 +1,8 @@
 ghost use Rattle.std.specs.Prelude.{◌≡◌, ◌+◌, ◌≤◌, ◌<◌, ℕ, IfSome, IfNone, OnSome, IsTrue, length, map, string_bytes};
 ghost use Rattle.app_reports.specs.FormAsked.{SaysForm, SaysFull};
-ghost use Rattle.app_reports.specs.declared.form.Form.{Form as Told};
+ghost use Rattle.app_words.specs.declared.form.Form.{Form as Told};
 
-use crate::form::Form;
-use app_words::is_word;
+use app_words::{Form, is_word};
 use iso_shown::CardNumbers;
 
 // Whether the two words from this place on ask for card numbers in full.

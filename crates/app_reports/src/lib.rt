@@ -2,7 +2,6 @@
 #![tactic(auto)]
 
 mod apart;
-mod form;
 mod form_asked;
 mod paging;
 mod report_answering;
@@ -18,7 +17,6 @@ mod why_help;
 mod why_listing;
 mod why_telling;
 
-pub use form::Form;
 pub use report_answering::report_of;
 pub use report_asking::{ReportAsked, report_asked};
 pub use report_fault::ReportFault;

@@ -4,10 +4,9 @@ ghost use Rattle.app_reports.specs.WhyAsked.{AsksMessage, AsksMessages, IsAskedB
 ghost use Rattle.app_words.specs.Numbers.{IsNumber, number_said};
 ghost use Rattle.app_words.specs.Words.{IsCommand};
 
-use crate::form::Form;
 use crate::form_asked::form_in;
 use crate::sought::Sought;
-use app_words::{asks_help, is_command, is_word, number_in};
+use app_words::{Form, asks_help, is_command, is_word, number_in};
 
 /// What words ask of `why`.
 #[derive(Clone, Copy)]

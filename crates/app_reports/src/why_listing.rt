@@ -1,8 +1,8 @@
 ghost use Rattle.std.specs.Prelude.{◌≡◌, IfOk};
 ghost use Rattle.app_reports.specs.Sought.{message_line, sought_lines, told_line};
 
-use crate::form::Form;
 use crate::sought::Sought;
+use app_words::Form;
 use issuer_rows::Frame;
 use message_text::{Place, frame_line};
 use reason_text::FrameWords;

@@ -3,7 +3,6 @@ ghost use Rattle.issuer_reasons.specs.declared.explanation.Explanation.{Explanat
 ghost use Rattle.app_jobs.specs.Faults.{IsBatchFault};
 ghost use Rattle.app_reports.specs.Why.{AreLines, explanation_text, IsSaid, IsWhy, IsWhyFault};
 
-use crate::form::Form;
 use crate::sought::Sought;
 use crate::why_answering::why_of;
 use crate::why_asking::WhyAsked;
@@ -12,7 +11,7 @@ use crate::why_help::{USAGE, WHY_HELP};
 use crate::why_listing::lines_of_sought;
 use app_jobs::{JobFault, open_batch};
 use app_reasons::{FileKind, tell_of_book_or_batch, tell_of_file};
-use app_words::{put, status_of};
+use app_words::{Form, put, status_of};
 use file_devices::Files;
 use issuer_reasons::Explanation;
 use reason_json::why_line;

@@ -1,6 +1,7 @@
-//! What the commands share: words of a command line that each reads alike, topics of help, and how what is said goes out.
+//! What the commands share: words of a command line that each reads alike, topics of help, in which form something is told, and how what is said goes out.
 #![tactic(auto)]
 
+mod form;
 mod numbers;
 mod progress;
 mod saying;
@@ -9,6 +10,7 @@ mod topic;
 mod topic_text;
 mod words;
 
+pub use form::Form;
 pub use numbers::number_in;
 pub use progress::take_progress;
 pub use saying::{put, status_of};

@@ -1,13 +1,15 @@
 use Rattle.std.proofs.Common.{inl, inr}
-use Rattle.app_messages.proofs.line_showing.show_file.Goals as goal
+use Rattle.app_messages.proofs.showing.show_file.Goals as goal
 
-pub returns-in-Ok-clause-shown : goal.returns-in-Ok-clause-shown
-returns-in-Ok-clause-shown g c bytes h = rw (← c.in_ok-bytes.ensures.read bytes h, ← c.deref.ensures.value) c.in-Ok.ensures.shown
+pub returns-in-Ok-clause-lines : goal.returns-in-Ok-clause-lines
+returns-in-Ok-clause-lines g c = record {
+  there = c.in_ok-bytes.ensures.there;
+  lines = λ bytes h. rw (← c.in_ok-bytes.ensures.read bytes h, ← c.deref.ensures.value) c.in-Ok.ensures.lines;
+}
 
 pub returns : goal.returns
 returns g c = record {
-  shown = tt;
-  there = tt;
+  lines = tt;
   fault = elim c.fault_of_showing.ensures [
     | inl memory ↦ rw memory.1 tt
     | inr other ↦
