@@ -3,7 +3,10 @@ use Rattle.std.specs.Prelude.{◌≡◌, ◌≢◌, ◌⊎◌, ℕ, Bool, true, 
 use Rattle.std.specs.Global.{Vec}
 use Rattle.app_runs.specs.Answers.{IsAnswerInDigits}
 use Rattle.app_runs.specs.SampleBook.{sample_rows}
-use Rattle.app_runs.specs.Words.{AreBlocksAudited, AreBlocksDecided, AreBlocksKept, Audit, BlockAudit, Holding, IsAudited, IsAuditedWithJournal, IsAuditingFault, IsBlockAuditingFault, IsBlocksFault, IsDecided, IsDecidingFault, IsJournalAuditingFault, JobFault, audit_text, block_audit_text}
+use Rattle.app_runs.specs.Words.{AreBlocksAudited, AreBlocksDecided, AreBlocksKept, Holding, IsAudited, IsAuditedWithJournal, IsAuditingFault, IsBlockAuditingFault, IsBlocksFault, IsDecided, IsDecidingFault, IsJournalAuditingFault, JobFault}
+use Rattle.app_audit.specs.Texts.{audit_text, block_audit_text}
+use Rattle.app_audit.specs.declared.audited.Audit.{Audit}
+use Rattle.app_audit.specs.declared.block_audit.BlockAudit.{BlockAudit}
 use Rattle.app_audit.specs.declared.audited.Audit.TheVariants as found
 use Rattle.app_audit.specs.declared.block_audit.BlockAudit.TheVariants as block_found
 use Rattle.file_batch.specs.Counting.{Admits}

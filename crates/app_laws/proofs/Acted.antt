@@ -7,7 +7,10 @@ use Rattle.clap.specs.declared.error.kind.ErrorKind.TheVariants as kinds
 use Rattle.app_arguments.specs.Asked.{Asked, Names, audit, audit_blocks, blocks, help, one, pack, pack_blocks, run, run_with_journal, serial, show, version}
 use Rattle.app_arguments.specs.Arguments.{Asks, asked_in}
 use Rattle.app_arguments.specs.CommandLine.{command_line}
-use Rattle.app_runs.specs.Words.{AreBlocksAudited, AreBlocksDecided, Audit, BlockAudit, IsAudited, IsAuditedWithJournal, IsAuditingFault, IsBlockAuditingFault, IsDecided, JobFault, audit_text, block_audit_text}
+use Rattle.app_runs.specs.Words.{AreBlocksAudited, AreBlocksDecided, IsAudited, IsAuditedWithJournal, IsAuditingFault, IsBlockAuditingFault, IsDecided, JobFault}
+use Rattle.app_audit.specs.Texts.{audit_text, block_audit_text}
+use Rattle.app_audit.specs.declared.audited.Audit.{Audit}
+use Rattle.app_audit.specs.declared.block_audit.BlockAudit.{BlockAudit}
 use Rattle.app_audit.specs.declared.audited.Audit.TheVariants as in_batch
 use Rattle.app_audit.specs.declared.block_audit.BlockAudit.TheVariants as in_blocks
 use Rattle.app_commands.specs.Answered.{IsActed, IsAuditedInUse, IsAskedFor, IsDoneAs, IsFaultIn, IsFaultOfWords, IsHaltedAs, IsJobFault, IsOneInUse, Pages, Spares, status_of_audit, status_of_block_audit, status_of_report, text_of_report}

@@ -7,7 +7,11 @@ use Rattle.issuer_words.specs.Words.{Frame, ReplyBody, Rows, replies_to, rows_af
 use Rattle.file_batch_laws.proofs.ReadBack.{replies_alone}
 use Rattle.file_batch_laws.proofs.ReadBackBlocks.{blocks_alone}
 use Rattle.file_batch_laws.specs.Blocks.{rows_after_blocks, replies_to_blocks}
-use Rattle.app_runs.specs.Words.{Audit, BlockAudit, Finds, FindsInBlocks, IsFirstDifference, IsFirstDifferenceInBlocks, IsLeastDifference, counts}
+use Rattle.app_audit.specs.Blocks.{FindsInBlocks, IsFirstDifferenceInBlocks, counts}
+use Rattle.app_audit.specs.Difference.{IsFirstDifference, IsLeastDifference}
+use Rattle.app_audit.specs.Finding.{Finds}
+use Rattle.app_audit.specs.declared.audited.Audit.{Audit}
+use Rattle.app_audit.specs.declared.block_audit.BlockAudit.{BlockAudit}
 use Rattle.app_audit.specs.declared.audited.Audit.TheVariants as in_batch
 use Rattle.app_audit.specs.declared.block_audit.BlockAudit.TheVariants as in_blocks
 use Rattle.app_laws.specs.Audits.{AuditSaysSame, BlockAuditSaysSame}

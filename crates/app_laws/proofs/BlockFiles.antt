@@ -5,7 +5,8 @@ use Rattle.book_changes.proofs.Sound.{stays_sound}
 use Rattle.book_laws.specs.CheckBook.{IsSound}
 use Rattle.book_laws.specs.Text.{book_text}
 use Rattle.file_batch.specs.Words.{Failing, Holding, Names, replies_to_blocks, rows_after_blocks}
-use Rattle.app_runs.specs.Words.{AreBlocksAudited, AreBlocksDecided, BlockAudit, IsBlockAuditingFault, JobFault}
+use Rattle.app_runs.specs.Words.{AreBlocksAudited, AreBlocksDecided, IsBlockAuditingFault, JobFault}
+use Rattle.app_audit.specs.declared.block_audit.BlockAudit.{BlockAudit}
 use Rattle.app_audit.specs.declared.block_audit.BlockAudit.TheVariants as in_blocks
 use Rattle.app_laws.specs.Faults.{IsOfNoFile, MayNotBeRead}
 use Rattle.app_laws.specs.Kept.{AreInputsKept}

@@ -2,7 +2,9 @@
 use Rattle.std.proofs.Common.{◌≡◌, ◌≢◌, ◌⊎◌, ℕ, List, length, inl, inr, refl, sym, ap, ◌∙◌}
 use Rattle.std.proofs.lemmas.Bool.{cases_eq}
 use Rattle.issuer_words.specs.Words.{Frame, ReplyBody, Rows}
-use Rattle.app_runs.specs.Words.{Audit, FindsInPlay, IsAudited, IsAuditedWithJournal, IsAuditingFault, IsJournalAuditingFault, IsJournalFault, IsPlayingFault, JobFault}
+use Rattle.app_runs.specs.Words.{IsAudited, IsAuditedWithJournal, IsAuditingFault, IsJournalAuditingFault, IsJournalFault, IsPlayingFault, JobFault}
+use Rattle.app_audit.specs.PlayFinding.{FindsInPlay}
+use Rattle.app_audit.specs.declared.audited.Audit.{Audit}
 use Rattle.app_audit.specs.declared.audited.Audit.TheVariants as in_batch
 use Rattle.app_jobs.specs.declared.job_fault.JobFault.TheVariants.{Unreadable, Unwritable, InUse, Book, Batch, Journal, Text, Bodies, OutOfMemory}
 use Rattle.app_runs.specs.Journaled.{IsDecidedWithJournal}

@@ -4,7 +4,9 @@ use Rattle.issuer_words.specs.Words.{Frame, ReplyBody, Rows, replies_to, rows_af
 use Rattle.book_changes.proofs.Sound.{stays_sound}
 use Rattle.book_laws.specs.Text.{book_text}
 use Rattle.file_batch.specs.Words.{AreReplyBodies, Failing, Holding, IsBatchOf, IsThere, Names, replies_text}
-use Rattle.app_runs.specs.Words.{AreHeld, Audit, Finds, IsAudited, IsAuditingFault, IsBookOf, IsDecided, IsFaultInOrder, JobFault}
+use Rattle.app_runs.specs.Words.{AreHeld, IsAudited, IsAuditingFault, IsBookOf, IsDecided, IsFaultInOrder, JobFault}
+use Rattle.app_audit.specs.Finding.{Finds}
+use Rattle.app_audit.specs.declared.audited.Audit.{Audit}
 use Rattle.app_audit.specs.declared.audited.Audit.TheVariants as in_batch
 use Rattle.app_jobs.specs.declared.job_fault.JobFault.TheVariants.{OutOfMemory}
 use Rattle.app_laws.specs.Faults.{IsOfNoFile, MayNotBeRead}

@@ -2,7 +2,10 @@
 use Rattle.std.specs.Prelude.{◌≡◌, List}
 use Rattle.issuer_words.specs.Words.{Frame, ReplyBody, Rows, replies_to, rows_after}
 use Rattle.file_batch_laws.specs.Blocks.{rows_after_blocks, replies_to_blocks}
-use Rattle.app_runs.specs.Words.{Audit, BlockAudit, Finds, FindsInBlocks}
+use Rattle.app_audit.specs.Blocks.{FindsInBlocks}
+use Rattle.app_audit.specs.Finding.{Finds}
+use Rattle.app_audit.specs.declared.audited.Audit.{Audit}
+use Rattle.app_audit.specs.declared.block_audit.BlockAudit.{BlockAudit}
 use Rattle.app_audit.specs.declared.audited.Audit.TheVariants as in_batch
 use Rattle.app_audit.specs.declared.block_audit.BlockAudit.TheVariants as in_blocks
 use Rattle.app_laws.specs.Files.{AreReadAgain, AreReadFrom, AreBlocksReadAgain, AreBlocksReadFrom}

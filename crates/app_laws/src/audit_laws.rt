@@ -1,6 +1,7 @@
 ghost use Rattle.std.specs.Prelude.{List};
 ghost use Rattle.issuer_words.specs.Words.{Frame, ReplyBody, Rows};
-ghost use Rattle.app_runs.specs.Words.{Audit, BlockAudit};
+ghost use Rattle.app_audit.specs.declared.audited.Audit.{Audit};
+ghost use Rattle.app_audit.specs.declared.block_audit.BlockAudit.{BlockAudit};
 ghost use Rattle.app_laws.specs.Audits.{AuditSaysSame, BlockAuditSaysSame};
 
 /// Whatever an audit finds of the replies and the book that are read from the files of a run, it is `same`.

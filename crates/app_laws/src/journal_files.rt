@@ -1,5 +1,6 @@
 ghost use Rattle.std.specs.Prelude.{◌≡◌, ◌≢◌, ◌⊎◌};
-ghost use Rattle.app_runs.specs.Words.{Audit, IsAudited, IsAuditedWithJournal, IsAuditingFault, IsJournalAuditingFault, JobFault};
+ghost use Rattle.app_runs.specs.Words.{IsAudited, IsAuditedWithJournal, IsAuditingFault, IsJournalAuditingFault, JobFault};
+ghost use Rattle.app_audit.specs.declared.audited.Audit.{Audit};
 ghost use Rattle.app_audit.specs.declared.audited.Audit.TheVariants.{Same};
 ghost use Rattle.app_runs.specs.Journaled.{IsDecidedWithJournal};
 ghost use Rattle.file_devices.specs.BatchNames.{names_of};

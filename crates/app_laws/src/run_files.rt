@@ -1,5 +1,7 @@
 ghost use Rattle.std.specs.Prelude.{◌≡◌};
-ghost use Rattle.app_runs.specs.Words.{AreBlocksAudited, AreBlocksDecided, Audit, BlockAudit, IsAudited, IsAuditingFault, IsBlockAuditingFault, IsDecided, JobFault};
+ghost use Rattle.app_runs.specs.Words.{AreBlocksAudited, AreBlocksDecided, IsAudited, IsAuditingFault, IsBlockAuditingFault, IsDecided, JobFault};
+ghost use Rattle.app_audit.specs.declared.audited.Audit.{Audit};
+ghost use Rattle.app_audit.specs.declared.block_audit.BlockAudit.{BlockAudit};
 ghost use Rattle.app_audit.specs.declared.audited.Audit.TheVariants.{Same};
 ghost use Rattle.app_audit.specs.declared.block_audit.BlockAudit.TheVariants as in_blocks;
 ghost use Rattle.file_devices.specs.BatchNames.{names_of};

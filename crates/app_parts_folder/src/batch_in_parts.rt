@@ -1,5 +1,5 @@
-use issuer_rows::{Book, Frame};
 use engine_parts::PartsPlan;
+use issuer_rows::{Book, Frame};
 use std::marker::Model;
 
 /// A batch in at most 64 parts on a book, no two of which may need the same row.

@@ -7,10 +7,10 @@ ghost use Rattle.app_parts_folder.specs.Planning.{IsBatchFaultOf};
 use crate::batch_in_parts::BatchInParts;
 use crate::most_parts::MostParts;
 use app_jobs::JobFault;
+use engine_parts::plan_parts;
 use file_batch::read_batch;
 use file_listing::bodies_of_batch;
 use issuer_rows::{Book, Frame};
-use engine_parts::plan_parts;
 use std::alloc::Global;
 
 /// Puts the batch of these bytes in at most so many parts, on this book.

@@ -1,11 +1,4 @@
--- The words of jobs and audits, from one place.
-pub use Rattle.app_audit.specs.Blocks.{FindsInBlocks, IsFirstDifferenceInBlocks, counts}
-pub use Rattle.app_audit.specs.Difference.{IsFirstDifference, IsLeastDifference}
-pub use Rattle.app_audit.specs.Finding.{Finds}
-pub use Rattle.app_audit.specs.PlayFinding.{FindsInPlay}
-pub use Rattle.app_audit.specs.Texts.{audit_text, block_audit_text}
-pub use Rattle.app_audit.specs.declared.audited.Audit.{Audit}
-pub use Rattle.app_audit.specs.declared.block_audit.BlockAudit.{BlockAudit}
+-- The words of jobs, from one place.
 pub use Rattle.app_jobs.specs.Audited.{AreHeld, IsAudited}
 pub use Rattle.app_jobs.specs.AuditedBlocks.{AreBlocksAudited}
 pub use Rattle.app_jobs.specs.BlockFaults.{IsBlockAuditingFault, IsBlockFileFault, IsBlockRepliesFault, IsBlocksFault}

@@ -1,10 +1,10 @@
 //! Books and replies of parts, by hand, and put together again.
 
+use engine_parts::plan_parts;
 use issuer_fold::{Prefix, decide_all_by};
 use issuer_rows::{Book, Frame, ReplyBody};
 use issuer_rules::Shipped;
 use parts_books::{join_books, join_replies, part_book, part_books, rest_book};
-use engine_parts::plan_parts;
 use std::alloc::Global;
 use std::process::Abort;
 use std::test::Fail;
