@@ -1,7 +1,8 @@
 //! The command over files in memory: its statuses, and what stands on standard error.
 
 use crate::files::files_with;
-use app_reports::{Form, WhyAsked, answer_why, why_asked};
+use app_reports::{WhyAsked, answer_why, why_asked};
+use app_words::Form;
 use std::alloc::Global;
 use std::process::Abort;
 use std::sync::Wait;
