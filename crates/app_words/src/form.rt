@@ -1,6 +1,6 @@
 use iso_shown::CardNumbers;
 
-/// How it is told.
+/// In which form something is told: lines for people, or JSON.
 #[derive(Clone, Copy, Debug, PartialEq, Eq)]
 pub enum Form {
     /// As lines for people.

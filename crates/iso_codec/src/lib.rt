@@ -15,5 +15,5 @@ mod values;
 
 pub use decoding::{decode, decode_reply};
 pub use iso_encoder::{ROOM, encode, encode_reply, mti_text};
-pub use types::taken_in;
+pub use types::mti_taken_in;
 pub use value_test::is_text_of;

@@ -12,7 +12,7 @@ use iso8583::CodecFault;
 
 /// The type that the text names among those that are taken in, if it is one; else it is `BadMti`.
 #[tactic(auto, unfolding(iso_laws::specs::Reading::mti_at))]
-pub fn taken_in(text: &[u8]) -> Result<Mti, CodecFault>
+pub fn mti_taken_in(text: &[u8]) -> Result<Mti, CodecFault>
     ensures gives { Gives (λ t. t) result (mti_at taken_in text.now) }
     ensures fault { IfErr result (λ e. e ≡ CodecFault.BadMti) }
 {
@@ -54,7 +54,7 @@ pub(crate) fn mti_at(side: Side, text: &[u8]) -> Result<Mti, CodecFault>
     ensures { Gives (λ t. t) result (mti_at (types_of side) text.now) }
 {
     match side {
-        Side::TakenIn => taken_in(text),
+        Side::TakenIn => mti_taken_in(text),
         Side::GivenOut => given_out(text),
     }
 }
