@@ -4,7 +4,7 @@ use Rattle.std.proofs.Math.Seq.{take-length}
 use Rattle.std.proofs.lemmas.List.{append_assoc, append-nil, take-append-drop}
 use Rattle.issuer_fold.proofs.FoldLaws.{length-replies_to}
 use Rattle.issuer_words.specs.Words.{Frame, ReplyBody, Rows, replies_to, rows_after}
-use Rattle.file_batch_laws.specs.Blocks.{rows_after_blocks, replies_to_blocks}
+use Rattle.file_laws.specs.Blocks.{rows_after_blocks, replies_to_blocks}
 use Rattle.app_audit.specs.Blocks.{counts, IsFirstDifferenceInBlocks}
 use Rattle.app_audit.specs.Difference.{IsFirstDifference}
 

@@ -2,7 +2,7 @@
 
 ghost use Rattle.std.specs.Prelude.{◌≡◌, ◌≤◌, ◌↔◌, List, length, map, IfOk, IfSome, IfNone, IsTrue};
 ghost use Rattle.std.specs.List.{All};
-ghost use Rattle.file_batch_laws.specs.Blocks.{replies_to_blocks, rows_after_blocks};
+ghost use Rattle.file_laws.specs.Blocks.{replies_to_blocks, rows_after_blocks};
 ghost use Rattle.issuer_words.specs.Words.{ReplyBody, replies_to, rows_after};
 ghost use Rattle.app_audit.specs.Blocks.{FindsInBlocks, counts};
 ghost use Rattle.app_audit.specs.Difference.{IsFirstDifference};

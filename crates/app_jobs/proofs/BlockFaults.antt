@@ -3,7 +3,7 @@ use Rattle.std.proofs.Common.{◌≡◌, ◌⊎◌, ℕ, List, inl, inr, refl}
 use Rattle.std.specs.Prelude.{IsTrue}
 use Rattle.file_blocks.specs.Blocks.{StopsBefore, StopsInHead, StopsInBlocks}
 use Rattle.file_batch.specs.Words.{BatchFault, Failing, Names, is_of_bytes}
-use Rattle.file_batch_laws.specs.declared.batch_fault.BatchFault.TheVariants.{Device}
+use Rattle.file_laws.specs.declared.batch_fault.BatchFault.TheVariants.{Device}
 use Rattle.issuer_rows.specs.Fold.{Rows}
 use Rattle.app_jobs.specs.Decided.{Holding}
 use Rattle.app_jobs.specs.declared.job_fault.JobFault.TheVariants.{Batch}

@@ -2,7 +2,7 @@
 use Rattle.std.proofs.Common.{◌≡◌, ◌⊎◌, inl, inr, refl}
 use Rattle.std.specs.Prelude.{Result, Err, IsTrue}
 use Rattle.file_batch.specs.Words.{BatchFault, Failing, Names, WriteFault, is_of_bytes}
-use Rattle.file_batch_laws.specs.declared.batch_fault.BatchFault.TheVariants.{Device}
+use Rattle.file_laws.specs.declared.batch_fault.BatchFault.TheVariants.{Device}
 use Rattle.file_devices.specs.declared.write_fault.WriteFault.TheVariants as write
 use Rattle.app_jobs.specs.Decided.{Holding}
 use Rattle.app_jobs.specs.Faults.{IsWritingBothFault, IsAnsweringFault, IsWritingFault, IsPuttingFault}

@@ -4,7 +4,7 @@ use Rattle.std.proofs.lemmas.Bool.{or_parts}
 use Rattle.std.proofs.lemmas.List.{append-nil}
 use Rattle.file_blocks.specs.Blocks.{StopsBefore, StopsInHead, StopsInBlocks}
 use Rattle.file_batch.specs.Words.{BatchFault, block_replies_magic, blocks_text, failed_at, head_text, is_of_bytes, replies_to_blocks}
-use Rattle.file_batch_laws.specs.declared.batch_fault.BatchFault.TheVariants.{Device}
+use Rattle.file_laws.specs.declared.batch_fault.BatchFault.TheVariants.{Device}
 use Rattle.issuer_rows.specs.Fold.{Rows}
 use Rattle.app_jobs.specs.DecidedBlocks.{AreFirstAnswered}
 use Rattle.app_jobs.specs.Decided.{Holding}

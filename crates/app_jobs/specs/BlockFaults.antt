@@ -6,7 +6,7 @@ use Rattle.file_batch.specs.declared.strictness.Strictness.{Strictness}
 use Rattle.file_batch.specs.declared.strictness.Strictness.TheVariants.{Strict}
 use Rattle.file_blocks.specs.BlockFiles.{FailsAmong}
 use Rattle.file_batch.specs.Words.{BatchFault, Failing, FailsAsBlockReplies, IsBlockFileOf, IsBlockReplyFileOf, Names, all_messages, block_head_at, blocks_magic, is_of_bytes}
-use Rattle.file_batch_laws.specs.declared.batch_fault.BatchFault.TheVariants.{Device}
+use Rattle.file_laws.specs.declared.batch_fault.BatchFault.TheVariants.{Device}
 use Rattle.issuer_words.specs.Words.{Frame, ReplyBody}
 use Rattle.app_jobs.specs.Decided.{Holding}
 use Rattle.app_jobs.specs.Faults.{IsBookFault, IsPuttingFault, IsSomeBook, IsWritingFaultOf, MayNotBeAnswered}

@@ -5,7 +5,7 @@ use Rattle.file_batch.specs.Counting.{count_of}
 use Rattle.file_batch.specs.declared.strictness.Strictness.{Strictness}
 use Rattle.file_batch.specs.declared.strictness.Strictness.TheVariants.{Strict}
 use Rattle.file_batch.specs.Words.{BatchFault, Failing, FailsAsReplies, IsBatchOf, IsReplyFileOf, Names, batch_magic, bodies_of, is_of_bytes}
-use Rattle.file_batch_laws.specs.declared.batch_fault.BatchFault.TheVariants.{Device}
+use Rattle.file_laws.specs.declared.batch_fault.BatchFault.TheVariants.{Device}
 use Rattle.book_laws.specs.Reading.{IsAnswer, reading}
 use Rattle.issuer_words.specs.Words.{Frame, ReplyBody, Rows}
 use Rattle.app_jobs.specs.Decided.{Holding, IsBookOf}

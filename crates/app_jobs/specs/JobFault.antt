@@ -5,7 +5,7 @@ use Rattle.book_laws.specs.JsonFault.{number_of_json_fault}
 use Rattle.file_devices.specs.declared.claim_fault.ClaimFault.TheVariants as claim
 use Rattle.file_devices.specs.declared.read_fault.ReadFault.TheVariants as read
 use Rattle.file_devices.specs.declared.write_fault.WriteFault.TheVariants as write
-use Rattle.file_batch_laws.specs.declared.batch_fault.BatchFault.TheVariants as batch
+use Rattle.file_laws.specs.declared.batch_fault.BatchFault.TheVariants as batch
 use Rattle.file_listing.specs.declared.listing_fault.ListingFault.{ListingFault}
 use Rattle.file_listing.specs.declared.listing_fault.ListingFault.TheVariants as text
 use Rattle.stm_journal_text.specs.ReplayFault.{number_of_replay_fault}

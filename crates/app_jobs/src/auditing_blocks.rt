@@ -8,9 +8,9 @@ ghost use Rattle.app_jobs.specs.BlockFaults.{IsBlockAnswersFault, IsBlockAuditin
 use crate::job_fault::JobFault;
 use crate::opening::open_book;
 use app_audit::{BlockAudit, audit_blocks};
-use file_batch_laws::BatchFault;
 use file_blocks::{read_block_replies, read_blocks};
 use file_devices::{BatchNames, Files};
+use file_laws::BatchFault;
 use issuer_rows::{Book, Frame, ReplyBody};
 use std::alloc::Global;
 use std::sync::Wait;

@@ -4,9 +4,9 @@ use Rattle.std.proofs.lemmas.List.{append_cancel_left}
 use Rattle.std.specs.FinMap as map
 use Rattle.std.specs.List.{slice_get}
 use Rattle.issuer_words.specs.Words.{Frame, ReplyBody, Rows, replies_to, rows_after}
-use Rattle.file_batch_laws.proofs.ReadBack.{replies_alone}
-use Rattle.file_batch_laws.proofs.ReadBackBlocks.{blocks_alone}
-use Rattle.file_batch_laws.specs.Blocks.{rows_after_blocks, replies_to_blocks}
+use Rattle.file_laws.proofs.ReadBack.{replies_alone}
+use Rattle.file_laws.proofs.ReadBackBlocks.{blocks_alone}
+use Rattle.file_laws.specs.Blocks.{rows_after_blocks, replies_to_blocks}
 use Rattle.app_audit.specs.Blocks.{FindsInBlocks, IsFirstDifferenceInBlocks, counts}
 use Rattle.app_audit.specs.Difference.{IsFirstDifference, IsLeastDifference}
 use Rattle.app_audit.specs.Finding.{Finds}

@@ -2,9 +2,9 @@
 use Rattle.std.proofs.Common.{◌≡◌, ℕ, List, IsTrue, inl, inr, refl}
 use Rattle.issuer_words.specs.Words.{Frame, ReplyBody}
 use Rattle.file_batch.specs.Words.{AreBlocksOfReplies, AreReplyBodies, BatchFault, Failing, Holding, IsBatchOf, IsBlockFileOf, IsBlockReplyFileOf, IsReplyFileOf, batch_magic, block_replies_text, bodies_of, is_of_bytes, replies_text}
-use Rattle.file_batch_laws.specs.declared.batch_fault.BatchFault.TheVariants as batch
-use Rattle.file_batch_laws.proofs.ReadBack.{replies_again, replies_alone}
-use Rattle.file_batch_laws.proofs.ReadBackBlocks.{blocks_again, blocks_alone}
+use Rattle.file_laws.specs.declared.batch_fault.BatchFault.TheVariants as batch
+use Rattle.file_laws.proofs.ReadBack.{replies_again, replies_alone}
+use Rattle.file_laws.proofs.ReadBackBlocks.{blocks_again, blocks_alone}
 use Rattle.app_runs.specs.Words.{IsBatchFault, IsBlockFileFault, IsBlockRepliesFault, IsReplyFileFault, JobFault}
 use Rattle.app_jobs.specs.declared.job_fault.JobFault.TheVariants.{Unreadable, Unwritable, InUse, Book, Batch, Journal, Text, Bodies, OutOfMemory}
 use Rattle.app_laws.specs.Faults.{IsOfNoFile}

@@ -3,7 +3,7 @@ use Rattle.std.proofs.Common.{◌≡◌, ◌<◌, ℕ, zero, suc, List, [], ◌�
 use Rattle.issuer_words.specs.Words.{Frame, ReplyBody}
 use Rattle.file_batch.specs.Words.{AreBlocks, AreRepliesOf, AreReplyBlocks, BatchFault, FailsAsBlockReplies, FailsAsReplies, FailsAt, FailsInReplyBlock, InTurn, IsBlock, IsBlockFileOf, IsBlockReplyFileOf, IsReplyBlock, IsReplyFileOf, IsReplyText, all_replies, block_at, block_head_at, block_replies_magic, blocks_magic, bodies_at, bodies_of, body_at, count_at, ended, head_at, replies_magic, ◌>>=◌}
 use Rattle.app_jobs.specs.BlockFaults.{FailsAsBlocks}
-use Rattle.file_batch_laws.proofs.Steps.{bind_ok, ok_injective}
+use Rattle.file_laws.proofs.Steps.{bind_ok, ok_injective}
 
 -- ---- one answer
 

@@ -5,7 +5,7 @@ use Rattle.file_batch.specs.Words.{AreBlocks, BatchFault, IsBatchOf, IsBlock, Is
 use Rattle.book_laws.specs.Reading.{IsAnswer, reading as reading_of_book}
 use Rattle.app_laws.proofs.NoFault.{one_value}
 use Rattle.app_laws.proofs.Once.{same_ok}
-use Rattle.file_batch_laws.proofs.FrameLaws.{same_frames}
+use Rattle.file_laws.proofs.FrameLaws.{same_frames}
 
 same_bodies : (bodies others : List (List ℕ)) → (let read : Result (List (List ℕ)) BatchFault = Ok bodies in read ≡ Ok others) → bodies ≡ others
 same_bodies bodies others e = cc

@@ -8,7 +8,7 @@ use Rattle.issuer_laws.proofs.Repeated.{advice_repeated, request_repeated}
 use Rattle.issuer_laws.specs.Again.{again}
 use Rattle.issuer_laws.specs.Repeated.{GetsSameReply}
 use Rattle.book_laws.specs.Text.{book_text}
-use Rattle.file_batch_laws.proofs.ReadBack.{replies_alone}
+use Rattle.file_laws.proofs.ReadBack.{replies_alone}
 use Rattle.file_batch.specs.Words.{Holding, Names, replies_text}
 use Rattle.app_jobs.specs.Decided.{IsDecided}
 use Rattle.app_laws.specs.Repeats.{AreRepliesIn, HasTwoOutputs, IsBookLeft, IsFirstSent, IsRepeatOf, without}

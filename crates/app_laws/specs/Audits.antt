@@ -1,7 +1,7 @@
 -- What an audit finds of the files of a run.
 use Rattle.std.specs.Prelude.{◌≡◌, List}
 use Rattle.issuer_words.specs.Words.{Frame, ReplyBody, Rows, replies_to, rows_after}
-use Rattle.file_batch_laws.specs.Blocks.{rows_after_blocks, replies_to_blocks}
+use Rattle.file_laws.specs.Blocks.{rows_after_blocks, replies_to_blocks}
 use Rattle.app_audit.specs.Blocks.{FindsInBlocks}
 use Rattle.app_audit.specs.Finding.{Finds}
 use Rattle.app_audit.specs.declared.audited.Audit.{Audit}

@@ -1,6 +1,6 @@
 -- Faults that say nothing of what the files of a run hold.
 use Rattle.std.specs.Prelude.{◌⊎◌}
-use Rattle.file_batch_laws.specs.declared.batch_fault.BatchFault.TheVariants as batch
+use Rattle.file_laws.specs.declared.batch_fault.BatchFault.TheVariants as batch
 use Rattle.book_laws.specs.declared.json_fault.JsonFault.TheVariants as json
 use Rattle.stm_journal_text.specs.declared.replay_fault.ReplayFault.TheVariants as replay
 use Rattle.file_batch.specs.Words.{Failing, Names}

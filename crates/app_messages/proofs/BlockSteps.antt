@@ -2,7 +2,7 @@
 use Rattle.std.proofs.Common.{◌≡◌, ℕ, ◌+◌, ◌*◌, ◌≤◌, List, [], ◌∷◌, length, arith}
 use Rattle.std.specs.List.{AllByRecursion}
 use Rattle.std.proofs.lemmas.List.{length-append}
-use Rattle.file_batch_laws.specs.Files.{AreBodies}
+use Rattle.file_laws.specs.Files.{AreBodies}
 use Rattle.file_listing.specs.BlockText.{all_bodies}
 
 -- no more than 65,536 in each

@@ -5,9 +5,9 @@ use Rattle.std.proofs.lemmas.List.{append-nil}
 use Rattle.byteorder.specs.Endian.{big_bytes}
 use Rattle.issuer_rows.specs.declared.frame.Frame.{Frame}
 use Rattle.file_batch.specs.Words.{AreBlocks, AreBodies, AreFramesOf, IsBlock, IsBlockFileOf, block_at, block_head_at, blocks_magic, framed, head_text}
-use Rattle.file_batch_laws.proofs.Again.{bodies_again, count_again, magic_again, version_again}
+use Rattle.file_laws.proofs.Again.{bodies_again, count_again, magic_again, version_again}
 use Rattle.file_listing.specs.BlockText.{AreBlocksOfBodies, block_file_text, block_text}
-use Rattle.file_batch_laws.proofs.ReadBackBlocks.{block_count_again}
+use Rattle.file_laws.proofs.ReadBackBlocks.{block_count_again}
 
 head_is_read : (n : ℕ) (rest : List ℕ) → n ≤ 1000 → block_head_at blocks_magic (head_text blocks_magic n ++ rest) ≡ Ok (n, rest)
 unfolding block_head_at head_text

@@ -9,9 +9,9 @@ use Rattle.std.proofs.lemmas.Option.{same_Some}
 use Rattle.hex.specs.Hex.{decode_of}
 use Rattle.hex.specs.declared.FromHexError.{FromHexError}
 use Rattle.file_batch.specs.Bodies.{bytes_of}
-use Rattle.file_batch_laws.specs.Files.{AreBodies, IsBody}
+use Rattle.file_laws.specs.Files.{AreBodies, IsBody}
 use Rattle.file_listing.specs.Bodies.{alone, body_of, bodies_from, bodies_of, fitting, line_bodies, lines_of, then_bodies}
-use Rattle.file_batch_laws.proofs.Lists.{each_more}
+use Rattle.file_laws.proofs.Lists.{each_more}
 
 ok_is : {A : Type 0} (x y : A) → Path (Result A ℕ) (Ok x) (Ok y) → x ≡ y
 ok_is x y h = cc

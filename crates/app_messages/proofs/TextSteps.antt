@@ -5,12 +5,12 @@ use Rattle.std.specs.Global.{Global}
 use Rattle.std.specs.List.{AllByRecursion}
 use Rattle.std.proofs.lemmas.List.{append-nil, length-append}
 use Rattle.file_batch.specs.Words.{AreBodies, Failing, IsBody}
-use Rattle.file_batch_laws.specs.declared.batch_fault.BatchFault.TheVariants.{Count}
+use Rattle.file_laws.specs.declared.batch_fault.BatchFault.TheVariants.{Count}
 use Rattle.app_jobs.specs.Decided.{Holding}
 use Rattle.app_jobs.specs.declared.job_fault.JobFault.{JobFault}
 use Rattle.app_jobs.specs.declared.job_fault.JobFault.TheVariants.{Batch}
 use Rattle.app_messages.specs.Packed.{HasBodies, HaveBlocks, HaveBodies, IsBodiesFault}
-use Rattle.file_batch_laws.proofs.Lists.{each_more}
+use Rattle.file_laws.proofs.Lists.{each_more}
 
 -- ---- bodies one text's behind another's
 

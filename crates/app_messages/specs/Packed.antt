@@ -1,7 +1,7 @@
 -- What a file holds after texts were packed into it: a batch of all their bodies, or a block of each text's.
 use Rattle.std.specs.Prelude.{◌≡◌, ◌⊎◌, ◌<◌, ⊤, ℕ, ◌+◌, List, [], ◌∷◌, ◌++◌, Ok, Err, length}
 use Rattle.file_batch.specs.Words.{Failing, IsThere, batch_text}
-use Rattle.file_batch_laws.specs.declared.batch_fault.BatchFault.TheVariants.{Blocks, Count}
+use Rattle.file_laws.specs.declared.batch_fault.BatchFault.TheVariants.{Blocks, Count}
 use Rattle.file_listing.specs.Bodies.{HasTooMany, bodies_of}
 use Rattle.app_jobs.specs.Decided.{Holding}
 use Rattle.app_jobs.specs.Faults.{IsWritingFaultOf}

@@ -5,8 +5,8 @@ ghost use Rattle.app_messages.specs.Unpacked.{IsBlockFault, IsBlockUnpacked, IsT
 
 use crate::block_fault::BlockFault;
 use app_jobs::JobFault;
-use file_batch_laws::BatchFault;
 use file_devices::{Files, read_file};
+use file_laws::BatchFault;
 use file_listing::texts_of_blocks;
 use std::alloc::Global;
 

@@ -2,8 +2,8 @@ ghost use Rattle.std.specs.Prelude.{IfOk, IfErr};
 ghost use Rattle.app_messages.specs.Unpacked.{IsUnpacked, IsUnpackFault};
 
 use app_jobs::JobFault;
-use file_batch_laws::BatchFault;
 use file_devices::{Files, read_file};
+use file_laws::BatchFault;
 use file_listing::lines_of_batch;
 use std::alloc::Global;
 

@@ -4,7 +4,7 @@ use Rattle.std.specs.List.{AllByRecursion}
 use Rattle.sha2.specs.Sha256.{sha256}
 use Rattle.book_laws.specs.Reading.{reading}
 use Rattle.book_laws.specs.Text.{book_text}
-use Rattle.file_batch_laws.proofs.ReadBack.{same_replies, texts_of}
+use Rattle.file_laws.proofs.ReadBack.{same_replies, texts_of}
 use Rattle.file_batch.specs.Words.{AreRepliesOf, AreReplyBodies, Failing, Holding, IsReplyBody, IsReplyFileOf, IsReplyText, reply_text}
 use Rattle.issuer_words.specs.Words.{ReplyBody, Rows}
 use Rattle.issuer_rows.specs.declared.reply_body.ReplyBody.TheVariants.{Reply, Fault}
@@ -26,7 +26,7 @@ use Rattle.app_parts_folder.specs.declared.part_fault.PartFault.TheVariants as w
 use Rattle.app_parts_folder.specs.declared.parts_fault.PartsFault.{PartsFault}
 use Rattle.app_parts_folder.specs.declared.parts_fault.PartsFault.TheVariants as fault
 use Rattle.app_parts_folder.specs.declared.plan_opening.OpenPlan.{OpenPlan}
-use Rattle.file_batch_laws.proofs.Steps.{ok_injective}
+use Rattle.file_laws.proofs.Steps.{ok_injective}
 
 -- ---- bytes have one meaning
 

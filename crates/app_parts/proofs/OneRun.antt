@@ -9,7 +9,7 @@ use Rattle.byteorder.specs.Endian.{big_bytes}
 use Rattle.book_laws.specs.Reading.{IsAnswer, reading}
 use Rattle.book_laws.specs.Text.{book_text}
 use Rattle.book_laws.specs.declared.text_fault.TextFault.{TextFault}
-use Rattle.file_batch_laws.proofs.ReadBack.{replies_alone}
+use Rattle.file_laws.proofs.ReadBack.{replies_alone}
 use Rattle.file_batch.specs.Words.{Holding, IsReplyFileOf, replies_text}
 use Rattle.issuer_laws.specs.Parts.{bodies}
 use Rattle.issuer_words.specs.Words.{Frame, ReplyBody, Rows, replies_to, rows_after}

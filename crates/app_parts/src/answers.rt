@@ -3,7 +3,7 @@
 ghost use Rattle.std.specs.Prelude.{◌≡◌, ◌≢◌, ◌⊎◌, ℕ, List, IfErr, IfOk, OnOk, Ok, length};
 ghost use Rattle.sha2.specs.Sha256.{sha256};
 ghost use Rattle.book_laws.specs.Reading.{IsAnswer, reading};
-ghost use Rattle.file_batch_laws.specs.Replies.{IsReplyFileOf};
+ghost use Rattle.file_laws.specs.Replies.{IsReplyFileOf};
 ghost use Rattle.app_parts_folder.specs.PlanTexts.{decided_text};
 ghost use Rattle.app_parts.specs.Answers.{HaveAnswers, IsNoAnswer, IsPartAnswer};
 ghost use Rattle.app_parts_folder.specs.Joining.{Answer};

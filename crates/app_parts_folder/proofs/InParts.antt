@@ -1,6 +1,6 @@
 -- A batch that is put in parts.
 use Rattle.std.proofs.Common.{◌≡◌, ◌≤◌, ℕ, List, Ok, length, ap, sym, ◌∙◌, arith}
-use Rattle.file_batch_laws.proofs.FrameLaws.{as_many}
+use Rattle.file_laws.proofs.FrameLaws.{as_many}
 use Rattle.file_batch.specs.Words.{IsBatchOf, batch_magic, bodies_of}
 use Rattle.app_parts_folder.specs.BatchInParts.{IsInParts}
 use Rattle.app_parts_folder.specs.Parting.{IsPlanned, Parting}

@@ -1,7 +1,7 @@
 -- Why a batch isn't put in parts.
 use Rattle.std.specs.Prelude.{◌≡◌, ◌≢◌, ℕ, List, Err, IsTrue}
 use Rattle.file_batch.specs.Words.{batch_magic, bodies_of, is_of_bytes}
-use Rattle.file_batch_laws.specs.declared.batch_fault.BatchFault.TheVariants.{Device}
+use Rattle.file_laws.specs.declared.batch_fault.BatchFault.TheVariants.{Device}
 use Rattle.app_jobs.specs.declared.job_fault.JobFault.{JobFault}
 use Rattle.app_jobs.specs.declared.job_fault.JobFault.TheVariants.{Batch, OutOfMemory}
 

@@ -2,7 +2,7 @@
 use Rattle.std.specs.Prelude.{◌≢◌, ℕ, List, Err, IsTrue}
 use Rattle.book_laws.specs.Reading.{IsAnswer, reading}
 use Rattle.file_batch.specs.Words.{FailsAsReplies, is_of_bytes}
-use Rattle.file_batch_laws.specs.declared.batch_fault.BatchFault.TheVariants.{Device}
+use Rattle.file_laws.specs.declared.batch_fault.BatchFault.TheVariants.{Device}
 use Rattle.app_jobs.specs.declared.job_fault.JobFault.{JobFault}
 use Rattle.app_jobs.specs.declared.job_fault.JobFault.TheVariants.{Book, Batch}
 

@@ -1,11 +1,11 @@
 -- What is told of a file: that its first fault stands at this place.
 use Rattle.std.specs.Prelude.{◌≡◌, ℕ, List, IsOk}
 use Rattle.issuer_rows.specs.declared.reply_body.ReplyBody.{ReplyBody}
-use Rattle.file_batch_laws.specs.Blocks.{blocks_magic, block_replies_magic}
-use Rattle.file_batch_laws.specs.Reading.{bodies_of, batch_magic, replies_magic}
-use Rattle.file_batch_laws.specs.Replies.{IsReplyFileOf}
-use Rattle.file_batch_laws.specs.declared.batch_fault.BatchFault.{BatchFault}
-use Rattle.file_batch_laws.specs.declared.batch_fault.BatchFault.TheVariants.{Trailing}
+use Rattle.file_laws.specs.Blocks.{blocks_magic, block_replies_magic}
+use Rattle.file_laws.specs.Reading.{bodies_of, batch_magic, replies_magic}
+use Rattle.file_laws.specs.Replies.{IsReplyFileOf}
+use Rattle.file_laws.specs.declared.batch_fault.BatchFault.{BatchFault}
+use Rattle.file_laws.specs.declared.batch_fault.BatchFault.TheVariants.{Trailing}
 use Rattle.file_listing.specs.Places.{IsBatchPlace, IsBlocksPlace, IsUnread, IsWholeBlockFile, fault_of_batch, fault_of_blocks}
 use Rattle.file_listing.specs.declared.batch_place.BatchPlace.TheVariants as batch
 use Rattle.file_listing.specs.declared.blocks_place.BlocksPlace.TheVariants as blocks

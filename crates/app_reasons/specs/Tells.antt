@@ -1,8 +1,8 @@
 -- What is told behind a fault: of one of the files of what is asked for, and so of what that file holds.
 use Rattle.std.specs.Prelude.{◌≡◌, ◌≢◌, ◌⊎◌, ⊤, ℕ, List, [], ◌∷◌, Option, Some, None}
-use Rattle.file_batch_laws.specs.BatchFault.{number_of_fault}
-use Rattle.file_batch_laws.specs.declared.batch_fault.BatchFault.{BatchFault}
-use Rattle.file_batch_laws.specs.declared.batch_fault.BatchFault.TheVariants.{Count, Device, OutOfMemory}
+use Rattle.file_laws.specs.BatchFault.{number_of_fault}
+use Rattle.file_laws.specs.declared.batch_fault.BatchFault.{BatchFault}
+use Rattle.file_laws.specs.declared.batch_fault.BatchFault.TheVariants.{Count, Device, OutOfMemory}
 use Rattle.book_laws.specs.JsonFault.{number_of_json_fault}
 use Rattle.book_laws.specs.declared.json_fault.JsonFault.{JsonFault}
 use Rattle.book_places.specs.Places.{IsWrongBook}

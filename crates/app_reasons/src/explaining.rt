@@ -20,8 +20,8 @@ use crate::told::Told;
 use app_arguments::Command;
 use app_jobs::JobFault;
 use book_laws::JsonFault;
-use file_batch_laws::BatchFault;
 use file_devices::{ClaimFault, Files, HostReason, read_again};
+use file_laws::BatchFault;
 use std::alloc::Global;
 use stm_journal_text::ReplayFault;
 

@@ -9,8 +9,8 @@ use crate::line_reason::reason_of_line;
 use crate::reason::Reason;
 use book_laws::JsonFault;
 use book_places::place_in_book;
-use file_batch_laws::BatchFault;
 use file_devices::{Files, read_again};
+use file_laws::BatchFault;
 use file_listing::{ListingFault, read_bodies};
 use std::alloc::Global;
 

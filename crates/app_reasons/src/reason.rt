@@ -5,8 +5,8 @@ use crate::head_words::HeadWords;
 use crate::line_reason::LineReason;
 use crate::unread_words::UnreadWords;
 use book_places::BookPlace;
-use file_batch_laws::BatchFault;
 use file_devices::HostReason;
+use file_laws::BatchFault;
 use file_listing::{
     BatchPlace, BlocksPlace, first_unread, place_in_batch, place_in_block_replies, place_in_blocks,
     place_in_replies,

@@ -1,7 +1,7 @@
 -- Why a message was answered so, by what the files of the book and the batch hold.
 use Rattle.std.specs.Prelude.{◌≡◌, ◌⊎◌, ◌≤◌, ⊤, ℕ, List, Option, length}
 use Rattle.std.specs.Io.KnownBytes.{Appends}
-use Rattle.file_batch_laws.specs.Frames.{IsBatchOf}
+use Rattle.file_laws.specs.Frames.{IsBatchOf}
 use Rattle.file_devices.specs.Failing.{Failing}
 use Rattle.file_devices.specs.Holding.{Holding, IsThere}
 use Rattle.issuer_words.specs.Words.{Frame, Rows}

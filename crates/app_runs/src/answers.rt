@@ -3,7 +3,7 @@ ghost use Rattle.app_runs.specs.Answers.{IsAnswerTo, answer_text};
 
 use engine_locked::run;
 use engine_workers::{NoHook, Workers};
-use file_batch_laws::frame_of;
+use file_laws::frame_of;
 use iso_codec::encode_reply;
 use issuer_rows::{Book, ReplyBody};
 use issuer_rules::Shipped;

@@ -5,8 +5,8 @@ use Rattle.std.specs.List.{flat_map, AllByRecursion}
 use Rattle.std.proofs.lemmas.List.{append-nil, length-append, nil_from_length}
 use Rattle.std.proofs.lemmas.List.Concat.{flat_map-append}
 use Rattle.std.proofs.lemmas.List.Sums.{sum_by-append, count_by-le-length}
-use Rattle.file_batch_laws.specs.Files.{framed, reply_text}
-use Rattle.file_batch_laws.specs.Replies.{IsReplyBody}
+use Rattle.file_laws.specs.Files.{framed, reply_text}
+use Rattle.file_laws.specs.Replies.{IsReplyBody}
 use Rattle.file_batch.specs.Counting.{is_unreadable}
 use Rattle.file_batch.specs.InOrder.{texts_of, HasReplies}
 use Rattle.file_batch.specs.Pieces.{HasCounted, frames_in, replies_in}
@@ -17,7 +17,7 @@ use Rattle.rtrb.specs.declared.producer.Producer.{Producer}
 use Rattle.rtrb.specs.declared.consumer.Consumer.{Consumer}
 use Rattle.issuer_fold.proofs.FoldLaws.{rows_after-append, replies_to-append}
 use Rattle.issuer_words.specs.Words.{ReplyBody, Rows, replies_to, rows_after}
-use Rattle.file_batch_laws.proofs.Lists.{each_more}
+use Rattle.file_laws.proofs.Lists.{each_more}
 
 one_more : {A : Type 0} (part : Piece → List A) (pieces : List Piece) (piece : Piece) → flat_map part (pieces ++ piece ∷ []) ≡ flat_map part pieces ++ part piece
 one_more {A = A} part pieces piece = flat_map-append part pieces (piece ∷ []) ∙ ap (λ (x : List A). flat_map part pieces ++ x) (append-nil (part piece))

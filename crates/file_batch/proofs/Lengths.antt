@@ -6,8 +6,8 @@ use Rattle.std.specs.List.{AllByRecursion, flat_map}
 use Rattle.std.proofs.lemmas.List.{length-map}
 use Rattle.std.proofs.lemmas.List.Folds.{flat_map-map}
 use Rattle.std.proofs.lemmas.List.Elements.{All-from_recursion, recursion_from_All}
-use Rattle.file_batch_laws.specs.Files.{IsBody, AreBodies, framed, head_text, batch_text}
-use Rattle.file_batch_laws.specs.Reading.{batch_magic}
+use Rattle.file_laws.specs.Files.{IsBody, AreBodies, framed, head_text, batch_text}
+use Rattle.file_laws.specs.Reading.{batch_magic}
 use Rattle.file_batch.specs.Bodies.{bytes_of}
 
 of_bytes : (bodies : List (Vec ℕ)) → AllByRecursion (λ body. IsBody body.items) bodies → AllByRecursion IsBody (bytes_of bodies)

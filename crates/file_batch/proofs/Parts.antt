@@ -3,8 +3,8 @@ use Rattle.std.proofs.Common.{◌≡◌, ℕ, ◌+◌, ◌-◌, ◌≤◌, ◌<�
 use Rattle.std.proofs.lemmas.List.{length-take, length-drop, drop-drop, length-append, take_at, drop_at}
 use Rattle.std.proofs.lemmas.Bool.{le-ltb, ne_eqb}
 use Rattle.byteorder.specs.Endian.{big_number}
-use Rattle.file_batch_laws.specs.Reading.{field_at, number_at, length_at, body_at}
-use Rattle.file_batch_laws.proofs.Again.{field_again}
+use Rattle.file_laws.specs.Reading.{field_at, number_at, length_at, body_at}
+use Rattle.file_laws.proofs.Again.{field_again}
 use Rattle.file_batch.specs.Window.{part}
 
 pub part_split : (xs : List ℕ) (s c e : ℕ) → s + c ≤ e → part xs s e ≡ part xs s (s + c) ++ part xs (s + c) e

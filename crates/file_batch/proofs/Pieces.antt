@@ -3,9 +3,9 @@ use Rattle.std.proofs.Common.{◌≡◌, ℕ, ◌+◌, ◌<◌, ◌≤◌, List,
 use Rattle.std.specs.List.{flat_map, AllByRecursion}
 use Rattle.std.proofs.lemmas.List.{append-nil, take-append-drop, take_more, take_all}
 use Rattle.std.proofs.lemmas.List.Concat.{flat_map-append}
-use Rattle.file_batch_laws.specs.Files.{framed}
+use Rattle.file_laws.specs.Files.{framed}
 use Rattle.file_batch.specs.Writing.{AppendsPart, Moves}
-use Rattle.file_batch_laws.proofs.Lists.{each_more}
+use Rattle.file_laws.proofs.Lists.{each_more}
 
 -- what was written since the beginning, and what is about to be written, are the text so far
 abbrev pub Progress : List ℕ → List ℕ → List ℕ → List ℕ → Type 0

@@ -1,9 +1,9 @@
 -- Bodies that are read one after the other, or several at once, and the items that stand for them.
 use Rattle.std.proofs.Common.{◌≡◌, ℕ, zero, suc, ◌+◌, List, [], ◌∷◌, ◌++◌, Result, Ok, Err, refl, sym, ap, ◌∙◌, arith}
 use Rattle.std.specs.List.{AllZip}
-use Rattle.file_batch_laws.specs.Reading.{◌>>=◌, head_at, body_at, bodies_at, bodies_of, ended}
-use Rattle.file_batch_laws.specs.declared.batch_fault.BatchFault.{BatchFault}
-use Rattle.file_batch_laws.proofs.BodiesRead.{Bodies, Read, with_front, no_front, before_them}
+use Rattle.file_laws.specs.Reading.{◌>>=◌, head_at, body_at, bodies_at, bodies_of, ended}
+use Rattle.file_laws.specs.declared.batch_fault.BatchFault.{BatchFault}
+use Rattle.file_laws.proofs.BodiesRead.{Bodies, Read, with_front, no_front, before_them}
 
 -- so many more bodies behind those that were read
 abbrev behind_them : ℕ → Bodies × List ℕ → Read

@@ -2,11 +2,11 @@
 use Rattle.std.proofs.Common.{◌≡◌, ℕ, ◌+◌, ◌<◌, List, Ok, Err, inl, inr}
 use Rattle.issuer_rows.specs.declared.reply_body.ReplyBody.{ReplyBody}
 use Rattle.std.specs.Prelude.{IsTrue}
-use Rattle.file_batch_laws.specs.BatchFault.{is_of_bytes}
-use Rattle.file_batch_laws.specs.Reading.{body_at}
-use Rattle.file_batch_laws.specs.Replies.{IsReplyText, RepliesAt, FailsAt}
-use Rattle.file_batch_laws.specs.declared.batch_fault.BatchFault.{BatchFault}
-use Rattle.file_batch_laws.specs.declared.batch_fault.BatchFault.TheVariants.{Body}
+use Rattle.file_laws.specs.BatchFault.{is_of_bytes}
+use Rattle.file_laws.specs.Reading.{body_at}
+use Rattle.file_laws.specs.Replies.{IsReplyText, RepliesAt, FailsAt}
+use Rattle.file_laws.specs.declared.batch_fault.BatchFault.{BatchFault}
+use Rattle.file_laws.specs.declared.batch_fault.BatchFault.TheVariants.{Body}
 
 -- the next body can't be read
 pub fails_in_body : (from count n : ℕ) (bytes : List ℕ) (replies : List ReplyBody) (left : List ℕ) (e : BatchFault) → n < count → RepliesAt n bytes replies left

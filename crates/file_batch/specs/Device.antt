@@ -1,8 +1,8 @@
 -- What a function that reads or writes does to its devices.
 use Rattle.std.specs.Prelude.{◌≡◌, ◌⊎◌, ◌||◌, Bool, Result, Ok, IfErr, OnOk}
-use Rattle.file_batch_laws.specs.BatchFault.{failed_after}
-use Rattle.file_batch_laws.specs.declared.batch_fault.BatchFault.{BatchFault}
-use Rattle.file_batch_laws.specs.declared.batch_fault.BatchFault.TheVariants.{Device}
+use Rattle.file_laws.specs.BatchFault.{failed_after}
+use Rattle.file_laws.specs.declared.batch_fault.BatchFault.{BatchFault}
+use Rattle.file_laws.specs.declared.batch_fault.BatchFault.TheVariants.{Device}
 
 -- over a source or a sink
 module _ {S : Type 0} (is_known : S → Type 0) (has_failed : S → Bool) (may_fail : S → Type 0) where

@@ -2,12 +2,12 @@
 use Rattle.std.specs.Prelude.{◌≡◌, List, ◌++◌, ℕ, Result, Ok, Err, IsTrue}
 use Rattle.std.specs.List.{flat_map, AllByRecursion}
 use Rattle.issuer_words.specs.Words.{Frame, ReplyBody, Rows, replies_to, rows_after}
-use Rattle.file_batch_laws.specs.BatchFault.{is_of_bytes}
-use Rattle.file_batch_laws.specs.Files.{framed, reply_text, replies_text}
-use Rattle.file_batch_laws.specs.Frames.{AreFramesOf, IsBatchOf}
-use Rattle.file_batch_laws.specs.Reading.{bodies_of, batch_magic}
-use Rattle.file_batch_laws.specs.Replies.{IsReplyBody, AreReplyBodies}
-use Rattle.file_batch_laws.specs.declared.batch_fault.BatchFault.{BatchFault}
+use Rattle.file_laws.specs.BatchFault.{is_of_bytes}
+use Rattle.file_laws.specs.Files.{framed, reply_text, replies_text}
+use Rattle.file_laws.specs.Frames.{AreFramesOf, IsBatchOf}
+use Rattle.file_laws.specs.Reading.{bodies_of, batch_magic}
+use Rattle.file_laws.specs.Replies.{IsReplyBody, AreReplyBodies}
+use Rattle.file_laws.specs.declared.batch_fault.BatchFault.{BatchFault}
 use Rattle.file_batch.specs.Counting.{count_of}
 use Rattle.file_batch.specs.declared.in_order.Answered.{Answered}
 use Rattle.file_batch.specs.declared.in_order.Decided.{Decided}

@@ -1,10 +1,10 @@
 -- What a window shows.
 use Rattle.std.specs.Prelude.{◌≡◌, ℕ, ◌+◌, ◌≤◌, List, ◌++◌, slice_range, Result, Ok, Err, IsTrue}
 use Rattle.issuer_rows.specs.declared.frame.Frame.{Frame}
-use Rattle.file_batch_laws.specs.BatchFault.{is_of_bytes}
-use Rattle.file_batch_laws.specs.Frames.{IsFrameOf}
-use Rattle.file_batch_laws.specs.Reading.{body_at}
-use Rattle.file_batch_laws.specs.declared.batch_fault.BatchFault.{BatchFault}
+use Rattle.file_laws.specs.BatchFault.{is_of_bytes}
+use Rattle.file_laws.specs.Frames.{IsFrameOf}
+use Rattle.file_laws.specs.Reading.{body_at}
+use Rattle.file_laws.specs.declared.batch_fault.BatchFault.{BatchFault}
 use Rattle.file_batch.specs.declared.window.Window.{Window}
 
 -- the bytes of a piece from start to end

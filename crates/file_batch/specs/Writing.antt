@@ -1,7 +1,7 @@
 -- What is written to a sink.
 use Rattle.std.specs.Prelude.{◌≡◌, ℕ, List, ◌++◌, length}
 use Rattle.std.specs.List.{flat_map}
-use Rattle.file_batch_laws.specs.Files.{framed, head_text}
+use Rattle.file_laws.specs.Files.{framed, head_text}
 pub use Rattle.file_devices.specs.Appending.{AppendsPart}
 
 -- a file with these letters and these items, each behind its length

@@ -1,15 +1,15 @@
 ghost use Rattle.std.specs.Prelude.{◌≡◌, ◌↔◌, ◌<◌, ◌≤◌, ◌++◌, length, Err, IfErr, IsTrue, OnOk, OnErr, All};
 ghost use Rattle.std.specs.List.{AllByRecursion};
-ghost use Rattle.file_batch_laws.specs.BatchFault.{is_of_bytes};
+ghost use Rattle.file_laws.specs.BatchFault.{is_of_bytes};
 ghost use Rattle.file_batch.specs.Device.{UsesDevice};
-ghost use Rattle.file_batch_laws.specs.Files.{IsBody, AreBodies, batch_text};
+ghost use Rattle.file_laws.specs.Files.{IsBody, AreBodies, batch_text};
 ghost use Rattle.file_batch.specs.Bodies.{bytes_of};
 ghost use Rattle.file_batch.specs.Writing.{AppendsPart};
 
 use crate::file_item::FileItem;
 use crate::writing::{PIECE, add_framed, put_items};
-use file_batch_laws::BatchFault;
 use file_devices::Sink;
+use file_laws::BatchFault;
 use std::alloc::{AllocError, Global};
 
 // Whether each body has 1 to 512 bytes.

@@ -1,16 +1,16 @@
 ghost use Rattle.std.specs.Prelude.{◌≡◌, ◌<◌, ◌≤◌, length, IfOk, IfErr};
 ghost use Rattle.file_batch.specs.Device.{UsesDevice};
-ghost use Rattle.file_batch_laws.specs.Reading.{Gives, magic_at, number_at, version_at, count_at, head_at, length_at, body_at};
+ghost use Rattle.file_laws.specs.Reading.{Gives, magic_at, number_at, version_at, count_at, head_at, length_at, body_at};
 ghost use Rattle.file_batch.specs.Window.{ahead};
 
 use crate::window::Window;
 use byteorder::{BigEndian, ByteOrder};
-use file_batch_laws::BatchFault;
 use file_devices::Source;
+use file_laws::BatchFault;
 
 impl Window {
     /// Reads the four letters that a file begins with. Others are `Magic`.
-    #[tactic(auto, unfolding(file_batch_laws::specs::Reading::magic_at))]
+    #[tactic(auto, unfolding(file_laws::specs::Reading::magic_at))]
     pub fn read_magic<R: Source>(&mut self, source: &mut R, magic: &[u8]) -> Result<(), BatchFault>
         ensures device { UsesDevice R.is_known R.has_failed R.may_fail source.old source.new result }
         ensures memory { IfErr result (λ e. e ≡ BatchFault.OutOfMemory → length self.new.field.items < 4) }
@@ -25,7 +25,7 @@ impl Window {
     }
 
     // A number of two bytes.
-    #[tactic(auto, unfolding(file_batch_laws::specs::Reading::number_at))]
+    #[tactic(auto, unfolding(file_laws::specs::Reading::number_at))]
     pub(crate) fn read_short<R: Source>(&mut self, source: &mut R) -> Result<u16, BatchFault>
         ensures device { UsesDevice R.is_known R.has_failed R.may_fail source.old source.new result }
         ensures memory { IfErr result (λ e. e ≡ BatchFault.OutOfMemory → length self.new.field.items < 2) }
@@ -37,7 +37,7 @@ impl Window {
     }
 
     /// Reads a number of four bytes, the highest first.
-    #[tactic(auto, unfolding(file_batch_laws::specs::Reading::number_at))]
+    #[tactic(auto, unfolding(file_laws::specs::Reading::number_at))]
     pub fn read_long<R: Source>(&mut self, source: &mut R) -> Result<u32, BatchFault>
         ensures device { UsesDevice R.is_known R.has_failed R.may_fail source.old source.new result }
         ensures memory { IfErr result (λ e. e ≡ BatchFault.OutOfMemory → length self.new.field.items < 4) }
@@ -49,7 +49,7 @@ impl Window {
     }
 
     /// Reads the version, two bytes. Another than 1 is `Version`.
-    #[tactic(auto, unfolding(file_batch_laws::specs::Reading::version_at))]
+    #[tactic(auto, unfolding(file_laws::specs::Reading::version_at))]
     pub fn read_version<R: Source>(&mut self, source: &mut R) -> Result<u16, BatchFault>
         ensures device { UsesDevice R.is_known R.has_failed R.may_fail source.old source.new result }
         ensures memory { IfErr result (λ e. e ≡ BatchFault.OutOfMemory → length self.new.field.items < 2) }
@@ -64,7 +64,7 @@ impl Window {
     }
 
     /// Reads a count, four bytes. More than 65,536 is `Count`.
-    #[tactic(auto, unfolding(file_batch_laws::specs::Reading::count_at))]
+    #[tactic(auto, unfolding(file_laws::specs::Reading::count_at))]
     pub fn read_count<R: Source>(&mut self, source: &mut R) -> Result<u32, BatchFault>
         ensures device { UsesDevice R.is_known R.has_failed R.may_fail source.old source.new result }
         ensures memory { IfErr result (λ e. e ≡ BatchFault.OutOfMemory → length self.new.field.items < 4) }
@@ -80,7 +80,7 @@ impl Window {
     }
 
     // The head of a file, and its count.
-    #[tactic(auto, unfolding(file_batch_laws::specs::Reading::head_at))]
+    #[tactic(auto, unfolding(file_laws::specs::Reading::head_at))]
     pub(crate) fn read_head<R: Source>(
         &mut self,
         source: &mut R,
@@ -97,7 +97,7 @@ impl Window {
     }
 
     // The length of a body.
-    #[tactic(auto, unfolding(file_batch_laws::specs::Reading::length_at))]
+    #[tactic(auto, unfolding(file_laws::specs::Reading::length_at))]
     pub(crate) fn read_length<R: Source>(&mut self, source: &mut R) -> Result<u16, BatchFault>
         ensures device { UsesDevice R.is_known R.has_failed R.may_fail source.old source.new result }
         ensures memory { IfErr result (λ e. e ≡ BatchFault.OutOfMemory → length self.new.field.items < 2) }
@@ -112,7 +112,7 @@ impl Window {
     }
 
     // The next body, into the field.
-    #[tactic(auto, unfolding(file_batch_laws::specs::Reading::body_at))]
+    #[tactic(auto, unfolding(file_laws::specs::Reading::body_at))]
     pub(crate) fn read_body<R: Source>(&mut self, source: &mut R) -> Result<(), BatchFault>
         ensures device { UsesDevice R.is_known R.has_failed R.may_fail source.old source.new result }
         ensures gives { R.is_known source.old → Gives (λ _. self.new.field.items) result

@@ -1,5 +1,5 @@
 ghost use Rattle.std.specs.Prelude.{◌≡◌, ◌++◌, ℕ, List, OnOk};
-ghost use Rattle.file_batch_laws.specs.Files.{framed};
+ghost use Rattle.file_laws.specs.Files.{framed};
 
 use std::alloc::AllocError;
 

@@ -1,13 +1,13 @@
 ghost use Rattle.std.specs.Prelude.{◌≡◌, ◌≤◌, [], length, vec_len, IfOk, OnOk};
 ghost use Rattle.file_batch.specs.Device.{UsesDevice};
-ghost use Rattle.file_batch_laws.specs.Reading.{GivesWhole, body_at, bodies_at, ended};
-ghost use Rattle.file_batch_laws.specs.Frames.{GivesFrames, GivesBatch};
+ghost use Rattle.file_laws.specs.Reading.{GivesWhole, body_at, bodies_at, ended};
+ghost use Rattle.file_laws.specs.Frames.{GivesFrames, GivesBatch};
 ghost use Rattle.file_batch.specs.InOrder.{GivesInto};
 ghost use Rattle.file_batch.specs.Window.{ahead, GivesFrame};
 
 use crate::window::Window;
-use file_batch_laws::{BatchFault, frame_of};
 use file_devices::Source;
+use file_laws::{BatchFault, frame_of};
 use issuer_rows::Frame;
 use std::alloc::Global;
 
@@ -84,7 +84,7 @@ impl Window {
 /// Reads a batch file, all of the source: `I83B`, version 1, the number of bodies, and each behind its length. Returns a frame for each
 /// body, in order, or the first fault in reading order. The source is at its end then. `Device` is the fault exactly where a call of the
 /// source failed; and memory can run out.
-#[tactic(auto, unfolding(file_batch_laws::specs::Reading::bodies_of))]
+#[tactic(auto, unfolding(file_laws::specs::Reading::bodies_of))]
 pub fn read_batch<R: Source>(alloc: Global, source: &mut R) -> Result<Vec<Frame>, BatchFault>
     ensures device { UsesDevice R.is_known R.has_failed R.may_fail source.old source.new result }
     ensures count { IfOk result (λ frames. length frames.items ≤ 65536) }

@@ -4,8 +4,8 @@ ghost use Rattle.std.specs.Prelude.{◌≡◌, ℕ, List, [], ◌≤◌, ◌++�
 ghost use Rattle.issuer_rows.specs.Fold.{Rows, rows_after, replies_to};
 ghost use Rattle.rtrb.specs.Ring.{sent, received, SameProducer, SameConsumer};
 ghost use Rattle.file_batch.specs.Device.{UsesDevice};
-ghost use Rattle.file_batch_laws.specs.Files.{head_text};
-ghost use Rattle.file_batch_laws.specs.Reading.{bodies_at, replies_magic};
+ghost use Rattle.file_laws.specs.Files.{head_text};
+ghost use Rattle.file_laws.specs.Reading.{bodies_at, replies_magic};
 ghost use Rattle.file_batch.specs.InOrder.{GivesInto, DecidesBodies, DecidesBatch, HasReplies};
 ghost use Rattle.file_batch.specs.Counting.{is_unreadable};
 ghost use Rattle.file_batch.specs.Pieces.{AreJoined, HasCounted, HasDecided, HasTold, frames_in};
@@ -18,8 +18,8 @@ use crate::reader::{PIECE, Reader};
 use crate::signals::Signals;
 use crate::window::Window;
 use crate::writing::add_head;
-use file_batch_laws::BatchFault;
 use file_devices::Source;
+use file_laws::BatchFault;
 use issuer_fold::Prefix;
 use issuer_rows::{Book, ReplyBody};
 use issuer_view::Decide;
@@ -184,7 +184,7 @@ fn decide_bodies<T: Threads + Wait + Sync, R: Source, F: Decide + Sync>(
 /// Reads a batch file, all of the source, decides it on the book in the order of its messages, by any local decision, and makes the text
 /// of its reply file. Messages are decided in a thread of their own while the next ones are read. `Device` is the fault exactly where a
 /// call of the source failed; and memory can run out.
-#[tactic(auto, unfolding(file_batch_laws::specs::Reading::bodies_of))]
+#[tactic(auto, unfolding(file_laws::specs::Reading::bodies_of))]
 pub fn decide_in_order<T: Threads + Wait + Sync, R: Source, F: Decide + Sync>(
     rt: &T,
     alloc: Global,

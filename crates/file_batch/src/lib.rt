@@ -20,7 +20,7 @@ mod writing;
 
 pub use bodies::write_batch;
 pub use body_count::BodyCount;
-pub use file_batch_laws::BatchFault;
+pub use file_laws::BatchFault;
 pub use frames::read_batch;
 pub use in_order::{Answered, Decided, decide_in_order};
 pub use replies::{add_replies, write_replies};

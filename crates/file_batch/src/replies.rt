@@ -2,16 +2,16 @@ ghost use Rattle.std.specs.Prelude.{◌≡◌, ◌<◌, ◌≤◌, ◌^◌, ◌+
 ghost use Rattle.std.specs.List.{AllByRecursion};
 ghost use Rattle.issuer_rows.specs.declared.reply_body.ReplyBody.TheVariants as ReplyBody;
 ghost use Rattle.file_batch.specs.Device.{UsesDevice};
-ghost use Rattle.file_batch_laws.specs.Files.{reply_text, replies_text};
+ghost use Rattle.file_laws.specs.Files.{reply_text, replies_text};
 ghost use Rattle.file_batch.specs.Writing.{AppendsPart};
 ghost use Rattle.file_batch.specs.InOrder.{texts_of};
-ghost use Rattle.file_batch_laws.specs.Replies.{IsReplyBody, AreReplyBodies};
-ghost use Rattle.file_batch_laws.specs.BatchFault.{is_of_bytes};
+ghost use Rattle.file_laws.specs.Replies.{IsReplyBody, AreReplyBodies};
+ghost use Rattle.file_laws.specs.BatchFault.{is_of_bytes};
 
 use crate::file_item::FileItem;
 use crate::writing::{PIECE, add_framed, put_items};
-use file_batch_laws::BatchFault;
 use file_devices::Sink;
+use file_laws::BatchFault;
 use iso_codec::encode_reply;
 use issuer_rows::{FrameFault, ReplyBody};
 use std::alloc::{AllocError, Global};

@@ -1,11 +1,11 @@
 ghost use Rattle.std.specs.Prelude.{◌≡◌, ◌+◌, ◌<◌, ◌≤◌, ◌^◌, [], length, vec_len, IfOk, OnOk};
 ghost use Rattle.file_batch.specs.Device.{UsesDevice};
-ghost use Rattle.file_batch_laws.specs.Replies.{GivesReplies, GivesReplyFile};
+ghost use Rattle.file_laws.specs.Replies.{GivesReplies, GivesReplyFile};
 ghost use Rattle.file_batch.specs.Window.{ahead};
 
 use crate::window::Window;
-use file_batch_laws::{BatchFault, reply_of};
 use file_devices::Source;
+use file_laws::{BatchFault, reply_of};
 use issuer_rows::ReplyBody;
 use std::alloc::Global;
 
@@ -39,7 +39,7 @@ impl Window {
 /// Reads a reply file, all of the source: `I83R`, version 1, the number of replies, and each behind its length. Returns the replies, in
 /// order, or the first fault in reading order. A body that is the text of no reply and of no fault is `Body` with its number, counted
 /// from 0. The source is at its end then. `Device` is the fault exactly where a call of the source failed; and memory can run out.
-#[tactic(auto, unfolding(file_batch_laws::specs::Reading::bodies_of))]
+#[tactic(auto, unfolding(file_laws::specs::Reading::bodies_of))]
 pub fn read_replies<R: Source>(alloc: Global, source: &mut R) -> Result<Vec<ReplyBody>, BatchFault>
     ensures device { UsesDevice R.is_known R.has_failed R.may_fail source.old source.new result }
     ensures count { IfOk result (λ replies. length replies.items ≤ 65536) }

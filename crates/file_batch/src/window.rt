@@ -1,8 +1,8 @@
 ghost use Rattle.std.specs.Prelude.{◌<◌, ◌≤◌, length};
 
 use byteorder::{BigEndian, ByteOrder};
-use file_batch_laws::BatchFault;
 use file_devices::Source;
+use file_laws::BatchFault;
 use std::alloc::{AllocError, Global};
 
 // How many bytes are asked for at once.
@@ -25,9 +25,9 @@ pub struct Window {
 
 impl Window {
     ghost use Rattle.std.specs.Prelude.{◌≡◌, ◌+◌, ◌<◌, ◌≤◌, ◌++◌, [], length, OnOk, OnErr, IfOk, IfErr, IfSome, IsTrue};
-    ghost use Rattle.file_batch_laws.specs.BatchFault.{is_of_bytes};
+    ghost use Rattle.file_laws.specs.BatchFault.{is_of_bytes};
     ghost use Rattle.file_batch.specs.Device.{UsesDevice};
-    ghost use Rattle.file_batch_laws.specs.Reading.{Gives, field_at};
+    ghost use Rattle.file_laws.specs.Reading.{Gives, field_at};
     ghost use Rattle.file_batch.specs.Window.{part, ahead, HasBody};
 
     /// A window of which nothing was taken yet. Memory can run out.

@@ -2,14 +2,14 @@ ghost use Rattle.std.specs.Prelude.{◌≡◌, ◌<◌, ◌≤◌, ◌^◌, ◌+
 ghost use Rattle.std.specs.List.{AllByRecursion};
 ghost use Rattle.byteorder.specs.Endian.{big_bytes};
 ghost use Rattle.file_batch.specs.Device.{UsesDevice};
-ghost use Rattle.file_batch_laws.specs.Files.{framed, head_text};
+ghost use Rattle.file_laws.specs.Files.{framed, head_text};
 ghost use Rattle.file_batch.specs.Writing.{AppendsPart, Moves, items_text};
-ghost use Rattle.file_batch_laws.specs.BatchFault.{is_of_bytes};
+ghost use Rattle.file_laws.specs.BatchFault.{is_of_bytes};
 
 use crate::file_item::FileItem;
 use byteorder::{BigEndian, ByteOrder};
-use file_batch_laws::BatchFault;
 use file_devices::Sink;
+use file_laws::BatchFault;
 use std::alloc::AllocError;
 
 /// How many bytes are written at once, at least.
@@ -67,7 +67,7 @@ pub fn add_long(out: &mut Vec<u8>, number: u32) -> Result<(), AllocError>
 }
 
 /// Appends the head of a file: its letters, version 1 in two bytes and a count in four. Memory can run out.
-#[tactic(auto, unfolding(file_batch_laws::specs::Files::head_text))]
+#[tactic(auto, unfolding(file_laws::specs::Files::head_text))]
 pub fn add_head(out: &mut Vec<u8>, magic: &[u8], count: u32) -> Result<(), AllocError>
     ensures { OnOk result (out.new.items ≡ out.old.items ++ head_text magic.now count) }
 {

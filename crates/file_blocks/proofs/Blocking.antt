@@ -9,10 +9,10 @@ use Rattle.file_batch.specs.Counting.{count_of, plus}
 use Rattle.file_batch.specs.Writing.{AppendsPart}
 use Rattle.file_batch.specs.declared.body_count.BodyCount.{BodyCount}
 use Rattle.file_blocks.specs.declared.kept_blocks.KeptBlocks.{KeptBlocks}
-use Rattle.file_batch_laws.proofs.Steps.{nothing_left}
-use Rattle.file_batch_laws.proofs.FoldedBlocks.{one_more_rows, one_more_text, one_more_holds, blocks_replied}
+use Rattle.file_laws.proofs.Steps.{nothing_left}
+use Rattle.file_laws.proofs.FoldedBlocks.{one_more_rows, one_more_text, one_more_holds, blocks_replied}
 use Rattle.file_batch.proofs.Counting.{one_more_count}
-use Rattle.file_batch_laws.proofs.InTurn.{one_more}
+use Rattle.file_laws.proofs.InTurn.{one_more}
 
 pub starts : (opening : Rows) (reads : Type 0) (bytes : List ℕ) (puts : Type 0) (old : List ℕ) → AreDecided opening opening 0 (count_of []) reads bytes bytes puts old old
 starts opening reads bytes puts old =

@@ -3,8 +3,8 @@ use Rattle.std.proofs.Common.{◌≡◌, ℕ, List, [], ◌∷◌, ◌++◌, len
 use Rattle.std.specs.Global.{Vec}
 use Rattle.std.proofs.lemmas.List.{length-map, map-append}
 use Rattle.file_batch.specs.Words.{InTurn, IsFileInTurn, block_head_at, ended}
-use Rattle.file_batch_laws.proofs.InTurn.{one_more}
-use Rattle.file_batch_laws.proofs.Steps.{nothing_left}
+use Rattle.file_laws.proofs.InTurn.{one_more}
+use Rattle.file_laws.proofs.Steps.{nothing_left}
 
 -- the items of each block
 abbrev pub items_of : {A : Type 0} → List (Vec A) → List (List A)

@@ -1,12 +1,12 @@
 ghost use Rattle.std.specs.Prelude.{◌≡◌, ◌⊎◌, ◌||◌, [], IfOk, IfErr, IsTrue, OnOk};
-ghost use Rattle.file_batch_laws.specs.BatchFault.{failed_at};
+ghost use Rattle.file_laws.specs.BatchFault.{failed_at};
 ghost use Rattle.file_blocks.specs.BlockDecider.{IsBlockDecider};
 ghost use Rattle.file_blocks.specs.Blocks.{AreAllDecided, StopsBefore, StopsInHead, StopsInBlocks};
 
 use crate::kept_blocks::KeptBlocks;
 use file_batch::BodyCount;
-use file_batch_laws::BatchFault;
 use file_devices::{Sink, Source};
+use file_laws::BatchFault;
 use issuer_fold::InPlace;
 use issuer_rows::{Book, Frame};
 use std::alloc::{AllocError, Global};

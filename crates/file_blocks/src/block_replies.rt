@@ -8,8 +8,8 @@ ghost use Rattle.file_batch.specs.Window.{ahead};
 
 use crate::blocks::read_block_head;
 use file_batch::Window;
-use file_batch_laws::BatchFault;
 use file_devices::Source;
+use file_laws::BatchFault;
 use issuer_rows::ReplyBody;
 use std::alloc::Global;
 

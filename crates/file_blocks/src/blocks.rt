@@ -7,13 +7,13 @@ ghost use Rattle.file_batch.specs.Writing.{AppendsPart};
 ghost use Rattle.file_batch.specs.Window.{ahead};
 
 use file_batch::{Window, add_long, add_replies, put_all};
-use file_batch_laws::BatchFault;
 use file_devices::{Sink, Source};
+use file_laws::BatchFault;
 use issuer_rows::{Frame, ReplyBody};
 use std::alloc::{AllocError, Global};
 
 // The number of blocks.
-#[tactic(auto, unfolding(file_batch_laws::specs::Blocks::block_count_at))]
+#[tactic(auto, unfolding(file_laws::specs::Blocks::block_count_at))]
 fn read_block_count<R: Source>(window: &mut Window, source: &mut R) -> Result<u32, BatchFault>
     ensures device { UsesDevice R.is_known R.has_failed R.may_fail source.old source.new result }
     ensures memory { IfErr result (λ e. e ≡ BatchFault.OutOfMemory → length window.new.field.items < 4) }
@@ -29,7 +29,7 @@ fn read_block_count<R: Source>(window: &mut Window, source: &mut R) -> Result<u3
 }
 
 /// The head of a file of blocks, and its number of blocks.
-#[tactic(auto, unfolding(file_batch_laws::specs::Blocks::block_head_at))]
+#[tactic(auto, unfolding(file_laws::specs::Blocks::block_head_at))]
 pub(crate) fn read_block_head<R: Source>(
     window: &mut Window,
     source: &mut R,
@@ -46,7 +46,7 @@ pub(crate) fn read_block_head<R: Source>(
 }
 
 /// The frames of the next block.
-#[tactic(auto, unfolding(file_batch_laws::specs::Blocks::block_at))]
+#[tactic(auto, unfolding(file_laws::specs::Blocks::block_at))]
 pub(crate) fn read_block<R: Source>(
     window: &mut Window,
     alloc: Global,

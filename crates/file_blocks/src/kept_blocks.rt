@@ -10,8 +10,8 @@ ghost use Rattle.file_batch.specs.Window.{ahead};
 
 use crate::blocks::{read_block, read_block_head, write_block};
 use file_batch::{BodyCount, Window, add_head, put_all};
-use file_batch_laws::BatchFault;
 use file_devices::{Sink, Source};
+use file_laws::BatchFault;
 use issuer_fold::InPlace;
 use issuer_rows::{Book, Frame};
 use std::alloc::{AllocError, Global};

@@ -1,9 +1,9 @@
 -- Going over the blocks of a file one by one.
 use Rattle.std.proofs.Common.{◌≡◌, ℕ, suc, ◌+◌, ◌<◌, List, [], ◌∷◌, ◌++◌, length, map, Err, refl, sym, subst, ◌∙◌, inl, inr, arith}
 use Rattle.std.proofs.lemmas.List.{length-append, map-append}
-use Rattle.file_batch_laws.specs.Blocks.{InTurn, block_at}
-use Rattle.file_batch_laws.specs.Reading.{ended}
-use Rattle.file_batch_laws.specs.declared.batch_fault.BatchFault.{BatchFault}
+use Rattle.file_laws.specs.Blocks.{InTurn, block_at}
+use Rattle.file_laws.specs.Reading.{ended}
+use Rattle.file_laws.specs.declared.batch_fault.BatchFault.{BatchFault}
 use Rattle.file_listing.specs.BlockLines.{FailsAmongBlocks, HasBlock, HasTextOf, HaveTextsOf}
 use Rattle.file_listing.specs.BodyLines.{body_lines}
 

@@ -7,20 +7,20 @@ use Rattle.std.proofs.lemmas.List.{append-nil, append_cancel_right}
 use Rattle.std.proofs.lemmas.List.Elements.{All-from_recursion, recursion_from_All}
 use Rattle.std.proofs.lemmas.Slice.Eq.{bytes_eq-Decides}
 use Rattle.byteorder.specs.Endian.{big_bytes}
-use Rattle.file_batch_laws.specs.Blocks.{InTurn, block_at, block_count_at, block_head_at, blocks_magic}
-use Rattle.file_batch_laws.specs.Files.{AreBodies, IsBatch, IsBody, batch_text, framed, head_text}
-use Rattle.file_batch_laws.specs.Reading.{◌>>=◌, batch_magic, bodies_at, bodies_of, count_at, field_at, head_at, magic_at, number_at, version_at}
-use Rattle.file_batch_laws.specs.declared.batch_fault.BatchFault.{BatchFault}
-use Rattle.file_batch_laws.specs.declared.batch_fault.BatchFault.TheVariants.{Blocks, Magic}
-use Rattle.file_batch_laws.proofs.Again.{bodies_again, magic_again, version_again}
-use Rattle.file_batch_laws.proofs.Once.{batch_taken, AreBytes, front_of, rest_of}
+use Rattle.file_laws.specs.Blocks.{InTurn, block_at, block_count_at, block_head_at, blocks_magic}
+use Rattle.file_laws.specs.Files.{AreBodies, IsBatch, IsBody, batch_text, framed, head_text}
+use Rattle.file_laws.specs.Reading.{◌>>=◌, batch_magic, bodies_at, bodies_of, count_at, field_at, head_at, magic_at, number_at, version_at}
+use Rattle.file_laws.specs.declared.batch_fault.BatchFault.{BatchFault}
+use Rattle.file_laws.specs.declared.batch_fault.BatchFault.TheVariants.{Blocks, Magic}
+use Rattle.file_laws.proofs.Again.{bodies_again, magic_again, version_again}
+use Rattle.file_laws.proofs.Once.{batch_taken, AreBytes, front_of, rest_of}
 use Rattle.file_listing.specs.Bodies as listing
 use Rattle.file_listing.specs.BlockLines.{ArePackedFrom, AreTextsOf, HasBlock}
 use Rattle.file_listing.specs.BlockText.{block_text}
 use Rattle.file_listing.specs.BodyLines.{body_lines}
 use Rattle.file_listing.proofs.Fronts.{block_front, counted_at, counted_front, field_taken}
 use Rattle.file_listing.proofs.PackedAgain.{bodies_are_bytes, read_lines}
-use Rattle.file_batch_laws.proofs.Steps.{bind_ok, fault_not_found, test_passed}
+use Rattle.file_laws.proofs.Steps.{bind_ok, fault_not_found, test_passed}
 
 abbrev Block : Type 0
 Block = List (List ℕ)

@@ -5,10 +5,10 @@ use Rattle.std.specs.List.{AllByRecursion}
 use Rattle.std.proofs.lemmas.List.{length-append, length-drop}
 use Rattle.std.proofs.Math.Seq.{drop-length}
 use Rattle.issuer_rows.specs.declared.reply_body.ReplyBody.{ReplyBody}
-use Rattle.file_batch_laws.specs.Reading.{◌>>=◌, body_at, bodies_at, bodies_of, ended, replies_magic}
-use Rattle.file_batch_laws.specs.Replies.{AreRepliesOf, IsReplyFileOf, FailsAsReplies, IsNoReply}
-use Rattle.file_batch_laws.specs.declared.batch_fault.BatchFault.{BatchFault}
-use Rattle.file_batch_laws.specs.declared.batch_fault.BatchFault.TheVariants.{Body, Trailing}
+use Rattle.file_laws.specs.Reading.{◌>>=◌, body_at, bodies_at, bodies_of, ended, replies_magic}
+use Rattle.file_laws.specs.Replies.{AreRepliesOf, IsReplyFileOf, FailsAsReplies, IsNoReply}
+use Rattle.file_laws.specs.declared.batch_fault.BatchFault.{BatchFault}
+use Rattle.file_laws.specs.declared.batch_fault.BatchFault.TheVariants.{Body, Trailing}
 use Rattle.file_listing.proofs.OneMore.{Read, then_one, one_more_read}
 use Rattle.file_listing.specs.Places.{IsBodyOf, IsBlockAt, AreBlocks, IsBlockOf, IsWrongBody, IsWholeFile, IsBatchPlace, fault_of_batch, fault_of_body}
 use Rattle.file_listing.specs.declared.batch_place.BatchPlace.{BatchPlace}
@@ -17,8 +17,8 @@ use Rattle.file_listing.specs.declared.body_kind.BodyKind.{BodyKind}
 use Rattle.file_listing.specs.declared.body_kind.BodyKind.TheVariants.{Message, Reply}
 use Rattle.file_listing.specs.declared.wrong_body.WrongBody.{WrongBody}
 use Rattle.file_listing.specs.declared.wrong_body.WrongBody.TheVariants as wrong
-use Rattle.file_batch_laws.proofs.Steps.{ended_more}
-use Rattle.file_batch_laws.proofs.InTurn.{one_more}
+use Rattle.file_laws.proofs.Steps.{ended_more}
+use Rattle.file_laws.proofs.InTurn.{one_more}
 
 -- ---- blocks
 

@@ -4,12 +4,12 @@ use Rattle.std.specs.Prelude.{◌||◌}
 use Rattle.std.proofs.lemmas.Bool.{ltb-false}
 use Rattle.std.proofs.lemmas.List.{take-append-drop, length-take-le}
 use Rattle.byteorder.specs.Endian.{big_number}
-use Rattle.file_batch_laws.specs.Blocks.{block_at}
-use Rattle.file_batch_laws.specs.Reading.{◌>>=◌, field_at, number_at, version_at, count_at, length_at, body_at, bodies_at}
-use Rattle.file_batch_laws.specs.declared.batch_fault.BatchFault.{BatchFault}
-use Rattle.file_batch_laws.specs.declared.batch_fault.BatchFault.TheVariants.{Ended, Version, Count, Length}
-use Rattle.file_batch_laws.proofs.Steps.{bind_ok, ok_injective, fault_not_found}
-use Rattle.file_batch_laws.proofs.Again.{field_again}
+use Rattle.file_laws.specs.Blocks.{block_at}
+use Rattle.file_laws.specs.Reading.{◌>>=◌, field_at, number_at, version_at, count_at, length_at, body_at, bodies_at}
+use Rattle.file_laws.specs.declared.batch_fault.BatchFault.{BatchFault}
+use Rattle.file_laws.specs.declared.batch_fault.BatchFault.TheVariants.{Ended, Version, Count, Length}
+use Rattle.file_laws.proofs.Steps.{bind_ok, ok_injective, fault_not_found}
+use Rattle.file_laws.proofs.Again.{field_again}
 
 abbrev Read : Type 0 → Type 0
 Read A = Result (A × List ℕ) BatchFault

@@ -1,8 +1,8 @@
 -- One body more behind those that were read.
 use Rattle.std.proofs.Common.{◌≡◌, ℕ, zero, suc, ◌≤◌, List, [], ◌∷◌, ◌++◌, length, drop, Result, Ok, Err, refl, ap, ◌∙◌}
 use Rattle.std.specs.List.{AllByRecursion}
-use Rattle.file_batch_laws.specs.Reading.{◌>>=◌, body_at, bodies_at}
-use Rattle.file_batch_laws.specs.declared.batch_fault.BatchFault.{BatchFault}
+use Rattle.file_laws.specs.Reading.{◌>>=◌, body_at, bodies_at}
+use Rattle.file_laws.specs.declared.batch_fault.BatchFault.{BatchFault}
 use Rattle.file_listing.specs.Places.{IsBodyOf, IsBodyAt, IsMessageText, AreBodies}
 use Rattle.file_listing.specs.declared.body_kind.BodyKind.{BodyKind}
 use Rattle.file_listing.specs.declared.body_kind.BodyKind.TheVariants.{Message}

@@ -5,9 +5,9 @@ use Rattle.std.proofs.lemmas.Bool.{ne_eqb}
 use Rattle.std.proofs.lemmas.List.Elements.{recursion_from_All}
 use Rattle.hex.specs.Hex.{IsBytes, encode_lower, encode_with, hex_digit_value, lower_digits}
 use Rattle.hex.proofs.HexLemmas.{IsDigits-lower_digits, decode_of-encode_lower}
-use Rattle.file_batch_laws.specs.Files.{IsBody, batch_text, framed, head_text}
-use Rattle.file_batch_laws.specs.Reading.{batch_magic}
-use Rattle.file_batch_laws.proofs.Once.{batch_taken, AreBytes, front_of, rest_of}
+use Rattle.file_laws.specs.Files.{IsBody, batch_text, framed, head_text}
+use Rattle.file_laws.specs.Reading.{batch_magic}
+use Rattle.file_laws.proofs.Once.{batch_taken, AreBytes, front_of, rest_of}
 use Rattle.byteorder.specs.Endian.{big_bytes}
 use Rattle.file_listing.specs.Bodies.{alone, behind, bodies_from, bodies_of, body_of, fitting, line_bodies, lines_of, then_bodies, with_first}
 use Rattle.file_listing.specs.BodyLines.{IsPackedFrom, IsTextOf, body_lines}

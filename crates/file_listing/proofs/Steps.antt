@@ -3,9 +3,9 @@ use Rattle.std.proofs.Common.{◌≡◌, ℕ, suc, map, List, [], ◌∷◌, ◌
 use Rattle.std.proofs.lemmas.List.{append-nil, map-append}
 use Rattle.std.proofs.lemmas.List.Concat.{flat_map-append}
 use Rattle.std.specs.Global.{Vec}
-use Rattle.file_batch_laws.specs.Reading.{◌>>=◌, body_at, bodies_at}
-use Rattle.file_batch_laws.specs.declared.batch_fault.BatchFault.{BatchFault}
-use Rattle.file_batch_laws.proofs.BodiesRead.{Bodies, Read, with_front, no_front, before_them}
+use Rattle.file_laws.specs.Reading.{◌>>=◌, body_at, bodies_at}
+use Rattle.file_laws.specs.declared.batch_fault.BatchFault.{BatchFault}
+use Rattle.file_laws.proofs.BodiesRead.{Bodies, Read, with_front, no_front, before_them}
 use Rattle.file_listing.specs.BodyLines.{HasLinesOf, body_line, body_lines}
 
 pub moved : (front : Bodies) (body : List ℕ) (read : Read) → with_front front (read >>= before_them body) ≡ with_front (front ++ body ∷ []) read

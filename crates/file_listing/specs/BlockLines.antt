@@ -1,8 +1,8 @@
 -- The texts of a block file: of each block the text of its bodies.
 use Rattle.std.specs.Prelude.{◌≡◌, ◌⊎◌, ℕ, List, length, map, Ok, Err}
 use Rattle.std.specs.List.{AllZip}
-use Rattle.file_batch_laws.specs.Blocks.{FailsBehind, InTurn, IsFileInTurn, block_at, block_head_at, blocks_magic}
-use Rattle.file_batch_laws.specs.declared.batch_fault.BatchFault.{BatchFault}
+use Rattle.file_laws.specs.Blocks.{FailsBehind, InTurn, IsFileInTurn, block_at, block_head_at, blocks_magic}
+use Rattle.file_laws.specs.declared.batch_fault.BatchFault.{BatchFault}
 use Rattle.file_listing.specs.Bodies.{bodies_of}
 use Rattle.file_listing.specs.BlockText.{block_file_text}
 use Rattle.file_listing.specs.BodyLines.{body_lines}

@@ -2,9 +2,9 @@
 use Rattle.std.specs.Prelude.{◌≤◌, ℕ, List, ◌++◌, length}
 use Rattle.std.specs.List.{AllByRecursion, flat_map}
 use Rattle.byteorder.specs.Endian.{big_bytes}
-use Rattle.file_batch_laws.specs.Blocks.{blocks_magic}
-use Rattle.file_batch_laws.specs.Files.{AreBodies, framed, head_text}
-pub use Rattle.file_batch_laws.specs.Files.{all_bodies}
+use Rattle.file_laws.specs.Blocks.{blocks_magic}
+use Rattle.file_laws.specs.Files.{AreBodies, framed, head_text}
+pub use Rattle.file_laws.specs.Files.{all_bodies}
 
 -- how many bodies, and the bodies
 abbrev pub block_text : List (List ℕ) → List ℕ

@@ -2,9 +2,9 @@
 use Rattle.std.specs.Prelude.{◌≡◌, ℕ, List, [], ◌∷◌, ◌++◌, Ok}
 use Rattle.std.specs.List.{flat_map}
 use Rattle.hex.specs.Hex.{encode_lower}
-use Rattle.file_batch_laws.specs.Files.{batch_text}
-use Rattle.file_batch_laws.specs.Reading.{batch_magic, bodies_at}
-use Rattle.file_batch_laws.specs.Reading as batch
+use Rattle.file_laws.specs.Files.{batch_text}
+use Rattle.file_laws.specs.Reading.{batch_magic, bodies_at}
+use Rattle.file_laws.specs.Reading as batch
 use Rattle.file_listing.specs.Bodies as listing
 
 -- the line of a body

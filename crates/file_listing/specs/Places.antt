@@ -5,11 +5,11 @@ use Rattle.issuer_words.specs.Words.{Message, ReplyBody}
 use Rattle.iso_laws.specs.Messages.{Spells}
 use Rattle.iso_laws.specs.Reading.{reading}
 use Rattle.iso_laws.specs.Types.{taken_in}
-use Rattle.file_batch_laws.specs.Blocks.{InTurn, block_at, block_head_at}
-use Rattle.file_batch_laws.specs.Reading.{batch_magic, field_at, number_at, magic_at, version_at, count_at, head_at, body_at, bodies_at}
-use Rattle.file_batch_laws.specs.Replies.{IsReplyText}
-use Rattle.file_batch_laws.specs.declared.batch_fault.BatchFault.{BatchFault}
-use Rattle.file_batch_laws.specs.declared.batch_fault.BatchFault.TheVariants as fault
+use Rattle.file_laws.specs.Blocks.{InTurn, block_at, block_head_at}
+use Rattle.file_laws.specs.Reading.{batch_magic, field_at, number_at, magic_at, version_at, count_at, head_at, body_at, bodies_at}
+use Rattle.file_laws.specs.Replies.{IsReplyText}
+use Rattle.file_laws.specs.declared.batch_fault.BatchFault.{BatchFault}
+use Rattle.file_laws.specs.declared.batch_fault.BatchFault.TheVariants as fault
 use Rattle.file_listing.specs.declared.batch_place.BatchPlace.{BatchPlace}
 use Rattle.file_listing.specs.declared.batch_place.BatchPlace.TheVariants as batch
 use Rattle.file_listing.specs.declared.block_place.BlockPlace.{BlockPlace}

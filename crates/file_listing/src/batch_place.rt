@@ -3,7 +3,7 @@ ghost use Rattle.file_listing.specs.Places.{fault_of_batch};
 
 use crate::body_place::BodyPlace;
 use crate::head_fault::HeadFault;
-use file_batch_laws::BatchFault;
+use file_laws::BatchFault;
 
 /// The first fault of a file of a batch or of replies.
 #[derive(Clone, Copy, Debug, PartialEq, Eq)]

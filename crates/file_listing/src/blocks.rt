@@ -1,10 +1,10 @@
 ghost use Rattle.std.specs.Prelude.{◌≡◌, ◌≢◌, Err, IfOk, IfErr, map};
-ghost use Rattle.file_batch_laws.specs.Blocks.{block_at};
+ghost use Rattle.file_laws.specs.Blocks.{block_at};
 ghost use Rattle.file_listing.specs.BlockLines.{AreTextsOf, FailsAmongBlocks, FailsAsBlockFile, HasTextOf, HaveTextsOf};
 
 use crate::head::{block_head_at, count_at};
 use crate::lines::lines_of_bodies;
-use file_batch_laws::BatchFault;
+use file_laws::BatchFault;
 use std::alloc::Global;
 
 /// The bodies of each block of a block file as a text, a line each, in hexadecimal digits of lower case. It fails with the first fault of the
@@ -48,7 +48,7 @@ fn texts_at(alloc: Global, count: u32, bytes: &[u8]) -> Result<(Vec<Vec<u8>>, &[
 }
 
 // The text of a block, and the bytes behind it.
-#[tactic(auto, unfolding(file_batch_laws::specs::Blocks::block_at))]
+#[tactic(auto, unfolding(file_laws::specs::Blocks::block_at))]
 fn text_of_block(alloc: Global, bytes: &[u8]) -> Result<(Vec<u8>, &[u8]), BatchFault>
     ensures text { IfOk result (λ parts. HasTextOf bytes.now parts.0.items parts.1.now) }
     ensures fault { IfErr result (λ fault. fault ≢ BatchFault.OutOfMemory → block_at bytes.now ≡ Err fault) }

@@ -4,7 +4,7 @@ ghost use Rattle.file_listing.specs.Places.{fault_of_blocks};
 use crate::block_place::BlockPlace;
 use crate::head_fault::HeadFault;
 use crate::wrong_block::WrongBlock;
-use file_batch_laws::BatchFault;
+use file_laws::BatchFault;
 
 /// The first fault of a file of blocks or of their replies.
 #[derive(Clone, Copy, Debug, PartialEq, Eq)]

@@ -2,7 +2,7 @@ ghost use Rattle.std.specs.Prelude.{◌≡◌};
 ghost use Rattle.file_listing.specs.Places.{fault_of_body};
 
 use crate::wrong_body::WrongBody;
-use file_batch_laws::BatchFault;
+use file_laws::BatchFault;
 
 /// The first body that is wrong.
 #[derive(Clone, Copy, Debug, PartialEq, Eq)]

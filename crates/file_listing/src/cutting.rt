@@ -1,14 +1,14 @@
 ghost use Rattle.std.specs.Prelude.{◌≡◌, ◌≢◌, Ok, Err, IfOk, IfErr, map};
-ghost use Rattle.file_batch_laws.specs.Reading.{batch_magic, bodies_at, bodies_of};
+ghost use Rattle.file_laws.specs.Reading.{batch_magic, bodies_at, bodies_of};
 
 use crate::head::head_at;
 use crate::one_body::body_at;
-use file_batch_laws::BatchFault;
+use file_laws::BatchFault;
 use std::alloc::{AllocError, Global};
 
 /// The bodies of a batch file, in order, each as its bytes, whether it is a message or not. It fails with the first fault of the file in
 /// reading order, as `read_batch`, or where memory runs out.
-#[tactic(auto, unfolding(file_batch_laws::specs::Reading::bodies_of))]
+#[tactic(auto, unfolding(file_laws::specs::Reading::bodies_of))]
 pub fn bodies_of_batch(alloc: Global, batch: &[u8]) -> Result<Vec<Vec<u8>>, BatchFault>
     ensures bodies { IfOk result (λ bodies. bodies_of batch_magic batch.now ≡ Ok (map (λ body. body.items) bodies.items)) }
     ensures fault { IfErr result (λ fault. fault ≢ BatchFault.OutOfMemory → bodies_of batch_magic batch.now ≡ Err fault) }

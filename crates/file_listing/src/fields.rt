@@ -1,8 +1,8 @@
 ghost use Rattle.std.specs.Prelude.{◌≡◌, Ok, Err, IfOk, IfErr};
-ghost use Rattle.file_batch_laws.specs.Reading.{field_at, number_at};
+ghost use Rattle.file_laws.specs.Reading.{field_at, number_at};
 
 use byteorder::{BigEndian, ByteOrder};
-use file_batch_laws::BatchFault;
+use file_laws::BatchFault;
 
 /// So many bytes, and the bytes behind them.
 pub(crate) fn field_at(bytes: &[u8], size: usize) -> Result<(&[u8], &[u8]), BatchFault>
@@ -16,7 +16,7 @@ pub(crate) fn field_at(bytes: &[u8], size: usize) -> Result<(&[u8], &[u8]), Batc
 }
 
 /// A number of two bytes, the highest first, and the bytes behind it.
-#[tactic(auto, unfolding(file_batch_laws::specs::Reading::number_at))]
+#[tactic(auto, unfolding(file_laws::specs::Reading::number_at))]
 pub(crate) fn short_at(bytes: &[u8]) -> Result<(u16, &[u8]), BatchFault>
     ensures ok { IfOk result (λ parts. number_at 2 bytes.now ≡ Ok (parts.0, parts.1.now)) }
     ensures err { IfErr result (λ fault. number_at 2 bytes.now ≡ Err fault) }
@@ -28,7 +28,7 @@ pub(crate) fn short_at(bytes: &[u8]) -> Result<(u16, &[u8]), BatchFault>
 }
 
 /// A number of four bytes, the highest first, and the bytes behind it.
-#[tactic(auto, unfolding(file_batch_laws::specs::Reading::number_at))]
+#[tactic(auto, unfolding(file_laws::specs::Reading::number_at))]
 pub(crate) fn long_at(bytes: &[u8]) -> Result<(u32, &[u8]), BatchFault>
     ensures ok { IfOk result (λ parts. number_at 4 bytes.now ≡ Ok (parts.0, parts.1.now)) }
     ensures err { IfErr result (λ fault. number_at 4 bytes.now ≡ Err fault) }

@@ -1,7 +1,7 @@
 ghost use Rattle.std.specs.Prelude.{◌≡◌};
 ghost use Rattle.file_listing.specs.Places.{fault_of_head};
 
-use file_batch_laws::BatchFault;
+use file_laws::BatchFault;
 
 /// What is wrong with the head of a file.
 #[derive(Clone, Copy, Debug, PartialEq, Eq)]

@@ -2,7 +2,7 @@
 
 ghost use Rattle.std.specs.Prelude.{◌≡◌, ◌<◌, ℕ, List, Ok};
 ghost use Rattle.std.specs.List.{All};
-ghost use Rattle.file_batch_laws.specs.Files.{batch_text};
+ghost use Rattle.file_laws.specs.Files.{batch_text};
 ghost use Rattle.file_listing.specs.BlockLines.{AreTextsOf, ArePackedFrom};
 ghost use Rattle.file_listing.specs.BodyLines.{IsTextOf, IsPackedFrom};
 

@@ -1,15 +1,15 @@
 ghost use Rattle.std.specs.Prelude.{◌≡◌, ◌≢◌, ◌++◌, Err, IfOk, IfErr, OnOk};
-ghost use Rattle.file_batch_laws.specs.Reading.{batch_magic, bodies_at, bodies_of};
+ghost use Rattle.file_laws.specs.Reading.{batch_magic, bodies_at, bodies_of};
 ghost use Rattle.file_listing.specs.BodyLines.{IsTextOf, HasLinesOf, body_line};
 
 use crate::head::head_at;
 use crate::one_body::body_at;
-use file_batch_laws::BatchFault;
+use file_laws::BatchFault;
 use std::alloc::{AllocError, Global};
 
 /// The bodies of a batch file as a text, a line each, in hexadecimal digits of lower case. It fails with the first fault of the file in
 /// reading order, as `read_batch`, or where memory runs out.
-#[tactic(auto, unfolding(file_batch_laws::specs::Reading::bodies_of))]
+#[tactic(auto, unfolding(file_laws::specs::Reading::bodies_of))]
 pub fn lines_of_batch(alloc: Global, batch: &[u8]) -> Result<Vec<u8>, BatchFault>
     ensures lines { IfOk result (λ text. IsTextOf batch.now text.items) }
     ensures fault { IfErr result (λ fault. fault ≢ BatchFault.OutOfMemory → bodies_of batch_magic batch.now ≡ Err fault) }

@@ -1,7 +1,7 @@
 ghost use Rattle.std.specs.Prelude.{◌≡◌, List, Err, IsOk, IfOk, IfErr, IfSome, IfNone};
 ghost use Rattle.issuer_rows.specs.declared.reply_body.ReplyBody.{ReplyBody};
-ghost use Rattle.file_batch_laws.specs.Reading.{bodies_of, batch_magic, replies_magic};
-ghost use Rattle.file_batch_laws.specs.Replies.{IsReplyFileOf, FailsAsReplies};
+ghost use Rattle.file_laws.specs.Reading.{bodies_of, batch_magic, replies_magic};
+ghost use Rattle.file_laws.specs.Replies.{IsReplyFileOf, FailsAsReplies};
 ghost use Rattle.file_listing.specs.Places.{IsWholeFile, IsBatchPlace, fault_of_batch};
 
 use crate::batch_place::BatchPlace;

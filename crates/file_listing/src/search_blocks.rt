@@ -1,5 +1,5 @@
 ghost use Rattle.std.specs.Prelude.{◌≡◌, ◌≤◌, length, IfOk, IfErr, IfSome, IfNone};
-ghost use Rattle.file_batch_laws.specs.Blocks.{blocks_magic, block_replies_magic};
+ghost use Rattle.file_laws.specs.Blocks.{blocks_magic, block_replies_magic};
 ghost use Rattle.file_listing.specs.Places.{AreBlocks, IsBlockAt, IsBlockPlace, IsBlocksPlace, IsWholeBlockFile, IsWrongBlock};
 
 use crate::block_place::BlockPlace;
@@ -14,7 +14,7 @@ use crate::wrong_block::WrongBlock;
 const HEAD: usize = 10;
 
 // The byte behind the block whose count begins at this byte.
-#[tactic(auto, unfolding(file_batch_laws::specs::Reading::count_at, file_batch_laws::specs::Blocks::block_at))]
+#[tactic(auto, unfolding(file_laws::specs::Reading::count_at, file_laws::specs::Blocks::block_at))]
 fn block_end(file: &[u8], at: usize, kind: BodyKind) -> Result<usize, WrongBlock>
     requires { at ≤ length file.now }
     ensures ok { IfOk result (IsBlockAt kind file.now at) }

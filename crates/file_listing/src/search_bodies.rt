@@ -6,7 +6,7 @@ use crate::body_kind::BodyKind;
 use crate::body_place::BodyPlace;
 use crate::search_fields::{field, short};
 use crate::wrong_body::WrongBody;
-use file_batch_laws::reply_of;
+use file_laws::reply_of;
 
 // Whether the body is one of this kind.
 fn is_body_of(kind: BodyKind, body: &[u8]) -> bool
@@ -20,7 +20,7 @@ fn is_body_of(kind: BodyKind, body: &[u8]) -> bool
 }
 
 /// The body whose length begins at this byte.
-#[tactic(auto, unfolding(file_batch_laws::specs::Reading::length_at, file_batch_laws::specs::Reading::body_at))]
+#[tactic(auto, unfolding(file_laws::specs::Reading::length_at, file_laws::specs::Reading::body_at))]
 pub(crate) fn body_at_byte(file: &[u8], at: usize) -> Result<&[u8], WrongBody>
     requires { at ≤ length file.now }
     ensures ok { IfOk result (λ body. IsFramedAt file.now at body.now) }

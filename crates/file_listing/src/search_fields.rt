@@ -1,6 +1,6 @@
 ghost use Rattle.std.specs.Prelude.{◌≡◌, ◌+◌, ◌≤◌, length, drop, Ok, Err, IfSome, IfNone};
-ghost use Rattle.file_batch_laws.specs.Reading.{field_at, number_at};
-ghost use Rattle.file_batch_laws.specs.declared.batch_fault.BatchFault.TheVariants.{Ended};
+ghost use Rattle.file_laws.specs.Reading.{field_at, number_at};
+ghost use Rattle.file_laws.specs.declared.batch_fault.BatchFault.TheVariants.{Ended};
 ghost use Rattle.file_listing.specs.Places.{IsFieldAt, IsNumberAt};
 
 use byteorder::{BigEndian, ByteOrder};
@@ -20,7 +20,7 @@ pub(crate) fn field(file: &[u8], at: usize, size: usize) -> Option<&[u8]>
 }
 
 /// The number of two bytes there.
-#[tactic(auto, unfolding(file_batch_laws::specs::Reading::number_at))]
+#[tactic(auto, unfolding(file_laws::specs::Reading::number_at))]
 pub(crate) fn short(file: &[u8], at: usize) -> Option<u16>
     requires { at ≤ length file.now }
     ensures found { IfSome result (IsNumberAt file.now at 2) }
@@ -33,7 +33,7 @@ pub(crate) fn short(file: &[u8], at: usize) -> Option<u16>
 }
 
 /// The number of four bytes there.
-#[tactic(auto, unfolding(file_batch_laws::specs::Reading::number_at))]
+#[tactic(auto, unfolding(file_laws::specs::Reading::number_at))]
 pub(crate) fn long(file: &[u8], at: usize) -> Option<u32>
     requires { at ≤ length file.now }
     ensures found { IfSome result (IsNumberAt file.now at 4) }

@@ -5,7 +5,7 @@ use crate::head_fault::HeadFault;
 use crate::search_fields::{field, long, short};
 
 // Sees that the file begins with these letters and version 1.
-#[tactic(auto, unfolding(file_batch_laws::specs::Reading::magic_at, file_batch_laws::specs::Reading::version_at, file_batch_laws::specs::Reading::head_at, file_batch_laws::specs::Blocks::block_head_at))]
+#[tactic(auto, unfolding(file_laws::specs::Reading::magic_at, file_laws::specs::Reading::version_at, file_laws::specs::Reading::head_at, file_laws::specs::Blocks::block_head_at))]
 fn check_letters(file: &[u8], magic: &[u8]) -> Result<(), HeadFault>
     ensures ok { IfOk result (λ _. HasLetters magic.now file.now) }
     ensures err { IfErr result (IsHeadFault magic.now file.now) }
@@ -25,7 +25,7 @@ fn check_letters(file: &[u8], magic: &[u8]) -> Result<(), HeadFault>
 }
 
 /// How many bodies the head of a file announces that begins with these letters, or what is wrong with it.
-#[tactic(auto, unfolding(file_batch_laws::specs::Reading::count_at, file_batch_laws::specs::Reading::head_at))]
+#[tactic(auto, unfolding(file_laws::specs::Reading::count_at, file_laws::specs::Reading::head_at))]
 pub(crate) fn head(file: &[u8], magic: &[u8]) -> Result<u32, HeadFault>
     ensures ok { IfOk result (IsHead magic.now file.now) }
     ensures err { IfErr result (IsHeadFault magic.now file.now) }
@@ -39,7 +39,7 @@ pub(crate) fn head(file: &[u8], magic: &[u8]) -> Result<u32, HeadFault>
 }
 
 /// How many blocks the head of a file announces that begins with these letters, or what is wrong with it.
-#[tactic(auto, unfolding(file_batch_laws::specs::Blocks::block_count_at, file_batch_laws::specs::Blocks::block_head_at))]
+#[tactic(auto, unfolding(file_laws::specs::Blocks::block_count_at, file_laws::specs::Blocks::block_head_at))]
 pub(crate) fn block_head(file: &[u8], magic: &[u8]) -> Result<u32, HeadFault>
     ensures ok { IfOk result (IsBlockHead magic.now file.now) }
     ensures err { IfErr result (IsBlockHeadFault magic.now file.now) }

@@ -2,14 +2,14 @@
 use Rattle.std.proofs.Common.{◌≡◌, ℕ, List, [], ◌∷◌, ◌++◌, Result, Ok, Err, IfOk, IfErr, IsTrue, inl, refl, subst, sym, ap, ◌∙◌}
 use Rattle.issuer_rows.specs.Fold.{Rows, rows_after}
 use Rattle.book_laws.specs.Reading.{reading}
-use Rattle.file_batch_laws.specs.Frames.{AreFramesOf}
+use Rattle.file_laws.specs.Frames.{AreFramesOf}
 use Rattle.host_serving.specs.Deciding.{Decides}
 use Rattle.host_serving.specs.declared.decider.Decider.{Decider}
 use Rattle.host_serving.proofs.Servings.{follows_more}
 use Rattle.host_serving.proofs.Takes.{both_are}
 use Rattle.host_serving.specs.Entries.{all_bodies}
-use Rattle.log_laws.specs.LogFault.{is_of_bytes}
-use Rattle.log_laws.specs.declared.log_fault.LogFault.{LogFault}
+use Rattle.file_laws.specs.LogFault.{is_of_bytes}
+use Rattle.file_laws.specs.declared.log_fault.LogFault.{LogFault}
 use Rattle.host_serving.specs.declared.host.Host.{Host}
 use Rattle.host_commands.specs.Again.{FollowsEntries, IsResumed}
 use Rattle.host_commands.specs.Opening.{book_digest, GoesOn, IsOpened}
@@ -17,7 +17,7 @@ use Rattle.host_commands.specs.OpeningFault.{IsLogFault, IsOpeningFault}
 use Rattle.host_commands.specs.declared.opened.Opened.{Opened}
 use Rattle.host_commands.specs.declared.opening_fault.OpeningFault.{OpeningFault}
 use Rattle.host_commands.specs.declared.opening_fault.OpeningFault.TheVariants.{Unreadable, Book, Log, OutOfMemory}
-use Rattle.file_batch_laws.proofs.Lists.{bodies_more}
+use Rattle.file_laws.proofs.Lists.{bodies_more}
 
 -- the messages of entries, and those of one more
 pub messages_of_more : (entries : List (List (List ℕ))) (bodies : List (List ℕ)) (old middle new : Decider)

@@ -2,20 +2,20 @@
 use Rattle.std.proofs.Common.{◌≡◌, ◌∙◌, ℕ, List, [], length, Result, Ok, ap, inl, sym, subst, arith}
 use Rattle.std.proofs.lemmas.List.{append-nil}
 use Rattle.issuer_words.specs.Words.{Frame, ReplyBody, Rows, replies_to, rows_after}
-use Rattle.file_batch_laws.specs.Blocks.{all_messages, all_replies, replies_to_blocks}
-use Rattle.file_batch_laws.specs.Frames.{AreFramesOf}
-use Rattle.file_batch_laws.proofs.FoldedBlocks.{one_book, one_list}
+use Rattle.file_laws.specs.Blocks.{all_messages, all_replies, replies_to_blocks}
+use Rattle.file_laws.specs.Frames.{AreFramesOf}
+use Rattle.file_laws.proofs.FoldedBlocks.{one_book, one_list}
 use Rattle.link_frames.specs.Incoming.{answers_of}
-use Rattle.log_laws.specs.Reading.{IsLogOf}
-use Rattle.log_laws.specs.Texts.{log_text}
-use Rattle.log_laws.specs.declared.log_fault.LogFault.{LogFault}
-use Rattle.log_laws.proofs.Readings.{one_reading}
+use Rattle.file_laws.specs.LogReading.{IsLogOf}
+use Rattle.file_laws.specs.Texts.{log_text}
+use Rattle.file_laws.specs.declared.log_fault.LogFault.{LogFault}
+use Rattle.file_laws.proofs.Readings.{one_reading}
 use Rattle.host_commands.specs.Standing.{StandsBehind}
 use Rattle.host_serving.specs.declared.host.Host.{Host}
 use Rattle.log_replay.specs.Blocks.{AreBlocksOf}
 use Rattle.log_replay.specs.Logged.{IsLogOfMessages, all_bodies, book_digest}
 use Rattle.host_commands.specs.GivenAgain.{AreGivenAgain}
-use Rattle.file_batch_laws.proofs.FrameLaws.{same_frames}
+use Rattle.file_laws.proofs.FrameLaws.{same_frames}
 use Rattle.log_replay.proofs.Reading.{Read, entries_of}
 
 same_entries : (digest bytes : List ℕ) (entries others : List (List (List ℕ))) (tail rest : List ℕ) → length digest ≡ 32 → IsLogOf digest bytes entries tail

@@ -4,7 +4,7 @@ use Rattle.std.proofs.lemmas.List.Concat.{flat_map-append}
 use Rattle.issuer_fold.proofs.FoldLaws.{rows_after-append}
 use Rattle.issuer_laws.specs.Repeated.{GetsSameReply}
 use Rattle.issuer_words.specs.Words.{Frame, Rows, overlay, reply_of, rows_after, rows_after_one, writes_of}
-use Rattle.file_batch_laws.specs.Frames.{AreFramesOf}
+use Rattle.file_laws.specs.Frames.{AreFramesOf}
 use Rattle.host_serving.specs.Deciding.{Follows}
 use Rattle.host_serving.specs.Entering.{Grows}
 use Rattle.host_serving.specs.Entries.{all_bodies, AreMessagesOf}

@@ -4,7 +4,7 @@ use Rattle.issuer_rows.specs.declared.frame.Frame.{Frame}
 use Rattle.link_frames.specs.Incoming.{frames_of}
 use Rattle.link_frames.specs.Link.{AreFrames}
 use Rattle.log_file.specs.declared.log_writer.LogWriter.{LogWriter}
-use Rattle.log_laws.specs.declared.log_fault.LogFault.TheVariants.{NoLog, Version, OtherBook, InUse, Broken, Failed, OutOfMemory as NoMemory}
+use Rattle.file_laws.specs.declared.log_fault.LogFault.TheVariants.{NoLog, Version, OtherBook, InUse, Broken, Failed, OutOfMemory as NoMemory}
 use Rattle.host_serving.proofs.Servings.{served_none, stopped_reading}
 use Rattle.host_serving.specs.Serving.{BookAfter, CameNext, FaultFits, LogBehind, Served, Stopped}
 use Rattle.host_serving.specs.declared.decider.Decider.{Decider}

@@ -1,7 +1,7 @@
 -- The messages of a log, decided again.
 use Rattle.std.specs.Prelude.{ℕ, List, ◌++◌}
 use Rattle.issuer_rows.specs.declared.frame.Frame.{Frame}
-use Rattle.log_laws.specs.Reading.{IsLogOf}
+use Rattle.file_laws.specs.LogReading.{IsLogOf}
 use Rattle.log_file.specs.Reads.{EndsAs, HasRead}
 use Rattle.log_file.specs.Writes.{HasLog}
 use Rattle.log_file.specs.declared.log_end.LogEnd.{LogEnd}

@@ -1,7 +1,7 @@
 -- What a host gave, given again by a replay of its log.
 use Rattle.std.specs.Prelude.{◌≡◌, List}
 use Rattle.issuer_words.specs.Words.{Frame, Rows, replies_to}
-use Rattle.file_batch_laws.specs.Blocks.{all_replies, replies_to_blocks, rows_after_blocks}
+use Rattle.file_laws.specs.Blocks.{all_replies, replies_to_blocks, rows_after_blocks}
 use Rattle.link_frames.specs.Incoming.{Incoming, answers_of}
 use Rattle.host_serving.specs.Deciding.{answers_to}
 use Rattle.host_serving.specs.Entering.{book_of}

@@ -3,7 +3,7 @@ use Rattle.std.specs.Prelude.{◌≡◌, ◌⊎◌, ℕ, List, [], ◌++◌, Ok}
 use Rattle.issuer_words.specs.Words.{Frame, Rows}
 use Rattle.book_laws.specs.Reading.{reading}
 pub use Rattle.book_text.specs.Digest.{book_digest}
-use Rattle.log_laws.specs.Reading.{IsLogOf, IsUnbegun}
+use Rattle.file_laws.specs.LogReading.{IsLogOf, IsUnbegun}
 use Rattle.host_commands.specs.Standing.{StandsBehind}
 use Rattle.host_serving.specs.declared.host.Host.{Host}
 

@@ -4,8 +4,8 @@ use Rattle.issuer_rows.specs.Fold.{Rows}
 use Rattle.book_laws.specs.Reading.{reading, IsAnswer}
 use Rattle.file_devices.specs.declared.read_fault.ReadFault.{ReadFault}
 use Rattle.file_devices.specs.declared.read_fault.ReadFault.TheVariants as read
-use Rattle.log_laws.specs.LogFault.{is_of_bytes}
-use Rattle.log_laws.specs.Reading.{IsReading}
+use Rattle.file_laws.specs.LogFault.{is_of_bytes}
+use Rattle.file_laws.specs.LogReading.{IsReading}
 use Rattle.host_commands.specs.Opening.{book_digest}
 use Rattle.host_commands.specs.declared.opening_fault.OpeningFault.{OpeningFault}
 use Rattle.host_commands.specs.declared.opening_fault.OpeningFault.TheVariants.{Unreadable, Book, Log, OutOfMemory}

@@ -3,7 +3,7 @@ use Rattle.std.specs.Prelude.{◌≡◌, ◌≢◌, ◌⊎◌, ℕ, List, [], �
 use Rattle.std.specs.List.{AllByRecursion}
 use Rattle.issuer_words.specs.Words.{Frame, Rows, rows_after}
 use Rattle.book_laws.specs.Reading.{reading}
-use Rattle.file_batch_laws.specs.Frames.{AreFramesOf}
+use Rattle.file_laws.specs.Frames.{AreFramesOf}
 use Rattle.link_frames.specs.Incoming.{Incoming, IsIncoming, frames_of, bodies_of}
 use Rattle.link_frames.specs.Link.{AreFrames}
 use Rattle.link_frames.specs.Replies.{AppendsPart}

@@ -4,7 +4,7 @@ ghost use Rattle.host_commands.specs.declared.opening_fault.OpeningFault.TheVari
 
 use book_laws::JsonFault;
 use file_devices::ReadFault;
-use log_laws::LogFault;
+use file_laws::LogFault;
 use std::alloc::AllocError;
 use std::fmt;
 

@@ -2,9 +2,9 @@ ghost use Rattle.std.specs.Prelude.{◌≡◌};
 ghost use Rattle.host_commands.specs.declared.serve_fault.ServeFault.TheVariants.{Opening, Serving};
 
 use crate::opening_fault::OpeningFault;
+use file_laws::LogFault;
 use host_serving::HostFault;
 use log_file::OpenFault;
-use log_laws::LogFault;
 use std::fmt;
 
 /// Why a host ends before its link does. Its text is what it is of and its number there, as `log 3`.

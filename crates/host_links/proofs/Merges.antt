@@ -21,7 +21,7 @@ use Rattle.host_links.specs.Kept.{AreCounts, IsBehind, IsKept, LogStands}
 use Rattle.host_links.specs.Turning.{Turns, StopsTurning}
 use Rattle.host_links.specs.Turns.{IsTurnOfLink, turns_of, came_on, given_to, answer_to_turn, messages_of, entries_of}
 use Rattle.host_links.specs.declared.link_turn.LinkTurn.{LinkTurn}
-use Rattle.file_batch_laws.proofs.Lists.{each_more}
+use Rattle.file_laws.proofs.Lists.{each_more}
 
 pub messages_more : (some more : List LinkTurn) → messages_of (some ++ more) ≡ messages_of some ++ messages_of more
 messages_more some more = flat_map-append (λ (turn : LinkTurn). turn.messages) some more

@@ -2,7 +2,7 @@
 use Rattle.std.proofs.Common.{◌≡◌, ◌≢◌, inl, ◌∙◌, ℕ, List, [], ◌∷◌, ◌++◌, length, ap, refl, sym, subst}
 use Rattle.issuer_words.specs.Words.{Frame, replies_to, rows_after}
 use Rattle.issuer_fold.proofs.FoldLaws.{length-replies_to}
-use Rattle.file_batch_laws.specs.Frames.{AreFramesOf}
+use Rattle.file_laws.specs.Frames.{AreFramesOf}
 use Rattle.link_frames.specs.Incoming.{Incoming, bodies_of, requests_behind, answers_of, merged}
 use Rattle.link_frames.specs.declared.network_request.NetworkRequest.{NetworkRequest}
 use Rattle.link_frames.proofs.InOrder.{in_order}
@@ -19,7 +19,7 @@ use Rattle.link_frames.specs.declared.link_fault.LinkFault.{LinkFault}
 use Rattle.log_file.specs.declared.log_writer.LogWriter.{LogWriter}
 use Rattle.host_links.specs.Turning.{Turns, of_all}
 use Rattle.host_links.specs.Turns.{messages_at}
-use Rattle.file_batch_laws.proofs.FrameLaws.{same_frames}
+use Rattle.file_laws.proofs.FrameLaws.{same_frames}
 
 -- the messages of the bodies are those at hand
 at_hand : (bodies : List (List ℕ)) (messages frames : List Frame) → AreFramesOf bodies messages → (bodies ≢ [] → AreFramesOf bodies frames) → messages ≡ messages_at bodies frames

@@ -2,7 +2,7 @@
 use Rattle.std.specs.Prelude.{◌≡◌, ℕ, ◌+◌, ◌==◌, if◌then◌else◌, List, [], ◌∷◌, ◌++◌}
 use Rattle.std.specs.List.{flat_map, AllByRecursion}
 use Rattle.issuer_words.specs.Words.{Frame, Rows, replies_to, rows_after}
-use Rattle.file_batch_laws.specs.Frames.{AreFramesOf}
+use Rattle.file_laws.specs.Frames.{AreFramesOf}
 use Rattle.link_frames.specs.Incoming.{Incoming, IsIncoming, frames_of, bodies_of, requests_behind, merged}
 use Rattle.link_frames.specs.Link.{AreFrames}
 use Rattle.host_serving.specs.Turn.{entry_of}

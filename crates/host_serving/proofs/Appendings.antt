@@ -4,9 +4,9 @@ use Rattle.std.proofs.lemmas.List.{append-nil}
 use Rattle.log_file.specs.Writes.{HasLog, IsCutOff}
 use Rattle.log_file.specs.declared.log_writer.LogWriter.{LogWriter}
 use Rattle.log_file.specs.declared.synced.Synced.{Synced}
-use Rattle.log_laws.specs.Reading.{AreEntries}
-use Rattle.log_laws.specs.declared.log_fault.LogFault.{LogFault}
-use Rattle.log_laws.specs.declared.log_fault.LogFault.TheVariants.{Failed, OutOfMemory as NoMemory}
+use Rattle.file_laws.specs.LogReading.{AreEntries}
+use Rattle.file_laws.specs.declared.log_fault.LogFault.{LogFault}
+use Rattle.file_laws.specs.declared.log_fault.LogFault.TheVariants.{Failed, OutOfMemory as NoMemory}
 use Rattle.host_serving.specs.Entering.{Appends, BreaksOff, Grows, MayEnter}
 
 abbrev Entries : Type 0

@@ -5,7 +5,7 @@ use Rattle.std.proofs.lemmas.List.{append-nil, take_more}
 use Rattle.std.proofs.lemmas.List.Concat.{flat_map-append}
 use Rattle.issuer_words.specs.Words.{Frame, Rows, replies_to, rows_after}
 use Rattle.issuer_fold.proofs.FoldLaws.{rows_after-append, replies_to-append, length-replies_to}
-use Rattle.file_batch_laws.specs.Frames.{AreFramesOf}
+use Rattle.file_laws.specs.Frames.{AreFramesOf}
 use Rattle.link_frames.specs.Link.{AreFrames, HasFault}
 use Rattle.link_frames.specs.declared.link_fault.LinkFault.{LinkFault}
 use Rattle.link_frames.specs.declared.link_fault.LinkFault.TheVariants as link
@@ -14,8 +14,8 @@ use Rattle.link_frames.specs.Replies.{AppendsPart}
 use Rattle.link_frames.proofs.InOrder.{answers_more as given_more, bodies_more as decided_more, frames_more as came_more, in_order}
 use Rattle.log_file.specs.declared.log_writer.LogWriter.{LogWriter}
 use Rattle.log_file.specs.declared.synced.Synced.{Synced}
-use Rattle.log_laws.specs.declared.log_fault.LogFault.{LogFault}
-use Rattle.log_laws.specs.declared.log_fault.LogFault.TheVariants.{NoLog, Version, OtherBook, InUse, Broken, Failed, OutOfMemory as NoMemory}
+use Rattle.file_laws.specs.declared.log_fault.LogFault.{LogFault}
+use Rattle.file_laws.specs.declared.log_fault.LogFault.TheVariants.{NoLog, Version, OtherBook, InUse, Broken, Failed, OutOfMemory as NoMemory}
 use Rattle.host_serving.specs.Deciding.{Decides, Follows, answers_to}
 use Rattle.host_serving.specs.Entering.{book_of, Appends, Grows, BreaksOff, MayEnter, Enters, StopsAnswering, StopsBefore, StopsDeciding, StopsEntering}
 use Rattle.host_serving.specs.Entries.{all_bodies, AreMessagesOf, HasBody}
@@ -31,7 +31,7 @@ use Rattle.host_serving.specs.declared.turn.Turn.{Turn}
 use Rattle.host_serving.proofs.Appendings.{breaks_more, grows_more, grows_none, may_enter, may_enter_more}
 use Rattle.host_serving.proofs.Takes.{frames_more, both_are, as_many}
 use Rattle.host_serving.proofs.Turns.{bodies_entered, has_body, some_entry}
-use Rattle.file_batch_laws.proofs.Lists.{each_more}
+use Rattle.file_laws.proofs.Lists.{each_more}
 
 abbrev Entries : Type 0
 Entries = List (List (List ℕ))

@@ -3,17 +3,17 @@ use Rattle.std.proofs.Common.{◌≡◌, ℕ, suc, ◌+◌, ◌-◌, ◌<◌, Li
 use Rattle.std.specs.List.{flat_map, AllByRecursion}
 use Rattle.std.proofs.lemmas.List.{append-nil}
 use Rattle.std.proofs.lemmas.List.Concat.{flat_map-append}
-use Rattle.file_batch_laws.specs.Files.{framed, IsBody}
-use Rattle.file_batch_laws.specs.Frames.{AreFramesOf}
-use Rattle.file_batch_laws.proofs.Again.{framed_apart}
+use Rattle.file_laws.specs.Files.{framed, IsBody}
+use Rattle.file_laws.specs.Frames.{AreFramesOf}
+use Rattle.file_laws.proofs.Again.{framed_apart}
 use Rattle.issuer_rows.specs.declared.frame.Frame.{Frame as Message}
 use Rattle.link_frames.specs.Front.{IsFront}
 use Rattle.link_frames.specs.Link.{AreFrames, AreSoMany, HasFrame}
 use Rattle.link_frames.specs.declared.front.Front.{Front}
 use Rattle.link_frames.specs.declared.front.Front.TheVariants.{Frame, Part, Wrong}
 use Rattle.link_frames.proofs.Fronts.{not_none}
-use Rattle.file_batch_laws.proofs.Lists.{each_more}
-pub use Rattle.file_batch_laws.proofs.FrameLaws.{as_many}
+use Rattle.file_laws.proofs.Lists.{each_more}
+pub use Rattle.file_laws.proofs.FrameLaws.{as_many}
 
 -- of one or more frames the first stands first
 first_of : (n : ℕ) (bytes : List ℕ) (bodies : List (List ℕ)) → length bodies ≡ suc n → AllByRecursion IsBody bodies → bytes ≡ flat_map framed bodies → HasFrame bytes

@@ -3,7 +3,7 @@ use Rattle.std.proofs.Common.{◌≡◌, ◌≢◌, ℕ, ◌+◌, List, [], ◌�
 use Rattle.std.specs.List.{AllByRecursion}
 use Rattle.std.proofs.lemmas.List.{append-nil}
 use Rattle.std.proofs.lemmas.List.Concat.{flat_map-append}
-use Rattle.file_batch_laws.specs.Files.{framed, IsBody}
+use Rattle.file_laws.specs.Files.{framed, IsBody}
 use Rattle.link_frames.specs.Incoming.{Incoming, Network, Body, IsIncoming, body_in, frames_of, bodies_of, requests_behind}
 use Rattle.link_frames.specs.Link.{AreFrames}
 use Rattle.link_frames.specs.declared.network_request.NetworkRequest.{NetworkRequest}
@@ -13,7 +13,7 @@ use Rattle.host_serving.specs.Entries.{all_bodies, HasBody}
 use Rattle.host_serving.specs.Turn.{IsTurn, HasTaken, entry_of}
 use Rattle.host_serving.specs.declared.turn.Turn.{Turn}
 use Rattle.host_serving.proofs.Takes.{one_more}
-use Rattle.file_batch_laws.proofs.Lists.{each_more}
+use Rattle.file_laws.proofs.Lists.{each_more}
 
 -- what follows from three facts of a result that is `Ok`
 pub on_all : {X E A B C D : Type 0} (result : Result X E) → OnOk result A → OnOk result B → OnOk result C → (A → B → C → D) → OnOk result D

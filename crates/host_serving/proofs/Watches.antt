@@ -2,10 +2,10 @@
 use Rattle.std.proofs.Common.{◌≡◌, ◌≤◌, ◌⊎◌, inl, inr, ℕ, length, List, [], ◌∷◌, ◌++◌, Result, Ok, Err, OnOk, IfErr, refl, sym, subst}
 use Rattle.std.specs.List.{AllZip}
 use Rattle.issuer_rows.specs.declared.frame.Frame.{Frame}
-use Rattle.file_batch_laws.specs.Frames.{AreFramesOf}
+use Rattle.file_laws.specs.Frames.{AreFramesOf}
 use Rattle.log_file.specs.declared.log_writer.LogWriter.{LogWriter}
-use Rattle.log_laws.specs.declared.log_fault.LogFault.{LogFault}
-use Rattle.log_laws.specs.declared.log_fault.LogFault.TheVariants.{NoLog, Version, OtherBook, InUse, Broken, Failed, OutOfMemory as NoMemory}
+use Rattle.file_laws.specs.declared.log_fault.LogFault.{LogFault}
+use Rattle.file_laws.specs.declared.log_fault.LogFault.TheVariants.{NoLog, Version, OtherBook, InUse, Broken, Failed, OutOfMemory as NoMemory}
 use Rattle.host_serving.specs.Entering.{BreaksOff, Grows}
 use Rattle.host_serving.specs.Serving.{LogAfter}
 use Rattle.host_serving.specs.Tally.{counted}
@@ -14,7 +14,7 @@ use Rattle.host_serving.specs.declared.host_fault.HostFault.{HostFault}
 use Rattle.host_serving.specs.declared.host_fault.HostFault.TheVariants.{Link, Log, OutOfMemory}
 use Rattle.host_serving.specs.declared.tally.Tally.{Tally}
 use Rattle.host_serving.proofs.Appendings.{breaks_more, grows_more, grows_none, may_enter_more}
-use Rattle.file_batch_laws.proofs.Lists.{each_more}
+use Rattle.file_laws.proofs.Lists.{each_more}
 
 abbrev Entries : Type 0
 Entries = List (List (List ℕ))

@@ -1,7 +1,7 @@
 -- Bodies that are decided, and what is written for them.
 use Rattle.std.specs.Prelude.{◌≡◌, ℕ, List}
 use Rattle.issuer_words.specs.Words.{Frame, Rows, replies_to, rows_after}
-use Rattle.file_batch_laws.specs.Frames.{AreFramesOf}
+use Rattle.file_laws.specs.Frames.{AreFramesOf}
 use Rattle.link_frames.specs.Incoming.{Incoming, answers_of}
 use Rattle.host_serving.specs.Tally.{counted}
 use Rattle.host_serving.specs.declared.decider.Decider.{Decider}

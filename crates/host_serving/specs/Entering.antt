@@ -1,15 +1,15 @@
 -- One turn: the messages of its bodies are decided while their entry is appended to the log and synced, and then all that came is answered.
 use Rattle.std.specs.Prelude.{◌≡◌, ◌⊎◌, ℕ, List, [], ◌∷◌, ◌++◌, Result, IfOk, IfErr, OnOk}
 use Rattle.issuer_words.specs.Words.{Frame, Rows}
-use Rattle.file_batch_laws.specs.Frames.{AreFramesOf}
+use Rattle.file_laws.specs.Frames.{AreFramesOf}
 use Rattle.link_frames.specs.Incoming.{Incoming, bodies_of}
 use Rattle.link_frames.specs.Replies.{AppendsPart}
 use Rattle.link_frames.specs.declared.link_fault.LinkFault.TheVariants as link
 use Rattle.log_file.specs.Writes.{HasLog, IsCutOff}
 use Rattle.log_file.specs.declared.log_writer.LogWriter.{LogWriter}
 use Rattle.log_file.specs.declared.synced.Synced.{Synced}
-use Rattle.log_laws.specs.declared.log_fault.LogFault.{LogFault}
-use Rattle.log_laws.specs.declared.log_fault.LogFault.TheVariants.{Failed, OutOfMemory as NoMemory}
+use Rattle.file_laws.specs.declared.log_fault.LogFault.{LogFault}
+use Rattle.file_laws.specs.declared.log_fault.LogFault.TheVariants.{Failed, OutOfMemory as NoMemory}
 use Rattle.host_serving.specs.Deciding.{Follows, answers_to}
 use Rattle.host_serving.specs.Turn.{entry_of}
 use Rattle.host_serving.specs.declared.host.Host.{Host}

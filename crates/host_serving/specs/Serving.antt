@@ -2,13 +2,13 @@
 use Rattle.std.specs.Prelude.{◌≡◌, ⊤, ℕ, List, ◌++◌}
 use Rattle.std.specs.List.{AllByRecursion}
 use Rattle.issuer_rows.specs.declared.frame.Frame.{Frame}
-use Rattle.file_batch_laws.specs.Frames.{AreFramesOf}
+use Rattle.file_laws.specs.Frames.{AreFramesOf}
 use Rattle.link_frames.specs.Incoming.{Incoming, IsIncoming, frames_of, bodies_of}
 use Rattle.link_frames.specs.Replies.{AppendsPart}
 use Rattle.link_frames.specs.Link.{AreFrames, HasFault}
 use Rattle.link_frames.specs.declared.link_fault.LinkFault.TheVariants as link
 use Rattle.log_file.specs.declared.log_writer.LogWriter.{LogWriter}
-use Rattle.log_laws.specs.declared.log_fault.LogFault.TheVariants.{Failed}
+use Rattle.file_laws.specs.declared.log_fault.LogFault.TheVariants.{Failed}
 use Rattle.host_serving.specs.Deciding.{Follows, answers_to}
 use Rattle.host_serving.specs.Entering.{book_of, Grows, BreaksOff, MayEnter, Enters, StopsEntering}
 use Rattle.host_serving.specs.Entries.{all_bodies, AreMessagesOf, HasBody}

@@ -20,7 +20,7 @@ impl Decider {
     ghost use Rattle.std.specs.Prelude.{◌≡◌, List, OnOk};
     ghost use Rattle.issuer_rows.specs.declared.frame.Frame.{Frame};
     ghost use Rattle.host_serving.specs.Entries.{AreMessagesOf};
-    ghost use Rattle.file_batch_laws.specs.Frames.{AreFramesOf};
+    ghost use Rattle.file_laws.specs.Frames.{AreFramesOf};
     ghost use Rattle.host_serving.specs.Deciding.{Decides, Follows};
     ghost use Rattle.host_serving.specs.Tally.{counted};
 

@@ -1,8 +1,8 @@
 ghost use Rattle.std.specs.Prelude.{◌≡◌, ◌∷◌, ◌++◌, [], OnOk};
 ghost use Rattle.issuer_rows.specs.declared.frame.Frame.{Frame};
-ghost use Rattle.file_batch_laws.specs.Frames.{IsFrameOf, AreFramesOf};
+ghost use Rattle.file_laws.specs.Frames.{IsFrameOf, AreFramesOf};
 
-use file_batch_laws::frame_of;
+use file_laws::frame_of;
 use issuer_rows::Frame;
 use log_file::Bodies;
 use std::alloc::AllocError;

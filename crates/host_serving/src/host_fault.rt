@@ -1,8 +1,8 @@
 ghost use Rattle.std.specs.Prelude.{◌≡◌};
 ghost use Rattle.host_serving.specs.declared.host_fault.HostFault.TheVariants.{OutOfMemory};
 
+use file_laws::LogFault;
 use link_frames::LinkFault;
-use log_laws::LogFault;
 use std::alloc::AllocError;
 use std::fmt;
 

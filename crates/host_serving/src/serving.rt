@@ -40,7 +40,7 @@ impl Link {
 
 impl<G: GrowingFile + Drop> Host<G> {
     ghost use Rattle.std.specs.Prelude.{◌≡◌, ◌≢◌, ◌⊎◌, ◌≤◌, ℕ, [], List, length, true, false, Ok, Err, OnOk, IfOk, IfErr};
-    ghost use Rattle.file_batch_laws.specs.Frames.{AreFramesOf};
+    ghost use Rattle.file_laws.specs.Frames.{AreFramesOf};
     ghost use Rattle.link_frames.specs.Incoming.{Incoming};
     ghost use Rattle.link_frames.specs.LinkFault.{Reads, Writes};
     ghost use Rattle.link_frames.specs.Reader.{ahead};

@@ -1,13 +1,13 @@
 ghost use Rattle.std.specs.Prelude.{◌≡◌, OnOk};
-ghost use Rattle.file_batch_laws.specs.Frames.{AreFramesOf};
+ghost use Rattle.file_laws.specs.Frames.{AreFramesOf};
 ghost use Rattle.host_serving.specs.Entering.{Appends};
 ghost use Rattle.host_serving.specs.Deciding.{Decides};
 ghost use Rattle.host_serving.specs.Tally.{counted};
 
 use crate::decider::Decider;
+use file_laws::LogFault;
 use issuer_view::Decide;
 use log_file::{Bodies, GrowingFile, LogWriter, Synced};
-use log_laws::LogFault;
 use std::alloc::{AllocError, Global};
 use std::thread::{Threads, join_mut};
 

@@ -16,7 +16,7 @@ pub struct Turn {
 
 impl Turn {
     ghost use Rattle.std.specs.Prelude.{◌≡◌, ◌+◌, ◌<◌, ◌≤◌, ◌∷◌, ◌++◌, [], List, length, OnOk};
-    ghost use Rattle.file_batch_laws.specs.Files.{IsBody};
+    ghost use Rattle.file_laws.specs.Files.{IsBody};
     ghost use Rattle.link_frames.specs.Incoming.{Incoming, IsIncoming, body_in};
     ghost use Rattle.host_serving.specs.Turn.{IsTurn};
 

@@ -4,11 +4,11 @@ use Rattle.std.proofs.lemmas.Bool.{lt-ltb, le-ltb, ltb-true, ltb-false, eqb-true
 use Rattle.std.specs.List.{flat_map}
 use Rattle.std.proofs.lemmas.List.{length-drop, append-nil}
 use Rattle.byteorder.specs.Endian.{big_number}
-use Rattle.file_batch_laws.specs.Reading.{field_at, number_at, length_at, body_at, bodies_at}
-use Rattle.file_batch_laws.specs.Files.{framed, IsBody}
-use Rattle.file_batch_laws.proofs.Again.{bodies_again}
-use Rattle.file_batch_laws.specs.declared.batch_fault.BatchFault.{BatchFault}
-use Rattle.file_batch_laws.specs.declared.batch_fault.BatchFault.TheVariants.{Ended, Length}
+use Rattle.file_laws.specs.Reading.{field_at, number_at, length_at, body_at, bodies_at}
+use Rattle.file_laws.specs.Files.{framed, IsBody}
+use Rattle.file_laws.proofs.Again.{bodies_again}
+use Rattle.file_laws.specs.declared.batch_fault.BatchFault.{BatchFault}
+use Rattle.file_laws.specs.declared.batch_fault.BatchFault.TheVariants.{Ended, Length}
 use Rattle.link_frames.specs.Link.{HasFrame, IsPart, HasWrongLength, IsNoFrame}
 
 field_short : (size : ℕ) (bytes : List ℕ) → length bytes < size → field_at size bytes ≡ Err Ended

@@ -2,8 +2,8 @@
 use Rattle.std.proofs.Common.{◌≡◌, ℕ, List, [], ◌∷◌, ◌++◌, refl, sym, ap, subst, ◌∙◌, append_assoc}
 use Rattle.std.specs.List.{flat_map}
 use Rattle.std.proofs.lemmas.List.{append-nil}
-use Rattle.file_batch_laws.specs.Files.{framed}
-use Rattle.file_batch_laws.proofs.Again.{framed_apart}
+use Rattle.file_laws.specs.Files.{framed}
+use Rattle.file_laws.proofs.Again.{framed_apart}
 use Rattle.link_frames.specs.Link.{AreFrames, IsNoFrame}
 use Rattle.link_frames.proofs.Fronts.{not_none}
 

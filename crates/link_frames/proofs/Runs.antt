@@ -2,11 +2,11 @@
 use Rattle.std.proofs.Common.{◌≡◌, ℕ, ◌+◌, ◌<◌, List, [], ◌∷◌, ◌++◌, length, refl, sym, ap, subst, ◌∙◌, append_assoc, arith}
 use Rattle.std.specs.List.{flat_map}
 use Rattle.std.proofs.lemmas.List.{length-append}
-use Rattle.file_batch_laws.specs.Files.{framed, IsBody}
+use Rattle.file_laws.specs.Files.{framed, IsBody}
 use Rattle.link_frames.specs.Link.{AreSoMany, HasFrame, IsNoFrame}
 use Rattle.link_frames.proofs.Fronts.{not_none}
-use Rattle.file_batch_laws.proofs.Lists.{each_more}
-use Rattle.file_batch_laws.proofs.Again.{framed_more}
+use Rattle.file_laws.proofs.Lists.{each_more}
+use Rattle.file_laws.proofs.Again.{framed_more}
 
 pub one_more : (count : ℕ) (bytes front rest body behind : List ℕ) → AreSoMany count front → bytes ≡ front ++ rest → IsBody body → rest ≡ framed body ++ behind
     → (x : List ℕ) × AreSoMany (count + 1) x × (bytes ≡ x ++ behind)

@@ -2,7 +2,7 @@
 use Rattle.std.proofs.Common.{◌≡◌, ℕ, ◌+◌, List, [], ◌∷◌, ◌++◌, length, take, drop, get_or, Option, Some, None, refl, ap, subst, ◌∙◌, append_assoc, arith}
 use Rattle.std.proofs.lemmas.List.{take_at, drop_at, length-append}
 use Rattle.byteorder.specs.Endian.{big_bytes}
-use Rattle.file_batch_laws.specs.Files.{framed}
+use Rattle.file_laws.specs.Files.{framed}
 use Rattle.iso8583.specs.Class.{IsDigits}
 use Rattle.iso8583.specs.declared.stan.Stan.{Stan}
 use Rattle.iso8583.specs.declared.transmission.Transmission.{Transmission}

@@ -1,6 +1,6 @@
 -- What some bytes of a link begin with.
 use Rattle.std.specs.Prelude.{◌≡◌, ℕ, List, ◌++◌}
-use Rattle.file_batch_laws.specs.Files.{framed, IsBody}
+use Rattle.file_laws.specs.Files.{framed, IsBody}
 use Rattle.link_frames.specs.Link.{IsPart, HasWrongLength}
 use Rattle.link_frames.specs.declared.front.Front.{Front}
 use Rattle.link_frames.specs.declared.front.Front.TheVariants.{Frame, Part, Wrong}

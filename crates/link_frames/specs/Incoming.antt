@@ -1,7 +1,7 @@
 -- What comes on a link: bodies that are decided, and network management, which the link answers itself.
 use Rattle.std.specs.Prelude.{ℕ, ◌+◌, List, [], ◌∷◌, ◌++◌, take, drop}
 use Rattle.issuer_rows.specs.declared.reply_body.ReplyBody.{ReplyBody}
-use Rattle.file_batch_laws.specs.Files.{framed}
+use Rattle.file_laws.specs.Files.{framed}
 use Rattle.link_frames.specs.Network.{IsNetwork, SpellsNetwork, network_spelling, network_reply_spelling}
 use Rattle.link_frames.specs.declared.network_message.NetworkMessage.{NetworkMessage}
 use Rattle.link_frames.specs.Replies.{reply_frame, reply_frames}

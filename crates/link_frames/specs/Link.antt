@@ -1,9 +1,9 @@
 -- What the bytes of a link are: bodies, each in its frame, and the first fault behind them.
 use Rattle.std.specs.Prelude.{◌≡◌, ◌≢◌, ◌⊎◌, ⊤, ℕ, List, [], ◌++◌, length, Err}
 use Rattle.std.specs.List.{flat_map, AllByRecursion}
-use Rattle.file_batch_laws.specs.Files.{framed, IsBody}
-use Rattle.file_batch_laws.specs.Reading.{body_at}
-use Rattle.file_batch_laws.specs.declared.batch_fault.BatchFault.TheVariants as batch
+use Rattle.file_laws.specs.Files.{framed, IsBody}
+use Rattle.file_laws.specs.Reading.{body_at}
+use Rattle.file_laws.specs.declared.batch_fault.BatchFault.TheVariants as batch
 use Rattle.link_frames.specs.declared.link_fault.LinkFault.{LinkFault}
 use Rattle.link_frames.specs.declared.link_fault.LinkFault.TheVariants.{Ended, Length}
 

@@ -4,7 +4,7 @@ use Rattle.std.specs.List.{flat_map}
 use Rattle.iso_laws.specs.Replies.{reply_spelling}
 use Rattle.issuer_rows.specs.declared.reply_body.ReplyBody.{ReplyBody}
 use Rattle.issuer_rows.specs.declared.reply_body.ReplyBody.TheVariants.{Reply, Fault}
-use Rattle.file_batch_laws.specs.Files.{framed}
+use Rattle.file_laws.specs.Files.{framed}
 pub use Rattle.file_devices.specs.Appending.{AppendsPart}
 
 -- a reply's bytes in a frame; a body that is no message gets none

@@ -1,6 +1,6 @@
 ghost use Rattle.std.specs.Prelude.{◌≡◌, ◌+◌, ◌++◌, length, OnOk};
 ghost use Rattle.byteorder.specs.Endian.{big_bytes};
-ghost use Rattle.file_batch_laws.specs.Files.{framed};
+ghost use Rattle.file_laws.specs.Files.{framed};
 ghost use Rattle.link_frames.specs.Network.{network_reply_head, transmission_text, tail_text, network_reply_spelling};
 
 use crate::network_message::NetworkMessage;

@@ -23,7 +23,7 @@ pub struct ReplyWriter {
 impl ReplyWriter {
     ghost use Rattle.std.specs.Prelude.{◌≡◌, ◌⊎◌, ◌++◌, IfErr, OnOk, OnErr};
     ghost use Rattle.iso_laws.specs.Replies.{reply_spelling};
-    ghost use Rattle.file_batch_laws.specs.Files.{framed};
+    ghost use Rattle.file_laws.specs.Files.{framed};
     ghost use Rattle.link_frames.specs.LinkFault.{Writes};
     ghost use Rattle.link_frames.specs.Incoming.{merged};
     ghost use Rattle.link_frames.specs.Replies.{reply_frame, reply_frames, AppendsPart};

@@ -5,12 +5,12 @@ use Rattle.std.specs.List.{All, AllByRecursion}
 use Rattle.std.proofs.lemmas.List.Elements.{All-from_recursion}
 use Rattle.app_jobs.specs.Decided.{Holding}
 use Rattle.app_jobs.specs.declared.job_fault.JobFault.TheVariants as job
-use Rattle.file_batch_laws.specs.declared.batch_fault.BatchFault.TheVariants as batch
+use Rattle.file_laws.specs.declared.batch_fault.BatchFault.TheVariants as batch
 use Rattle.file_devices.specs.BatchNames.{Names}
 use Rattle.issuer_words.specs.Words.{Frame, Rows}
 use Rattle.log_file.specs.declared.open_fault.OpenFault.{OpenFault}
 use Rattle.log_file.specs.declared.open_fault.OpenFault.TheVariants as opening
-use Rattle.log_laws.specs.declared.log_fault.LogFault.TheVariants as log
+use Rattle.file_laws.specs.declared.log_fault.LogFault.TheVariants as log
 use Rattle.log_replay.specs.Blocks.{AreCut}
 use Rattle.log_commands.specs.Audited.{IsLogUnread, IsUnread}
 use Rattle.log_commands.specs.CommandFault.{fault_of_open}

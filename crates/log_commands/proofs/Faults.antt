@@ -5,13 +5,13 @@ use Rattle.app_jobs.specs.Faults.{IsPuttingFault, MayBeRefused, MayNotBePut}
 use Rattle.app_jobs.specs.JobFault.{fault_of_write}
 use Rattle.app_jobs.specs.declared.job_fault.JobFault.{JobFault}
 use Rattle.app_jobs.specs.declared.job_fault.JobFault.TheVariants as job
-use Rattle.file_batch_laws.specs.declared.batch_fault.BatchFault.TheVariants as batch
+use Rattle.file_laws.specs.declared.batch_fault.BatchFault.TheVariants as batch
 use Rattle.file_batch.specs.Words.{Failing, Names, WriteFault}
 use Rattle.file_devices.specs.declared.write_fault.WriteFault.TheVariants as write
 use Rattle.issuer_rows.specs.Fold.{Rows}
 use Rattle.log_file.specs.declared.open_fault.OpenFault.{OpenFault}
 use Rattle.log_file.specs.declared.open_fault.OpenFault.TheVariants as opening
-use Rattle.log_laws.specs.declared.log_fault.LogFault.TheVariants as log
+use Rattle.file_laws.specs.declared.log_fault.LogFault.TheVariants as log
 use Rattle.log_replay.specs.Faults.{IsMeasuringFault}
 use Rattle.log_replay.specs.Faults.{IsReplayFault as IsDecidingFault}
 use Rattle.log_replay.specs.Logged.{book_digest}

@@ -9,9 +9,9 @@ use Rattle.app_jobs.specs.Faults.{IsBookFault}
 use Rattle.app_jobs.specs.declared.job_fault.JobFault.{JobFault}
 use Rattle.app_jobs.specs.declared.job_fault.JobFault.TheVariants as job
 use Rattle.file_batch.specs.Words.{Failing, IsBlockReplyFileOf, IsThere, Names, replies_to_blocks}
-use Rattle.file_batch_laws.specs.declared.batch_fault.BatchFault.TheVariants as batch
+use Rattle.file_laws.specs.declared.batch_fault.BatchFault.TheVariants as batch
 use Rattle.issuer_words.specs.Words.{Frame, ReplyBody, Rows, rows_after}
-use Rattle.log_laws.specs.declared.log_fault.LogFault.TheVariants as log
+use Rattle.file_laws.specs.declared.log_fault.LogFault.TheVariants as log
 use Rattle.log_replay.specs.Blocks.{AreBlocksOf}
 use Rattle.log_replay.specs.Faults.{IsReadingFault}
 use Rattle.log_replay.specs.Logged.{IsLogOfMessages, book_digest}

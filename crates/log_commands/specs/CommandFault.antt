@@ -1,10 +1,10 @@
 -- Faults of commands on a log: their exit statuses, and those of what they are made of.
 use Rattle.std.specs.Prelude.{ℕ}
 use Rattle.app_jobs.specs.declared.job_fault.JobFault.TheVariants as job
-use Rattle.file_batch_laws.specs.declared.batch_fault.BatchFault.TheVariants as batch
+use Rattle.file_laws.specs.declared.batch_fault.BatchFault.TheVariants as batch
 use Rattle.log_file.specs.declared.open_fault.OpenFault.{OpenFault}
 use Rattle.log_file.specs.declared.open_fault.OpenFault.TheVariants as opening
-use Rattle.log_laws.specs.declared.log_fault.LogFault.TheVariants as log
+use Rattle.file_laws.specs.declared.log_fault.LogFault.TheVariants as log
 use Rattle.log_replay.specs.declared.replay_fault.ReplayFault.{ReplayFault}
 use Rattle.log_replay.specs.declared.replay_fault.ReplayFault.TheVariants as replay
 use Rattle.log_commands.specs.declared.command_fault.CommandFault.{CommandFault}

@@ -4,12 +4,12 @@ use Rattle.app_jobs.specs.Decided.{Holding, IsBookOf}
 use Rattle.app_jobs.specs.Faults.{IsBookFault, MayNotBePut}
 use Rattle.app_jobs.specs.declared.job_fault.JobFault.{JobFault}
 use Rattle.app_jobs.specs.declared.job_fault.JobFault.TheVariants as job
-use Rattle.file_batch_laws.specs.declared.batch_fault.BatchFault.TheVariants as batch
+use Rattle.file_laws.specs.declared.batch_fault.BatchFault.TheVariants as batch
 use Rattle.file_batch.specs.Words.{Failing, Names}
 use Rattle.issuer_rows.specs.Fold.{Rows}
-use Rattle.log_laws.specs.Reading.{IsReading}
-use Rattle.log_laws.specs.declared.log_fault.LogFault.{LogFault}
-use Rattle.log_laws.specs.declared.log_fault.LogFault.TheVariants as log
+use Rattle.file_laws.specs.LogReading.{IsReading}
+use Rattle.file_laws.specs.declared.log_fault.LogFault.{LogFault}
+use Rattle.file_laws.specs.declared.log_fault.LogFault.TheVariants as log
 use Rattle.log_replay.specs.Faults.{IsReadingFault}
 use Rattle.log_replay.specs.Logged.{IsLogOfSize, book_digest}
 use Rattle.log_commands.specs.Names.{HasOneFile, log_apart}

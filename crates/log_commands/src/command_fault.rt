@@ -5,10 +5,9 @@ ghost use Rattle.log_commands.specs.CommandFault.{fault_of_open, fault_of_replay
 ghost use Rattle.log_commands.specs.declared.command_fault.CommandFault.TheVariants.{Job};
 
 use app_jobs::JobFault;
-use file_batch_laws::BatchFault;
 use file_devices::{ClaimFault, WriteFault};
+use file_laws::{BatchFault, LogFault};
 use log_file::OpenFault;
-use log_laws::LogFault;
 use log_replay::ReplayFault;
 use std::alloc::{AllocError, AllocFailed};
 use thiserror::Error;

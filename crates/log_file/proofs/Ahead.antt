@@ -4,12 +4,12 @@ use Rattle.std.proofs.lemmas.List.{append-nil, length-append, take-append-le, dr
 use Rattle.std.specs.List.{All}
 use Rattle.std.proofs.lemmas.List.Elements.{All-from_recursion, recursion_from_All}
 use Rattle.sha2.specs.Sha256.{sha256}
-use Rattle.file_batch_laws.specs.Files.{AreBodies}
-use Rattle.log_laws.specs.declared.log_fault.LogFault.{LogFault}
-use Rattle.log_laws.specs.Tails.{AreZeros, BeginsWith, IsBroken, IsTorn}
-use Rattle.log_laws.specs.Texts.{entry_head, entry_text, next_digest, payload_text}
-use Rattle.log_laws.proofs.Steps.{Parts, all_zeros, cut_short, entry_here, length-entry, no_head, no_payload, other_digest, too_short, unmatched}
-use Rattle.log_laws.proofs.Whole.{parts_at}
+use Rattle.file_laws.specs.Files.{AreBodies}
+use Rattle.file_laws.specs.declared.log_fault.LogFault.{LogFault}
+use Rattle.file_laws.specs.Tails.{AreZeros, BeginsWith, IsBroken, IsTorn}
+use Rattle.file_laws.specs.Texts.{entry_head, entry_text, next_digest, payload_text}
+use Rattle.file_laws.proofs.LogSteps.{Parts, all_zeros, cut_short, entry_here, length-entry, no_head, no_payload, other_digest, too_short, unmatched}
+use Rattle.file_laws.proofs.Whole.{parts_at}
 
 -- nothing is left behind what is held
 pub all_held : (bytes held left : List ℕ) → held ++ left ≡ bytes → left ≡ [] → held ≡ bytes

@@ -3,10 +3,10 @@ use Rattle.std.proofs.Common.{◌≡◌, ◌≢◌, ℕ, ◌+◌, ◌-◌, ◌<�
 use Rattle.std.proofs.lemmas.List.{append-nil, length-append}
 use Rattle.std.specs.List.{flat_map, AllByRecursion}
 use Rattle.byteorder.specs.Endian.{big_bytes, big_number}
-use Rattle.log_laws.specs.Texts.{payload_text}
-use Rattle.file_batch_laws.specs.Files.{framed, AreBodies, IsBody}
-use Rattle.file_batch_laws.specs.Reading.{bodies_at}
-use Rattle.file_batch_laws.proofs.Again.{bodies_again, framed_more, framed_apart}
+use Rattle.file_laws.specs.Texts.{payload_text}
+use Rattle.file_laws.specs.Files.{framed, AreBodies, IsBody}
+use Rattle.file_laws.specs.Reading.{bodies_at}
+use Rattle.file_laws.proofs.Again.{bodies_again, framed_more, framed_apart}
 use Rattle.log_file.specs.Bodies.{bodies_in, bodies_read, IsFramed}
 
 again : (bodies : List (List ℕ)) → AllByRecursion IsBody bodies → bodies_at (length bodies) (flat_map framed bodies) ≡ Ok (bodies, [])

@@ -3,8 +3,8 @@ use Rattle.std.proofs.Common.{◌≡◌, ◌≢◌, ℕ, Bool, true, false, not,
 use Rattle.std.proofs.lemmas.List.{take-append-le, drop-append-le, drop-drop, length-append, length-drop}
 use Rattle.std.specs.Str.{bytes_eq}
 use Rattle.std.proofs.lemmas.Slice.Eq.{bytes_eq-Decides}
-use Rattle.log_laws.specs.Reading.{IsOfAnotherBook}
-use Rattle.log_laws.specs.Texts.{log_letters, log_version}
+use Rattle.file_laws.specs.LogReading.{IsOfAnotherBook}
+use Rattle.file_laws.specs.Texts.{log_letters, log_version}
 
 pub field_before : (at size : ℕ) (bytes more : List ℕ) → at + size ≤ length bytes → take size (drop at (bytes ++ more)) ≡ take size (drop at bytes)
 field_before at size bytes more long =

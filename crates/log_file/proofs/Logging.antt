@@ -2,8 +2,8 @@
 use Rattle.std.proofs.Common.{◌≡◌, ◌≢◌, inl, inr, ℕ, Bool, true, false, ◌+◌, ◌<◌, ◌≤◌, List, [], ◌∷◌, ◌++◌, length, take, drop, refl, sym, ap, subst, ◌∙◌, arith}
 use Rattle.std.proofs.lemmas.List.{append-nil, length-append, take_at, take-append-drop, nil_from_length}
 use Rattle.std.specs.List.{All}
-use Rattle.log_laws.specs.Reading.{IsUnbegun}
-use Rattle.log_laws.specs.Texts.{entry_text, header_text, last_digest, log_text}
+use Rattle.file_laws.specs.LogReading.{IsUnbegun}
+use Rattle.file_laws.specs.Texts.{entry_text, header_text, last_digest, log_text}
 use Rattle.std.proofs.lemmas.List.Elements.{All-from_recursion, recursion_from_All}
 use Rattle.log_file.proofs.Framing.{clash}
 use Rattle.log_file.proofs.Stepping.{log_one_more, text_of_none}

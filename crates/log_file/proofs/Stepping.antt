@@ -2,16 +2,16 @@
 use Rattle.std.proofs.Common.{◌≡◌, inl, ℕ, ◌+◌, ◌<◌, List, [], ◌∷◌, ◌++◌, length, drop, sym, ap, subst, ◌∙◌, append_assoc, arith}
 use Rattle.std.proofs.lemmas.List.{append-nil, length-append}
 use Rattle.sha2.specs.Sha256.{sha256}
-use Rattle.file_batch_laws.specs.Files.{AreBodies}
+use Rattle.file_laws.specs.Files.{AreBodies}
 use Rattle.std.specs.Prelude.{IsTrue}
-use Rattle.log_laws.specs.LogFault.{is_of_bytes}
-use Rattle.log_laws.specs.declared.log_fault.LogFault.{LogFault}
-use Rattle.log_laws.specs.declared.log_fault.LogFault.TheVariants.{Failed}
-use Rattle.log_laws.specs.Reading.{AreEntries, IsBrokenAt, IsLogOf, IsNoLog, Stands}
-use Rattle.log_laws.specs.Tails.{BeginsWith, IsBroken, IsTorn}
-use Rattle.log_laws.specs.Texts.{digest_after, entries_text, entry_text, first_digest, header_text, last_digest, log_text, next_digest}
-use Rattle.log_laws.proofs.Apart.{length-header}
-use Rattle.log_laws.proofs.Chain.{digest_one_more, digest_of_none}
+use Rattle.file_laws.specs.LogFault.{is_of_bytes}
+use Rattle.file_laws.specs.declared.log_fault.LogFault.{LogFault}
+use Rattle.file_laws.specs.declared.log_fault.LogFault.TheVariants.{Failed}
+use Rattle.file_laws.specs.LogReading.{AreEntries, IsBrokenAt, IsLogOf, IsNoLog, Stands}
+use Rattle.file_laws.specs.Tails.{BeginsWith, IsBroken, IsTorn}
+use Rattle.file_laws.specs.Texts.{digest_after, entries_text, entry_text, first_digest, header_text, last_digest, log_text, next_digest}
+use Rattle.file_laws.proofs.Apart.{length-header}
+use Rattle.file_laws.proofs.Chain.{digest_one_more, digest_of_none}
 use Rattle.log_file.proofs.Ahead.{at_most}
 
 pub no_log_short : (bytes held left : List ℕ) → held ++ left ≡ bytes → left ≡ [] → length held < 38 → IsNoLog bytes

@@ -1,9 +1,9 @@
 -- Bodies that are kept in one text, each behind its length.
 use Rattle.std.specs.Prelude.{◌≡◌, ℕ, List, [], length, Result, Ok, Err}
 use Rattle.std.specs.List.{flat_map}
-use Rattle.file_batch_laws.specs.Files.{framed, AreBodies}
-use Rattle.file_batch_laws.specs.Reading.{bodies_at}
-use Rattle.file_batch_laws.specs.declared.batch_fault.BatchFault.{BatchFault}
+use Rattle.file_laws.specs.Files.{framed, AreBodies}
+use Rattle.file_laws.specs.Reading.{bodies_at}
+use Rattle.file_laws.specs.declared.batch_fault.BatchFault.{BatchFault}
 
 -- the bodies that were read
 abbrev pub bodies_read : Result (List (List ℕ) × List ℕ) BatchFault → List (List ℕ)

@@ -1,8 +1,8 @@
 -- What a function that reads or writes a log does to its file.
 use Rattle.std.specs.Prelude.{◌≡◌, Bool, Result, IfErr}
-use Rattle.log_laws.specs.LogFault.{failed_after}
-use Rattle.log_laws.specs.declared.log_fault.LogFault.{LogFault}
-use Rattle.log_laws.specs.declared.log_fault.LogFault.TheVariants.{Failed}
+use Rattle.file_laws.specs.LogFault.{failed_after}
+use Rattle.file_laws.specs.declared.log_fault.LogFault.{LogFault}
+use Rattle.file_laws.specs.declared.log_fault.LogFault.TheVariants.{Failed}
 
 -- it returns `Failed` exactly where a call on the file failed, and only of a file whose calls may fail; and what was known of the file is
 -- known still

@@ -1,9 +1,9 @@
 -- What stands next behind the whole entries of a log, as it is read.
 use Rattle.std.specs.Prelude.{◌≡◌, ◌≢◌, ℕ, List, ◌++◌, length}
 use Rattle.sha2.specs.Sha256.{sha256}
-use Rattle.file_batch_laws.specs.Files.{AreBodies}
-use Rattle.log_laws.specs.Tails.{BeginsWith, IsBroken, IsTorn}
-use Rattle.log_laws.specs.Texts.{entry_text, next_digest, payload_text}
+use Rattle.file_laws.specs.Files.{AreBodies}
+use Rattle.file_laws.specs.Tails.{BeginsWith, IsBroken, IsTorn}
+use Rattle.file_laws.specs.Texts.{entry_text, next_digest, payload_text}
 use Rattle.log_file.specs.declared.part.Part.{Part}
 use Rattle.log_file.specs.declared.part.Part.TheVariants.{Entry, Torn, Broken}
 use Rattle.log_file.specs.declared.part.Checked.{Checked}

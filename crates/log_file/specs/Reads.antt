@@ -1,7 +1,7 @@
 -- Where a reader of a log is.
 use Rattle.std.specs.Prelude.{◌≡◌, ℕ, List, [], ◌∷◌, ◌++◌, length}
-use Rattle.log_laws.specs.Reading.{IsLogOf, Stands}
-use Rattle.log_laws.specs.Texts.{last_digest, log_text}
+use Rattle.file_laws.specs.LogReading.{IsLogOf, Stands}
+use Rattle.file_laws.specs.Texts.{last_digest, log_text}
 use Rattle.log_file.specs.Ahead.{ahead}
 use Rattle.log_file.specs.declared.log_end.LogEnd.{LogEnd}
 use Rattle.log_file.specs.declared.log_reader.LogReader.{LogReader}

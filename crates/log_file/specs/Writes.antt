@@ -1,8 +1,8 @@
 -- What a writer's file has.
 use Rattle.std.specs.Prelude.{◌≡◌, ℕ, false, List, [], ◌++◌, length}
 use Rattle.log_file.specs.Growing.{Begins}
-use Rattle.log_laws.specs.Reading.{AreEntries, IsUnbegun}
-use Rattle.log_laws.specs.Texts.{entry_text, last_digest, log_text}
+use Rattle.file_laws.specs.LogReading.{AreEntries, IsUnbegun}
+use Rattle.file_laws.specs.Texts.{entry_text, last_digest, log_text}
 use Rattle.log_file.specs.declared.begun.Begun.{Begun}
 use Rattle.log_file.specs.declared.begun.Begun.TheVariants.{New, Old}
 use Rattle.log_file.specs.declared.log_writer.LogWriter.{LogWriter}

@@ -1,14 +1,14 @@
 ghost use Rattle.std.specs.Prelude.{◌≡◌, ◌≤◌, ◌++◌, [], length, take, IfOk, IfErr, OnOk, OnErr};
 ghost use Rattle.byteorder.specs.Endian.{big_bytes};
-ghost use Rattle.file_batch_laws.specs.Files.{AreBodies};
+ghost use Rattle.file_laws.specs.Files.{AreBodies};
 ghost use Rattle.log_file.specs.Growing.{AddsPart, Begins};
-ghost use Rattle.log_laws.specs.Texts.{entry_text, next_digest};
+ghost use Rattle.file_laws.specs.Texts.{entry_text, next_digest};
 ghost use Rattle.log_file.specs.Device.{UsesFile};
 
 use crate::bodies::Bodies;
 use crate::chain::digest_of;
 use crate::growing_file::GrowingFile;
-use log_laws::LogFault;
+use file_laws::LogFault;
 use std::alloc::AllocError;
 
 /// Writes all of the bytes behind what the file has. After a fault a beginning of them was written. None is synced.
@@ -74,7 +74,7 @@ pub(crate) fn put_and_sync<G: GrowingFile>(file: &mut G, bytes: &[u8]) -> Result
 }
 
 /// Makes the text of an entry of these bodies, behind the entry of this digest, over the memory of another. Returns its digest.
-#[tactic(auto, unfolding(log_laws::specs::Texts::payload_text, log_laws::specs::Texts::entry_head))]
+#[tactic(auto, unfolding(file_laws::specs::Texts::payload_text, file_laws::specs::Texts::entry_head))]
 pub(crate) fn make_entry(
     text: &mut Vec<u8>,
     before: &[u8; 32],

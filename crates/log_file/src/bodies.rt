@@ -1,5 +1,5 @@
 ghost use Rattle.std.specs.Prelude.{◌≡◌, ◌<◌, ◌^◌, ◌++◌, length, take, OnOk};
-ghost use Rattle.file_batch_laws.specs.Files.{framed};
+ghost use Rattle.file_laws.specs.Files.{framed};
 
 use crate::body_iter::BodyIter;
 use crate::splitting::{is_framed, split_count};
@@ -27,8 +27,8 @@ impl Model for Bodies {
 impl Bodies {
     ghost use Rattle.std.specs.Prelude.{◌≡◌, ◌≢◌, ◌↔◌, ◌<◌, ◌≤◌, ◌∷◌, ◌++◌, ℕ, List, [], length, IsTrue, IfOk, IfSome, IfNone, OnOk, OnErr};
     ghost use Rattle.std.specs.List.{flat_map};
-    ghost use Rattle.file_batch_laws.specs.Files.{AreBodies, IsBody, framed};
-    ghost use Rattle.log_laws.specs.Texts.{payload_text};
+    ghost use Rattle.file_laws.specs.Files.{AreBodies, IsBody, framed};
+    ghost use Rattle.file_laws.specs.Texts.{payload_text};
 
     /// No bodies.
     pub fn new(alloc: Global) -> Bodies

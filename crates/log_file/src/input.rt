@@ -1,7 +1,7 @@
 ghost use Rattle.std.specs.Prelude.{◌<◌, ◌≤◌, length};
 
 use file_devices::Source;
-use log_laws::LogFault;
+use file_laws::LogFault;
 use std::alloc::{AllocError, Global};
 
 // How many bytes are asked for at once.
@@ -21,7 +21,7 @@ pub(crate) struct Input<R> {
 
 impl<R: Source + Drop> Input<R> {
     ghost use Rattle.std.specs.Prelude.{◌≡◌, ◌+◌, ◌<◌, ◌≤◌, ◌++◌, [], false, true, length, drop, IfOk, IfErr, IsTrue, OnOk, Ok};
-    ghost use Rattle.log_laws.specs.LogFault.{is_of_bytes};
+    ghost use Rattle.file_laws.specs.LogFault.{is_of_bytes};
     ghost use Rattle.log_file.specs.Ahead.{ahead, held};
     ghost use Rattle.log_file.specs.Device.{UsesFile};
 

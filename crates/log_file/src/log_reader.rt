@@ -1,7 +1,7 @@
 ghost use Rattle.std.specs.Prelude.{◌≡◌, ◌≤◌, ◌++◌, ℕ, List, length, drop, Err, IfErr, IsTrue, OnOk};
-ghost use Rattle.log_laws.specs.LogFault.{is_of_bytes};
-ghost use Rattle.log_laws.specs.Reading.{IsReading};
-ghost use Rattle.log_laws.specs.Texts.{header_text};
+ghost use Rattle.file_laws.specs.LogFault.{is_of_bytes};
+ghost use Rattle.file_laws.specs.LogReading.{IsReading};
+ghost use Rattle.file_laws.specs.Texts.{header_text};
 
 use crate::chain::digest_of;
 use crate::input::Input;
@@ -10,7 +10,7 @@ use crate::log_step::LogStep;
 use crate::part::Part;
 use crate::part_reading::read_part;
 use file_devices::Source;
-use log_laws::LogFault;
+use file_laws::LogFault;
 use std::alloc::Global;
 
 /// A log that is read entry by entry, of which one at a time is held.
@@ -25,8 +25,8 @@ pub struct LogReader<R> {
 
 impl<R: Source + Drop> LogReader<R> {
     ghost use Rattle.std.specs.Prelude.{◌≡◌, ℕ, List, [], Err, IfOk, IfErr, IsTrue};
-    ghost use Rattle.log_laws.specs.LogFault.{is_of_bytes};
-    ghost use Rattle.log_laws.specs.Reading.{IsReading};
+    ghost use Rattle.file_laws.specs.LogFault.{is_of_bytes};
+    ghost use Rattle.file_laws.specs.LogReading.{IsReading};
     ghost use Rattle.log_file.specs.Device.{UsesFile};
     ghost use Rattle.log_file.specs.Reads.{HasRead, Steps};
 

@@ -6,7 +6,7 @@ use crate::growing_file::GrowingFile;
 use crate::log_end::LogEnd;
 use crate::synced::Synced;
 use crate::unbegun::{is_unbegun, make_header};
-use log_laws::LogFault;
+use file_laws::LogFault;
 use std::alloc::{AllocError, Global};
 
 /// A log that grows by whole entries, each synced before the next one is begun.
@@ -21,8 +21,8 @@ pub struct LogWriter<G> {
 
 impl<G: GrowingFile + Drop> LogWriter<G> {
     ghost use Rattle.std.specs.Prelude.{◌≡◌, ◌⊎◌, ◌∷◌, ◌++◌, ℕ, List, [], true, false, Err, IfOk, IfErr, OnOk, IsTrue};
-    ghost use Rattle.log_laws.specs.LogFault.{is_of_bytes};
-    ghost use Rattle.log_laws.specs.Reading.{IsLogOf};
+    ghost use Rattle.file_laws.specs.LogFault.{is_of_bytes};
+    ghost use Rattle.file_laws.specs.LogReading.{IsLogOf};
     ghost use Rattle.log_file.specs.Device.{UsesFile};
     ghost use Rattle.log_file.specs.Reads.{EndsAs};
     ghost use Rattle.log_file.specs.Writes.{HasLog, IsBegun, IsCutOff};

@@ -1,8 +1,8 @@
 //! The next part of a log, as it stands ahead.
 
 ghost use Rattle.std.specs.Prelude.{◌≡◌, ◌≢◌, ◌↔◌, ◌+◌, ◌<◌, ◌≤◌, ◌^◌, ◌++◌, ℕ, length, take, All, IfOk, IfErr, IsTrue};
-ghost use Rattle.log_laws.specs.LogFault.{is_of_bytes};
-ghost use Rattle.log_laws.specs.Texts.{entry_head};
+ghost use Rattle.file_laws.specs.LogFault.{is_of_bytes};
+ghost use Rattle.file_laws.specs.Texts.{entry_head};
 ghost use Rattle.log_file.specs.Ahead.{ahead, held};
 ghost use Rattle.log_file.specs.Device.{UsesFile};
 ghost use Rattle.log_file.specs.Parts.{IsChecked, IsPart};
@@ -13,7 +13,7 @@ use crate::input::Input;
 use crate::part::{Checked, Part, ReadEntry};
 use crate::splitting::payload_size;
 use file_devices::Source;
-use log_laws::LogFault;
+use file_laws::LogFault;
 use std::alloc::{AllocError, Global};
 
 /// Reads what stands next behind the entry of this digest. Behind an entry the next one can be read.

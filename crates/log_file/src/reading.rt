@@ -3,7 +3,7 @@ use crate::log_end::LogEnd;
 use crate::log_reader::LogReader;
 use crate::log_step::LogStep;
 use file_devices::Source;
-use log_laws::LogFault;
+use file_laws::LogFault;
 use std::alloc::Global;
 
 /// A log that was read whole.
@@ -16,8 +16,8 @@ pub struct WholeLog {
 }
 
 ghost use Rattle.std.specs.Prelude.{◌≡◌, ℕ, List, Err, IfOk, IfErr, IsTrue};
-ghost use Rattle.log_laws.specs.LogFault.{is_of_bytes};
-ghost use Rattle.log_laws.specs.Reading.{IsLogOf, IsReading};
+ghost use Rattle.file_laws.specs.LogFault.{is_of_bytes};
+ghost use Rattle.file_laws.specs.LogReading.{IsLogOf, IsReading};
 ghost use Rattle.log_file.specs.Reads.{EndsAs};
 
 /// Reads a log whole, of the book whose canonical text has this digest: its entries and its torn tail, or the fault. `Failed` only where

@@ -3,14 +3,14 @@
 ghost use Rattle.std.specs.Prelude.{◌≡◌, ◌≢◌, ◌↔◌, ◌<◌, ◌≤◌, ◌^◌, ◌++◌, ℕ, List, length, take, IsTrue, IfSome, IfNone};
 ghost use Rattle.std.specs.List.{flat_map};
 ghost use Rattle.byteorder.specs.Endian.{big_bytes};
-ghost use Rattle.file_batch_laws.specs.Files.{AreBodies, IsBody, framed};
-ghost use Rattle.log_laws.specs.Texts.{entry_head};
+ghost use Rattle.file_laws.specs.Files.{AreBodies, IsBody, framed};
+ghost use Rattle.file_laws.specs.Texts.{entry_head};
 ghost use Rattle.log_file.specs.Bodies.{IsFramed};
 
 use byteorder::{BigEndian, ByteOrder};
 
 /// How many bytes the payload of an entry with this head has. `None` where it is no head.
-#[tactic(auto, unfolding(log_laws::specs::Texts::entry_head))]
+#[tactic(auto, unfolding(file_laws::specs::Texts::entry_head))]
 pub(crate) fn payload_size(head: &[u8]) -> Option<u32>
     requires { 8 ≤ length head.now }
     ensures some { IfSome result (λ size. take 8 head.now ≡ entry_head size) }

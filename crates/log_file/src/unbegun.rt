@@ -1,13 +1,13 @@
 ghost use Rattle.std.specs.Prelude.{◌≡◌, ◌↔◌, ◌<◌, ◌++◌, ℕ, List, length, take, IfOk, IfErr, IsTrue};
-ghost use Rattle.log_laws.specs.LogFault.{is_of_bytes};
-ghost use Rattle.log_laws.specs.Reading.{IsUnbegun};
-ghost use Rattle.log_laws.specs.Texts.{header_text};
+ghost use Rattle.file_laws.specs.LogFault.{is_of_bytes};
+ghost use Rattle.file_laws.specs.LogReading.{IsUnbegun};
+ghost use Rattle.file_laws.specs.Texts.{header_text};
 
 use crate::growing_file::GrowingFile;
 use crate::input::Input;
 use crate::log_input::LogInput;
 use crate::part_reading::are_zeros;
-use log_laws::LogFault;
+use file_laws::LogFault;
 use std::alloc::{AllocError, Global};
 
 /// The header of the log of a book whose text has this digest.

@@ -2,12 +2,12 @@
 use Rattle.std.proofs.Common.{◌≡◌, ◌<◌, ◌≤◌, List, [], ◌∷◌, ◌++◌, length, ap, sym, subst, ◌∙◌, append_assoc, arith}
 use Rattle.std.proofs.lemmas.List.{append-nil}
 use Rattle.issuer_rows.specs.declared.frame.Frame.{Frame}
-use Rattle.file_batch_laws.specs.Blocks.{all_messages}
+use Rattle.file_laws.specs.Blocks.{all_messages}
 use Rattle.log_replay.specs.Blocks.{AreBlocksOf}
 use Rattle.log_replay.specs.Gathering.{Gathers, HasGathered, full_blocks}
 use Rattle.log_replay.specs.declared.gathering.Gathering.{Gathering}
 use Rattle.log_replay.proofs.Cutting.{full_cut, last_cut, one_more_full}
-use Rattle.file_batch_laws.proofs.FoldedBlocks.{one_more_list}
+use Rattle.file_laws.proofs.FoldedBlocks.{one_more_list}
 
 -- one message waits more
 pub waits : (old new : Gathering) (frame : Frame) → full_blocks new ≡ full_blocks old → new.block.items ≡ old.block.items ++ frame ∷ [] → length new.block.items < 65536

@@ -3,20 +3,20 @@ use Rattle.std.proofs.Common.{inl, inr, ◌≡◌, ℕ, ◌≤◌, List, [], ◌
 use Rattle.std.proofs.lemmas.List.{length-append}
 use Rattle.std.proofs.lemmas.List.Concat.{flat_map-append}
 use Rattle.issuer_rows.specs.declared.frame.Frame.{Frame}
-use Rattle.file_batch_laws.specs.Frames.{AreFramesOf}
-use Rattle.log_laws.specs.Reading.{IsLogOf, IsReading, Stands}
-use Rattle.log_laws.specs.Texts.{last_digest}
-use Rattle.log_laws.specs.declared.log_fault.LogFault.{LogFault}
-use Rattle.log_laws.specs.declared.log_fault.LogFault.TheVariants.{NoLog, Version, OtherBook, InUse, Broken, Failed, OutOfMemory}
-use Rattle.log_laws.specs.LogFault.{is_of_bytes}
+use Rattle.file_laws.specs.Frames.{AreFramesOf}
+use Rattle.file_laws.specs.LogReading.{IsLogOf, IsReading, Stands}
+use Rattle.file_laws.specs.Texts.{last_digest}
+use Rattle.file_laws.specs.declared.log_fault.LogFault.{LogFault}
+use Rattle.file_laws.specs.declared.log_fault.LogFault.TheVariants.{NoLog, Version, OtherBook, InUse, Broken, Failed, OutOfMemory}
+use Rattle.file_laws.specs.LogFault.{is_of_bytes}
 use Rattle.log_replay.specs.Faults.{IsMeasuringFault, IsReplayFault}
 use Rattle.log_replay.specs.ReplayFault.{fault_of_reading}
 use Rattle.log_replay.specs.Writing.{IsWritingFault}
 use Rattle.log_replay.specs.declared.replay_fault.ReplayFault.{ReplayFault}
 use Rattle.log_replay.specs.declared.replay_fault.ReplayFault.TheVariants as replay
 use Rattle.std.specs.Prelude.{IsTrue}
-use Rattle.log_laws.proofs.Readings.{one_reading, read_first}
-use Rattle.log_laws.proofs.Steps.{torn_no_entry}
+use Rattle.file_laws.proofs.Readings.{one_reading, read_first}
+use Rattle.file_laws.proofs.LogSteps.{torn_no_entry}
 use Rattle.log_replay.specs.Logged.{IsLogOfSize, all_bodies}
 
 abbrev pub Read : Type 0

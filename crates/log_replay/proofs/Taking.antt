@@ -10,7 +10,7 @@ use Rattle.log_replay.specs.Answering.{AnswersBlock, Finishes, HasTaken, Takes, 
 use Rattle.log_replay.specs.declared.answering.Answering.{Answering}
 use Rattle.log_replay.proofs.Cutting.{full_cut, last_cut, one_more_full}
 use Rattle.file_batch.proofs.Counting.{one_more_count}
-use Rattle.file_batch_laws.proofs.FoldedBlocks.{one_more_holds, one_more_list, one_more_rows, one_more_text}
+use Rattle.file_laws.proofs.FoldedBlocks.{one_more_holds, one_more_list, one_more_rows, one_more_text}
 
 -- what follows from a result that is none of a fault
 pub on_ok : {X E P Q : Type 0} → (P → Q) → (result : Result X E) → OnOk result P → OnOk result Q

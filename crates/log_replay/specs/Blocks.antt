@@ -1,7 +1,7 @@
 -- Messages cut into blocks.
 use Rattle.std.specs.Prelude.{◌≡◌, ◌≤◌, ⊤, List, [], ◌∷◌, length}
 use Rattle.issuer_rows.specs.declared.frame.Frame.{Frame}
-use Rattle.file_batch_laws.specs.Blocks.{all_messages}
+use Rattle.file_laws.specs.Blocks.{all_messages}
 
 -- each block has 65,536 messages, and the last one has 1 to 65,536
 abbrev pub AreCut : List (List Frame) → Type 0

@@ -1,8 +1,8 @@
 -- Why a log is not decided again.
 use Rattle.std.specs.Prelude.{◌<◌, ◌⊎◌, ℕ, List, Err}
-use Rattle.log_laws.specs.Reading.{IsReading}
-use Rattle.log_laws.specs.declared.log_fault.LogFault.{LogFault}
-use Rattle.log_laws.specs.declared.log_fault.LogFault.TheVariants as log
+use Rattle.file_laws.specs.LogReading.{IsReading}
+use Rattle.file_laws.specs.declared.log_fault.LogFault.{LogFault}
+use Rattle.file_laws.specs.declared.log_fault.LogFault.TheVariants as log
 use Rattle.log_replay.specs.Logged.{IsLogOfSize}
 use Rattle.log_replay.specs.declared.replay_fault.ReplayFault.{ReplayFault}
 use Rattle.log_replay.specs.declared.replay_fault.ReplayFault.TheVariants.{Log, TooMany, Unwritable, OutOfMemory}

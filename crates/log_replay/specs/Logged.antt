@@ -2,9 +2,9 @@
 use Rattle.std.specs.Prelude.{◌≡◌, ℕ, List, length}
 use Rattle.issuer_rows.specs.declared.frame.Frame.{Frame}
 pub use Rattle.book_text.specs.Digest.{book_digest}
-pub use Rattle.file_batch_laws.specs.Files.{all_bodies}
-use Rattle.file_batch_laws.specs.Frames.{AreFramesOf}
-use Rattle.log_laws.specs.Reading.{IsLogOf}
+pub use Rattle.file_laws.specs.Files.{all_bodies}
+use Rattle.file_laws.specs.Frames.{AreFramesOf}
+use Rattle.file_laws.specs.LogReading.{IsLogOf}
 use Rattle.log_replay.specs.declared.log_size.LogSize.{LogSize}
 
 -- The bytes are a log of the book that has this digest, with a torn tail behind it perhaps. These are the messages that its bodies spell,

@@ -1,6 +1,6 @@
 -- Faults of a log that is read, as faults of a replay.
-use Rattle.log_laws.specs.declared.log_fault.LogFault.{LogFault}
-use Rattle.log_laws.specs.declared.log_fault.LogFault.TheVariants as log
+use Rattle.file_laws.specs.declared.log_fault.LogFault.{LogFault}
+use Rattle.file_laws.specs.declared.log_fault.LogFault.TheVariants as log
 use Rattle.log_replay.specs.declared.replay_fault.ReplayFault.{ReplayFault}
 use Rattle.log_replay.specs.declared.replay_fault.ReplayFault.TheVariants.{Log}
 

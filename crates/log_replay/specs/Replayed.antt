@@ -2,7 +2,7 @@
 use Rattle.std.specs.Prelude.{◌≡◌, ℕ, List, ◌++◌}
 use Rattle.issuer_words.specs.Words.{Frame, Rows, rows_after}
 use Rattle.file_batch.specs.Counting.{count_of}
-use Rattle.file_batch_laws.specs.Blocks.{AreBlocksOfReplies, block_replies_text, replies_to_blocks}
+use Rattle.file_laws.specs.Blocks.{AreBlocksOfReplies, block_replies_text, replies_to_blocks}
 use Rattle.log_replay.specs.Blocks.{AreBlocksOf}
 use Rattle.log_replay.specs.Logged.{IsLogOfMessages}
 use Rattle.log_replay.specs.declared.replayed.Replayed.{Replayed}

@@ -1,7 +1,7 @@
 -- A log that is read and decided, entry by entry.
 use Rattle.std.specs.Prelude.{◌≡◌, ℕ, List, [], length}
 use Rattle.issuer_rows.specs.declared.frame.Frame.{Frame}
-use Rattle.file_batch_laws.specs.Frames.{AreFramesOf}
+use Rattle.file_laws.specs.Frames.{AreFramesOf}
 use Rattle.log_file.specs.Reads.{HasRead}
 use Rattle.log_file.specs.declared.log_reader.LogReader.{LogReader}
 use Rattle.log_replay.specs.Answering.{Takes, taken}

@@ -1,7 +1,7 @@
 ghost use Rattle.std.specs.Prelude.{◌≡◌, ◌≤◌, ◌<◌, ◌+◌, ◌∷◌, [], ◌++◌, length, List, OnOk};
 ghost use Rattle.issuer_rows.specs.declared.frame.Frame.{Frame};
 ghost use Rattle.file_batch.specs.Counting.{count_of};
-ghost use Rattle.file_batch_laws.specs.Frames.{AreFramesOf};
+ghost use Rattle.file_laws.specs.Frames.{AreFramesOf};
 ghost use Rattle.log_replay.specs.Answering.{AnswersBlock, Finishes, IsCounted, Takes, taken};
 ghost use Rattle.log_replay.specs.Writing.{Writes};
 
@@ -9,8 +9,8 @@ use crate::block_writing::write_block;
 use crate::copying::push_copy;
 use crate::replay_fault::ReplayFault;
 use file_batch::BodyCount;
-use file_batch_laws::frame_of;
 use file_devices::Sink;
+use file_laws::frame_of;
 use issuer_fold::Prefix;
 use issuer_rows::{Book, Frame};
 use issuer_view::Decide;

@@ -1,11 +1,11 @@
 ghost use Rattle.std.specs.Prelude.{◌≡◌, ◌∷◌, [], ◌++◌, List, IfOk, OnOk, map};
 ghost use Rattle.issuer_rows.specs.declared.frame.Frame.{Frame};
-ghost use Rattle.file_batch_laws.specs.Frames.{AreFramesOf};
+ghost use Rattle.file_laws.specs.Frames.{AreFramesOf};
 ghost use Rattle.log_replay.specs.Blocks.{AreBlocksOf};
 ghost use Rattle.log_replay.specs.Gathering.{Gathers, HasGathered, full_blocks};
 
 use crate::copying::push_copy;
-use file_batch_laws::frame_of;
+use file_laws::frame_of;
 use issuer_rows::Frame;
 use log_file::Bodies;
 use std::alloc::{AllocError, Global};

@@ -2,7 +2,7 @@ ghost use Rattle.std.specs.Prelude.{◌≡◌};
 ghost use Rattle.log_replay.specs.ReplayFault.{fault_of_reading};
 ghost use Rattle.log_replay.specs.declared.replay_fault.ReplayFault.TheVariants.{OutOfMemory};
 
-use log_laws::LogFault;
+use file_laws::LogFault;
 use std::alloc::{AllocError, AllocFailed};
 
 /// Why a log is not decided again.

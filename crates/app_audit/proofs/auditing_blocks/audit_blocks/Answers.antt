@@ -1,7 +1,7 @@
 use Rattle.std.proofs.Common.{◌≡◌, ◌≤◌, ◌<◌, ℕ, List, IfOk, length, map, refl, sym, ap, subst, ◌∙◌, arith}
 use Rattle.std.proofs.lemmas.Bool.{false≢true}
 use Rattle.std.proofs.lemmas.Result.{IfOk-weaker}
-use Rattle.file_batch_laws.specs.Blocks.{replies_to_blocks}
+use Rattle.file_laws.specs.Blocks.{replies_to_blocks}
 use Rattle.issuer_words.specs.Words.{ReplyBody, Rows, replies_to}
 use Rattle.app_audit.specs.Blocks.{FindsInBlocks}
 use Rattle.app_audit.specs.Difference.{IsFirstDifference}

@@ -1,7 +1,7 @@
 use Rattle.std.proofs.Common.{◌≡◌, ◌++◌, length}
 use Rattle.std.specs.List.{AllByRecursion, flat_map}
 use Rattle.file_batch.specs.Bodies.{bytes_of}
-use Rattle.file_batch_laws.specs.Files.{IsBody, framed}
+use Rattle.file_laws.specs.Files.{IsBody, framed}
 use Rattle.file_listing.specs.BlockText.{block_text}
 use Rattle.app_messages.proofs.block_writing.add_block.Given as goal
 

@@ -1,6 +1,6 @@
 use Rattle.std.proofs.Common.{◌≡◌, ◌++◌, length}
 use Rattle.std.specs.List.{AllByRecursion, flat_map}
-use Rattle.file_batch_laws.specs.Files.{AreBodies}
+use Rattle.file_laws.specs.Files.{AreBodies}
 use Rattle.file_listing.specs.BlockText.{block_file_text, block_text}
 use Rattle.app_messages.specs.Handed.{bodies_of_blocks}
 use Rattle.app_messages.proofs.block_writing.text_of_blocks.Given as goal

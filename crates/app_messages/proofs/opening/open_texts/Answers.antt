@@ -1,7 +1,7 @@
 use Rattle.std.proofs.Common.{rules, ◌≡◌, ◌<◌, ◌≤◌, ◌+◌, ◌++◌, ◌∙◌, length, map, string_bytes, ap, arith}
 use Rattle.std.proofs.lemmas.List.{length-map, map-append}
 use Rattle.file_batch.specs.Bodies.{bytes_of}
-use Rattle.file_batch_laws.specs.declared.batch_fault.BatchFault.TheVariants.{Count}
+use Rattle.file_laws.specs.declared.batch_fault.BatchFault.TheVariants.{Count}
 use Rattle.app_jobs.specs.declared.job_fault.JobFault.TheVariants.{Batch}
 use Rattle.app_messages.specs.Packed.{HasBodies}
 use Rattle.app_messages.proofs.TextSteps.{all_texts, more_bodies, one_more_fault, one_more_text, too_many}

@@ -1,6 +1,6 @@
 use Rattle.std.proofs.Common.{ℕ, List, ◌++◌, length, map, string_bytes}
 use Rattle.file_batch.specs.Bodies.{bytes_of}
-use Rattle.file_batch_laws.specs.Files.{AreBodies}
+use Rattle.file_laws.specs.Files.{AreBodies}
 use Rattle.app_jobs.specs.declared.job_fault.JobFault.{JobFault}
 use Rattle.app_messages.specs.Packed.{AreThere, HaveBodies, IsBodiesFault}
 use Rattle.app_messages.proofs.opening.open_texts.Given as goal

@@ -1,5 +1,5 @@
 use Rattle.std.proofs.Common.{rules, ◌≡◌, ◌∙◌, ℕ, List, sym}
-use Rattle.file_batch_laws.specs.BatchFault.{number_of_fault}
+use Rattle.file_laws.specs.BatchFault.{number_of_fault}
 use Rattle.app_reasons.specs.Says.{Says}
 use Rattle.app_reasons.proofs.file_reasons.file_reason.Goals as goal
 

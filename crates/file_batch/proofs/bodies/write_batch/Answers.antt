@@ -1,10 +1,10 @@
 use Rattle.file_batch.proofs.Pieces.{nothing_put}
 use Rattle.file_batch.specs.Bodies.{bytes_of}
-use Rattle.file_batch_laws.specs.Files.{batch_text}
+use Rattle.file_laws.specs.Files.{batch_text}
 use Rattle.std.proofs.Common.{arith, refl}
 use Rattle.std.proofs.lemmas.List.{length-map}
 use Rattle.std.proofs.lemmas.Result.{err_from_is_err_and, on_ok_weaker}
-use Rattle.file_batch_laws.proofs.FaultTexts.{clash}
+use Rattle.file_laws.proofs.FaultTexts.{clash}
 use Rattle.file_batch.proofs.Lengths.{are_bodies, are_vecs, all_are_bodies, text_of_vecs}
 use Rattle.file_batch.proofs.bodies.write_batch.Goals as goal
 

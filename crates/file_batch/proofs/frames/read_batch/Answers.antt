@@ -1,5 +1,5 @@
 use Rattle.std.proofs.Common.{◌≡◌, ℕ, List, ◌++◌, ap}
-use Rattle.file_batch_laws.specs.Reading.{batch_magic}
+use Rattle.file_laws.specs.Reading.{batch_magic}
 use Rattle.file_batch.specs.Window.{ahead}
 use Rattle.file_batch.proofs.ReadBodies.{is_whole}
 use Rattle.file_batch.proofs.frames.read_batch.Goals as goal

@@ -1,7 +1,7 @@
 use Rattle.std.proofs.Common.{◌≡◌, ◌++◌, ℕ, length, refl, sym, ap, ◌∙◌}
 use Rattle.std.proofs.lemmas.List.{append-nil}
-use Rattle.file_batch_laws.specs.Files.{head_text}
-use Rattle.file_batch_laws.specs.Reading.{replies_magic}
+use Rattle.file_laws.specs.Files.{head_text}
+use Rattle.file_laws.specs.Reading.{replies_magic}
 use Rattle.rtrb.specs.Ring.{sent}
 use Rattle.file_batch.specs.InOrder.{texts_of}
 use Rattle.file_batch.specs.Pieces.{HasTold, frames_in}

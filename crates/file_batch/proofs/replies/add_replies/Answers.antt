@@ -1,7 +1,7 @@
 use Rattle.std.proofs.Common.{◌++◌, ℕ, List, sym, ap, ◌∙◌}
 use Rattle.std.proofs.lemmas.List.{append-nil}
-use Rattle.file_batch_laws.specs.Files.{reply_text}
-use Rattle.file_batch_laws.specs.Replies.{IsReplyBody}
+use Rattle.file_laws.specs.Files.{reply_text}
+use Rattle.file_laws.specs.Replies.{IsReplyBody}
 use Rattle.file_batch.proofs.Pieces.{behind_length, one_more_at, all_of_them, one_more_holds, all_hold}
 use Rattle.file_batch.proofs.replies.add_replies.Goals as goal
 

@@ -1,7 +1,7 @@
 use Rattle.std.proofs.Common.{◌≡◌, take}
 use Rattle.std.specs.List.{AllByRecursion}
-use Rattle.file_batch_laws.specs.Files.{reply_text}
-use Rattle.file_batch_laws.specs.Replies.{IsReplyBody}
+use Rattle.file_laws.specs.Files.{reply_text}
+use Rattle.file_laws.specs.Replies.{IsReplyBody}
 use Rattle.file_batch.proofs.Pieces.{behind_length, so_many}
 use Rattle.file_batch.proofs.replies.add_replies.Given as goal
 

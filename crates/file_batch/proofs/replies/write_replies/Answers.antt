@@ -1,6 +1,6 @@
 use Rattle.file_batch.proofs.Pieces.{nothing_put}
 use Rattle.std.proofs.lemmas.Result.{err_from_is_err_and}
-use Rattle.file_batch_laws.specs.Files.{replies_text}
+use Rattle.file_laws.specs.Files.{replies_text}
 use Rattle.file_batch.proofs.replies.write_replies.Goals as goal
 
 pub returns-then-replies-gt65536-clause-err : goal.returns-then-replies-gt65536-clause-err

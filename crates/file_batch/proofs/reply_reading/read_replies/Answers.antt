@@ -1,7 +1,7 @@
 use Rattle.std.proofs.Common.{◌≡◌, ℕ, List, ◌++◌, ap, inr}
 use Rattle.std.proofs.lemmas.Result.{err_from_is_err_and}
 use Rattle.file_batch.specs.Window.{ahead}
-use Rattle.file_batch_laws.specs.Reading.{replies_magic}
+use Rattle.file_laws.specs.Reading.{replies_magic}
 use Rattle.file_batch.proofs.ReadBodies.{is_whole}
 use Rattle.file_batch.proofs.reply_reading.read_replies.Goals as goal
 

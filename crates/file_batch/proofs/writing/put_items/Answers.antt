@@ -2,7 +2,7 @@ use Rattle.std.proofs.Common.{rules, ◌≡◌, ◌+◌, ◌++◌, length, drop,
 use Rattle.std.specs.List.{flat_map}
 use Rattle.std.proofs.lemmas.Result.{err_from_is_err_and, on_err_weaker, on_ok_weaker}
 use Rattle.file_batch.specs.Writing.{items_text}
-use Rattle.file_batch_laws.specs.Files.{head_text}
+use Rattle.file_laws.specs.Files.{head_text}
 use Rattle.file_batch.proofs.Pieces.{behind_length, so_many, nothing_put, adds, moves, stops, halts, ends, one_more_at, the_rest, all_of_them, one_more_holds, all_hold}
 use Rattle.file_batch.proofs.writing.put_items.Goals as goal
 

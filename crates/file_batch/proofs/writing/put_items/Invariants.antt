@@ -1,6 +1,6 @@
 use Rattle.std.proofs.Common.{length, take}
 use Rattle.std.specs.List.{AllByRecursion}
-use Rattle.file_batch_laws.specs.Files.{head_text}
+use Rattle.file_laws.specs.Files.{head_text}
 use Rattle.file_batch.proofs.Pieces.{Progress, behind_length, so_many}
 use Rattle.file_batch.specs.Device.{KeepsDevice}
 use Rattle.file_batch.proofs.writing.put_items.Given as goal

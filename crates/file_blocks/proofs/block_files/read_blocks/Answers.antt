@@ -1,7 +1,7 @@
 use Rattle.std.proofs.Common.{◌≡◌, ℕ, List, ◌++◌, ap, inr, ◌∙◌}
 use Rattle.std.proofs.lemmas.Result.{err_from_is_err_and}
 use Rattle.file_batch.specs.Window.{ahead}
-use Rattle.file_batch_laws.specs.Blocks.{IsBlock, blocks_magic}
+use Rattle.file_laws.specs.Blocks.{IsBlock, blocks_magic}
 use Rattle.file_blocks.specs.BlockFiles.{frames_of}
 use Rattle.std.proofs.lemmas.List.{length-map}
 use Rattle.file_blocks.proofs.ReadBlocks.{is_file}

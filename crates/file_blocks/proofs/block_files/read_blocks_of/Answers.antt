@@ -2,7 +2,7 @@ use Rattle.std.proofs.Common.{rules, ◌≡◌, ◌++◌, ◌∷◌, [], ◌≤�
 use Rattle.std.proofs.lemmas.List.Elements.{All-nil, All-push}
 use Rattle.std.proofs.lemmas.Result.{err_from_is_err_and}
 use Rattle.file_batch.specs.Window.{ahead}
-use Rattle.file_batch_laws.specs.Blocks.{IsBlock}
+use Rattle.file_laws.specs.Blocks.{IsBlock}
 use Rattle.file_blocks.specs.BlockFiles.{frames_of}
 use Rattle.std.proofs.lemmas.List.{length-map}
 use Rattle.file_blocks.proofs.ReadBlocks.{goes_on}

@@ -1,6 +1,6 @@
 use Rattle.std.proofs.Common.{◌≡◌, ◌≤◌, length}
 use Rattle.std.specs.List.{All}
-use Rattle.file_batch_laws.specs.Blocks.{AreBlocks}
+use Rattle.file_laws.specs.Blocks.{AreBlocks}
 use Rattle.file_blocks.specs.BlockFiles.{frames_of}
 use Rattle.file_batch.specs.Window.{ahead}
 use Rattle.file_batch.specs.Device.{KeepsDevice}

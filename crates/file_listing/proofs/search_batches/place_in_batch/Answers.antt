@@ -1,4 +1,4 @@
-use Rattle.file_batch_laws.specs.Reading.{batch_magic}
+use Rattle.file_laws.specs.Reading.{batch_magic}
 use Rattle.file_listing.proofs.Faults.{batch_fails, batch_is_read}
 use Rattle.file_listing.proofs.search_batches.place_in_batch.Goals as goal
 

@@ -1,5 +1,5 @@
 use Rattle.std.proofs.Common.{◌≡◌, ◌+◌, drop, length, Ok, arith}
-use Rattle.file_batch_laws.specs.Reading.{body_at}
+use Rattle.file_laws.specs.Reading.{body_at}
 use Rattle.file_listing.proofs.OneMore.{no_messages, one_more_message}
 use Rattle.file_listing.proofs.search_unread.first_unread.Goals as goal
 

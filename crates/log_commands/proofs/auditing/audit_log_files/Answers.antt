@@ -2,8 +2,8 @@ use Rattle.std.proofs.Common.{◌∙◌, inl, inr, map, ap, subst, Err}
 use Rattle.std.proofs.lemmas.Result.{err_from_is_err_and}
 use Rattle.std.specs.Global.{Vec}
 use Rattle.app_audit.specs.Blocks.{FindsInBlocks}
-use Rattle.file_batch_laws.proofs.FoldedBlocks.{one_book}
-use Rattle.file_batch_laws.specs.Blocks.{replies_to_blocks}
+use Rattle.file_laws.proofs.FoldedBlocks.{one_book}
+use Rattle.file_laws.specs.Blocks.{replies_to_blocks}
 use Rattle.issuer_words.specs.Words.{Frame, ReplyBody, Rows, rows_after}
 use Rattle.log_file.specs.declared.open_fault.OpenFault.{OpenFault}
 use Rattle.log_commands.specs.Names.{names_of}

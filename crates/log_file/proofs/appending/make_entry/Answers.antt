@@ -1,5 +1,5 @@
 use Rattle.std.proofs.Common.{length, ap, arith}
-use Rattle.log_laws.proofs.Payloads.{length-framed}
+use Rattle.file_laws.proofs.Payloads.{length-framed}
 use Rattle.log_file.proofs.appending.make_entry.Goals as goal
 
 pub overflow_cast-size : goal.overflow_cast-size

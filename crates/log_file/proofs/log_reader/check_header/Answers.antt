@@ -1,5 +1,5 @@
 use Rattle.std.proofs.Common.{◌≡◌, ◌≢◌, ◌∙◌, drop, take, sym, ap}
-use Rattle.log_laws.specs.Texts.{log_letters, log_version}
+use Rattle.file_laws.specs.Texts.{log_letters, log_version}
 use Rattle.log_file.proofs.Headers.{other_book, other_found, same_found}
 use Rattle.log_file.proofs.log_reader.check_header.Goals as goal
 

@@ -1,6 +1,6 @@
 use Rattle.std.proofs.Common.{◌≡◌, ◌∙◌, ◌++◌, List, ℕ, drop, refl, subst}
 use Rattle.std.specs.Prelude.{IsTrue, ◌↔◌}
-use Rattle.log_laws.specs.Reading.{IsUnbegun}
+use Rattle.file_laws.specs.LogReading.{IsUnbegun}
 use Rattle.log_file.specs.Ahead.{held}
 use Rattle.log_file.proofs.Ahead.{all_held, ok_of}
 use Rattle.log_file.proofs.unbegun.is_unbegun.Goals as goal

@@ -4,7 +4,7 @@ use Rattle.std.proofs.lemmas.Result.{err_from_is_err_and}
 use Rattle.log_replay.specs.Logged.{all_bodies}
 use Rattle.log_replay.proofs.Reading.{not_measured}
 use Rattle.log_replay.proofs.measuring.measure_log.Goals as goal
-use Rattle.file_batch_laws.proofs.Lists.{bodies_more}
+use Rattle.file_laws.proofs.Lists.{bodies_more}
 
 pub returns-in_err-bodies-clause-fault : goal.returns-in_err-bodies-clause-fault
 returns-in_err-bodies-clause-fault g c =

@@ -1,6 +1,6 @@
 use Rattle.std.proofs.Common.{rules, ◌≡◌, ℕ, List, [], ◌++◌, length, ap, sym, ◌∙◌, arith}
 use Rattle.std.proofs.lemmas.Result.{err_from_is_err_and}
-use Rattle.file_batch_laws.proofs.FoldedBlocks.{one_book, blocks_replied}
+use Rattle.file_laws.proofs.FoldedBlocks.{one_book, blocks_replied}
 use Rattle.file_batch.specs.Words.{block_replies_magic, head_text, replies_to_blocks}
 use Rattle.issuer_rows.specs.Fold.{rows_after}
 use Rattle.log_replay.proofs.Cutting.{length-cut}

@@ -1,12 +1,12 @@
 use Rattle.std.proofs.Common.{ℕ, List, ◌∷◌, [], ◌++◌, length, inr, sym, ap, subst, arith}
 use Rattle.std.proofs.lemmas.List.{length-append}
 use Rattle.std.proofs.lemmas.Result.{err_from_is_err_and}
-use Rattle.file_batch_laws.specs.Frames.{AreFramesOf}
+use Rattle.file_laws.specs.Frames.{AreFramesOf}
 use Rattle.log_replay.specs.Logged.{all_bodies}
 use Rattle.log_replay.proofs.Reading.{both_are, no_more, not_replayed, one_size}
 use Rattle.log_replay.proofs.Taking.{joined, nothing}
 use Rattle.log_replay.proofs.replaying.take_log.Goals as goal
-use Rattle.file_batch_laws.proofs.Lists.{bodies_more}
+use Rattle.file_laws.proofs.Lists.{bodies_more}
 
 pub loop-init : goal.loop-init
 loop-init g c = record {

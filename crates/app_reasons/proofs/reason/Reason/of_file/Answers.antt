@@ -1,5 +1,5 @@
-use Rattle.file_batch_laws.specs.Blocks.{blocks_magic, block_replies_magic}
-use Rattle.file_batch_laws.specs.Reading.{batch_magic, replies_magic}
+use Rattle.file_laws.specs.Blocks.{blocks_magic, block_replies_magic}
+use Rattle.file_laws.specs.Reading.{batch_magic, replies_magic}
 use Rattle.file_listing.specs.declared.body_kind.BodyKind.TheVariants.{Message, Reply}
 use Rattle.app_reasons.proofs.reason.Reason.of_file.Goals as goal
 

@@ -1,6 +1,6 @@
 use Rattle.std.proofs.Common.{rules, ◌≡◌, ◌+◌, ◌-◌, ◌∷◌, ◌++◌, ℕ, [], length, refl, subst, arith}
 use Rattle.std.proofs.lemmas.Result.{err_from_is_err_and}
-use Rattle.file_batch_laws.specs.Frames.{IsFrameOf}
+use Rattle.file_laws.specs.Frames.{IsFrameOf}
 use Rattle.rtrb.specs.Ring.{sent}
 use Rattle.file_batch.specs.Pieces.{frames_in}
 use Rattle.file_batch.specs.Window.{ahead}

@@ -1,5 +1,5 @@
 use Rattle.std.proofs.Common.{◌≡◌, ◌+◌, ◌-◌, ℕ, List, length}
-use Rattle.file_batch_laws.specs.Frames.{IsFrameOf}
+use Rattle.file_laws.specs.Frames.{IsFrameOf}
 use Rattle.rtrb.specs.Ring.{sent, SameProducer, SameConsumer}
 use Rattle.file_batch.specs.Pieces.{HasTold, frames_in}
 use Rattle.file_batch.specs.Window.{ahead}

@@ -1,10 +1,10 @@
 use Rattle.std.proofs.Common.{◌<◌, ◌++◌, length, arith, ap, ◌∙◌}
 use Rattle.std.proofs.lemmas.List.{length-append}
-use Rattle.file_batch_laws.specs.Reading.{ended}
+use Rattle.file_laws.specs.Reading.{ended}
 use Rattle.file_batch.specs.Window.{part}
 use Rattle.file_batch.proofs.Parts.{length_part}
 use Rattle.file_batch.proofs.window.Window.read_end.Goals as goal
-use Rattle.file_batch_laws.proofs.Steps.{ended_more}
+use Rattle.file_laws.proofs.Steps.{ended_more}
 
 pub returns-in-Ok-clause-gives : goal.returns-in-Ok-clause-gives
 returns-in-Ok-clause-gives g c = λ known of_bytes.

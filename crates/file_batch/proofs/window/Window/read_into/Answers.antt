@@ -1,6 +1,6 @@
 use Rattle.std.proofs.Common.{rules, ◌≡◌, ℕ, ◌+◌, ◌-◌, ◌++◌, ◌∷◌, [], arith, refl, subst}
 use Rattle.std.proofs.lemmas.Result.{err_from_is_err_and}
-use Rattle.file_batch_laws.specs.Frames.{IsFrameOf}
+use Rattle.file_laws.specs.Frames.{IsFrameOf}
 use Rattle.file_batch.specs.Window.{ahead}
 use Rattle.file_batch.proofs.ReadBodies.{ItemsAt, fails, fails_at, goes_on, one, one_fails, starts}
 use Rattle.file_batch.proofs.window.Window.read_into.Goals as goal

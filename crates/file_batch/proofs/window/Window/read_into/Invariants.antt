@@ -1,5 +1,5 @@
 use Rattle.std.proofs.Common.{◌≡◌, ◌≤◌, length, vec_capacity}
-use Rattle.file_batch_laws.specs.Frames.{IsFrameOf}
+use Rattle.file_laws.specs.Frames.{IsFrameOf}
 use Rattle.file_batch.specs.Window.{ahead}
 use Rattle.file_batch.proofs.ReadBodies.{ItemsAt}
 use Rattle.file_batch.specs.Device.{KeepsDevice}

@@ -1,7 +1,7 @@
 use Rattle.std.proofs.Common.{rules, ◌≡◌, ℕ, ◌+◌, ◌++◌, ◌∷◌, [], arith, refl, subst}
 use Rattle.std.proofs.lemmas.Result.{err_from_is_err_and}
 use Rattle.file_batch.specs.Window.{ahead}
-use Rattle.file_batch_laws.specs.Replies.{IsReplyText, RepliesAt}
+use Rattle.file_laws.specs.Replies.{IsReplyText, RepliesAt}
 use Rattle.file_batch.proofs.ReadBodies.{goes_on, one, starts}
 use Rattle.file_batch.proofs.ReadReplies.{fails_in_body, fails_in_text}
 use Rattle.file_batch.proofs.window.Window.read_replies.Goals as goal

@@ -1,5 +1,5 @@
 use Rattle.std.proofs.Common.{◌≡◌, ◌≤◌, length}
-use Rattle.file_batch_laws.specs.Replies.{RepliesAt}
+use Rattle.file_laws.specs.Replies.{RepliesAt}
 use Rattle.file_batch.specs.Window.{ahead}
 use Rattle.file_batch.specs.Device.{KeepsDevice}
 use Rattle.file_batch.proofs.window.Window.read_replies.Given as goal

@@ -1,7 +1,7 @@
 use Rattle.std.proofs.Common.{rules, ◌≡◌, ◌∙◌, ◌++◌, List, ℕ, Err, drop, length, refl, ap, subst, arith}
 use Rattle.std.proofs.lemmas.Result.{err_from_is_err_and}
 use Rattle.log_file.specs.Ahead.{ahead}
-use Rattle.log_laws.specs.Reading.{IsReading}
+use Rattle.file_laws.specs.LogReading.{IsReading}
 use Rattle.log_file.proofs.Stepping.{never_failed, opened}
 use Rattle.log_file.proofs.log_reader.LogReader.open.Goals as goal
 

@@ -1,8 +1,8 @@
 use Rattle.std.proofs.Common.{◌∙◌, ◌∷◌, [], List, ℕ, sym, ap, arith}
 use Rattle.std.proofs.lemmas.List.{length-append}
-use Rattle.file_batch_laws.specs.Files.{AreBodies}
-use Rattle.log_laws.specs.Texts.{first_digest, next_digest}
-use Rattle.log_laws.proofs.Chain.{digest_one_more}
+use Rattle.file_laws.specs.Files.{AreBodies}
+use Rattle.file_laws.specs.Texts.{first_digest, next_digest}
+use Rattle.file_laws.proofs.Chain.{digest_one_more}
 use Rattle.log_file.proofs.Logging.{one_more}
 use Rattle.log_file.proofs.Stepping.{are_more}
 use Rattle.log_file.proofs.log_writer.LogWriter.append.Goals as goal

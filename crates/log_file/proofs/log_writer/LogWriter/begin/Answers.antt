@@ -1,7 +1,7 @@
 use Rattle.std.proofs.Common.{◌≡◌, ◌∙◌, ◌++◌, List, ℕ, refl, ap}
 use Rattle.std.proofs.lemmas.List.{append-nil}
 use Rattle.sha2.specs.Sha256.{sha256}
-use Rattle.log_laws.specs.Texts.{header_text}
+use Rattle.file_laws.specs.Texts.{header_text}
 use Rattle.log_file.proofs.Logging.{header_alone}
 use Rattle.log_file.proofs.Stepping.{first_is}
 use Rattle.log_file.proofs.log_writer.LogWriter.begin.Goals as goal

@@ -1,0 +1,11 @@
+pub mod BatchFault
+pub mod Reading
+pub mod Files
+pub mod Frames
+pub mod Replies
+pub mod Blocks
+pub mod LogFault
+pub mod Texts
+pub mod Tails
+pub mod LogReading
+pub mod Digests
