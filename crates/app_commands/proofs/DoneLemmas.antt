@@ -5,12 +5,12 @@ use Rattle.file_batch.specs.declared.strictness.Strictness.TheVariants.{Lenient}
 use Rattle.std.specs.Global.{Vec}
 use Rattle.file_batch.specs.Words.{AreAsTheyWere, BatchFault, Failing}
 use Rattle.app_runs.specs.Words.{AreBlocksKept, Holding, IsBlocksFault, JobFault}
-use Rattle.app_arguments.specs.declared.engine_choice.EngineChoice.{EngineChoice}
+use Rattle.app_words.specs.declared.engine_choice.EngineChoice.{EngineChoice}
 use Rattle.app_jobs.specs.declared.job_fault.JobFault.TheVariants.{Batch}
-use Rattle.app_arguments.specs.Asked.{Asked, Names, blocks}
-use Rattle.app_arguments.specs.Arguments.{Asks, IsRead}
-use Rattle.app_arguments.specs.declared.line_fault.LineFault.{LineFault}
-use Rattle.app_arguments.specs.declared.line_fault.LineFault.TheVariants as line
+use Rattle.app_words.specs.Asked.{Asked, Names, blocks}
+use Rattle.app_words.specs.Arguments.{Asks, IsRead}
+use Rattle.app_words.specs.declared.line_fault.LineFault.{LineFault}
+use Rattle.app_words.specs.declared.line_fault.LineFault.TheVariants as line
 use Rattle.app_commands.specs.Answered.{IsAskedFor, IsClaimFault, IsDoneAs, IsFaultIn, IsFaultOf, IsOneInUse, IsRefusalIn, IsRefusalOf, IsTold, IsToldFor}
 use Rattle.app_commands.specs.Apart.{AreApart, IsApartFault, names_apart}
 use Rattle.app_jobs.proofs.AnsweredFiles.{untouched}

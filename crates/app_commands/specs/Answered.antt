@@ -19,8 +19,8 @@ use Rattle.app_words.specs.declared.form.Form.TheVariants.{Lines}
 use Rattle.app_messages.specs.Shown.{IsShowFault, IsShown}
 use Rattle.app_jobs.specs.declared.job_fault.JobFault.TheVariants.{Batch, InUse}
 use Rattle.app_jobs.specs.declared.job_fault.JobFault.TheVariants as job
-use Rattle.app_arguments.specs.Asked.{Asked, Names, help, version, one, serial, run, run_with_journal, blocks, audit, audit_blocks, show, pack, pack_blocks}
-use Rattle.app_arguments.specs.Arguments.{Asks, IsUsageFault}
+use Rattle.app_words.specs.Asked.{Asked, Names, help, version, one, serial, run, run_with_journal, blocks, audit, audit_blocks, show, pack, pack_blocks}
+use Rattle.app_words.specs.Arguments.{Asks, IsUsageFault}
 use Rattle.app_commands.specs.Fault.{status_of, text_of}
 use Rattle.app_commands.specs.Printed.{Prints, PrintsLine, behind, decided, decided_in_blocks, numbered, packed_in_blocks}
 use Rattle.app_commands.specs.declared.fault.Fault.{Fault}

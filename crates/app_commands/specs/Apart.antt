@@ -3,7 +3,7 @@ use Rattle.std.specs.Prelude.{◌≡◌, ℕ, List, [], ◌∷◌, ◌++◌}
 pub use Rattle.app_jobs.specs.Apart.{AreApart, HasOneFile}
 use Rattle.app_commands.specs.declared.fault.Fault.{Fault}
 use Rattle.app_commands.specs.declared.fault.Fault.TheVariants.{Usage, OutOfMemory}
-use Rattle.app_arguments.specs.Asked.{Asked, Names, blocks, pack, pack_blocks, run, run_with_journal, serial}
+use Rattle.app_words.specs.Asked.{Asked, Names, blocks, pack, pack_blocks, run, run_with_journal, serial}
 
 -- the pairs of names of a batch that have to be of two files: of what is written, and of what is written and what is read, but that the
 -- new book may take the place of the book

@@ -1,6 +1,6 @@
 -- Which files a command claims.
 use Rattle.std.specs.Prelude.{List, [], ◌∷◌}
-use Rattle.app_arguments.specs.Asked.{Asked, Names, serial, run, run_with_journal, blocks, audit, audit_blocks, pack, pack_blocks}
+use Rattle.app_words.specs.Asked.{Asked, Names, serial, run, run_with_journal, blocks, audit, audit_blocks, pack, pack_blocks}
 use Rattle.file_devices.specs.Claims.{Claimed, alone, to_read}
 
 -- what is answered: the files of replies and of the new book, which no other run may write

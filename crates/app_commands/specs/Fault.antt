@@ -1,8 +1,8 @@
 -- Faults of the program: their texts and exit statuses.
 use Rattle.std.specs.Prelude.{ℕ, List, ◌∷◌, ◌++◌, Option, Some, None, codes, string_bytes}
 use Rattle.app_runs.specs.Words.{Halt, JobFault, number_of, part_of}
-use Rattle.app_arguments.specs.declared.line_fault.LineFault.{LineFault}
-use Rattle.app_arguments.specs.declared.line_fault.LineFault.TheVariants as line
+use Rattle.app_words.specs.declared.line_fault.LineFault.{LineFault}
+use Rattle.app_words.specs.declared.line_fault.LineFault.TheVariants as line
 use Rattle.app_commands.specs.Printed.{numbered}
 use Rattle.app_commands.specs.declared.fault.Fault.{Fault}
 use Rattle.app_commands.specs.declared.fault.Fault.TheVariants.{Usage, OutOfMemory, Job, Halted}

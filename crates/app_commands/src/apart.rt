@@ -1,9 +1,9 @@
 ghost use Rattle.std.specs.Prelude.{◌≡◌, ◌≢◌, IfErr, OnOk, map, string_bytes};
-ghost use Rattle.app_arguments.specs.Asked.{asked_of, names_of};
+ghost use Rattle.app_words.specs.Asked.{asked_of, names_of};
 ghost use Rattle.app_commands.specs.Apart.{AreApart, IsApartFault, IsPairFault, batch_apart, journal_apart, made_apart, names_apart};
 
 use crate::fault::Fault;
-use app_arguments::Command;
+use app_words::Command;
 use file_devices::{BatchNames, Files};
 use std::alloc::Global;
 

@@ -1,12 +1,12 @@
 ghost use Rattle.std.specs.Prelude.{[], ◌∷◌, IfOk, IfErr};
-ghost use Rattle.app_arguments.specs.Asked.{asked_of, names_of};
+ghost use Rattle.app_words.specs.Asked.{asked_of, names_of};
 ghost use Rattle.app_commands.specs.Answered.{IsAnswerInUse, IsAuditedInUse, IsClaimFault, IsOneInUse};
 ghost use Rattle.app_commands.specs.Claims.{answer_claims, audit_claims, claims_for};
 ghost use Rattle.file_devices.specs.Claims.{AreOn, alone};
 
 use crate::fault::Fault;
-use app_arguments::Command;
 use app_jobs::JobFault;
+use app_words::Command;
 use file_devices::{BatchNames, Files};
 use std::alloc::Global;
 

@@ -1,5 +1,5 @@
 ghost use Rattle.std.specs.Prelude.{◌≡◌, IfSome, MatchResult, OnOk, None, Some, map, string_bytes};
-ghost use Rattle.app_arguments.specs.Asked.{asked_of, audit, audit_blocks, blocks, names_of, pack, pack_blocks, run, run_with_journal, serial, show};
+ghost use Rattle.app_words.specs.Asked.{asked_of, audit, audit_blocks, blocks, names_of, pack, pack_blocks, run, run_with_journal, serial, show};
 ghost use Rattle.app_jobs.specs.Deciding.{DecidesBlockFiles, DecidesFiles};
 ghost use Rattle.app_commands.specs.Apart.{AreApart, names_apart};
 ghost use Rattle.app_commands.specs.Claims.{claims_for};
@@ -11,7 +11,6 @@ use crate::claims::claim_files;
 use crate::fault::Fault;
 use crate::refusal::Refusal;
 use crate::report::Report;
-use app_arguments::{Command, EngineChoice};
 use app_audit::{audit_text, block_audit_text};
 use app_jobs::{
     BlockCount, Halt, JobFault, audit_batch, audit_batch_with_journal, audit_block_files,
@@ -20,7 +19,7 @@ use app_jobs::{
 use app_messages::{pack_batch, pack_blocks, show_file};
 use app_reasons::words_of;
 use app_runs::{decide_one, run_batch, run_batch_with_journal, run_blocks};
-use app_words::Form;
+use app_words::{Command, EngineChoice, Form};
 use engine_workers::Workers;
 use file_batch::{BodyCount, Strictness};
 use file_devices::{BatchNames, Files};

@@ -2,8 +2,8 @@ ghost use Rattle.std.specs.Prelude.{◌≡◌};
 ghost use Rattle.app_commands.specs.Fault.{fault_of_halt, fault_of_line};
 ghost use Rattle.app_commands.specs.declared.fault.Fault.TheVariants.{Job, OutOfMemory};
 
-use app_arguments::LineFault;
 use app_jobs::{Halt, JobFault};
+use app_words::LineFault;
 use std::alloc::{AllocError, AllocFailed};
 use thiserror::Error;
 

@@ -2,7 +2,7 @@ ghost use Rattle.std.specs.Prelude.{◌≡◌, None};
 ghost use Rattle.app_commands.specs.Fault.{fault_of_line};
 
 use crate::fault::Fault;
-use app_arguments::LineFault;
+use app_words::LineFault;
 
 /// Why the program doesn't do what its words say, and what a person is told of it.
 #[derive(Drop)]

@@ -4,9 +4,9 @@ use Rattle.clap.specs.Faults.{fault_of}
 use Rattle.clap.specs.Kinds.{IsAmong, Kinds}
 use Rattle.clap.specs.declared.error.kind.ErrorKind.{ErrorKind}
 use Rattle.clap.specs.declared.error.kind.ErrorKind.TheVariants as kinds
-use Rattle.app_arguments.specs.Asked.{Asked, Names, audit, audit_blocks, blocks, help, one, pack, pack_blocks, run, run_with_journal, serial, show, version}
-use Rattle.app_arguments.specs.Arguments.{Asks, asked_in}
-use Rattle.app_arguments.specs.CommandLine.{command_line}
+use Rattle.app_words.specs.Asked.{Asked, Names, audit, audit_blocks, blocks, help, one, pack, pack_blocks, run, run_with_journal, serial, show, version}
+use Rattle.app_words.specs.Arguments.{Asks, asked_in}
+use Rattle.app_words.specs.CommandLine.{command_line}
 use Rattle.app_runs.specs.Words.{AreBlocksAudited, AreBlocksDecided, IsAudited, IsAuditedWithJournal, IsAuditingFault, IsBlockAuditingFault, IsDecided, JobFault}
 use Rattle.app_audit.specs.Texts.{audit_text, block_audit_text}
 use Rattle.app_audit.specs.declared.audited.Audit.{Audit}
@@ -22,7 +22,7 @@ use Rattle.app_commands.specs.declared.fault.Fault.TheVariants.{Usage, OutOfMemo
 use Rattle.app_commands.specs.declared.report.Report.{Report}
 use Rattle.app_commands.specs.declared.report.Report.TheVariants as report
 use Rattle.app_runs.specs.Journaled.{IsDecidedWithJournal}
-use Rattle.app_arguments.specs.declared.engine_choice.EngineChoice.{EngineChoice}
+use Rattle.app_words.specs.declared.engine_choice.EngineChoice.{EngineChoice}
 use Rattle.file_batch.specs.declared.strictness.Strictness.{Strictness}
 use Rattle.file_batch.specs.Words.{Failing, Holding, IsAsItWas}
 use Rattle.app_laws.specs.Acted.{Acts, HasStopped, IsAuditOf, IsFromOutside, Reports, ReportsNothing, SaysSame, SaysSameByJournal, of_blocks, of_run, of_run_with_journal, of_serial}

@@ -1,11 +1,11 @@
 -- What the program says of the files that it left.
 use Rattle.std.specs.Prelude.{◌≡◌, ◌≢◌, ◌⊎◌, ◌++◌, ℕ, false, true, List, Option, None, codes, length, option_map}
 use Rattle.std.specs.Global.{Vec}
-use Rattle.app_arguments.specs.declared.engine_choice.EngineChoice.{EngineChoice}
+use Rattle.app_words.specs.declared.engine_choice.EngineChoice.{EngineChoice}
 use Rattle.file_batch.specs.declared.body_count.BodyCount.{BodyCount}
 use Rattle.file_batch.specs.declared.strictness.Strictness.{Strictness}
 use Rattle.file_batch.specs.Words.{Failing, Holding, IsAsItWas}
-use Rattle.app_arguments.specs.Asked.{Asked, Names, audit, audit_blocks, blocks, run, run_with_journal, serial}
+use Rattle.app_words.specs.Asked.{Asked, Names, audit, audit_blocks, blocks, run, run_with_journal, serial}
 use Rattle.app_commands.specs.Answered.{AreSparing, IsActed, Pages}
 use Rattle.app_commands.specs.Fault.{text_of}
 use Rattle.app_commands.specs.Printed.{PrintsLine, behind}

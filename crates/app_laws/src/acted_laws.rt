@@ -1,6 +1,6 @@
 ghost use Rattle.std.specs.Prelude.{◌≢◌, ◌⊎◌, ℕ, List, Some};
-ghost use Rattle.app_arguments.specs.Arguments.{Asks};
-ghost use Rattle.app_arguments.specs.Asked.{Asked, Names, audit, run_with_journal};
+ghost use Rattle.app_words.specs.Arguments.{Asks};
+ghost use Rattle.app_words.specs.Asked.{Asked, Names, audit, run_with_journal};
 ghost use Rattle.app_commands.specs.Answered.{IsAuditedInUse, Pages};
 ghost use Rattle.file_batch.specs.declared.strictness.Strictness.{Strictness};
 ghost use Rattle.app_laws.specs.Acted.{Acts, HasStopped, IsAuditOf, SaysSame, SaysSameByJournal};

@@ -12,7 +12,7 @@ use Rattle.file_devices.specs.Holding.{Holding}
 use Rattle.file_devices.specs.declared.host_reason.HostReason.TheVariants.{Failed}
 use Rattle.stm_journal_text.specs.declared.replay_fault.ReplayFault.{ReplayFault}
 use Rattle.stm_journal_text.specs.declared.replay_fault.ReplayFault.TheVariants as replay
-use Rattle.app_arguments.specs.Asked.{Asked, serial, run, run_with_journal, blocks, audit, audit_blocks, show, pack, pack_blocks}
+use Rattle.app_words.specs.Asked.{Asked, serial, run, run_with_journal, blocks, audit, audit_blocks, show, pack, pack_blocks}
 use Rattle.app_jobs.specs.declared.job_fault.JobFault.{JobFault}
 use Rattle.app_jobs.specs.declared.job_fault.JobFault.TheVariants as job
 use Rattle.app_reasons.specs.Says.{Says, SaysUnread}

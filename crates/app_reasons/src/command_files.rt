@@ -1,11 +1,11 @@
 //! The files of a command, each at its place in the order in which it is read, claimed or made.
 
 ghost use Rattle.std.specs.Prelude.{◌≡◌, IfSome, length, map, string_bytes};
-ghost use Rattle.app_arguments.specs.Asked.{asked_of, names_of};
+ghost use Rattle.app_words.specs.Asked.{asked_of, names_of};
 ghost use Rattle.app_reasons.specs.Tells.{IsAnswer, IsBookFor, IsFileFor, IsInput, IsOneOf, IsReadFor, IsTextFor, IsWrittenFor, texts_for};
 
 use crate::file_kind::FileKind;
-use app_arguments::Command;
+use app_words::Command;
 use file_devices::BatchNames;
 
 // The book, then the batch.

@@ -3,7 +3,7 @@
 ghost use Rattle.std.specs.Prelude.{◌≡◌, ℕ, List, IfSome, Some};
 ghost use Rattle.app_reasons.specs.Words.{told_line};
 ghost use Rattle.app_reasons.specs.declared.reason.Reason.{Reason};
-ghost use Rattle.app_arguments.specs.Asked.{asked_of, show};
+ghost use Rattle.app_words.specs.Asked.{asked_of, show};
 ghost use Rattle.app_reasons.specs.Tells.{IsJournalFor, Tells, TellsOfBodies, reason_of_journal};
 ghost use Rattle.app_jobs.specs.declared.job_fault.JobFault.TheVariants as job;
 
@@ -17,8 +17,8 @@ use crate::file_reasons::{
 use crate::one_line::in_one_line;
 use crate::reason::Reason;
 use crate::told::Told;
-use app_arguments::Command;
 use app_jobs::JobFault;
+use app_words::Command;
 use book_laws::JsonFault;
 use file_devices::{ClaimFault, Files, HostReason, read_again};
 use file_laws::BatchFault;

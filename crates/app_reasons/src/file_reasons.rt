@@ -1,7 +1,7 @@
 //! What is told of one file, which is read once more.
 
 ghost use Rattle.std.specs.Prelude.{◌≤◌, IfSome};
-ghost use Rattle.app_arguments.specs.Asked.{show};
+ghost use Rattle.app_words.specs.Asked.{show};
 ghost use Rattle.app_reasons.specs.Tells.{IsFileFor, IsOfLine, TellsOfBook, TellsOfFile, TellsUnread, TellsUnreadable};
 
 use crate::file_kind::FileKind;

@@ -1,9 +1,9 @@
 //! One body's way through the program, part by part.
 
 use crate::script::arguments_of;
-use app_arguments::{Command, plain_arguments_are_read, read_arguments};
 use app_commands::{Printer, act};
 use app_runs::{answer_on, decide_one, sample_book};
+use app_words::{Command, plain_arguments_are_read, read_arguments};
 use engine_workers::Workers;
 use file_devices::MemoryFiles;
 use file_listing::body_of_digits;

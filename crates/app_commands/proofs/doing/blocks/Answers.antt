@@ -1,5 +1,5 @@
 use Rattle.std.proofs.lemmas.Result.{err_from_is_err_and}
-use Rattle.app_arguments.specs.Asked.{names_of}
+use Rattle.app_words.specs.Asked.{names_of}
 use Rattle.app_commands.proofs.DoneLemmas.{halted}
 use Rattle.app_commands.proofs.doing.blocks.Goals as goal
 

@@ -1,6 +1,6 @@
 use Rattle.std.proofs.Common.{map, string_bytes}
 use Rattle.std.proofs.lemmas.Result.{err_from_is_err_and}
-use Rattle.app_arguments.specs.Asked.{asked_of}
+use Rattle.app_words.specs.Asked.{asked_of}
 use Rattle.app_commands.proofs.DoneLemmas.{asked_for, refused_line}
 use Rattle.app_commands.proofs.program.answer.Goals as goal
 

@@ -1,5 +1,0 @@
-pub mod LineLemmas
-pub mod PackLemmas
-pub mod PlainLemmas
-pub mod ArgumentLemmas
-pub mod PlainSteps

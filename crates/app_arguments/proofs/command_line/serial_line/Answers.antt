@@ -1,6 +1,0 @@
-use Rattle.std.proofs.lemmas.Result.{IfOk-weaker}
-use Rattle.app_arguments.proofs.LineLemmas.{with_word}
-use Rattle.app_arguments.proofs.command_line.serial_line.Goals as goal
-
-pub returns : goal.returns
-returns c = IfOk-weaker c.arg.result _ _ (λ command adds. with_word _ _ _ _ _ adds c.in_ok-files.ensures c.strict_flag.ensures) c.arg.ensures

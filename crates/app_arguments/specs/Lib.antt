@@ -1,4 +1,0 @@
-pub mod Asked
-pub mod CommandLine
-pub mod Plainly
-pub mod Arguments
