@@ -3,7 +3,7 @@
 ghost use Rattle.std.specs.Prelude.{◌<◌};
 
 use crate::hosts::served;
-use crate::{FIRST_REPLY, LINK, REPLIES};
+use crate::vectors::{FIRST_REPLY, LINK, REPLIES};
 use file_devices::FailingSource;
 use host_commands::Settings;
 use issuer_rows::Book;

@@ -10,21 +10,21 @@ use std::sync::Wait;
 use std::thread::Threads;
 
 /// A copy of these bytes.
-pub fn copy_of(alloc: Global, bytes: &[u8]) -> Option<Vec<u8>> {
+pub(crate) fn copy_of(alloc: Global, bytes: &[u8]) -> Option<Vec<u8>> {
     let mut copy = Vec::new(alloc);
     copy.extend_from_slice(bytes).ok()?;
     Some(copy)
 }
 
 /// The file `book` with this book.
-pub fn files(alloc: Global, book: &Book) -> Option<MemoryFiles> {
+pub(crate) fn files(alloc: Global, book: &Book) -> Option<MemoryFiles> {
     let mut files = MemoryFiles::new(alloc);
     files.put("book", write_book(alloc, book).ok()?).ok()?;
     Some(files)
 }
 
 /// A host on this book, with a log in these bytes.
-pub fn open<R: Threads + Wait + Sync>(
+pub(crate) fn open<R: Threads + Wait + Sync>(
     rt: &R,
     alloc: Global,
     book: &Book,
@@ -38,7 +38,7 @@ pub fn open<R: Threads + Wait + Sync>(
 }
 
 /// What a crash keeps of the log of a host that goes on with this one and serves a link, and what it wrote.
-pub fn serve_link<R: Threads + Wait + Sync>(
+pub(crate) fn serve_link<R: Threads + Wait + Sync>(
     rt: &R,
     alloc: Global,
     book: &Book,

@@ -1,9 +1,7 @@
 //! Hosts over their files: the words that ask for one, and hosts that are opened again on their log.
 
-use crate::{
-    FIRST, FIRST_REPLY, LINK, NO_MESSAGE, REPEAT, REPLIES, SECOND, SECOND_REPLY, copy_of, files,
-    open, serve_link,
-};
+use crate::fixtures::{copy_of, files, open, serve_link};
+use crate::vectors::{FIRST, FIRST_REPLY, LINK, NO_MESSAGE, REPEAT, REPLIES, SECOND, SECOND_REPLY};
 use file_devices::{FailingSink, Source};
 use host_commands::{HostAsked, Logs, OpeningFault, Settings, host_asked, serve};
 use host_serving::{MaxBatch, StatsInterval};

@@ -1,23 +1,34 @@
-//! Tests of a live host: frames of links, and links that are served over devices that fail. Links byte for byte, and hosts over files in
-//! memory, are for other tests, too.
+//! Tests of a live host: frames of links, links that are served over devices that fail, and its log: bytes, faults, torn tails, files that
+//! fail, and logs that are decided again.
 #![tactic(auto)]
 
 #[cfg(test)]
 mod ahead;
+#[cfg(test)]
 mod fixtures;
 #[cfg(test)]
 mod hosts;
 #[cfg(test)]
 mod links;
 #[cfg(test)]
+mod log_failing;
+#[cfg(test)]
+mod log_faults;
+#[cfg(test)]
+mod log_files;
+#[cfg(test)]
+mod log_texts;
+#[cfg(test)]
+mod log_vectors;
+#[cfg(test)]
+mod log_writing;
+#[cfg(test)]
 mod network;
+#[cfg(test)]
+mod replays;
 #[cfg(test)]
 mod serving;
 #[cfg(test)]
 mod several;
+#[cfg(test)]
 mod vectors;
-
-pub use fixtures::{copy_of, files, open, serve_link};
-pub use vectors::{
-    ECHO, ECHO_REPLY, FIRST, FIRST_REPLY, LINK, NO_MESSAGE, REPEAT, REPLIES, SECOND, SECOND_REPLY,
-};

@@ -2,7 +2,7 @@
 
 ghost use Rattle.std.specs.Prelude.{◌<◌};
 
-use crate::{FIRST, LINK, REPEAT};
+use crate::vectors::{FIRST, LINK, REPEAT};
 use file_devices::{FailingSource, Source};
 use link_frames::{Front, LinkFault, LinkReader, front_of};
 use std::alloc::{AllocError, Global};

@@ -2,7 +2,7 @@
 
 ghost use Rattle.std.specs.Prelude.{◌<◌};
 
-use crate::{
+use crate::vectors::{
     ECHO, ECHO_REPLY, FIRST, FIRST_REPLY, LINK, NO_MESSAGE, REPEAT, REPLIES, SECOND, SECOND_REPLY,
 };
 use file_devices::{FailingSink, FailingSource};

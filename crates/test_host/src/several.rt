@@ -1,9 +1,9 @@
 //! Several links at one host, over devices in memory. What each gets doesn't depend on the order of their turns, or is told by the log.
 
+use crate::fixtures::{copy_of, files, open, serve_link};
 use crate::hosts::{CopiedLogs, words_of};
-use crate::{
-    ECHO, ECHO_REPLY, FIRST, FIRST_REPLY, LINK, REPEAT, REPLIES, SECOND, SECOND_REPLY, copy_of,
-    files, open, serve_link,
+use crate::vectors::{
+    ECHO, ECHO_REPLY, FIRST, FIRST_REPLY, LINK, REPEAT, REPLIES, SECOND, SECOND_REPLY,
 };
 use file_devices::{FailingSink, FailingSource};
 use host_commands::{AskedLinks, LinkNames, Settings, links_asked, serve_links};

@@ -1,36 +1,36 @@
 //! Links byte for byte, by hand.
 
 /// The request of 1.00 on card A of the first book, trace number 000001, in its frame: 100 bytes.
-pub const FIRST: &[u8] =
+pub(crate) const FIRST: &[u8] =
     b"\x00\x621100\x72\x30\x01\x01\x00\x80\x80\x00164111110000000005000000000000000100011012000000000126011012000010006123456TERM0001978";
 
 /// Its reply, approved with code 000001: 106 bytes.
-pub const FIRST_REPLY: &[u8] =
+pub(crate) const FIRST_REPLY: &[u8] =
     b"\x00\x681110\x72\x30\x00\x01\x06\x80\x80\x00164111110000000005000000000000000100011012000000000126011012000006123456000001000TERM0001978";
 
 /// The repeat of that request, 1101, which gets the same reply: 100 bytes.
-pub const REPEAT: &[u8] =
+pub(crate) const REPEAT: &[u8] =
     b"\x00\x621101\x72\x30\x01\x01\x00\x80\x80\x00164111110000000005000000000000000100011012000000000126011012000010006123456TERM0001978";
 
 /// A body that is no message, one byte short of a message type: 5 bytes.
-pub const NO_MESSAGE: &[u8] = b"\x00\x03110";
+pub(crate) const NO_MESSAGE: &[u8] = b"\x00\x03110";
 
 /// The request, a body that is no message, and the repeat; and the replies.
-pub const LINK: &[u8] =
+pub(crate) const LINK: &[u8] =
     b"\x00\x621100\x72\x30\x01\x01\x00\x80\x80\x00164111110000000005000000000000000100011012000000000126011012000010006123456TERM0001978\x00\x03110\x00\x621101\x72\x30\x01\x01\x00\x80\x80\x00164111110000000005000000000000000100011012000000000126011012000010006123456TERM0001978";
 
-pub const REPLIES: &[u8] =
+pub(crate) const REPLIES: &[u8] =
     b"\x00\x681110\x72\x30\x00\x01\x06\x80\x80\x00164111110000000005000000000000000100011012000000000126011012000006123456000001000TERM0001978\x00\x681110\x72\x30\x00\x01\x06\x80\x80\x00164111110000000005000000000000000100011012000000000126011012000006123456000001000TERM0001978";
 
 /// The repeat's reply is the first one's: a request of trace number 000002, which differs, and its reply with code 000002.
-pub const SECOND: &[u8] =
+pub(crate) const SECOND: &[u8] =
     b"\x00\x621100\x72\x30\x01\x01\x00\x80\x80\x00164111110000000005000000000000000100011012000100000226011012000110006123456TERM0001978";
 
-pub const SECOND_REPLY: &[u8] =
+pub(crate) const SECOND_REPLY: &[u8] =
     b"\x00\x681110\x72\x30\x00\x01\x06\x80\x80\x00164111110000000005000000000000000100011012000100000226011012000106123456000002000TERM0001978";
 
 /// An echo test, 1804 with elements 11, 12 and 24, in its frame; and its reply, 1814 with element 39, too.
-pub const ECHO: &[u8] = b"\x00\x211804\x00\x30\x01\x00\x00\x00\x00\x00000007260315080500831";
+pub(crate) const ECHO: &[u8] = b"\x00\x211804\x00\x30\x01\x00\x00\x00\x00\x00000007260315080500831";
 
-pub const ECHO_REPLY: &[u8] =
+pub(crate) const ECHO_REPLY: &[u8] =
     b"\x00\x241814\x00\x30\x01\x00\x02\x00\x00\x00000007260315080500831800";

@@ -1,5 +1,8 @@
 //! Logs that are decided again: their replies in blocks, and the next day's book.
 
+use crate::fixtures::{copy_of, files, serve_link};
+use crate::hosts::words_of;
+use crate::vectors::{FIRST, LINK, SECOND};
 use app_jobs::serial_batch;
 use book_json::read_book;
 use file_batch::Strictness;
@@ -16,7 +19,6 @@ use std::sync::Wait;
 use std::test::Fail;
 use std::thread::Threads;
 use test_fixtures::{first_book_with, has_row};
-use test_host::{FIRST, LINK, SECOND, copy_of, files, serve_link};
 
 // A log in memory.
 #[derive(Drop)]
@@ -381,10 +383,7 @@ fn words_ask_for_an_audit_of_a_log(rt: HostRuntime) -> Result<(), Fail> {
 
 // What these words ask of `replay`: f files, h help, w something else behind it, - nothing.
 fn asked(alloc: Global, line: &str) -> Option<char> {
-    let mut words = Vec::new(alloc);
-    for word in line.split(' ') {
-        words.push(String::from_str(alloc, word).ok()?).ok()?;
-    }
+    let words = words_of(alloc, line)?;
     match replay_asked(&words) {
         Some(LogAsked::Files(names))
             if names.book == "b"
