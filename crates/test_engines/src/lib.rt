@@ -1,5 +1,5 @@
-//! Tests of deciding: rows and one decision, batches one after another, and both engines. Each engine has one text: batches that come out
-//! as one after another, workers that overlap, and the hook.
+//! Tests of deciding: rows and one decision, batches one after another, and the engines. The engines have one text: batches that come out
+//! as one after another, workers that overlap, and the hook; and how a batch falls into parts, what rows each part has, and what it comes to.
 #![tactic(auto)]
 
 #[cfg(test)]
@@ -16,5 +16,11 @@ mod hooks;
 mod longest;
 #[cfg(test)]
 mod overlaps;
+#[cfg(test)]
+mod parts_joined;
+#[cfg(test)]
+mod parts_planned;
+#[cfg(test)]
+mod parts_run;
 #[cfg(test)]
 mod tables;

@@ -134,7 +134,8 @@ fn joins_two_parts(rt: HostRuntime) -> Result<(), Fail> {
     Ok(())
 }
 
-fn are_same(mine: &[ReplyBody], theirs: &[ReplyBody]) -> bool {
+/// Whether these are the same replies.
+pub(crate) fn are_same(mine: &[ReplyBody], theirs: &[ReplyBody]) -> bool {
     if mine.len() != theirs.len() {
         return false;
     }

@@ -1,9 +1,10 @@
 //! Whole batches, decided in parts with 1, 4 and 64 workers, and what they come to.
 
+use crate::parts_joined::are_same;
 use engine_parts::{run_apart, run_parts};
 use engine_workers::Workers;
 use issuer_fold::{Prefix, RunOutcome, decide_all_by};
-use issuer_rows::{Frame, ReplyBody};
+use issuer_rows::Frame;
 use issuer_rules::Shipped;
 use std::alloc::Global;
 use std::process::Abort;
@@ -78,18 +79,6 @@ fn requests_in_turn(alloc: Global, many: u32) -> Result<Vec<Frame>, Fail> {
         bodies.push(body(line.as_str()).ok_or("a body")?)?;
     }
     Ok(bodies)
-}
-
-fn are_same(mine: &[ReplyBody], theirs: &[ReplyBody]) -> bool {
-    if mine.len() != theirs.len() {
-        return false;
-    }
-    for index in 0..mine.len() {
-        if !mine[index].is_same(&theirs[index]) {
-            return false;
-        }
-    }
-    true
 }
 
 // A long batch comes to what its messages come to one after another.
