@@ -1,7 +1,7 @@
 //! Journals that no core kept, and what enters none.
 
-use crate::answers::frames_of;
-use crate::scripts::waits;
+use crate::journal_answers::frames_of;
+use crate::journal_scripts::waits;
 use issuer_rows::{Book, Frame};
 use std::alloc::Global;
 use std::test::Fail;

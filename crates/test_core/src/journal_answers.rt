@@ -1,38 +1,18 @@
 //! What a core answers, and what it comes to.
 
-use crate::scripts::JournalScript;
+use crate::journal_scripts::JournalScript;
+use crate::words::task;
 use issuer_fold::Prefix;
 use issuer_rows::{Book, Frame, ReplyBody};
 use std::alloc::Global;
 use stm_core::Core;
 use stm_core_laws::CoreFault;
 use stm_journal::CoreAnswer;
-use stm_memory::Version;
-use stm_scheduler::Task;
 use test_fixtures::{answer_text, body, has_row};
 
 /// The three requests.
 pub(crate) fn frames_of(bodies: &[&str; 3]) -> Option<[Frame; 3]> {
     Some([body(bodies[0])?, body(bodies[1])?, body(bodies[2])?])
-}
-
-// A message's index and its incarnation, as `1.0`.
-fn version(word: &str) -> Option<Version> {
-    let (index, incarnation) = word.split_once('.')?;
-    Some(Version {
-        index: u32::from_str_radix(index, 10).ok()?,
-        incarnation: u32::from_str_radix(incarnation, 10).ok()?,
-    })
-}
-
-// A task, as `execute 1.0`, `validate 1.0` or `done`.
-fn task(text: &str) -> Option<Task> {
-    match text.split_once(' ') {
-        Some(("execute", word)) => Some(Task::Execute(version(word)?)),
-        Some(("validate", word)) => Some(Task::Validate(version(word)?)),
-        Some(_) => None,
-        None => (text == "done").then_some(Task::Done),
-    }
 }
 
 /// Whether the answer is the next one that the script states; of answers that are no task and no refusal it states none.
@@ -51,7 +31,7 @@ pub(crate) fn is_told(told: &[&str], met: &mut usize, answer: &CoreAnswer) -> bo
 }
 
 /// Whether the core has the script's epoch, floors and stamps, and three messages are committed.
-pub(crate) fn has_marks(
+pub(crate) fn has_script_marks(
     core: &Core,
     book: &Book,
     frames: &[Frame; 3],

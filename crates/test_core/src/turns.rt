@@ -2,8 +2,8 @@
 
 ghost use Rattle.std.specs.Prelude.{◌≤◌};
 
-use crate::answers::{frames_of, is_answer};
-use crate::scripts::{JournalScript, comes_late, waits};
+use crate::journal_answers::{frames_of, is_answer};
+use crate::journal_scripts::{JournalScript, comes_late, waits};
 use issuer_fold::Prefix;
 use issuer_rows::{Book, Frame};
 use std::alloc::{AllocError, Global};

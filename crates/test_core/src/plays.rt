@@ -1,9 +1,9 @@
 //! Journals that are kept, and played again: to the same core, and with invalid calls among those of the journal too.
 ghost use Rattle.std.specs.Prelude.{None};
 
-use crate::answers::{frames_of, has_committed, has_marks, is_told};
 use crate::invalid_calls::{InvalidCall, InvalidCalls};
-use crate::scripts::{JournalScript, comes_late, waits};
+use crate::journal_answers::{frames_of, has_committed, has_script_marks, is_told};
+use crate::journal_scripts::{JournalScript, comes_late, waits};
 use issuer_rows::{Book, Frame, RowKey, RowVal};
 use issuer_rules::Shipped;
 use issuer_view::{RowSource, Stop, execute};
@@ -111,7 +111,8 @@ fn are_replayed(stage: &InvalidCalls, entries: &[Entry], script: &JournalScript)
     let frames = stage.frames;
     match replay(stage.alloc, stage.own, frames, entries) {
         Ok(core) => {
-            has_marks(&core, stage.own, frames, script) & has_committed(stage.alloc, core, script)
+            has_script_marks(&core, stage.own, frames, script)
+                & has_committed(stage.alloc, core, script)
         }
         Err(_) => false,
     }
@@ -159,7 +160,7 @@ fn assert_played(
 ) {
     let core = played(rt, stage, entries, script, invalid, often);
     assert!(rt;
-        has_marks(&core, stage.own, stage.frames, script),
+        has_script_marks(&core, stage.own, stage.frames, script),
         "{often}"
     );
     assert!(rt; has_committed(stage.alloc, core, script), "{often}");
