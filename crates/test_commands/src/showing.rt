@@ -1,6 +1,6 @@
 //! `show` for JSON over files in memory: the lines of each kind of file, worked out by hand from what its help says, its faults and words.
 
-use crate::files::file_with;
+use crate::files::{file_with, words_of};
 use app_messages::{SHOW_JSON_HELP, ShowAsked, answer_show, show_asked};
 use file_devices::MemoryFiles;
 use iso_shown::CardNumbers;
@@ -137,15 +137,6 @@ fn says_what_it_takes_for_json(rt: HostRuntime) {
     let none = ShowAsked::File("none", CardNumbers::Masked);
     let none = said(rt.alloc(), &files, &none);
     assert!(rt; none.0 == 1 && none.2.as_slice().starts_with(b"file 1\nnone: "));
-}
-
-// The words of a command line.
-fn words_of(alloc: Global, words: &[&str]) -> Option<Vec<String>> {
-    let mut owned = Vec::new(alloc);
-    for word in words {
-        owned.push(String::from_str(alloc, word).ok()?).ok()?;
-    }
-    Some(owned)
 }
 
 // Words behind `show`, and which card numbers they ask for of the file `day`; none where they are wrong.

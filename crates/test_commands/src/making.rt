@@ -1,5 +1,6 @@
 //! `make`: the body of each type, whose bytes were worked out by hand from ISO 8583:1993, and why words make none.
 
+use crate::files::words_of;
 use app_messages::{MAKE_HELP, MakeAsked, answer_make, make_asked};
 use std::alloc::Global;
 use std::process::Abort;
@@ -108,7 +109,7 @@ const FAULTS: &[(&str, &[&str], &str)] = &[
 ];
 
 // The common words, and more behind them.
-fn words_of(alloc: Global, more: &[&str]) -> Option<Vec<String>> {
+fn common_words(alloc: Global, more: &[&str]) -> Option<Vec<String>> {
     let mut words = Vec::new(alloc);
     for word in COMMON {
         words.push(String::from_str(alloc, word).ok()?).ok()?;
@@ -129,7 +130,7 @@ fn said(alloc: Global, asked: &MakeAsked<'_>) -> (u8, Vec<u8>, Vec<u8>) {
 #[test]
 fn makes_each_type(rt: HostRuntime) {
     for (kind, more, line) in MESSAGES {
-        let words = words_of(rt.alloc(), more).expect(&rt, "room");
+        let words = common_words(rt.alloc(), more).expect(&rt, "room");
         let said = said(rt.alloc(), &MakeAsked::Message(kind, &words));
         assert!(rt; said.0 == 0 && said.2.is_empty(), "{kind}");
         assert!(rt; said.1.as_slice() == line.as_bytes(), "{kind}");
@@ -139,7 +140,7 @@ fn makes_each_type(rt: HostRuntime) {
 #[test]
 fn tells_why_words_make_none(rt: HostRuntime) {
     for (kind, more, line) in FAULTS {
-        let words = words_of(rt.alloc(), more).expect(&rt, "room");
+        let words = common_words(rt.alloc(), more).expect(&rt, "room");
         let said = said(rt.alloc(), &MakeAsked::Message(kind, &words));
         assert!(rt; said.0 == 2 && said.1.is_empty(), "{line}");
         assert!(rt; said.2.as_slice() == line.as_bytes(), "{line}");
@@ -154,21 +155,12 @@ fn says_what_it_takes(rt: HostRuntime) {
     assert!(rt; wrong.0 == 2 && wrong.1.is_empty());
 }
 
-// A command line of these words.
-fn line_of(alloc: Global, words: &[&str]) -> Option<Vec<String>> {
-    let mut line = Vec::new(alloc);
-    for word in words {
-        line.push(String::from_str(alloc, word).ok()?).ok()?;
-    }
-    Some(line)
-}
-
 #[test]
 fn reads_its_words(rt: HostRuntime) {
-    let make = line_of(rt.alloc(), &["switch", "make", "1100", "trace=1"]).expect(&rt, "room");
+    let make = words_of(rt.alloc(), &["switch", "make", "1100", "trace=1"]).expect(&rt, "room");
     assert!(rt; matches!(make_asked(&make), Some(MakeAsked::Message("1100", [_]))));
-    let help = line_of(rt.alloc(), &["switch", "make", "--help"]).expect(&rt, "room");
+    let help = words_of(rt.alloc(), &["switch", "make", "--help"]).expect(&rt, "room");
     assert!(rt; matches!(make_asked(&help), Some(MakeAsked::Help)));
-    let wrong = line_of(rt.alloc(), &["switch", "make"]).expect(&rt, "room");
+    let wrong = words_of(rt.alloc(), &["switch", "make"]).expect(&rt, "room");
     assert!(rt; matches!(make_asked(&wrong), Some(MakeAsked::Wrong)));
 }

@@ -1,6 +1,6 @@
 //! `unpack` of batches over files in memory: its statuses, its lines, and what stands on standard error.
 
-use crate::files::file_with;
+use crate::files::{file_with, words_of};
 use app_messages::{UNPACK_HELP, UnpackAsked, answer_unpack, unpack_asked};
 use file_devices::MemoryFiles;
 use file_listing::read_bodies;
@@ -109,15 +109,6 @@ fn packs_its_lines_again(rt: HostRuntime) {
     assert!(rt;
         bodies[0].as_slice() == b"1100".as_slice() && bodies[1].as_slice() == b"\n".as_slice()
     );
-}
-
-// The words of a command line.
-fn words_of(alloc: Global, words: &[&str]) -> Option<Vec<String>> {
-    let mut owned = Vec::new(alloc);
-    for word in words {
-        owned.push(String::from_str(alloc, word).ok()?).ok()?;
-    }
-    Some(owned)
 }
 
 #[test]

@@ -1,7 +1,7 @@
 //! `unpack` of blocks over files in memory: its statuses, its lines, and what stands on standard error; and that `pack --blocks` of its texts
 //! makes the file again.
 
-use crate::files::file_with;
+use crate::files::{file_with, words_of};
 use app_messages::{UnpackAsked, answer_unpack, pack_blocks, unpack_asked};
 use file_devices::{Files, MemoryFiles, read_file};
 use std::alloc::Global;
@@ -129,15 +129,6 @@ fn packs_its_texts_again(rt: HostRuntime) {
     assert!(rt; matches!(packed, Ok(3)));
     let again = read_file(rt.alloc(), &files, "again").expect(&rt, "there");
     assert!(rt; again.as_slice() == BLOCKS);
-}
-
-// The words of a command line.
-fn words_of(alloc: Global, words: &[&str]) -> Option<Vec<String>> {
-    let mut owned = Vec::new(alloc);
-    for word in words {
-        owned.push(String::from_str(alloc, word).ok()?).ok()?;
-    }
-    Some(owned)
 }
 
 // Words that ask for block 12 of the file `day`, and words that are wrong.
