@@ -1,5 +1,5 @@
-//! Tests of deciding: rows and one decision, batches one after another, and the engines. The engines have one text: batches that come out
-//! as one after another, workers that overlap, and the hook; and how a batch falls into parts, what rows each part has, and what it comes to.
+//! Tests of deciding: rows and one decision, batches one after another, and the engines by one text: batches that come out as one after
+//! another, workers that overlap, and the hook. And of parts: how a batch falls into them, what rows each has, and what it comes to.
 #![tactic(auto)]
 
 #[cfg(test)]
