@@ -98,14 +98,16 @@ then_assoc Less p q = refl
 then_assoc Equal p q = refl
 then_assoc Greater p q = refl
 
-cmp_append : (u v r s : List ℕ) → length u ≡ length v → slice_cmp nat_cmp (u ++ r) (v ++ s) ≡ ordering_then (slice_cmp nat_cmp u v) (slice_cmp nat_cmp r s)
+-- lists compare by their first parts of one length, and then by what is behind
+pub cmp_append : (u v r s : List ℕ) → length u ≡ length v → slice_cmp nat_cmp (u ++ r) (v ++ s) ≡ ordering_then (slice_cmp nat_cmp u v) (slice_cmp nat_cmp r s)
 cmp_append [] [] r s e = refl
 cmp_append [] (y ∷ v) r s e = absurd (omega arith)
 cmp_append (x ∷ u) [] r s e = absurd (omega arith)
 cmp_append (x ∷ u) (y ∷ v) r s e =
     ap (ordering_then (nat_cmp x y)) (cmp_append u v r s (omega arith)) ∙ sym (then_assoc (nat_cmp x y) (slice_cmp nat_cmp u v) (slice_cmp nat_cmp r s))
 
-cmp_same : (u : List ℕ) → slice_cmp nat_cmp u u ≡ Equal
+-- a list compares as equal with itself
+pub cmp_same : (u : List ℕ) → slice_cmp nat_cmp u u ≡ Equal
 cmp_same [] = refl
 cmp_same (x ∷ u) = ap (λ o. ordering_then o (slice_cmp nat_cmp u u)) (sym (nat_cmp_is x x Equal refl)) ∙ cmp_same u
 

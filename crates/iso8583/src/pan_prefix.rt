@@ -18,7 +18,8 @@ impl PanPrefix {
 
     /// The text.
     pub fn as_slice(&self) -> &[u8]
-        ensures { result.now ≡ self.now.0 }
+        ensures text { result.now ≡ self.now.0 }
+        ensures digits { IsDigits result.now }
     {
         self.0.as_slice()
     }

@@ -4,3 +4,4 @@ pub mod KeyLaws
 pub mod ListedRows
 pub mod OverlayLaws
 pub mod PutsOnce
+pub mod RankLaws

@@ -14,6 +14,7 @@ pub mod Plan
 pub mod PutsOnce
 pub mod RequestTable
 pub mod ReversalTable
+pub mod Rank
 pub mod RowKey
 pub mod RowVal
 pub mod SameKey

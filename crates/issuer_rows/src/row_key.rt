@@ -4,7 +4,7 @@ ghost use Rattle.std.specs.Cmp.{partial_order_from_own_ties};
 ghost use Rattle.std.specs.Cmp.Rules.{comparing, hashing};
 ghost use Rattle.std.specs.Hash as fed;
 ghost use Rattle.std.specs.Ordering.{as_partial_cmp};
-ghost use Rattle.issuer_rows.specs.RowKey.{key_cmp, key_eq, fed_texts, kind_of, first_text, second_text};
+ghost use Rattle.issuer_rows.specs.RowKey.{key_cmp, key_eq, fed_texts, kind_of};
 ghost use Rattle.issuer_rows.specs.SameKey.{key_eq_decides};
 
 use iso8583::{AccountId, Day, Identity, Pan, PanPrefix};
@@ -38,29 +38,6 @@ impl RowKey {
             RowKey::Budget(_) => 2,
             RowKey::Original(_) => 3,
             RowKey::Account(_) => 4,
-        }
-    }
-
-    // The text that the order looks at first.
-    pub(crate) fn first(&self) -> &str
-        ensures { result.now ≡ first_text self.now }
-    {
-        match self {
-            RowKey::Card(pan) | RowKey::Velocity(pan, _) => pan.as_str(),
-            RowKey::Budget(prefix) => prefix.as_str(),
-            RowKey::Original(identity) => identity.acquirer.as_str(),
-            RowKey::Account(id) => id.as_str(),
-        }
-    }
-
-    // The text that it looks at next, if the kind has one.
-    pub(crate) fn second(&self) -> &str
-        ensures { result.now ≡ second_text self.now }
-    {
-        match self {
-            RowKey::Velocity(_, day) => day.as_str(),
-            RowKey::Original(identity) => identity.stan.as_str(),
-            RowKey::Card(_) | RowKey::Budget(_) | RowKey::Account(_) => "",
         }
     }
 }

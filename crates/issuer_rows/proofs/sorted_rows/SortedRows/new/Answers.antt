@@ -1,11 +1,10 @@
-use Rattle.std.proofs.Common.{◌≡◌, ◌+◌, ◌<◌, ℕ, Bool, List, [], ◌∷◌, Ok, Bor, IsPermutation, IsSortedBy, ap, arith, length, map, refl, subst, ◌∙◌}
+use Rattle.std.proofs.Common.{◌≡◌, ◌+◌, ◌<◌, ℕ, Bool, List, [], ◌∷◌, Ok, Bor, IsPermutation, IsSortedBy, arith, length, map, refl, subst, ◌∙◌}
 use Rattle.std.proofs.lemmas.Iterator.Consumers.{YieldsList-from_rest, map_from_collect}
 use Rattle.std.proofs.lemmas.List.{get_or-map, length-map}
-use Rattle.std.proofs.lemmas.List.Sorted.{IsPermutation-map, IsPermutation-trans, answers_always, ranks_by}
+use Rattle.std.proofs.lemmas.List.Sorted.{IsPermutation-map, answers_always}
 use Rattle.std.specs.Map.Iter.{deref_pair}
 use Rattle.std.specs.Ordering.{is_lt}
 use Rattle.issuer_rows.proofs.BookLaws.{entries_sorted}
-use Rattle.issuer_rows.proofs.KeyLaws.{key_cmp_total}
 use Rattle.issuer_rows.specs.RowKey.{key_cmp}
 use Rattle.issuer_rows.specs.declared.row_key.RowKey.{RowKey}
 use Rattle.issuer_rows.specs.declared.row_val.RowVal.{RowVal}
@@ -21,7 +20,7 @@ sorted_map f lt (x ∷ xs) s k d a b =
 pub returns : goal.returns
 returns c =
     let collected : map deref_pair c.in_ok-sorted.sorted.items ≡ c.args.rows = map_from_collect {E = ℕ} (Ok c.in_ok-sorted.sorted) c.in_ok-sorted.ensures.ran (YieldsList-from_rest c.args.rows refl) in
-    let moves : IsPermutation c.args.rows (map deref_pair c.sort_by.new.self.items)
-    = subst (λ (rows : List (RowKey × RowVal)). IsPermutation rows (map deref_pair c.sort_by.new.self.items)) collected (IsPermutation-map deref_pair _ _ (IsPermutation-trans _ c.arrange.new.rows.items _ c.arrange.ensures c.sort_by.ensures.permutation)) in
-    let sorted = c.in_ok-sort_by.ensures.sorted _ (ranks_by key_cmp_total (λ (row : Bor RowKey × Bor RowVal). row.0.now)) (answers_always _ _ _ (λ f a r f' k. ap is_lt k.met)) in
-    entries_sorted c.args.rows (map deref_pair c.sort_by.new.self.items) c.requires moves (sorted_map deref_pair (λ e f. is_lt (key_cmp e.0 f.0)) c.sort_by.new.self.items sorted)
+    let moves : IsPermutation c.args.rows (map deref_pair c.sort_by_cached_key.new.self.items)
+    = subst (λ (rows : List (RowKey × RowVal)). IsPermutation rows (map deref_pair c.sort_by_cached_key.new.self.items)) collected (IsPermutation-map deref_pair _ _ c.sort_by_cached_key.ensures.permutation) in
+    let sorted = c.in_ok-sort_by_cached_key.ensures.sorted (λ (row : Bor RowKey × Bor RowVal). row.0.now) (answers_always _ _ _ (λ f a r f' k. k.met)) in
+    entries_sorted c.args.rows (map deref_pair c.sort_by_cached_key.new.self.items) c.requires moves (sorted_map deref_pair (λ e f. is_lt (key_cmp e.0 f.0)) c.sort_by_cached_key.new.self.items sorted)
