@@ -8,7 +8,7 @@ ghost use Rattle.book_laws.specs.Steps.{GivesOrMemory};
 use crate::lists::add_list;
 use crate::written::read_written;
 use book_entries::{has_keys, number_at};
-use book_laws::{BookVersion, JsonFault, Part, RowList, TextFault, check_book_by};
+use book_laws::{BookVersion, JsonFault, Part, ROW_LISTS, RowList, TextFault, check_book_by};
 use issuer_rows::Book;
 use serde_json::Value;
 use std::alloc::{AllocError, Global};
@@ -27,16 +27,6 @@ const KEYS_OF_THREE: [&str; 7] = [
     "days",
     "originals",
     "version",
-];
-
-/// The lists in the order of their parts.
-const LISTS: [RowList; 6] = [
-    RowList::Cards,
-    RowList::Days,
-    RowList::Budgets,
-    RowList::Originals,
-    RowList::Ahead,
-    RowList::Accounts,
 ];
 
 /// The version whose keys the top object has.
@@ -88,7 +78,7 @@ fn book_of(alloc: Global, top: &Value) -> Result<Book, TextFault>
 {
     let version = version_of(top)?;
     let mut book = Book::new(alloc);
-    add_lists(version, &LISTS, top, &mut book)?;
+    add_lists(version, &ROW_LISTS, top, &mut book)?;
     Ok(book)
 }
 

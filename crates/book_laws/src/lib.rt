@@ -23,5 +23,5 @@ pub use old_card::{OldCard, own_account};
 pub use original_entry::OriginalEntry;
 pub use paid::Paid;
 pub use part::Part;
-pub use row_list::RowList;
+pub use row_list::{ROW_LISTS, RowList};
 pub use text_fault::TextFault;

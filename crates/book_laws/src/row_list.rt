@@ -21,6 +21,16 @@ pub enum RowList {
     Accounts,
 }
 
+/// The lists, in the order of their parts.
+pub const ROW_LISTS: [RowList; 6] = [
+    RowList::Cards,
+    RowList::Days,
+    RowList::Budgets,
+    RowList::Originals,
+    RowList::Ahead,
+    RowList::Accounts,
+];
+
 impl RowList {
     /// The part of the text that the list is.
     pub fn part(self) -> Part

@@ -15,21 +15,13 @@ use crate::wrong_entries::first_wrong;
 use crate::wrong_entry::WrongEntry;
 use crate::wrong_rows::{first_wrong_row, row_of, wrong_row};
 use book_json::version_of;
-use book_laws::{BookFault, BookVersion, JsonFault, Part, RowList, TextFault, check_book};
+use book_laws::{
+    BookFault, BookVersion, JsonFault, Part, ROW_LISTS, RowList, TextFault, check_book,
+};
 use iso8583::Digits;
 use issuer_rows::Book;
 use serde_json::Value;
 use std::alloc::{AllocError, Global};
-
-// The lists in the order of their parts.
-const LISTS: [RowList; 6] = [
-    RowList::Cards,
-    RowList::Days,
-    RowList::Budgets,
-    RowList::Originals,
-    RowList::Ahead,
-    RowList::Accounts,
-];
 
 // What is wrong with a field: its month, where it has one.
 fn wrong_field(field: &Field, value: &Value) -> WrongEntry {
@@ -174,7 +166,7 @@ fn place_in_top(alloc: Global, top: &Value) -> Result<Option<WrongBook>, AllocEr
         }
     };
     let mut book = Book::new(alloc);
-    match place_in_lists(version, &LISTS, top, &mut book) {
+    match place_in_lists(version, &ROW_LISTS, top, &mut book) {
         Ok(None) => Ok(unsound_place(version, top, &book)),
         Ok(Some(wrong)) => Ok(Some(wrong)),
         Err(error) => Err(error),

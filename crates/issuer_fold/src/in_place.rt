@@ -11,9 +11,6 @@ use issuer_rows::{Book, CardPlaces, Frame, Places, ReplyBody};
 use issuer_view::{Decide, ReadSet, Recorder, Stop, WriteSet};
 use std::alloc::{AllocError, Global};
 
-// How many rows a book has at most for each body of a batch, so that finding its cards' rows at once is worth it.
-const FEW_ROWS: usize = 8;
-
 /// What deciding bodies on a book itself came to.
 #[derive(Drop)]
 pub struct InPlace {
@@ -63,7 +60,8 @@ impl InPlace {
     {
         book.reserve(frames.len())?;
         self.replies.reserve(frames.len())?;
-        let mut cards = cards_of(alloc, book, frames.len())?;
+        let mut cards = CardPlaces::new(alloc);
+        cards.find_if_few(book, frames.len())?;
         let mut reads = ReadSet::new(alloc);
         let mut writes = WriteSet::new(alloc);
         let mut ahead = LookAhead::new();
@@ -129,13 +127,4 @@ impl InPlace {
             Err(_) => unreachable!(),
         }
     }
-}
-
-// Where the rows of the book's cards stand, if it has few for so many bodies. It fails only where memory runs out.
-fn cards_of(alloc: Global, book: &Book, bodies: usize) -> Result<CardPlaces, AllocError> {
-    let mut cards = CardPlaces::new(alloc);
-    if book.len() <= bodies.saturating_mul(FEW_ROWS) {
-        cards.find_all(book)?;
-    }
-    Ok(cards)
 }

@@ -7,9 +7,6 @@ use issuer_rows::{Book, CardPlaces, Frame, Places, ReplyBody};
 use issuer_view::{Execution, ReadSet, Stop, WriteSet};
 use std::alloc::{AllocError, Global};
 
-// How many rows a book has at most for each body of a batch, so that finding its cards' rows at once is worth it.
-const FEW_ROWS: usize = 8;
-
 /// The first bodies of a batch, decided: how many they are, the book after them, and their replies.
 #[derive(Drop)]
 pub struct Prefix {
@@ -55,10 +52,7 @@ impl Prefix {
         ensures replies { self.new.replies.items ≡ self.old.replies.items }
     {
         self.book.reserve(bodies)?;
-        if self.book.len() <= bodies.saturating_mul(FEW_ROWS) {
-            self.cards.find_all(&self.book)?;
-        }
-        Ok(())
+        self.cards.find_if_few(&self.book, bodies)
     }
 
     /// Where the rows may stand that the body at this index asks for: a hint alone. Those of the bodies behind it are looked at ahead.

@@ -12,6 +12,9 @@ const DIGITS: usize = 8;
 // An odd number whose bits are spread, by which digits are multiplied (the golden ratio, as hashes by multiplication use it).
 const SPREAD: u64 = 0x9E37_79B9_7F4A_7C15;
 
+// How many rows a book has at most for each body of a batch, so that finding its cards' rows at once is worth it.
+const FEW_ROWS: usize = 8;
+
 // For how many cards there is room where the book has one.
 const SPACE: usize = 4;
 
@@ -41,6 +44,14 @@ impl CardPlaces {
         for (key, val) in book.rows() {
             self.find_one(book, place, key, val);
             place = place.saturating_add(1);
+        }
+        Ok(())
+    }
+
+    /// The same, if the book has few rows for so many bodies. It fails only where memory runs out.
+    pub fn find_if_few(&mut self, book: &Book, bodies: usize) -> Result<(), AllocError> {
+        if book.len() <= bodies.saturating_mul(FEW_ROWS) {
+            self.find_all(book)?;
         }
         Ok(())
     }
