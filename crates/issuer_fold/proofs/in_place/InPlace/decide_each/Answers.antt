@@ -35,5 +35,5 @@ returns-in_err-reserve-clause-back g c = leads_back_at_once c.reserve.new.self c
 pub returns-in_err-reserve-2-clause-back : goal.returns-in_err-reserve-2-clause-back
 returns-in_err-reserve-2-clause-back g c = leads_back_at_once c.reserve.new.self c.args.book.now c.args.self.now.formers c.reserve.ensures c.requires.formers
 
-pub returns-in_err-find_if_few-clause-back : goal.returns-in_err-cards-clause-back
+pub returns-in_err-find_if_few-clause-back : goal.returns-in_err-find_if_few-clause-back
 returns-in_err-find_if_few-clause-back g c = leads_back_at_once c.reserve.new.self c.args.book.now c.args.self.now.formers c.reserve.ensures c.requires.formers
