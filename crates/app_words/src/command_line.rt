@@ -37,8 +37,8 @@ A fault is printed on standard error as what it is of and its number there:
   unreadable N  with --strict: N bodies are no message
   memory 1   memory ran out
   output 1   standard output can't be written; the files are in place
-After a fault all files are as they were. If `blocks` fails, `kept M` means that the first M blocks were decided: REPLIES
-and NEWBOOK are those after them.
+After any other fault all files are as they were. If `blocks` fails, `kept M` means that the first M blocks were decided:
+REPLIES and NEWBOOK are those after them.
 Files are put in place together when all are written. Two names of one file are a usage error where one of them is
 written; NEWBOOK alone may be BOOK. `-` as a file's name is standard input where the file is read, and standard output
 where it is written; what is printed goes to standard error then. --progress tells there how far files are read.";
