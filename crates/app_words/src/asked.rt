@@ -18,7 +18,7 @@ use file_devices::BatchNames;
 use file_listing::body_of_digits;
 use std::alloc::{AllocError, Global};
 
-/// Reads the program's words, of which the first is its name. Words that are no command are a usage fault.
+/// Reads the program's words, of which the first is its name. Words that are no command are a usage error.
 pub fn read_arguments(alloc: Global, words: &[String]) -> Result<Command, LineFault>
     ensures { IsRead (map string_bytes words.now) result }
 {

@@ -5,10 +5,10 @@ ghost use Rattle.std.specs.Prelude.{codes, [], ◌∷◌};
 
 /// What plain words are read as, whatever the program's name is:
 /// - `one FRAME` as the body that FRAME stands for, `--help` as a call for help, `--version` as one for the version.
-/// - `one` alone, and no word, as a usage fault.
+/// - `one` alone, and no word, as a usage error.
 /// - `serial`, `run`, `blocks`, `audit` and `audit-blocks` with names of files, none of which begins with a hyphen, as what they say; with
 ///   the journal that stands behind `--journal`, or by the split engine behind `--engine split`; `serial` strictly behind `--strict`.
-/// - Both of these together as a usage fault.
+/// - Both of these together as a usage error.
 pub fn plain_arguments_are_read()
     ensures one { (name digits body : List ℕ) → OneFrameIsRead name digits body }
     ensures help { (name : List ℕ) → HelpIsRead name }
