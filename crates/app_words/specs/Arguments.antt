@@ -39,13 +39,13 @@ IsUsageFault words =
     ((kind : ErrorKind) × (kind ≢ DisplayHelp) × (kind ≢ DisplayVersion) × IsAmong kind (fault_of command_line words))
     ⊎ ((fault_of command_line words ≡ []) × (asked_in words ≡ None))
 
--- the words are read as this command, or as a usage fault; or memory ran out
+-- the words are read as this command, or as a usage error; or memory ran out
 abbrev pub IsRead : List Text → Result Command LineFault → Type 0
 IsRead words (Ok command) = Asks words (asked_of command)
 IsRead words (Err (Usage text)) = IsUsageFault words
 IsRead words (Err OutOfMemory) = ⊤
 
--- what a subcommand asks for is answered as this command, or that it asks for nothing as a usage fault; or memory ran out
+-- what a subcommand asks for is answered as this command, or that it asks for nothing as a usage error; or memory ran out
 abbrev pub IsReadAs : Option Asked → Result Command LineFault → Type 0
 IsReadAs what (Ok command) = Some (asked_of command) ≡ what
 IsReadAs what (Err (Usage text)) = what ≡ None

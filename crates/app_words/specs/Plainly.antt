@@ -20,7 +20,7 @@ HelpIsRead name = IsHelp (name ∷ codes "--help" ∷ [])
 abbrev pub VersionIsRead : Text → Type 0
 VersionIsRead name = IsVersion (name ∷ codes "--version" ∷ [])
 
--- the words are a usage fault
+-- the words are a usage error
 abbrev pub IsNoCommand : List Text → Type 0
 IsNoCommand words = IsUsageFault words
 
@@ -60,7 +60,7 @@ JournalIsRead name names file =
 abbrev pub SplitIsRead : Text → Names → Type 0
 SplitIsRead name names = ArePlain names → Asks (arguments_of name (codes "run") names (codes "--engine" ∷ codes "split" ∷ [])) (run names 4 (Named Split) Lenient)
 
--- with both behind them they are a usage fault
+-- with both behind them they are a usage error
 abbrev pub SplitJournalIsNone : Text → Names → Text → Type 0
 SplitJournalIsNone name names file =
     ArePlain names → IsPlain file
