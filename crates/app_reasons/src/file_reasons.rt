@@ -99,7 +99,7 @@ pub(crate) fn body_count<F: Files>(alloc: Global, files: &F, name: &str) -> Opti
     }
 }
 
-/// Why the line of this number, from 1, of the file is no body.
+/// Why the line of this number, from 1, of the file is no body, where it is the first of its lines that is none.
 pub(crate) fn text_reason<F: Files>(
     alloc: Global,
     files: &F,
@@ -109,6 +109,10 @@ pub(crate) fn text_reason<F: Files>(
     ensures { IfSome result (IsOfLine line) }
 {
     let text = read_again(alloc, files, name).ok()??;
+    match read_bodies(alloc, &text) {
+        Err(ListingFault::Line(first)) if first == line => {}
+        _ => return None,
+    }
     let wrong = text.split(|byte| *byte == b'\n').nth(line.checked_sub(1)?)?;
     Some(Reason::TextLine(line, reason_of_line(wrong)?))
 }
