@@ -121,6 +121,10 @@ is batch 'I83B 000100000003 0002 '12 0002 '34 0002 '12
 1 switch pack one wrong lost none
 ! text 2
 ! wrong: line 2: column 2: no hexadecimal digit
+put noted '31 0a '# 0a
+1 switch pack noted wrong none
+! text 2
+! wrong: line 2: column 2: no hexadecimal digit
 1 switch pack one lost wrong none
 ! file 1
 ! lost: no such file or directory
