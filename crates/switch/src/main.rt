@@ -9,6 +9,9 @@ mod progress_files;
 mod progress_log;
 mod progress_logs;
 mod reading;
+mod stream_files;
+mod stream_input;
+mod stream_output;
 
 use advance::Advance;
 use app_commands::{Fault, Printer, act, print_fault};
@@ -21,7 +24,7 @@ use app_parts::{
 };
 use app_reports::{ReportAsked, answer_report, answer_why, report_asked, why_asked};
 use app_words::{names_standard_output, take_progress, topic_asked, with_streams};
-use file_devices::{Files, FromRead, HostFiles, IntoWrite};
+use file_devices::{Files, FromRead, IntoWrite};
 use host_commands::{
     AskedLinks, HostAsked, HostLogs, PipeSink, PipeSource, SERVE_HELP, host_asked, links_asked,
     serve, serve_links,
@@ -35,14 +38,18 @@ use progress::Progress;
 use progress_files::ProgressFiles;
 use progress_logs::ProgressLogs;
 use std::alloc::{AllocError, Global};
+use std::fs::File;
 use std::io::{ErrorKind, IsTerminal, Write};
 use std::process::ExitCode;
 use std::sync::Wait;
 use std::thread::Threads;
 use std::time::Clock;
 use std::{env, fs, io};
+use stream_files::StreamFiles;
 
 fn main(rt: HostRuntime) -> ExitCode {
+    // A standard stream that is closed is opened on nothing, to be read alone, so that no file that is opened has its number.
+    let _held = [held(&rt), held(&rt), held(&rt)];
     let mut err = Printer::new(rt.stderr());
     let (words, progress) = match asked_words(&rt) {
         Ok(asked) => asked,
@@ -51,7 +58,7 @@ fn main(rt: HostRuntime) -> ExitCode {
             return ExitCode::from(fault.status());
         }
     };
-    let mut files = ProgressFiles::new(HostFiles::new(rt, rt.alloc()), progress);
+    let mut files = ProgressFiles::new(StreamFiles::new(rt), progress);
     if let Some(asked) = why_asked(&words) {
         let (mut out, mut err) = (rt.stdout(), rt.stderr());
         let status = answer_why(&rt, rt.alloc(), &files, &asked, &mut out, &mut err);
@@ -86,6 +93,11 @@ fn main(rt: HostRuntime) -> ExitCode {
         act(&rt, rt.alloc(), &mut files, &words, &mut out, &mut err)
     };
     ExitCode::from(status)
+}
+
+// A file that is empty, at the least number that is free.
+fn held(rt: &HostRuntime) -> Option<File> {
+    fs::open(rt, "/dev/null").ok()
 }
 
 // Does what is asked of a live host, over standard input and output.
@@ -125,8 +137,12 @@ fn links_words<R: Threads + Wait + Copy + Sync, F: Files, E: Write>(
     err: &mut Printer<E>,
 ) -> u8 {
     match links_asked(host.alloc(), words) {
-        Ok(Some(asked)) => match serve_pipes(rt, host, files, &asked) {
-            Ok(status) => status,
+        Ok(Some(asked)) => match writes_over(files, &asked) {
+            Ok(true) => usage(b"a link's OUT is BOOK or LOG", err),
+            Ok(false) => match serve_pipes(rt, host, files, &asked) {
+                Ok(status) => status,
+                Err(_) => out_of_memory(err),
+            },
             Err(_) => out_of_memory(err),
         },
         Ok(None) => usage(
@@ -135,6 +151,18 @@ fn links_words<R: Threads + Wait + Copy + Sync, F: Files, E: Write>(
         ),
         Err(_) => out_of_memory(err),
     }
+}
+
+// Whether replies of a link would be written over the book or the log.
+fn writes_over<F: Files>(files: &F, asked: &AskedLinks<'_>) -> Result<bool, AllocError> {
+    for link in &asked.links {
+        if files.is_one_file(link.output, asked.book)?
+            || files.is_one_file(link.output, asked.log)?
+        {
+            return Ok(true);
+        }
+    }
+    Ok(false)
 }
 
 // Serves links over pipes of the host.
@@ -348,10 +376,17 @@ fn asked_words(rt: &HostRuntime) -> Result<(Vec<String>, Option<OnStandardError>
 
 // The words that the program was started with.
 fn arguments_of(rt: &HostRuntime) -> Result<Vec<String>, Fault> {
-    match env::args(rt) {
-        Ok(words) => Ok(words.collect(rt.alloc())?),
-        Err(error) => Err(unread(rt.alloc(), &error)?),
+    let words: Vec<String> = match env::args(rt) {
+        Ok(words) => words.collect(rt.alloc())?,
+        Err(error) => return Err(unread(rt.alloc(), &error)?),
+    };
+    // A variable of a script that isn't set would name the root folder.
+    for word in &words {
+        if word.is_empty() {
+            return Err(Fault::Usage(String::from_str(rt.alloc(), "a word is empty")?));
+        }
     }
+    Ok(words)
 }
 
 // Why the words can't be read: memory ran out, or one is no text.
