@@ -100,14 +100,14 @@ impl Files for StreamFiles {
     ghost is_to_read = { λ _ _. Unit {0} };
 
     fn open(&self, name: &str) -> Result<StreamInput<FromRead<File>>, ReadFault> {
-        if name == STANDARD_INPUT {
+        if is_input(name) {
             return Ok(StreamInput::standard(self.host.stdin()));
         }
         Ok(StreamInput::file(self.files.open(name)?))
     }
 
     fn create(&self, name: &str) -> Result<StreamOutput<HostOutput<HostRuntime>>, WriteFault> {
-        if name == STANDARD_OUTPUT {
+        if is_output(name) {
             return Ok(StreamOutput::standard(self.host.stdout()));
         }
         match self.check_name(name) {
@@ -152,14 +152,14 @@ impl Files for StreamFiles {
     }
 
     fn open_again(&self, name: &str) -> Result<Option<StreamInput<FromRead<File>>>, HostReason> {
-        if name == STANDARD_INPUT {
+        if is_input(name) {
             return Ok(None);
         }
         Ok(self.files.open_again(name)?.map(StreamInput::file))
     }
 
     fn why_not_made(&self, name: &str) -> Option<HostReason> {
-        if name == STANDARD_OUTPUT {
+        if is_output(name) {
             return None;
         }
         match self.check_name(name) {
@@ -168,4 +168,14 @@ impl Files for StreamFiles {
             Err(error) => Some(HostReason::from(error.kind())),
         }
     }
+}
+
+// Whether the name is one of standard input.
+fn is_input(name: &str) -> bool {
+    name == "/dev/stdin" || name == "/dev/fd/0" || name == "/proc/self/fd/0"
+}
+
+// Whether the name is one of standard output.
+fn is_output(name: &str) -> bool {
+    name == "/dev/stdout" || name == "/dev/fd/1" || name == "/proc/self/fd/1"
 }
