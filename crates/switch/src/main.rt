@@ -58,7 +58,10 @@ fn main(rt: HostRuntime) -> ExitCode {
             return ExitCode::from(fault.status());
         }
     };
-    let mut files = ProgressFiles::new(StreamFiles::new(rt), progress);
+    let mut files = ProgressFiles::new(
+        StreamFiles::new(rt, rt.alloc(), rt.stdin(), rt.stdout()),
+        progress,
+    );
     if let Some(asked) = why_asked(&words) {
         let (mut out, mut err) = (rt.stdout(), rt.stderr());
         let status = answer_why(&rt, rt.alloc(), &files, &asked, &mut out, &mut err);

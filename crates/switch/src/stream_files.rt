@@ -8,11 +8,11 @@ use file_devices::{
     ClaimFault, Files, FromRead, HostClaim, HostFiles, HostOutput, HostReason, ReadFault,
     WriteFault, Written,
 };
-use std::alloc::AllocError;
+use std::alloc::{AllocError, Global};
 use std::fs::{File, TryLockError};
-use std::io::ErrorKind;
+use std::io::{ErrorKind, Stdin, Stdout};
 use std::path::Path;
-use std::{fs, io};
+use std::{fs, io, rt};
 
 // The names of the streams.
 const STANDARD_INPUT: &str = "/dev/stdin";
@@ -23,17 +23,23 @@ const STANDARD_OUTPUT: &str = "/dev/stdout";
 /// by their names they would be other ones, at their beginning. What a running host writes, or what couldn't be synced once it is in
 /// place, is refused before anything is written.
 #[derive(Drop)]
-pub(crate) struct StreamFiles {
-    host: HostRuntime,
-    files: HostFiles<HostRuntime>,
+pub(crate) struct StreamFiles<R> {
+    host: R,
+    alloc: Global,
+    input: Stdin,
+    output: Stdout,
+    files: HostFiles<R>,
 }
 
-impl StreamFiles {
-    /// The files and streams of this host.
-    pub(crate) fn new(host: HostRuntime) -> StreamFiles {
+impl<R: rt::Files<File = File> + Copy> StreamFiles<R> {
+    /// The files of this host, and these streams.
+    pub(crate) fn new(host: R, alloc: Global, input: Stdin, output: Stdout) -> StreamFiles<R> {
         StreamFiles {
             host,
-            files: HostFiles::new(host, host.alloc()),
+            alloc,
+            input,
+            output,
+            files: HostFiles::new(host, alloc),
         }
     }
 
@@ -70,9 +76,9 @@ impl StreamFiles {
     // The files among what was written. Memory can run out.
     fn files_of(
         &self,
-        written: Vec<Written<StreamOutput<HostOutput<HostRuntime>>>>,
-    ) -> Result<Vec<Written<HostOutput<HostRuntime>>>, AllocError> {
-        let mut files = Vec::new(self.host.alloc());
+        written: Vec<Written<StreamOutput<HostOutput<R>>>>,
+    ) -> Result<Vec<Written<HostOutput<R>>>, AllocError> {
+        let mut files = Vec::new(self.alloc);
         for Written { name, output } in written {
             if let Some(output) = output.into_file() {
                 files.push(Written { name, output })?;
@@ -82,12 +88,12 @@ impl StreamFiles {
     }
 }
 
-impl Files for StreamFiles {
+impl<R: rt::Files<File = File> + Copy> Files for StreamFiles<R> {
     type Input = StreamInput<FromRead<File>>;
 
-    type Output = StreamOutput<HostOutput<HostRuntime>>;
+    type Output = StreamOutput<HostOutput<R>>;
 
-    type Claim = HostClaim<HostRuntime>;
+    type Claim = HostClaim<R>;
 
     ghost is_known = { λ _. ⊥ };
 
@@ -101,14 +107,14 @@ impl Files for StreamFiles {
 
     fn open(&self, name: &str) -> Result<StreamInput<FromRead<File>>, ReadFault> {
         if is_input(name) {
-            return Ok(StreamInput::standard(self.host.stdin()));
+            return Ok(StreamInput::standard(self.input));
         }
         Ok(StreamInput::file(self.files.open(name)?))
     }
 
-    fn create(&self, name: &str) -> Result<StreamOutput<HostOutput<HostRuntime>>, WriteFault> {
+    fn create(&self, name: &str) -> Result<StreamOutput<HostOutput<R>>, WriteFault> {
         if is_output(name) {
-            return Ok(StreamOutput::standard(self.host.stdout()));
+            return Ok(StreamOutput::standard(self.output));
         }
         match self.check_name(name) {
             Ok(()) => Ok(StreamOutput::file(self.files.create(name)?)),
@@ -119,7 +125,7 @@ impl Files for StreamFiles {
 
     fn put_in_place(
         &mut self,
-        files: Vec<Written<StreamOutput<HostOutput<HostRuntime>>>>,
+        files: Vec<Written<StreamOutput<HostOutput<R>>>>,
     ) -> Result<(), WriteFault>
         ensures placed { OnOk result (⊥ → ArePlaced (λ _. ⊥) (λ _. []) (λ _ _. ⊥) files.items) }
         ensures kept { OnErr result (AreAsTheyWere (λ _ _. ⊥) (λ _ _. ⊥)) }
@@ -136,14 +142,14 @@ impl Files for StreamFiles {
         }
     }
 
-    fn claim(&self, name: &str) -> Result<HostClaim<HostRuntime>, ClaimFault> {
+    fn claim(&self, name: &str) -> Result<HostClaim<R>, ClaimFault> {
         if self.is_locked(name) {
             return Err(ClaimFault::InUse);
         }
         self.files.claim(name)
     }
 
-    fn claim_to_read(&self, name: &str) -> Result<HostClaim<HostRuntime>, ClaimFault> {
+    fn claim_to_read(&self, name: &str) -> Result<HostClaim<R>, ClaimFault> {
         self.files.claim_to_read(name)
     }
 
