@@ -14,11 +14,6 @@ use std::io::{ErrorKind, Stdin, Stdout};
 use std::path::Path;
 use std::{fs, io, rt};
 
-// The names of the streams.
-const STANDARD_INPUT: &str = "/dev/stdin";
-
-const STANDARD_OUTPUT: &str = "/dev/stdout";
-
 /// The host's files, where the names of standard input and output are these streams, which are read and written where they stand: opened
 /// by their names they would be other ones, at their beginning. What a running host writes, or what couldn't be synced once it is in
 /// place, is refused before anything is written.

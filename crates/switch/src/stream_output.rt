@@ -16,11 +16,13 @@ enum To<S> {
 }
 
 impl<S: Sink> StreamOutput<S> {
-    ghost use Rattle.std.specs.Prelude.{◌≡◌, false};
+    ghost use Rattle.std.specs.Prelude.{◌≡◌, Some, false};
+    ghost use Rattle.switch.specs.declared.stream_output.To.TheVariants.{File};
 
     /// A file.
     pub(crate) fn file(file: S) -> StreamOutput<S>
-        ensures { result.has_failed ≡ false }
+        ensures file { result.to ≡ File file }
+        ensures fresh { result.has_failed ≡ false }
     {
         StreamOutput {
             to: To::File(file),
@@ -39,7 +41,9 @@ impl<S: Sink> StreamOutput<S> {
     }
 
     /// The file, unless it is standard output.
-    pub(crate) fn into_file(self) -> Option<S> {
+    pub(crate) fn into_file(self) -> Option<S>
+        ensures { (file : S) → self.to ≡ File file → result ≡ Some file }
+    {
         match self.to {
             To::File(file) => Some(file),
             To::Standard(_) => None,
