@@ -140,7 +140,12 @@ fn write_helped<
 }
 
 // The same in this thread.
-fn write_in_turn<B: OfRows, R: Wait, W: Sink, P: FnMut() -> Result<(), BatchFault>>(
+fn write_in_turn<
+    B: OfRows,
+    R: Threads + Wait + Sync,
+    W: Sink,
+    P: FnMut() -> Result<(), BatchFault>,
+>(
     rt: &R,
     put_replies: &mut P,
     new_book: &mut W,
@@ -160,7 +165,7 @@ fn write_in_turn<B: OfRows, R: Wait, W: Sink, P: FnMut() -> Result<(), BatchFaul
 }
 
 // Writes the text of a writer's rows, in this thread.
-fn write_rows<B: OfRows, R: Wait, W: Sink>(
+fn write_rows<B: OfRows, R: Threads + Wait + Sync, W: Sink>(
     rt: &R,
     sink: &mut W,
     writer: &BookWriter<'_, '_, B>,

@@ -106,7 +106,7 @@ impl<'a> Shares<'a> {
 
 impl Help for Shares<'_> {
     // Reads shares ahead, one after another, as long as there are any.
-    fn help<R: Wait>(&self, rt: &R) {
+    fn help<R: Threads + Wait + Sync>(&self, rt: &R) {
         for _ in rt.forever() {
             let number = self.ahead.draw();
             if number < self.shares.len() {

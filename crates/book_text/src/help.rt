@@ -9,7 +9,7 @@ const TRIES: u32 = 1000;
 /// Work that several threads do ahead of one that needs it.
 pub trait Help: Send + Sync {
     /// Does pieces of work, one after another, until there are no more, or no more are needed.
-    fn help<R: Wait>(&self, rt: &R);
+    fn help<R: Threads + Wait + Sync>(&self, rt: &R);
 
     /// Says that no more is needed, so that helpers end.
     fn close(&self);

@@ -37,18 +37,21 @@ impl<'s, 'a, B: OfRows> BookWriter<'s, 'a, B> {
     }
 
     // The listing of the rows, unless memory ran out. The first thread that needs it makes it, and others wait.
-    fn listing<R: Wait>(&self, rt: &R) -> Option<&Listing<'s, B>> {
+    fn listing<R: Threads + Wait + Sync>(&self, rt: &R) -> Option<&Listing<'s, B>> {
         self.listing.get_or_init(rt, || self.list(rt)).as_ref()
     }
 
     // Lists the rows.
-    fn list<R: Wait>(&self, rt: &R) -> Option<Listing<'s, B>> {
+    fn list<R: Threads + Wait + Sync>(&self, rt: &R) -> Option<Listing<'s, B>> {
         let rows = self.sorting.rows(rt)?;
         Listing::new(self.sorting.alloc(), rows).ok()
     }
 
     /// The text of the book that has these rows. No piece is made yet. It fails only where memory runs out.
-    pub fn pieces<'d, R: Wait>(&'d self, rt: &'d R) -> Result<BookPieces<'d, R, B>, AllocError>
+    pub fn pieces<'d, R: Threads + Wait + Sync>(
+        &'d self,
+        rt: &'d R,
+    ) -> Result<BookPieces<'d, R, B>, AllocError>
         ensures rest { IfOk result (λ pieces. (book : Rows) → B.rows ≡ map.entries book → rest_of pieces.left ≡ book_text book) }
         // That text is read again as the book.
         ensures back { OnOk result (IsReadAsBook B.rows) }
@@ -62,7 +65,7 @@ impl<'s, 'a, B: OfRows> BookWriter<'s, 'a, B> {
 
 impl<B: OfRows + Send + Sync> Help for BookWriter<'_, '_, B> {
     // Sorts and lists the rows if nobody did, and writes sheets ahead until all are written or no more are needed.
-    fn help<R: Wait>(&self, rt: &R) {
+    fn help<R: Threads + Wait + Sync>(&self, rt: &R) {
         if let Some(listing) = self.listing(rt) {
             self.sheets.help(rt, listing);
         }

@@ -9,8 +9,9 @@ use issuer_rows::{Book, SortedRows};
 use std::alloc::{AllocError, Global};
 use std::marker::PhantomData;
 use std::sync::{OnceLock, Wait};
+use std::thread::Threads;
 
-/// The rows of a book, which the first thread that needs them sorts.
+/// The rows of a book, which the first thread that needs them has sorted.
 #[derive(Drop)]
 pub struct Sorting<'a, B: OfRows> {
     alloc: Global,
@@ -55,18 +56,18 @@ impl<'a, B: OfRows> Sorting<'a, B> {
     }
 
     // The sorted rows, unless memory ran out. While another thread sorts them, this one waits.
-    pub(crate) fn rows<R: Wait>(&self, rt: &R) -> Option<&SortedRows<'a>>
+    pub(crate) fn rows<R: Threads + Wait + Sync>(&self, rt: &R) -> Option<&SortedRows<'a>>
         ensures rows { IfSome result (λ rows. rows.now ≡ B.rows) }
         ensures by_kind { StandByKind B.rows }
     {
-        let sorted = self.sorted.get_or_init(rt, || self.sort());
+        let sorted = self.sorted.get_or_init(rt, || self.sort(rt));
         sorted.rows()
     }
 
-    // Sorts the rows.
-    fn sort(&self) -> Sorted<'a, B> {
+    // Sorts the rows, by several threads.
+    fn sort<R: Threads + Sync>(&self, rt: &R) -> Sorted<'a, B> {
         Sorted {
-            rows: self.book.sorted_rows(self.alloc),
+            rows: self.book.rows_sorted_by_threads(rt, self.alloc),
             of: PhantomData,
         }
     }

@@ -1,9 +1,20 @@
--- A number that rises with a row's key, by which most keys are compared without a look at them.
-use Rattle.std.specs.Prelude.{ℕ, zero, suc, ◌+◌, ◌-◌, ◌*◌, ◌≤◌, List, [], ◌∷◌, ◌++◌, length, ⊤}
+-- The order of rows, and a number that rises with a row's key, by which most rows are put in order without a look at their keys.
+use Rattle.std.specs.Prelude.{Bool, ℕ, zero, suc, ◌+◌, ◌-◌, ◌*◌, ◌≤◌, List, [], ◌∷◌, ◌++◌, length, ⊤}
+use Rattle.std.specs.Ordering.{on}
+use Rattle.std.specs.declared.cmp.Ordering.{Ordering}
 use Rattle.iso8583.specs.Class.{IsDigits}
-use Rattle.issuer_rows.specs.RowKey.{kind_of}
+use Rattle.issuer_rows.specs.RowKey.{key_cmp, key_eq, kind_of}
 use Rattle.issuer_rows.specs.declared.row_key.RowKey.{RowKey}
 use Rattle.issuer_rows.specs.declared.row_key.RowKey.TheVariants as key
+use Rattle.issuer_rows.specs.declared.row_val.RowVal.{RowVal}
+
+-- rows are in the order of their keys
+abbrev pub row_cmp : RowKey × RowVal → RowKey × RowVal → Ordering
+row_cmp = on (λ row. row.0) key_cmp
+
+-- whether two rows have the same key
+abbrev pub row_eq : RowKey × RowVal → RowKey × RowVal → Bool
+row_eq = on (λ row. row.0) key_eq
 
 -- so many digits to the base 11: 1 to 10 for the first digits of a text, and 0 behind its end
 abbrev pub digits_of : ℕ → List ℕ → List ℕ

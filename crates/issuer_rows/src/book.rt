@@ -15,6 +15,7 @@ use indexmap::IndexMap;
 use indexmap::map::{Entry, Iter};
 use std::alloc::{AllocError, Global};
 use std::marker::Model;
+use std::thread::Threads;
 
 /// The issuer's rows: a finite map from row keys to row values, each of its key's kind. A row is found by its key's hash.
 #[derive(Drop)]
@@ -206,6 +207,18 @@ impl Book {
         ensures kinds { AllOfKind (map.entries self.now) }
     {
         SortedRows::new(alloc, self.rows.iter())
+    }
+
+    /// The same, where several threads sort them.
+    pub fn rows_sorted_by_threads<R: Threads + Sync>(
+        &self,
+        rt: &R,
+        alloc: Global,
+    ) -> Result<SortedRows<'_>, AllocError>
+        ensures rows { IfOk result (λ rows. rows ≡ map.entries self.now) }
+        ensures kinds { AllOfKind (map.entries self.now) }
+    {
+        SortedRows::by_threads(rt, alloc, self.rows.iter())
     }
 
     /// The rows, each once, in any order.

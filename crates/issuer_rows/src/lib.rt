@@ -23,7 +23,7 @@ mod original_row;
 mod payer;
 mod payment;
 mod places;
-mod ranked_key;
+mod ranked_row;
 mod reply_body;
 mod row_key;
 mod row_val;

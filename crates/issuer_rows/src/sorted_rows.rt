@@ -6,12 +6,14 @@ ghost use Rattle.std.specs.Map.Iter.{deref_pair};
 ghost use Rattle.issuer_rows.specs.RowKey.{key_cmp, key_eq};
 
 use crate::book_rows::BookRows;
-use crate::ranked_key::RankedKey;
+use crate::ranked_row::RankedRow;
 use crate::row_key::RowKey;
 use crate::row_val::RowVal;
 use indexmap::map::Iter;
+use rayon::prelude::par_sort;
 use std::alloc::{AllocError, Global};
 use std::marker::Model;
+use std::thread::Threads;
 
 /// The rows of a book, sorted by their keys.
 #[derive(Drop)]
@@ -39,9 +41,32 @@ impl<'a> SortedRows<'a> {
         requires { IsDistinct key_eq (keys_of rows) }
         ensures { IfOk result (λ sorted. sorted ≡ map.entries (map.from_entries {R = key_cmp} rows.entry)) }
     {
-        let mut sorted: Vec<(&'a RowKey, &'a RowVal)> = rows.collect(alloc)?;
-        sorted.sort_by_cached_key(ranked_key)?;
-        Ok(SortedRows { rows: sorted })
+        let mut ranked = ranked_rows(alloc, rows)?;
+        ranked.sort()?;
+        SortedRows::of(alloc, &ranked)
+    }
+
+    // The same by several threads.
+    pub(crate) fn by_threads<R: Threads + Sync>(
+        rt: &R,
+        alloc: Global,
+        rows: Iter<'a, RowKey, RowVal>,
+    ) -> Result<SortedRows<'a>, AllocError>
+        requires { IsDistinct key_eq (keys_of rows) }
+        ensures { IfOk result (λ sorted. sorted ≡ map.entries (map.from_entries {R = key_cmp} rows.entry)) }
+    {
+        let mut ranked = ranked_rows(alloc, rows)?;
+        par_sort(rt, alloc, &mut ranked)?;
+        SortedRows::of(alloc, &ranked)
+    }
+
+    // These rows without their ranks.
+    fn of(alloc: Global, ranked: &[RankedRow<'a>]) -> Result<SortedRows<'a>, AllocError>
+        ensures { IfOk result (λ sorted. sorted ≡ ranked.now) }
+    {
+        Ok(SortedRows {
+            rows: ranked.iter().map(|ranked| ranked.row()).collect(alloc)?,
+        })
     }
 
     /// How many rows there are.
@@ -66,9 +91,12 @@ impl<'a> SortedRows<'a> {
     }
 }
 
-// What a row is sorted by.
-fn ranked_key<'a>(row: &(&'a RowKey, &'a RowVal)) -> RankedKey<'a>
-    ensures { result ≡ row.now.0.now }
+// The rows with their ranks.
+fn ranked_rows<'a>(
+    alloc: Global,
+    rows: Iter<'a, RowKey, RowVal>,
+) -> Result<Vec<RankedRow<'a>>, AllocError>
+    ensures { IfOk result (λ ranked. ranked.items ≡ rows.entry) }
 {
-    RankedKey::new(row.0)
+    rows.map(|row| RankedRow::new(row)).collect(alloc)
 }

@@ -1,8 +1,8 @@
 use Rattle.std.proofs.Common.{◌≡◌, ◌+◌, ◌*◌, ◌^◌, ◌≤◌, ◌∷◌, [], add-one, arith, ap, refl, subst, sym, slice_get, ◌∙◌}
 use Rattle.issuer_rows.proofs.RankLaws.{digit_fits, digits_bounded, digit_gone, digit_in, digit_there, digits_of-suc, with_digits-append}
 use Rattle.issuer_rows.specs.Rank.{digits_of, with_digits}
-use Rattle.issuer_rows.proofs.ranked_key.with_digits.Goals as goal
-use Rattle.issuer_rows.proofs.ranked_key.with_digits.Goals.{in-Some, in-None}
+use Rattle.issuer_rows.proofs.ranked_row.with_digits.Goals as goal
+use Rattle.issuer_rows.proofs.ranked_row.with_digits.Goals.{in-Some, in-None}
 
 -- the digit that is added
 digit_is : (c : goal.After-from) → c.from.result ≡ digit_in (slice_get c.args.text.now c.loop-place.place)

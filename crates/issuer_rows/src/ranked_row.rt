@@ -1,49 +1,61 @@
 ghost use Rattle.std.specs.Prelude.{◌≡◌, ◌+◌, ◌*◌, ◌^◌, ◌≤◌};
 ghost use Rattle.std.proofs.Common.{rules};
-ghost use Rattle.std.specs.Cmp.{partial_order_from_own_ties};
+ghost use Rattle.std.specs.Cmp.{partial_order_from_own_ties, partial_order_from_total};
 ghost use Rattle.std.specs.Cmp.Rules.{comparing};
+ghost use Rattle.std.specs.Map.Iter.{deref_pair};
 ghost use Rattle.std.specs.Ordering.{as_partial_cmp};
 ghost use Rattle.iso8583.specs.Class.{IsDigits};
-ghost use Rattle.issuer_rows.specs.Rank.{IsOfDigits, digits_of, rank_of, with_digits};
-ghost use Rattle.issuer_rows.specs.RowKey.{key_cmp, key_eq};
+ghost use Rattle.issuer_rows.specs.Rank.{IsOfDigits, digits_of, rank_of, row_cmp, row_eq, with_digits};
 
 use crate::row_key::RowKey;
+use crate::row_val::RowVal;
 use std::cmp::Ordering;
 use std::marker::Model;
 
-/// A row's key with its rank, a number that rises with the key: by it most keys are compared without a look at them.
+/// A row with the rank of its key, a number that rises with the key: by it most rows are put in order without a look at their keys.
 #[derive(Drop)]
-pub(crate) struct RankedKey<'a> {
+pub(crate) struct RankedRow<'a> {
     rank: u64,
     key: &'a RowKey,
+    val: &'a RowVal,
 }
 
-impl<'a> Model for RankedKey<'a> {
+impl<'a> Model for RankedRow<'a> {
     ghost use Rattle.std.specs.Prelude.{◌≡◌};
     ghost use Rattle.issuer_rows.specs.Rank.{IsOfDigits, rank_of};
     ghost use Rattle.issuer_rows.specs.declared.row_key.RowKey.{RowKey};
+    ghost use Rattle.issuer_rows.specs.declared.row_val.RowVal.{RowVal};
 
-    ghost Value = { RowKey };
+    ghost Value = { RowKey × RowVal };
 
-    ghost view = { λ r. r.key.now };
+    ghost view = { λ r. (r.key.now, r.val.now) };
 
     ghost invariant = { λ r. (r.rank ≡ rank_of r.key.now) × IsOfDigits r.key.now };
 }
 
-impl<'a> RankedKey<'a> {
-    /// The key with its rank.
-    pub(crate) fn new(key: &'a RowKey) -> RankedKey<'a>
-        ensures { result ≡ key.now }
+impl<'a> RankedRow<'a> {
+    /// A row with its rank.
+    pub(crate) fn new(row: (&'a RowKey, &'a RowVal)) -> RankedRow<'a>
+        ensures { result ≡ deref_pair row.entry }
     {
-        RankedKey {
+        let (key, val) = row;
+        RankedRow {
             rank: rank(key),
             key,
+            val,
         }
+    }
+
+    /// The row.
+    pub(crate) fn row(&self) -> (&'a RowKey, &'a RowVal)
+        ensures { deref_pair result ≡ self.now }
+    {
+        (self.key, self.val)
     }
 }
 
-impl PartialEq for RankedKey<'_> {
-    ghost eq = { key_eq };
+impl PartialEq for RankedRow<'_> {
+    ghost eq = { row_eq };
 
     ghost laws = { Prim.search (comparing, rules) };
 
@@ -53,12 +65,12 @@ impl PartialEq for RankedKey<'_> {
     }
 }
 
-impl Eq for RankedKey<'_> {
+impl Eq for RankedRow<'_> {
     ghost laws = { Prim.search (comparing, rules) };
 }
 
-impl Ord for RankedKey<'_> {
-    ghost cmp = { key_cmp };
+impl Ord for RankedRow<'_> {
+    ghost cmp = { row_cmp };
 
     ghost total = { Prim.search (comparing, rules) };
 
@@ -74,10 +86,10 @@ impl Ord for RankedKey<'_> {
     }
 }
 
-impl PartialOrd for RankedKey<'_> {
-    ghost partial_cmp = { as_partial_cmp key_cmp };
+impl PartialOrd for RankedRow<'_> {
+    ghost partial_cmp = { as_partial_cmp row_cmp };
 
-    ghost laws = { partial_order_from_own_ties (Prim.search (comparing, rules)) (Prim.search (comparing, rules)) };
+    ghost laws = { partial_order_from_own_ties (partial_order_from_total {R = row_cmp} (Prim.search (comparing, rules))) (Prim.search (comparing, rules)) };
 
     fn partial_cmp(&self, other: &Self) -> Option<Ordering> {
         Some(self.cmp(other))

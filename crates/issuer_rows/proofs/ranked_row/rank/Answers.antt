@@ -1,7 +1,7 @@
 use Rattle.std.proofs.Common.{ap, sym, ◌∙◌}
 use Rattle.issuer_rows.proofs.RankLaws.{with_digits-append}
 use Rattle.issuer_rows.specs.Rank.{digits_of, rank_of, with_digits}
-use Rattle.issuer_rows.proofs.ranked_key.rank.Goals as goal
+use Rattle.issuer_rows.proofs.ranked_row.rank.Goals as goal
 
 pub returns-in-Original-clause-rank : goal.returns-in-Original-clause-rank
 returns-in-Original-clause-rank c =
