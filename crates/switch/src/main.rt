@@ -40,12 +40,13 @@ use progress_logs::ProgressLogs;
 use std::alloc::{AllocError, Global};
 use std::fs::File;
 use std::io::{ErrorKind, IsTerminal, Write};
+use std::os::unix::prelude::{FileTypeExt, MetadataExt};
 use std::process::ExitCode;
 use std::sync::Wait;
 use std::thread::Threads;
 use std::time::Clock;
 use std::{env, fs, io};
-use stream_files::StreamFiles;
+use stream_files::{StreamFiles, is_input};
 
 fn main(rt: HostRuntime) -> ExitCode {
     // A standard stream that is closed is opened on nothing, to be read alone, so that no file that is opened has its number.
@@ -114,6 +115,10 @@ fn serve_words<R: Threads + Wait + Copy + Sync, F: Files, O: Write, E: Write>(
     err: &mut Printer<E>,
 ) -> u8 {
     match asked {
+        HostAsked::Serve(book, _, _) if is_input(book) => usage(
+            b"BOOK can't be standard input, from which the messages come",
+            err,
+        ),
         HostAsked::Serve(book, log, settings) => serve(
             rt,
             host.alloc(),
@@ -140,9 +145,9 @@ fn links_words<R: Threads + Wait + Copy + Sync, F: Files, E: Write>(
     err: &mut Printer<E>,
 ) -> u8 {
     match links_asked(host.alloc(), words) {
-        Ok(Some(asked)) => match writes_over(files, &asked) {
-            Ok(true) => usage(b"a link's OUT is BOOK or LOG", err),
-            Ok(false) => match serve_pipes(rt, host, files, &asked) {
+        Ok(Some(asked)) => match wrong_outputs(host, files, &asked) {
+            Ok(Some(wrong)) => usage(wrong.as_bytes(), err),
+            Ok(None) => match serve_pipes(rt, host, files, &asked) {
                 Ok(status) => status,
                 Err(_) => out_of_memory(err),
             },
@@ -156,16 +161,39 @@ fn links_words<R: Threads + Wait + Copy + Sync, F: Files, E: Write>(
     }
 }
 
-// Whether replies of a link would be written over the book or the log.
-fn writes_over<F: Files>(files: &F, asked: &AskedLinks<'_>) -> Result<bool, AllocError> {
-    for link in &asked.links {
+// What is wrong with where replies go: over the book or the log, or from two links into one pipe.
+fn wrong_outputs<F: Files>(
+    host: HostRuntime,
+    files: &F,
+    asked: &AskedLinks<'_>,
+) -> Result<Option<&'static str>, AllocError> {
+    for (place, link) in asked.links.iter().enumerate() {
         if files.is_one_file(link.output, asked.book)?
             || files.is_one_file(link.output, asked.log)?
         {
-            return Ok(true);
+            return Ok(Some("a link's OUT is BOOK or LOG"));
+        }
+        for other in &asked.links[..place] {
+            if files.is_one_file(link.output, other.output)?
+                || is_one_pipe(host, link.output, other.output)
+            {
+                return Ok(Some("OUT of two links is one file"));
+            }
         }
     }
-    Ok(false)
+    Ok(None)
+}
+
+// Whether both names are one pipe's.
+fn is_one_pipe(host: HostRuntime, first: &str, second: &str) -> bool {
+    match (fs::metadata(&host, first), fs::metadata(&host, second)) {
+        (Ok(first), Ok(second)) => {
+            first.file_type().is_fifo()
+                && first.dev() == second.dev()
+                && first.ino() == second.ino()
+        }
+        _ => false,
+    }
 }
 
 // Serves links over pipes of the host.
@@ -374,7 +402,17 @@ fn asked_words(rt: &HostRuntime) -> Result<(Vec<String>, Option<OnStandardError>
     } else {
         None
     };
+    ask_for_help(rt.alloc(), &mut words)?;
     Ok((with_streams(rt.alloc(), &words)?, progress))
+}
+
+// Where help of a command is asked for by its name, `help COMMAND`, as by `COMMAND --help`.
+fn ask_for_help(alloc: Global, words: &mut Vec<String>) -> Result<(), AllocError> {
+    if words.len() == 3 && words[1].as_str() == "help" && topic_asked(words).is_none() {
+        words.swap(1, 2);
+        words[2] = String::from_str(alloc, "--help")?;
+    }
+    Ok(())
 }
 
 // The words that the program was started with.

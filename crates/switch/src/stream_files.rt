@@ -9,17 +9,14 @@ use file_devices::{
     WriteFault, Written,
 };
 use std::alloc::{AllocError, Global};
-use std::fs::{File, TryLockError};
-use std::io::{ErrorKind, Stdin, Stdout};
-use std::path::Path;
-use std::{fs, io, rt};
+use std::fs::File;
+use std::io::{Stdin, Stdout};
+use std::rt;
 
 /// The host's files, where the names of standard input and output are these streams, which are read and written where they stand: opened
-/// by their names they would be other ones, at their beginning. What a running host writes, or what couldn't be synced once it is in
-/// place, is refused before anything is written.
+/// by their names they would be other ones, at their beginning.
 #[derive(Drop)]
 pub(crate) struct StreamFiles<R> {
-    host: R,
     alloc: Global,
     input: Stdin,
     output: Stdout,
@@ -30,42 +27,11 @@ impl<R: rt::Files<File = File> + Copy> StreamFiles<R> {
     /// The files of this host, and these streams.
     pub(crate) fn new(host: R, alloc: Global, input: Stdin, output: Stdout) -> StreamFiles<R> {
         StreamFiles {
-            host,
             alloc,
             input,
             output,
             files: HostFiles::new(host, alloc),
         }
-    }
-
-    // Whether a file of this name can be put in place: only a folder's name ends so, and the folder that it is in is opened, as it is in
-    // the end, to be synced.
-    fn check_name(&self, name: &str) -> io::Result<()> {
-        if name.ends_with("/") || name.ends_with("/.") {
-            return Err(io::Error::from(ErrorKind::IsADirectory));
-        }
-        let folder = match Path::new(name).parent() {
-            Some(folder) if !folder.as_str().is_empty() => folder.as_str(),
-            _ => ".",
-        };
-        fs::open(&self.host, folder)?;
-        Ok(())
-    }
-
-    // Whether another program has locked the plain file of this name, as a running host has its log.
-    fn is_locked(&self, name: &str) -> bool {
-        match self.open_plain(name) {
-            Ok(Some(file)) => matches!(file.try_lock_shared(), Err(TryLockError::WouldBlock)),
-            _ => false,
-        }
-    }
-
-    // Opens a plain file, and nothing else: a pipe might wait.
-    fn open_plain(&self, name: &str) -> io::Result<Option<File>> {
-        if !fs::metadata(&self.host, name)?.is_file() {
-            return Ok(None);
-        }
-        Ok(Some(fs::open(&self.host, name)?))
     }
 
     // The files among what was written. Memory can run out.
@@ -111,11 +77,7 @@ impl<R: rt::Files<File = File> + Copy> Files for StreamFiles<R> {
         if is_output(name) {
             return Ok(StreamOutput::standard(self.output));
         }
-        match self.check_name(name) {
-            Ok(()) => Ok(StreamOutput::file(self.files.create(name)?)),
-            Err(error) if error.kind() == ErrorKind::OutOfMemory => Err(WriteFault::OutOfMemory),
-            Err(_) => Err(WriteFault::Unwritable),
-        }
+        Ok(StreamOutput::file(self.files.create(name)?))
     }
 
     fn put_in_place(
@@ -138,9 +100,6 @@ impl<R: rt::Files<File = File> + Copy> Files for StreamFiles<R> {
     }
 
     fn claim(&self, name: &str) -> Result<HostClaim<R>, ClaimFault> {
-        if self.is_locked(name) {
-            return Err(ClaimFault::InUse);
-        }
         self.files.claim(name)
     }
 
@@ -163,16 +122,12 @@ impl<R: rt::Files<File = File> + Copy> Files for StreamFiles<R> {
         if is_output(name) {
             return None;
         }
-        match self.check_name(name) {
-            Ok(()) => self.files.why_not_made(name),
-            Err(error) if error.kind() == ErrorKind::OutOfMemory => None,
-            Err(error) => Some(HostReason::from(error.kind())),
-        }
+        self.files.why_not_made(name)
     }
 }
 
-// Whether the name is one of standard input.
-fn is_input(name: &str) -> bool {
+/// Whether the name is one of standard input.
+pub(crate) fn is_input(name: &str) -> bool {
     name == "/dev/stdin" || name == "/dev/fd/0" || name == "/proc/self/fd/0"
 }
 

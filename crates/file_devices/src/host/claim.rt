@@ -14,7 +14,7 @@ const TRIES: u32 = 100;
 const LONGEST_NOTE: usize = 512;
 
 /// The lock on a file of the host, until it is dropped: an advisory lock on the hidden file `.NAME.switch-lock` beside it. A device has
-/// none, nor a file in whose folder none can be made.
+/// none, nor a file in whose folder none can be made. A file that is locked itself, as a running host has its log, isn't claimed alone.
 #[derive(Drop)]
 pub struct HostClaim<R: rt::Files<File = File> + Copy> {
     _lock: Option<HostLock<R>>,
@@ -36,11 +36,25 @@ impl<R: rt::Files<File = File> + Copy> HostClaim<R> {
         let Some(path) = target.path() else {
             return Ok(Some(HostClaim { _lock: None }));
         };
+        if !is_shared && is_locked(&host, &target) {
+            return Ok(None);
+        }
         match HostLock::new(host, alloc, path, is_shared) {
             Ok(Some(lock)) => Ok(Some(HostClaim { _lock: Some(lock) })),
             Ok(None) => Ok(None),
             Err(error) => no_lock(error),
         }
+    }
+}
+
+// Whether another program has locked the file itself. One that can't be opened isn't written either.
+fn is_locked<R: rt::Files<File = File>>(host: &R, target: &HostTarget) -> bool {
+    let HostTarget::Plain(path, _) = target else {
+        return false;
+    };
+    match fs::open(host, path.as_str()) {
+        Ok(file) => matches!(file.try_lock_shared(), Err(TryLockError::WouldBlock)),
+        Err(_) => false,
     }
 }
 

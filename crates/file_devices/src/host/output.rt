@@ -42,7 +42,8 @@ impl<R: rt::Files<File = File> + Copy> HostOutput<R> {
         }
     }
 
-    // A new file beside the target, with the permissions of the one that it replaces.
+    // A new file beside the target, with the permissions of the one that it replaces. Its folder has to be one that can be opened, as it is
+    // in the end, to be synced.
     fn beside(
         host: R,
         alloc: Global,
@@ -51,6 +52,7 @@ impl<R: rt::Files<File = File> + Copy> HostOutput<R> {
     ) -> io::Result<HostOutput<R>>
         ensures { IfOk result (λ output. output.sink.has_failed ≡ false) }
     {
+        open_folder_of(&host, target.as_str())?;
         let (file, beside) = Beside::new(host, alloc, target.as_str())?;
         if let Some(permissions) = permissions {
             file.set_permissions(permissions)?;
@@ -109,13 +111,18 @@ fn check_writable<R: rt::Files>(host: &R, path: &str, permissions: &Permissions)
     Ok(())
 }
 
-// Syncs the folder of this path, where its file system can.
-fn sync_folder_of<R: rt::Files>(host: &R, path: &str) -> io::Result<()> {
+// Opens the folder of this path.
+fn open_folder_of<R: rt::Files>(host: &R, path: &str) -> io::Result<R::File> {
     let folder = match Path::new(path).parent() {
         Some(folder) if !folder.as_str().is_empty() => folder.as_str(),
         _ => ".",
     };
-    match fs::open(host, folder)?.sync_all() {
+    fs::open(host, folder)
+}
+
+// Syncs the folder of this path, where its file system can.
+fn sync_folder_of<R: rt::Files>(host: &R, path: &str) -> io::Result<()> {
+    match open_folder_of(host, path)?.sync_all() {
         Err(error) if error.kind() == ErrorKind::InvalidInput => Ok(()),
         synced => synced,
     }

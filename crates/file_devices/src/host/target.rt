@@ -16,16 +16,22 @@ pub(crate) enum HostTarget {
 }
 
 impl HostTarget {
-    /// Where the name leads. A link is followed; one that leads nowhere is a fault, and so is a folder.
+    /// Where the name leads. A link is followed; one that leads nowhere is a fault, and so is a folder, also where none is there.
     pub(crate) fn of<R: rt::Files>(host: &R, alloc: Global, name: &str) -> io::Result<HostTarget> {
         match fs::symlink_metadata(host, name) {
             Ok(metadata) if metadata.is_symlink() => HostTarget::of_link(host, alloc, name),
             Ok(metadata) => HostTarget::of_kind(alloc, name, &metadata),
-            Err(error) if error.kind() == ErrorKind::NotFound => {
-                Ok(HostTarget::Absent(String::from_str(alloc, name)?))
-            }
+            Err(error) if error.kind() == ErrorKind::NotFound => HostTarget::absent(alloc, name),
             Err(error) => Err(error),
         }
+    }
+
+    // A file that isn't there. Only a folder's name ends as these.
+    fn absent(alloc: Global, name: &str) -> io::Result<HostTarget> {
+        if name.ends_with("/") || name.ends_with("/.") {
+            return Err(io::Error::from(ErrorKind::IsADirectory));
+        }
+        Ok(HostTarget::Absent(String::from_str(alloc, name)?))
     }
 
     // Where a link leads.
