@@ -15,8 +15,8 @@ use Rattle.app_parts_folder.proofs.Fronts.{same_plan}
 use Rattle.app_parts_folder.specs.PlanTexts.{Plan, decided_head, decided_text, plan_of, plan_text}
 use Rattle.app_parts_folder.proofs.NamesApart.{put_fault}
 use Rattle.app_parts.specs.Answers.{HaveAnswers, IsNoAnswer, IsNoOrder, IsPartFault, IsRest, IsRestFault}
-use Rattle.app_parts_folder.specs.Apart.{IsPairFault}
-use Rattle.app_parts_folder.specs.Faults.{HasNoOrder, HasPlan, IsAnsweringFault, IsJoiningFault, IsOfJoined}
+use Rattle.app_parts_folder.specs.Apart.{IsNameFault, IsPairFault}
+use Rattle.app_parts_folder.specs.Faults.{HasNoOrder, HasPlan, IsAnsweringFault, IsJoiningFault, IsOfJoined, IsOverFolder, IsOverParts}
 use Rattle.app_parts_folder.specs.Joining.{Answer, AreAnswersFrom, IsJoined, Names, joined_texts}
 use Rattle.app_parts_folder.specs.Opening.{IsNoMemory, IsOpenPlan, IsPlanFault}
 use Rattle.app_parts_folder.specs.Texts.{AreDistinct, AreHeld, IsPutFault, IsReadingFault, Text}
@@ -83,9 +83,25 @@ no_memory holds failing name _ h = absurd h
 -- both names are one
 pub one_name : (known : Type 0) (holds : Holding) (failing : Failing) (names : Names) (e : PartsFault) → IsPairFault known names.replies names.new_book e
     → IsJoiningFault known holds failing names e
-one_name known holds failing names (fault.OneFile first second) h = h
+one_name known holds failing names (fault.OneFile first second) h = λ k. inl (h k)
 one_name known holds failing names (fault.Job job) h = inl (no_memory holds failing _ job h)
 one_name known holds failing names _ h = absurd h
+
+-- one of both is a file of the folder, which has as many parts as its plan
+pub over_folder : (known : Type 0) (holds : Holding) (failing : Failing) (names : Names) (opened : OpenPlan) (count : ℕ) (e : PartsFault)
+    → IsOpenPlan known holds names.folder opened → count ≡ length opened.plan.digests.items → IsNameFault known (IsOverParts names count) e
+    → IsJoiningFault known holds failing names e
+over_folder known holds failing names opened count (fault.OneFile first second) is_open counted h =
+    λ k. inr (plan_of opened.plan, (is_open.is_plan, is_open.plan_held.there k), subst (λ (n : ℕ). IsOverParts names n) counted (h k))
+over_folder known holds failing names opened count (fault.Job job) is_open counted h = inl (no_memory holds failing _ job h)
+over_folder known holds failing names opened count _ is_open counted h = absurd h
+
+-- neither is
+pub not_over_folder : (known : Type 0) (holds : Holding) (names : Names) (opened : OpenPlan) (count : ℕ) → IsOpenPlan known holds names.folder opened
+    → count ≡ length opened.plan.digests.items → ¬ IsOverParts names count → ¬ IsOverFolder holds names
+not_over_folder known holds names opened count is_open counted none = λ over.
+    let same : count ≡ length over.0.digests = counted ∙ ap (λ (p : Plan). length p.digests) (one_plan known holds names.folder opened over.0 is_open over.1) in
+    none (subst (λ (n : ℕ). IsOverParts names n) (sym same) over.2)
 
 -- there is no plan
 pub no_plan : (known : Type 0) (holds : Holding) (failing : Failing) (names : Names) (e : PartsFault) → IsPlanFault holds failing names.folder e

@@ -2,7 +2,7 @@
 use Rattle.std.specs.Prelude.{◌≡◌, ◌≤◌, ◌⊎◌, ℕ, suc, List, [], ◌∷◌, ◌++◌, Option, codes, decimal}
 use Rattle.std.specs.Io.KnownBytes.{Appends}
 use Rattle.file_batch.specs.Words.{AreAsTheyWere, Failing, Holding}
-use Rattle.app_parts_folder.specs.Faults.{IsDecidingFault, IsJoiningFault, IsPartingFault, status_of}
+use Rattle.app_parts_folder.specs.Faults.{IsDecidingFault, IsJoiningFault, IsOverFolder, IsPartingFault, status_of}
 use Rattle.app_parts_folder.specs.Joining as joining
 use Rattle.app_parts_folder.specs.Joining.{IsJoined, IsPartDecided}
 use Rattle.app_parts_folder.specs.Names.{IsOfDecided, IsOfFolder}
@@ -36,8 +36,8 @@ IsSaid before after text status = ((status ≡ 0) × Appends before after text) 
 abbrev pub IsRefused : Holding → Holding → (PartsFault → Type 0) → ℕ → Type 0
 IsRefused old new is_fault status = (fault : PartsFault) × (status ≡ status_of fault) × is_fault fault × AreAsTheyWere old new
 
--- The exit status: 0 where it is done and said; 1, too, where it couldn't be said; else that of the fault. Help and wrong words leave all files
--- as they were; these have status 2.
+-- The exit status: 0 where it is done and said; 1, too, where it couldn't be said; else that of the fault. Parts that are put together are not
+-- written over a file of the folder. Help and wrong words leave all files as they were; these have status 2.
 abbrev pub IsAnswered : Type 0 → Holding → Holding → Failing → PartsAsked → Option (List ℕ) → Option (List ℕ) → ℕ → Type 0
 IsAnswered known old new failing (Part names most) before after status =
     ((counts : List PartCount) × IsParted known old new (parting.names_of names) most counts × IsSaid before after (count_lines 0 counts) status)
@@ -46,7 +46,8 @@ IsAnswered known old new failing (Decide folder part) before after status =
     ((count : ℕ) × IsPartDecided known old new folder.now part count × IsSaid before after (done_line (codes "decided") count) status)
     ⊎ IsRefused old new (IsDecidingFault old failing folder.now part) status
 IsAnswered known old new failing (Join names) before after status =
-    ((count : ℕ) × IsJoined known old new (joining.names_of names) count × IsSaid before after (done_line (codes "joined") count) status)
+    ((count : ℕ) × IsJoined known old new (joining.names_of names) count × (known → ¬ IsOverFolder old (joining.names_of names))
+    × IsSaid before after (done_line (codes "joined") count) status)
     ⊎ IsRefused old new (IsJoiningFault known old failing (joining.names_of names)) status
 IsAnswered known old new failing (Help text) before after status = (status ≤ 1) × AreAsTheyWere old new
 IsAnswered known old new failing (Wrong usage) before after status = (status ≡ 2) × AreAsTheyWere old new

@@ -65,7 +65,7 @@ Arguments:
 
 REPLIES and NEWBOOK are what `switch serial` gives on the book and the batch that were put in parts, byte for byte.
 
-Exit status: 0 done, 1 fault, 2 usage error, or REPLIES and NEWBOOK are one file.
+Exit status: 0 done, 1 fault, 2 usage error, or two of REPLIES, NEWBOOK and the files of FOLDER are one file.
 
 A fault is printed on standard error as what it is of and its number there:
   plan N     1 FOLDER/plan is no plan, 3 rest.book isn't that of the plan, 4 the parts haven't as many replies as messages

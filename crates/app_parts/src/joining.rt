@@ -4,15 +4,15 @@ ghost use Rattle.book_laws.specs.Text.{book_text};
 ghost use Rattle.file_batch.specs.Words.{AreAsTheyWere, AreReplyBodies, IsAsItWas};
 ghost use Rattle.parts_books.specs.PartBooks.{AreInArrivalOrder};
 ghost use Rattle.app_parts.specs.Answers.{IsNoOrder, IsRest, IsRestFault};
-ghost use Rattle.app_parts_folder.specs.Faults.{IsJoiningFault};
+ghost use Rattle.app_parts_folder.specs.Faults.{IsJoiningFault, IsOverFolder};
 ghost use Rattle.app_parts_folder.specs.Joining.{IsJoined, joined_texts, names_of};
 ghost use Rattle.app_parts_folder.specs.Texts.{texts_of};
 
 use crate::answers::open_answers;
 use app_jobs::JobFault;
 use app_parts_folder::{
-    JoinNames, NamedText, PartsFault, check_joined, digest_of, open_plan, put_texts, read_text,
-    replies_text, rest_name,
+    JoinNames, NamedText, PartsFault, check_joined, check_outside_parts, digest_of, open_plan,
+    put_texts, read_text, replies_text, rest_name,
 };
 use book_json::read_book;
 use book_text::write_book;
@@ -25,7 +25,7 @@ use std::thread::Threads;
 
 /// Puts the parts of a folder together, and the replies to the whole batch in the order of arrival and the book behind it in place: both, or
 /// after a fault none. A folder is refused where a part isn't decided, or by another plan, or another file is there than the plan or the
-/// part's last file names. Returns how many replies there are.
+/// part's last file names. No file of the folder is written over. Returns how many replies there are.
 pub fn join_parts<R: Threads + Wait + Sync, F: Files>(
     rt: &R,
     alloc: Global,
@@ -33,6 +33,7 @@ pub fn join_parts<R: Threads + Wait + Sync, F: Files>(
     names: &JoinNames<'_>,
 ) -> Result<usize, PartsFault>
     ensures joined { IfOk result (IsJoined (F.is_known files.old) (F.holds files.old) (F.holds files.new) (names_of names.now)) }
+    ensures outside { OnOk result (F.is_known files.old → ¬ IsOverFolder (F.holds files.old) (names_of names.now)) }
     ensures fault { IfErr result (IsJoiningFault (F.is_known files.old) (F.holds files.old) (F.failing files.old) (names_of names.now)) }
     ensures kept { OnErr result (AreAsTheyWere (F.holds files.old) (F.holds files.new)) }
     ensures others { (other : List ℕ) → other ≢ names.now.replies.now → other ≢ names.now.new_book.now → IsAsItWas (F.holds files.old) (F.holds files.new) other }
@@ -40,8 +41,9 @@ pub fn join_parts<R: Threads + Wait + Sync, F: Files>(
 {
     check_joined(files, names)?;
     let open = open_plan(alloc, files, names.folder)?;
-    let rest = open_rest(rt, alloc, files, names.folder, &open.plan.rest)?;
     let count = open.plan.digests.len() as u32;
+    check_outside_parts(alloc, files, names, count)?;
+    let rest = open_rest(rt, alloc, files, names.folder, &open.plan.rest)?;
     let answers = open_answers(rt, alloc, files, names.folder, &open.digest, count)?;
     let replies = in_order(alloc, &open.plan.parts, &answers.replies)?;
     let book = join_books(&rest, &answers.books)?;

@@ -4,3 +4,4 @@ pub mod OwnBodies
 pub mod Parts
 pub mod InParts
 pub mod Fronts
+mod Outside

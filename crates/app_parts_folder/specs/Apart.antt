@@ -18,6 +18,12 @@ IsOneFileFault known folder name (fault.OneFile role other) = known → IsOfFold
 IsOneFileFault known folder name (fault.Job job) = IsNoMemory job
 IsOneFileFault known folder name _ = ⊥
 
+-- A name is refused: this is so, where that is known; or memory ran out.
+abbrev pub IsNameFault : Type 0 → Type 0 → PartsFault → Type 0
+IsNameFault known is_one (fault.OneFile role other) = known → is_one
+IsNameFault known is_one (fault.Job job) = IsNoMemory job
+IsNameFault known is_one _ = ⊥
+
 -- it is no name of a file that is written for this part
 abbrev pub IsOutsidePart : List ℕ → ℕ → List ℕ → Type 0
 IsOutsidePart folder part name = (name ≢ part_name folder part Book) × (name ≢ part_name folder part Batch)

@@ -11,7 +11,7 @@ use Rattle.app_parts_folder.specs.PlanTexts.{IsPlan, Plan, decided_head, decided
 use Rattle.app_parts_folder.specs.declared.part_digests.PartDigests.{PartDigests}
 use Rattle.app_parts_folder.specs.Joining as joining
 use Rattle.app_parts_folder.specs.Joining.{Answer, IsFolder}
-use Rattle.app_parts_folder.specs.Names.{IsOfDecided, IsOfFolder, part_name, plan_name, rest_name}
+use Rattle.app_parts_folder.specs.Names.{IsOfDecided, IsOfFolder, IsOfParts, part_name, plan_name, rest_name}
 use Rattle.app_parts_folder.specs.Parting as parting
 use Rattle.app_parts_folder.specs.Texts.{IsReadingFault}
 use Rattle.app_parts_folder.specs.declared.part_fault.PartFault.{PartFault}
@@ -121,10 +121,18 @@ HasNoOrder holds folder =
 abbrev pub IsOfJoined : joining.Names → List ℕ → Type 0
 IsOfJoined names name = (name ≡ names.replies) ⊎ (name ≡ names.new_book)
 
--- Why parts aren't put together: both names are one; the plan isn't read; the rest isn't that of the plan, or no book; a part has no
--- answer, or one that isn't read, or not as many replies as messages; or what they come to isn't written.
+-- one of these is a file of the folder, which has so many parts
+abbrev pub IsOverParts : joining.Names → ℕ → Type 0
+IsOverParts names count = IsOfParts names.folder count names.replies ⊎ IsOfParts names.folder count names.new_book
+
+-- one of these is a file of the folder, which has as many parts as its plan
+abbrev pub IsOverFolder : Holding → joining.Names → Type 0
+IsOverFolder holds names = (plan : Plan) × HasPlan holds names.folder plan × IsOverParts names (length plan.digests)
+
+-- Why parts aren't put together: both names are one, or one is that of a file of the folder; the plan isn't read; the rest isn't that of the
+-- plan, or no book; a part has no answer, or one that isn't read, or not as many replies as messages; or what they come to isn't written.
 abbrev pub IsJoiningFault : Type 0 → Holding → Failing → joining.Names → PartsFault → Type 0
-IsJoiningFault known holds failing names (fault.OneFile first second) = known → names.replies ≡ names.new_book
+IsJoiningFault known holds failing names (fault.OneFile first second) = known → (names.replies ≡ names.new_book) ⊎ IsOverFolder holds names
 IsJoiningFault known holds failing names (fault.Job job) =
     IsReadingFault holds failing (plan_name names.folder) job
     ⊎ (IsBookFault holds failing (rest_name names.folder) job

@@ -31,3 +31,12 @@ IsOfFolder folder name =
 abbrev pub IsOfDecided : List ℕ → ℕ → List ℕ → Type 0
 IsOfDecided folder part name =
     (name ≡ part_name folder part Replies) ⊎ ((name ≡ part_name folder part NewBook) ⊎ (name ≡ part_name folder part Decided))
+
+-- it is the name of a file of this part
+abbrev pub IsOfPart : List ℕ → ℕ → List ℕ → Type 0
+IsOfPart folder part name = (file : PartFile) × (name ≡ part_name folder part file)
+
+-- it is the name of a file of a folder of so many parts
+abbrev pub IsOfParts : List ℕ → ℕ → List ℕ → Type 0
+IsOfParts folder count name =
+    (name ≡ plan_name folder) ⊎ ((name ≡ rest_name folder) ⊎ ((part : ℕ) × (part < count) × IsOfPart folder part name))

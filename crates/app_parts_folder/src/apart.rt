@@ -1,6 +1,8 @@
-ghost use Rattle.std.specs.Prelude.{◌≡◌, ◌≢◌, IfErr, OnOk};
-ghost use Rattle.app_parts_folder.specs.Apart.{IsOneFileFault, IsOutside, IsOutsidePart, IsPairFault};
+ghost use Rattle.std.specs.Prelude.{◌≡◌, ◌≢◌, ◌⊎◌, IfErr, OnOk};
+ghost use Rattle.app_parts_folder.specs.Apart.{IsNameFault, IsOneFileFault, IsOutside, IsOutsidePart, IsPairFault};
+ghost use Rattle.app_parts_folder.specs.Faults.{IsOverParts};
 ghost use Rattle.app_parts_folder.specs.Joining.{names_of};
+ghost use Rattle.app_parts_folder.specs.Names.{IsOfPart, IsOfParts, part_name, plan_name, rest_name};
 
 use crate::join_names::JoinNames;
 use crate::names::{part_name, plan_name, rest_name};
@@ -43,11 +45,80 @@ fn check_part<F: Files>(
     ensures outside { OnOk result (F.is_known files.now → IsOutsidePart folder.now part name.now) }
     ensures fault { IfErr result (IsOneFileFault (F.is_known files.now) folder.now name.now) }
 {
-    let book = part_name(alloc, folder, part, PartFile::Book)?;
-    check_pair(files, name, book.as_str(), role, "a part's book")?;
-    let batch = part_name(alloc, folder, part, PartFile::Batch)?;
-    check_pair(files, name, batch.as_str(), role, "a part's batch")?;
+    check_file(alloc, files, folder, part, PartFile::Book, name, role)?;
+    check_file(alloc, files, folder, part, PartFile::Batch, name, role)
+}
+
+/// Checks that neither replies nor new book are a file of the folder, which has so many parts.
+pub fn check_outside_parts<F: Files>(
+    alloc: Global,
+    files: &F,
+    names: &JoinNames<'_>,
+    count: u32,
+) -> Result<(), PartsFault>
+    ensures outside { OnOk result (F.is_known files.now → ¬ IsOverParts (names_of names.now) count) }
+    ensures fault { IfErr result (IsNameFault (F.is_known files.now) (IsOverParts (names_of names.now) count)) }
+{
+    check_no_file(alloc, files, names.folder, count, names.replies, "REPLIES")?;
+    check_no_file(alloc, files, names.folder, count, names.new_book, "NEWBOOK")
+}
+
+// Checks that a file of this name is none of a folder of so many parts.
+fn check_no_file<F: Files>(
+    alloc: Global,
+    files: &F,
+    folder: &str,
+    count: u32,
+    name: &str,
+    role: &'static str,
+) -> Result<(), PartsFault>
+    ensures outside { OnOk result (F.is_known files.now → ¬ IsOfParts folder.now count name.now) }
+    ensures fault { IfErr result (IsNameFault (F.is_known files.now) (IsOfParts folder.now count name.now)) }
+{
+    let plan = plan_name(alloc, folder)?;
+    check_pair(files, name, plan.as_str(), role, "FOLDER/plan")?;
+    let rest = rest_name(alloc, folder)?;
+    check_pair(files, name, rest.as_str(), role, "FOLDER/rest.book")?;
+    for part in 0..count {
+        check_no_file_of(alloc, files, folder, part, name, role)?;
+    }
     Ok(())
+}
+
+// Checks that it is none of a part.
+fn check_no_file_of<F: Files>(
+    alloc: Global,
+    files: &F,
+    folder: &str,
+    part: u32,
+    name: &str,
+    role: &'static str,
+) -> Result<(), PartsFault>
+    ensures outside { OnOk result (F.is_known files.now → ¬ IsOfPart folder.now part name.now) }
+    ensures fault { IfErr result (IsNameFault (F.is_known files.now) (IsOfPart folder.now part name.now)) }
+{
+    check_file(alloc, files, folder, part, PartFile::Book, name, role)?;
+    check_file(alloc, files, folder, part, PartFile::Batch, name, role)?;
+    check_file(alloc, files, folder, part, PartFile::Replies, name, role)?;
+    check_file(alloc, files, folder, part, PartFile::NewBook, name, role)?;
+    check_file(alloc, files, folder, part, PartFile::Decided, name, role)
+}
+
+// Checks that it isn't this one.
+fn check_file<F: Files>(
+    alloc: Global,
+    files: &F,
+    folder: &str,
+    part: u32,
+    file: PartFile,
+    name: &str,
+    role: &'static str,
+) -> Result<(), PartsFault>
+    ensures apart { OnOk result (F.is_known files.now → name.now ≢ part_name folder.now part file) }
+    ensures fault { IfErr result (IsPairFault (F.is_known files.now) name.now (part_name folder.now part file)) }
+{
+    let other = part_name(alloc, folder, part, file)?;
+    check_pair(files, name, other.as_str(), role, file.role())
 }
 
 /// Checks that replies and new book are two files.

@@ -28,7 +28,7 @@ mod planning;
 mod putting;
 mod reading;
 
-pub use apart::{check_joined, check_outside};
+pub use apart::{check_joined, check_outside, check_outside_parts};
 pub use batch_in_parts::BatchInParts;
 pub use bodies::replies_text;
 pub use decided::{behind_decided_head, decided_text};
@@ -37,7 +37,7 @@ pub use laws::a_text_is_of_one_plan;
 pub use making::make_folder;
 pub use most_parts::MostParts;
 pub use named_text::NamedText;
-pub use names::{part_name, rest_name};
+pub use names::{part_name, plan_name, rest_name};
 pub use part_count::PartCount;
 pub use part_digests::PartDigests;
 pub use part_fault::PartFault;

@@ -18,7 +18,7 @@ pub fn part_name(
 }
 
 /// The name of the plan's file.
-pub(crate) fn plan_name(alloc: Global, folder: &str) -> Result<String, AllocError>
+pub fn plan_name(alloc: Global, folder: &str) -> Result<String, AllocError>
     ensures { IfOk result (λ name. string_bytes name ≡ plan_name folder.now) }
 {
     format!(in alloc; "{folder}/plan")

@@ -29,4 +29,14 @@ impl PartFile {
             PartFile::Decided => ".decided",
         }
     }
+    // What it is called where names are of one file.
+    pub(crate) fn role(&self) -> &'static str {
+        match self {
+            PartFile::Book => "a part's book",
+            PartFile::Batch => "a part's batch",
+            PartFile::Replies => "a part's replies",
+            PartFile::NewBook => "a part's new book",
+            PartFile::Decided => "a part's K.decided",
+        }
+    }
 }

@@ -96,6 +96,38 @@ const UNDECIDED: &[(&str, &str, &str)] = &[
     ("parts/1.batch", "parts/0.batch", "part 1: 3\n"),
 ];
 
+// Names of which one is of a file of the folder, and how `join` refuses them.
+const OVER: &[(&str, &str)] = &[
+    (
+        "switch join parts parts/plan new",
+        "REPLIES and FOLDER/plan are one file\n",
+    ),
+    (
+        "switch join parts joined parts/rest.book",
+        "NEWBOOK and FOLDER/rest.book are one file\n",
+    ),
+    (
+        "switch join parts joined parts/2.book",
+        "NEWBOOK and a part's book are one file\n",
+    ),
+    (
+        "switch join parts joined parts/0.batch",
+        "NEWBOOK and a part's batch are one file\n",
+    ),
+    (
+        "switch join parts parts/2.replies new",
+        "REPLIES and a part's replies are one file\n",
+    ),
+    (
+        "switch join parts joined parts/1.newbook",
+        "NEWBOOK and a part's new book are one file\n",
+    ),
+    (
+        "switch join parts parts/0.decided new",
+        "REPLIES and a part's K.decided are one file\n",
+    ),
+];
+
 // Decides the parts of another folder, where the batch is in two.
 const TWO: &[&str] = &[
     "switch part book batch 2 other",
@@ -201,6 +233,32 @@ fn refuses_changed_parts(rt: HostRuntime) {
             "{to} {from}"
         );
     }
+}
+
+#[test]
+fn joins_over_no_file_of_the_folder(rt: HostRuntime) {
+    let mut files = files(rt.alloc()).expect(&rt, "room");
+    for line in THREE {
+        assert!(rt; done(&rt, rt.alloc(), &mut files, line), "{line}");
+    }
+    for (line, said) in OVER {
+        let (status, out, err) = told(&rt, rt.alloc(), &mut files, line).expect(&rt, "an answer");
+        assert!(rt; status == 2 && out.is_empty(), "{line}");
+        assert!(rt; err.as_slice() == said.as_bytes(), "{line}");
+        assert!(rt;
+            files.get("joined").is_none() && files.get("new").is_none(),
+            "{line}"
+        );
+    }
+    // What was refused left the folder as it was, and a part that the plan hasn't is no file of it.
+    assert!(rt;
+        done(
+            &rt,
+            rt.alloc(),
+            &mut files,
+            "switch join parts joined parts/3.newbook"
+        )
+    );
 }
 
 // What `part`, `decide` and `join` say where files or folders are missing, or are others.

@@ -2,8 +2,15 @@ use Rattle.std.proofs.Common.{arith, ◌∙◌}
 use Rattle.std.proofs.lemmas.Result.{err_from_is_err_and}
 use Rattle.app_parts_folder.specs.Joining.{names_of}
 use Rattle.app_parts_folder.specs.Texts.{texts_of}
-use Rattle.app_parts.proofs.Joined.{AreOpened, both_written, joined, no_order, no_rest, not_put}
+use Rattle.app_parts.proofs.Joined.{AreOpened, both_written, joined, no_order, no_rest, not_over_folder, not_put, over_folder}
 use Rattle.app_parts.proofs.joining.join_parts.Goals as goal
+
+pub returns-in_err-check_outside_parts-clause-fault : goal.returns-in_err-check_outside_parts-clause-fault
+returns-in_err-check_outside_parts-clause-fault g c =
+    let p = err_from_is_err_and c.from_residual-in_err-check_outside_parts.result c.from_residual-in_err-check_outside_parts.ensures.1 in
+    rw (p.1, p.2) (over_folder (g.F.Files.is_known c.args.files.now) (g.F.Files.holds c.args.files.now) (g.F.Files.failing c.args.files.now) (names_of c.args.names.now)
+    c.in_ok-open.open c.len-count.result c.in_err-check_outside_parts.field-0.0 c.in_ok-open.ensures.plan
+    (omega (arith, c.len-count.ensures, c.in_ok-open.ensures.plan.is_plan.listed.few)) c.in_err-check_outside_parts.ensures.fault)
 
 pub returns-in_err-rest-clause-fault : goal.returns-in_err-rest-clause-fault
 returns-in_err-rest-clause-fault g c =
@@ -48,3 +55,8 @@ returns-clause-joined g c =
     (both_written known new names c.in_ok-replies.replies.items c.in_ok-book.book (texts_of c.in_ok-texts.texts.items)
     (rw c.deref-4.ensures.value at c.in_ok-texts.ensures.texts)
     c.in_ok-check_joined.ensures.apart (rw c.deref-5.ensures.value at c.in_ok-put_texts.ensures.held))
+
+pub returns-clause-outside : goal.returns-clause-outside
+returns-clause-outside g c = λ known.
+    not_over_folder (g.F.Files.is_known c.args.files.now) (g.F.Files.holds c.args.files.now) (names_of c.args.names.now) c.in_ok-open.open c.len-count.result
+    c.in_ok-open.ensures.plan (omega (arith, c.len-count.ensures, c.in_ok-open.ensures.plan.is_plan.listed.few)) (c.in_ok-check_outside_parts.ensures.outside known)

@@ -9,6 +9,7 @@ returns-in-Ok-clause-answered g c =
     inl (
       count,
       c.in-Ok.ensures.joined,
+      c.in-Ok.ensures.outside,
       said_or_not (g.O.Write.contents c.args.out.now) (g.O.Write.contents c.say.new.out) (done_line (codes "joined") count) c.status_of.result c.say.result
           c.status_of.ensures.bound c.status_of.ensures.done c.say.ensures,
     )
