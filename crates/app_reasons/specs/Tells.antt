@@ -8,6 +8,7 @@ use Rattle.book_laws.specs.declared.json_fault.JsonFault.{JsonFault}
 use Rattle.book_places.specs.Places.{IsWrongBook}
 use Rattle.book_places.specs.declared.wrong_book.WrongBook.{WrongBook}
 use Rattle.file_devices.specs.BatchNames.{Names}
+use Rattle.file_devices.specs.Failing.{Failing}
 use Rattle.file_devices.specs.Holding.{Holding}
 use Rattle.file_devices.specs.declared.host_reason.HostReason.TheVariants.{Failed}
 use Rattle.stm_journal_text.specs.declared.replay_fault.ReplayFault.{ReplayFault}
@@ -134,6 +135,12 @@ abbrev pub TellsOfOneBook : Holding → JobFault → List ℕ → Reason → Typ
 TellsOfOneBook holds job.Unreadable name reason = TellsUnread holds name reason
 TellsOfOneBook holds (job.Book fault) name reason = TellsOfBook holds fault name reason
 TellsOfOneBook holds fault name reason = ⊥
+
+-- why a file is not written: the host says it, or another run has claimed it
+abbrev pub TellsOfWritten : Failing → JobFault → List ℕ → Reason → Type 0
+TellsOfWritten failing job.Unwritable name reason = failing.refused name × IsOfHost reason
+TellsOfWritten failing job.InUse name reason = failing.in_use name × (reason ≡ InUse)
+TellsOfWritten failing fault name reason = ⊥
 
 -- the first body of a batch that is no message is told
 abbrev pub TellsUnreadable : Holding → List ℕ → Reason → Type 0

@@ -22,7 +22,8 @@ pub use file_kind::FileKind;
 pub use head_words::HeadWords;
 pub use line_reason::{LineReason, reason_of_line};
 pub use one_file::{
-    tell_of_any_file, tell_of_book_or_batch, tell_of_file, words_of_book, words_of_file,
+    line_of_words, tell_of_any_file, tell_of_book_or_batch, tell_of_file, words_of_book,
+    words_of_file, words_of_written,
 };
 pub use reason::Reason;
 pub use told::Told;
