@@ -5,8 +5,12 @@ ghost use Rattle.file_devices.specs.Holding.{IsAsItWas};
 
 use crate::archive_asking::ArchiveAsked;
 use crate::archive_count::ArchiveCount;
+use crate::archive_fault::ArchiveFault;
 use crate::archive_help::{ARCHIVE_HELP, USAGE};
+use crate::archive_names::ArchiveNames;
 use crate::archiving::archive_files;
+use crate::line_telling::tell_line;
+use app_reasons::{words_of_book, words_of_written};
 use app_words::{put, status_of};
 use file_devices::Files;
 use std::alloc::{AllocError, Global};
@@ -34,6 +38,7 @@ pub fn answer_archive<R: Threads + Wait + Sync, F: Files, O: Write, E: Write>(
                 Ok(count) => status_of(say(alloc, &count, out), err),
                 Err(fault) => {
                     let _ = write!(err, "{fault}\n");
+                    tell_line(line_of_fault(alloc, files, names, &fault), err);
                     fault.status()
                 }
             }
@@ -43,6 +48,25 @@ pub fn answer_archive<R: Threads + Wait + Sync, F: Files, O: Write, E: Write>(
             let _ = err.write_all(USAGE.as_bytes());
             2
         }
+    }
+}
+
+// What is told of the first of its files that has the fault, if something is.
+fn line_of_fault<F: Files>(
+    alloc: Global,
+    files: &F,
+    names: &ArchiveNames<'_>,
+    fault: &ArchiveFault,
+) -> Option<Vec<u8>> {
+    let ArchiveFault::Job(fault) = fault else {
+        return None;
+    };
+    if let Some(line) = words_of_book(alloc, files, names.book, fault) {
+        return Some(line);
+    }
+    match words_of_written(alloc, files, names.new_book, fault) {
+        Some(line) => Some(line),
+        None => words_of_written(alloc, files, names.old, fault),
     }
 }
 

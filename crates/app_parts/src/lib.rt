@@ -15,9 +15,11 @@ mod archiving;
 mod asking;
 mod claiming;
 mod deciding;
+mod fault_lines;
 mod help;
 mod joining;
 mod laws;
+mod line_telling;
 mod parting;
 mod telling;
 

@@ -7,7 +7,9 @@ ghost use Rattle.file_devices.specs.Holding.{IsAsItWas};
 
 use crate::asking::PartsAsked;
 use crate::deciding::decide_part;
+use crate::fault_lines::{line_of_decide, line_of_join, line_of_part};
 use crate::joining::join_parts;
+use crate::line_telling::tell_line;
 use crate::parting::part_files;
 use app_parts_folder::{JoinNames, MostParts, PartCount, PartNames, PartsFault};
 use app_words::{put, status_of};
@@ -60,7 +62,7 @@ fn answer_part<R: Threads + Wait + Sync, F: Files, O: Write, E: Write>(
 {
     match part_files(rt, alloc, files, names, most) {
         Ok(counts) => status_of(say_counts(alloc, &counts, out), err),
-        Err(fault) => refuse(&fault, err),
+        Err(fault) => refuse(&fault, line_of_part(alloc, files, names, most, &fault), err),
     }
 }
 
@@ -79,7 +81,11 @@ fn answer_decide<R: Threads + Wait + Sync, F: Files, O: Write, E: Write>(
 {
     match decide_part(rt, alloc, files, folder, part) {
         Ok(count) => status_of(say(alloc, "decided", count.bodies as usize, out), err),
-        Err(fault) => refuse(&fault, err),
+        Err(fault) => refuse(
+            &fault,
+            line_of_decide(alloc, files, folder, part, &fault),
+            err,
+        ),
     }
 }
 
@@ -97,15 +103,16 @@ fn answer_join<R: Threads + Wait + Sync, F: Files, O: Write, E: Write>(
 {
     match join_parts(rt, alloc, files, names) {
         Ok(count) => status_of(say(alloc, "joined", count, out), err),
-        Err(fault) => refuse(&fault, err),
+        Err(fault) => refuse(&fault, line_of_join(alloc, files, names, &fault), err),
     }
 }
 
-// Tells a fault.
-fn refuse<E: Write>(fault: &PartsFault, err: &mut E) -> u8
+// Tells a fault, and behind it a line on the file that has it, if there is one.
+fn refuse<E: Write>(fault: &PartsFault, line: Option<Vec<u8>>, err: &mut E) -> u8
     ensures { result ≡ status_of fault.now }
 {
     let _ = write!(err, "{fault}\n");
+    tell_line(line, err);
     fault.status()
 }
 

@@ -21,8 +21,20 @@ const OLD: &str =
 
 // Commands that are refused: the names of their files, the status, and what stands on standard error.
 const REFUSED: &[(&str, &str, &str, u8, &str)] = &[
-    ("absent", "new", "old", 1, "file 1\n"),
-    ("none", "new", "old", 1, "book 1\n"),
+    (
+        "absent",
+        "new",
+        "old",
+        1,
+        "file 1\nabsent: no such file or directory\n",
+    ),
+    (
+        "none",
+        "new",
+        "old",
+        1,
+        "book 1\nnone: line 1, column 1: no JSON\n",
+    ),
     ("book", "book", "old", 2, "NEWBOOK and BOOK are one file\n"),
     ("book", "new", "book", 2, "OLD and BOOK are one file\n"),
     ("book", "new", "new", 2, "NEWBOOK and OLD are one file\n"),

@@ -16,7 +16,7 @@ const SAID: &[(&[&str], u8, &str, &str)] = &[
         &["archive", "book", "260310", "new", "old"],
         1,
         "",
-        "file 1\n",
+        "file 1\nbook: no such file or directory\n",
     ),
     (
         &["archive", "book", "2026-03-10", "new", "old"],

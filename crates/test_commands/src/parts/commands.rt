@@ -81,19 +81,55 @@ const THREE: &[&str] = &[
 
 // The file that is changed then, in whose place another is put, and how `join` refuses the folder.
 const CHANGED: &[(&str, &str, &str)] = &[
-    ("parts/plan", "book", "plan 1\n"),
-    ("parts/rest.book", "book", "plan 3\n"),
-    ("parts/1.decided", "parts/0.decided", "part 1: 4\n"),
-    ("parts/1.decided", "other/1.decided", "part 1: 4\n"),
-    ("parts/2.replies", "parts/0.replies", "part 2: 5\n"),
-    ("parts/0.newbook", "parts/0.book", "part 0: 5\n"),
+    (
+        "parts/plan",
+        "book",
+        "plan 1\nparts/plan: it is no plan of parts\n",
+    ),
+    (
+        "parts/rest.book",
+        "book",
+        "plan 3\nparts/rest.book: its digest isn't that of the plan\n",
+    ),
+    (
+        "parts/1.decided",
+        "parts/0.decided",
+        "part 1: 4\nparts/1.decided: it is of another plan, or of another part\n",
+    ),
+    (
+        "parts/1.decided",
+        "other/1.decided",
+        "part 1: 4\nparts/1.decided: it is of another plan, or of another part\n",
+    ),
+    (
+        "parts/2.replies",
+        "parts/0.replies",
+        "part 2: 5\nparts/2.replies: it isn't what was written when the part was decided\n",
+    ),
+    (
+        "parts/0.newbook",
+        "parts/0.book",
+        "part 0: 5\nparts/0.newbook: it isn't what was written when the part was decided\n",
+    ),
 ];
 
 // The same of what `decide` refuses, of part 1.
 const UNDECIDED: &[(&str, &str, &str)] = &[
-    ("parts/plan", "batch", "plan 1\n"),
-    ("parts/1.book", "parts/0.book", "part 1: 2\n"),
-    ("parts/1.batch", "parts/0.batch", "part 1: 3\n"),
+    (
+        "parts/plan",
+        "batch",
+        "plan 1\nparts/plan: it is no plan of parts\n",
+    ),
+    (
+        "parts/1.book",
+        "parts/0.book",
+        "part 1: 2\nparts/1.book: its digest isn't that of the plan\n",
+    ),
+    (
+        "parts/1.batch",
+        "parts/0.batch",
+        "part 1: 3\nparts/1.batch: its digest isn't that of the plan\n",
+    ),
 ];
 
 // Names of which one is of a file of the folder, and how `join` refuses them.
@@ -263,16 +299,37 @@ fn joins_over_no_file_of_the_folder(rt: HostRuntime) {
 
 // What `part`, `decide` and `join` say where files or folders are missing, or are others.
 const MISSING: &[(&str, &str)] = &[
-    ("switch part none batch 2 parts", "file 1\n"),
-    ("switch part batch batch 2 parts", "book 1\n"),
-    ("switch part book book 2 parts", "batch 1\n"),
-    ("switch decide parts 0", "file 1\n"),
-    ("switch join parts joined new", "file 1\n"),
+    (
+        "switch part none batch 2 parts",
+        "file 1\nnone: no such file or directory\n",
+    ),
+    (
+        "switch part book none 2 parts",
+        "file 1\nnone: no such file or directory\n",
+    ),
+    (
+        "switch part text batch 2 parts",
+        "book 1\ntext: line 1, column 1: no JSON\n",
+    ),
+    (
+        "switch part book book 2 parts",
+        "batch 1\nbook: it doesn't begin with I83B, the letters of a batch\n",
+    ),
+    (
+        "switch decide parts 0",
+        "file 1\nparts/plan: no such file or directory\n",
+    ),
+    (
+        "switch join parts joined new",
+        "file 1\nparts/plan: no such file or directory\n",
+    ),
 ];
 
 #[test]
 fn refuses_what_is_missing(rt: HostRuntime) {
     let mut files = files(rt.alloc()).expect(&rt, "room");
+    let text = Vec::from_slice(rt.alloc(), b"no book").expect(&rt, "room");
+    files.put("text", text).expect(&rt, "room");
     for (line, said) in MISSING {
         assert!(rt;
             is_refused(&rt, rt.alloc(), &mut files, line, said),
@@ -291,7 +348,7 @@ fn refuses_parts_that_are_not_there(rt: HostRuntime) {
             rt.alloc(),
             &mut files,
             "switch decide parts 3",
-            "plan 2\n"
+            "plan 2\nparts/plan: it has 3 parts, numbered from 0\n"
         )
     );
     assert!(rt; done(&rt, rt.alloc(), &mut files, THREE[2]));
@@ -301,7 +358,7 @@ fn refuses_parts_that_are_not_there(rt: HostRuntime) {
             rt.alloc(),
             &mut files,
             "switch join parts joined new",
-            "part 1: 1\n"
+            "part 1: 1\nparts/1.replies: no such file or directory: the part isn't decided yet\n"
         )
     );
 }

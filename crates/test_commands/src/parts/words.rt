@@ -17,7 +17,12 @@ const JOIN: &str =
 
 // Words where no file is there: the status, what stands on standard output, and on standard error.
 const SAID: &[(&str, u8, &str, &str)] = &[
-    ("switch part book batch 2 parts", 1, "", "file 1\n"),
+    (
+        "switch part book batch 2 parts",
+        1,
+        "",
+        "file 1\nbook: no such file or directory\n",
+    ),
     ("switch part book batch 0 parts", 2, "", PART),
     ("switch part book batch 65 parts", 2, "", PART),
     ("switch part book batch parts", 2, "", PART),
