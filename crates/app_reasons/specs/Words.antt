@@ -5,6 +5,8 @@ use Rattle.iso_shown.specs.declared.opening.Opening.{Opening}
 use Rattle.iso_shown.specs.declared.opening.Opening.TheVariants.{Mti, LengthHeader, Tpdu, Ebcdic, Bcd}
 use Rattle.book_places.specs.Words.{book_words}
 use Rattle.file_devices.specs.HostReason.{host_text}
+use Rattle.file_laws.specs.declared.log_fault.LogFault.{LogFault}
+use Rattle.file_laws.specs.declared.log_fault.LogFault.TheVariants as log
 use Rattle.file_listing.specs.declared.block_place.BlockPlace.{BlockPlace}
 use Rattle.file_listing.specs.declared.body_place.BodyPlace.{BodyPlace}
 use Rattle.file_listing.specs.declared.head_fault.HeadFault.{HeadFault}
@@ -96,6 +98,16 @@ line_words (line.Character column) = codes "column " ++ decimal column ++ codes 
 line_words (line.Odd count) = decimal count ++ codes " digits, where two are a byte"
 line_words (line.Long count) = decimal count ++ codes " bytes, where at most 512 are allowed"
 
+-- what is wrong with a log, or why it isn't read
+abbrev pub log_words : LogFault → List ℕ
+log_words log.NoLog = codes "it doesn't begin with the head of a log, which has 38 bytes, the first of them I83L"
+log_words log.Version = codes "byte 4: another version, where 1 is read"
+log_words log.OtherBook = codes "byte 6: the digest of another book"
+log_words log.InUse = codes "in use by another program"
+log_words (log.Broken entries) = codes "behind " ++ decimal entries ++ codes " whole entries: no entry and no torn tail"
+log_words log.Failed = codes "input or output failed"
+log_words log.OutOfMemory = codes "out of memory"
+
 -- why a file is not read, decided or written
 abbrev pub reason_words : Reason → List ℕ
 reason_words (reason.Host host) = host_text host
@@ -110,6 +122,8 @@ reason_words (reason.JournalLine number) = codes "line " ++ decimal number ++ co
 reason_words (reason.JournalEntry number) = codes "entry " ++ decimal number ++ codes ": its decision asks for a row that isn't logged"
 reason_words (reason.TextLine number why) = codes "line " ++ decimal number ++ codes ": " ++ line_words why
 reason_words reason.TooManyLines = codes "more than 65536 bodies"
+reason_words (reason.Log words) = log_words words.0
+reason_words reason.TooManyMessages = codes "more than 65536000 messages"
 
 -- the name and the reason
 abbrev pub told_words : List ℕ → Reason → List ℕ

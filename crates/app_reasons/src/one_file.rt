@@ -11,14 +11,15 @@ use crate::file_kind::FileKind;
 use crate::file_reasons::{book_reason, file_reason, shown_kind, unread_reason};
 use crate::one_line::in_one_line;
 use crate::reason::Reason;
+use crate::telling::tell_with;
 use crate::told::Told;
 use app_jobs::JobFault;
 use file_devices::{ClaimFault, Files};
 use std::alloc::Global;
 use std::io::Write;
 
-// Why a file is not read as one of this kind.
-fn reason_of_file<F: Files>(
+/// Why a file is not read as one of this kind.
+pub(crate) fn reason_of_file<F: Files>(
     alloc: Global,
     files: &F,
     name: &str,
@@ -51,8 +52,8 @@ pub fn words_of_file<F: Files>(
     }
 }
 
-// Why a book is not read.
-fn reason_of_book<F: Files>(
+/// Why a book is not read.
+pub(crate) fn reason_of_book<F: Files>(
     alloc: Global,
     files: &F,
     name: &str,
@@ -125,15 +126,6 @@ pub fn line_of_words(alloc: Global, name: &str, words: &str) -> Option<Vec<u8>>
     in_one_line(alloc, text.as_str()).ok()
 }
 
-// Says the fault, and behind it a line, if there is one.
-fn tell<E: Write>(fault: &JobFault, line: Option<Vec<u8>>, err: &mut E) {
-    let _ = write!(err, "{fault}\n");
-    if let Some(line) = line {
-        let _ = err.write_all(&line);
-        let _ = err.write_all(b"\n");
-    }
-}
-
 /// Tells a fault of reading a file as one of this kind, and behind it what is told of the file, a line each. What `err` doesn't take is
 /// dropped.
 pub fn tell_of_file<F: Files, E: Write>(
@@ -145,7 +137,7 @@ pub fn tell_of_file<F: Files, E: Write>(
     err: &mut E,
 ) {
     let line = words_of_file(alloc, files, name, kind, fault);
-    tell(fault, line, err);
+    tell_with(fault, line, err);
 }
 
 /// Tells a fault of reading a book, or a batch behind it, and behind it what is told of the first of the two that has it. What `err` doesn't
@@ -162,7 +154,7 @@ pub fn tell_of_book_or_batch<F: Files, E: Write>(
         Some(line) => Some(line),
         None => words_of_file(alloc, files, batch, FileKind::Batch, fault),
     };
-    tell(fault, line, err);
+    tell_with(fault, line, err);
 }
 
 /// The same of a file that is read as what it begins as; as a batch, where it begins with no letters of another file.

@@ -3,6 +3,7 @@ use crate::body_words::BodyWords;
 use crate::file_kind::FileKind;
 use crate::head_words::HeadWords;
 use crate::line_reason::LineReason;
+use crate::log_words::LogWords;
 use crate::unread_words::UnreadWords;
 use book_places::BookPlace;
 use file_devices::HostReason;
@@ -41,6 +42,10 @@ pub enum Reason {
     TextLine(usize, LineReason),
     /// It has more than 65,536 bodies.
     TooManyLines,
+    /// The log is wrong, or isn't read.
+    Log(LogWords),
+    /// The log has more than 65,536,000 messages.
+    TooManyMessages,
 }
 
 impl Reason {
@@ -144,6 +149,8 @@ impl fmt::Display for Reason {
             ),
             Reason::TextLine(line, reason) => write!(f, "line {line}: {reason}"),
             Reason::TooManyLines => f.write_str("more than 65536 bodies"),
+            Reason::Log(log) => log.fmt(f),
+            Reason::TooManyMessages => f.write_str("more than 65536000 messages"),
         }
     }
 }

@@ -12,6 +12,8 @@ use crate::report_answering::report_of;
 use crate::report_asking::ReportAsked;
 use crate::report_fault::ReportFault;
 use crate::report_help::{REPORT_HELP, USAGE};
+use app_jobs::JobFault;
+use app_reasons::{FileKind, FileUse, UsedFile, tell_with, words_of_used};
 use app_words::{put, status_of};
 use day_totals::{lines_of, page_of};
 use file_devices::Files;
@@ -35,11 +37,11 @@ pub fn answer_report<F: Files, O: Write, E: Write>(
     match asked {
         ReportAsked::Day(batch, replies) => {
             let lines = lines_of_files(alloc, files, batch, replies);
-            say(lines, replies, out, err)
+            say(alloc, files, asked, lines, out, err)
         }
         ReportAsked::Page(batch, replies, page) => {
             let lines = page_of_files(alloc, files, batch, replies, page);
-            say(lines, replies, out, err)
+            say(alloc, files, asked, lines, out, err)
         }
         ReportAsked::Help => {
             let said = put(out, REPORT_HELP.as_bytes());
@@ -53,9 +55,11 @@ pub fn answer_report<F: Files, O: Write, E: Write>(
 }
 
 // Says lines or the fault that is there in place of them, and returns the exit status.
-fn say<O: Write, E: Write>(
+fn say<F: Files, O: Write, E: Write>(
+    alloc: Global,
+    files: &F,
+    asked: &ReportAsked<'_>,
     lines: Result<Vec<u8>, ReportFault>,
-    replies: &str,
     out: &mut O,
     err: &mut E,
 ) -> u8
@@ -69,7 +73,7 @@ fn say<O: Write, E: Write>(
             status_of(said, err)
         }
         Err(fault) => {
-            tell(err, &fault, replies);
+            tell(alloc, files, asked, &fault, err);
             fault.status()
         }
     }
@@ -111,13 +115,60 @@ fn page_of_files<F: Files>(
     Ok(lines)
 }
 
-// Says the fault, and behind one of the number of replies which file has so many.
-fn tell<W: Write>(err: &mut W, fault: &ReportFault, replies: &str) {
-    let _ = write!(err, "{fault}\n");
-    if let ReportFault::Replies(count) = fault {
-        let _ = write!(
-            err,
-            "{replies}: it has {count} replies, and the batch another number of bodies\n"
-        );
+// Tells the fault, and behind it what is known of the file that has it, or which file has so many replies.
+fn tell<F: Files, E: Write>(
+    alloc: Global,
+    files: &F,
+    asked: &ReportAsked<'_>,
+    fault: &ReportFault,
+    err: &mut E,
+) {
+    match fault {
+        ReportFault::Job(fault) => {
+            let line = words_of_fault(alloc, files, asked, fault);
+            tell_with(fault, line, err);
+        }
+        ReportFault::Replies(count) => {
+            let _ = write!(err, "{fault}\n");
+            if let ReportAsked::Day(_, replies) | ReportAsked::Page(_, replies, _) = asked {
+                let _ = write!(
+                    err,
+                    "{replies}: it has {count} replies, and the batch another number of bodies\n"
+                );
+            }
+        }
+        ReportFault::OneFile(_) => tell_with(fault, None, err),
+    }
+}
+
+// What is told of the first of the files that has the fault.
+fn words_of_fault<F: Files>(
+    alloc: Global,
+    files: &F,
+    asked: &ReportAsked<'_>,
+    fault: &JobFault,
+) -> Option<Vec<u8>> {
+    let (batch, replies) = (
+        FileUse::Bodies(FileKind::Batch),
+        FileUse::Bodies(FileKind::Replies),
+    );
+    match asked {
+        ReportAsked::Day(first, second) => words_of_used(
+            alloc,
+            files,
+            &[UsedFile::new(first, batch), UsedFile::new(second, replies)],
+            fault,
+        ),
+        ReportAsked::Page(first, second, page) => words_of_used(
+            alloc,
+            files,
+            &[
+                UsedFile::new(first, batch),
+                UsedFile::new(second, replies),
+                UsedFile::new(page, FileUse::Written),
+            ],
+            fault,
+        ),
+        _ => None,
     }
 }

@@ -9,6 +9,7 @@ use crate::auditing::audit_log_files;
 use crate::command_fault::CommandFault;
 use crate::locked_logs::LockedLogs;
 use crate::log_names::LogNames;
+use crate::telling::tell_of_audit;
 use app_audit::{BlockAudit, block_audit_text};
 use file_devices::Files;
 use std::alloc::Global;
@@ -18,7 +19,8 @@ use std::sync::Wait;
 use std::thread::Threads;
 
 /// Audits what is kept of a log, as [`audit_log_files`] does, and returns the exit status: 0 where nothing differs, 3 where something does,
-/// which is printed on `out`; 1 a fault, which is a line on `err`, or where `out` doesn't take all. What `err` doesn't take is dropped.
+/// which is printed on `out`; 1 a fault, which is a line on `err`, with what is told of the file that has it behind it, or where `out` doesn't
+/// take all. What `err` doesn't take is dropped.
 pub fn audit_log<R: Threads + Wait + Sync, F: Files, L: LockedLogs, O: Write, E: Write>(
     rt: &R,
     alloc: Global,
@@ -40,7 +42,7 @@ pub fn audit_log<R: Threads + Wait + Sync, F: Files, L: LockedLogs, O: Write, E:
             status_of(&found)
         }
         Err(fault) => {
-            let _ = write!(err, "{fault}\n");
+            tell_of_audit(alloc, files, names, &fault, err);
             fault.status()
         }
     }

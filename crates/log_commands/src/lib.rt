@@ -18,6 +18,7 @@ mod log_names;
 mod log_replay_files;
 mod placing;
 mod replaying;
+mod telling;
 mod written_log;
 
 pub use asking::{LogAsked, audit_log_asked, replay_asked};

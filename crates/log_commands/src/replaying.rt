@@ -6,6 +6,7 @@ ghost use Rattle.log_commands.specs.Replays.{Ends};
 use crate::locked_logs::LockedLogs;
 use crate::log_names::LogNames;
 use crate::log_replay_files::replay_files;
+use crate::telling::tell_of_replay;
 use file_devices::Files;
 use std::alloc::Global;
 use std::io::Write;
@@ -13,7 +14,8 @@ use std::sync::Wait;
 use std::thread::Threads;
 
 /// Decides a log again, as [`replay_files`] does, and returns the exit status: 0 done, 1 a fault, 2 names of one file. A fault is a line on
-/// `err`; a torn tail that was left out is told there too, by its size. What `err` doesn't take is dropped.
+/// `err`, with what is told of the file that has it behind it; a torn tail that was left out is told there too, by its size. What `err`
+/// doesn't take is dropped.
 pub fn replay<R: Threads + Wait + Sync, F: Files, L: LockedLogs, E: Write>(
     rt: &R,
     alloc: Global,
@@ -34,7 +36,7 @@ pub fn replay<R: Threads + Wait + Sync, F: Files, L: LockedLogs, E: Write>(
             0
         }
         Err(fault) => {
-            let _ = write!(err, "{fault}\n");
+            tell_of_replay(alloc, files, names, &fault, err);
             fault.status()
         }
     }

@@ -79,6 +79,10 @@ const REPLIES: &[u8] =
 // That of a log without messages.
 const NO_REPLIES: &[u8] = b"I83T\x00\x01\x00\x00\x00\x00";
 
+// What is said of a file that doesn't begin as a log.
+const NO_LOG: &str =
+    "log 1\nlog: it doesn't begin with the head of a log, which has 38 bytes, the first of them I83L\n";
+
 // The log of a host that served these links, one after another, each started again on it.
 fn log_of<R: Threads + Wait + Sync>(
     rt: &R,
@@ -233,17 +237,37 @@ fn faults_are_told_and_nothing_is_written(rt: HostRuntime) -> Result<(), Fail> {
     let book = first_book_with(alloc, &[])?;
     let log = log_of(&rt, alloc, &book, &[LINK]).expect(&rt, "a log");
     let good = names("book", "log", "replies", "after");
+    let used = names("book", "used", "replies", "after");
+    let none = names("book", "none", "replies", "after");
+    let no_book = names("none", "log", "replies", "after");
+    let twice = log_of(&rt, alloc, &book, &[LINK, SECOND]).expect(&rt, "a log");
     let other = changed_at(alloc, &log, 6).expect(&rt, "a byte");
     let broken = changed_at(alloc, &log, 41).expect(&rt, "a byte");
-    assert!(rt; ends(&rt, alloc, &book, b"", &good, (1, b"log 1\n")) == Some(true));
-    assert!(rt; ends(&rt, alloc, &book, &other, &good, (1, b"log 3\n")) == Some(true));
-    assert!(rt; ends(&rt, alloc, &book, &broken, &good, (1, b"log 5\n")) == Some(true));
-    let used = names("book", "used", "replies", "after");
-    assert!(rt; ends(&rt, alloc, &book, &log, &used, (1, b"log 4\n")) == Some(true));
-    let none = names("book", "none", "replies", "after");
-    assert!(rt; ends(&rt, alloc, &book, &log, &none, (1, b"log 6\n")) == Some(true));
-    let no_book = names("none", "log", "replies", "after");
-    assert!(rt; ends(&rt, alloc, &book, &log, &no_book, (1, b"file 1\n")) == Some(true));
+    let later = changed_at(alloc, &twice, log.len() + 3).expect(&rt, "a byte");
+    let cases: [(&[u8], &LogNames<'_>, &str); 7] = [
+        (b"", &good, NO_LOG),
+        (
+            &other,
+            &good,
+            "log 3\nlog: byte 6: the digest of another book\n",
+        ),
+        (
+            &broken,
+            &good,
+            "log 5\nlog: behind 0 whole entries: no entry and no torn tail\n",
+        ),
+        (
+            &later,
+            &good,
+            "log 5\nlog: behind 1 whole entries: no entry and no torn tail\n",
+        ),
+        (&log, &used, "log 4\nused: in use by another program\n"),
+        (&log, &none, "log 6\nnone: no such file or directory\n"),
+        (&log, &no_book, "file 1\nnone: no such file or directory\n"),
+    ];
+    for (log, names, said) in cases {
+        assert!(rt; ends(&rt, alloc, &book, log, names, (1, said.as_bytes())) == Some(true));
+    }
     Ok(())
 }
 
@@ -336,7 +360,8 @@ fn what_is_kept_of_a_log_is_audited(rt: HostRuntime) -> Result<(), Fail> {
     let book = first_book_with(alloc, &[])?;
     let log = log_of(&rt, alloc, &book, &[LINK]).expect(&rt, "a log");
     let mut files = files(alloc, &book).expect(&rt, "files");
-    assert!(rt; is_audited(&rt, alloc, &files, &log, (1, b"", b"file 1\n")) == Some(true));
+    let absent: &[u8] = b"file 1\nreplies: no such file or directory\n";
+    assert!(rt; is_audited(&rt, alloc, &files, &log, (1, b"", absent)) == Some(true));
     let good = names("book", "log", "replies", "after");
     let _ = replayed(&rt, alloc, &mut files, &log, &good).expect(&rt, "an outcome");
     assert!(rt; is_audited(&rt, alloc, &files, &log, (0, b"same\n", b"")) == Some(true));
@@ -362,8 +387,11 @@ fn what_is_kept_of_a_log_is_audited(rt: HostRuntime) -> Result<(), Fail> {
     assert!(rt; is_audited(&rt, alloc, &files, &log, (3, b"count differs\n", b"")) == Some(true));
     let other = copy_of(alloc, b"I83R").expect(&rt, "room");
     let _ = files.put("replies", other).expect(&rt, "room");
-    assert!(rt; is_audited(&rt, alloc, &files, &log, (1, b"", b"batch 1\n")) == Some(true));
-    assert!(rt; is_audited(&rt, alloc, &files, b"I83", (1, b"", b"log 1\n")) == Some(true));
+    let letters: &[u8] =
+        b"batch 1\nreplies: it begins with I83R, the letters of replies of a batch, where I83T is to be\n";
+    assert!(rt; is_audited(&rt, alloc, &files, &log, (1, b"", letters)) == Some(true));
+    let no_log = (1, b"".as_slice(), NO_LOG.as_bytes());
+    assert!(rt; is_audited(&rt, alloc, &files, b"I83", no_log) == Some(true));
     Ok(())
 }
 

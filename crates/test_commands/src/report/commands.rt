@@ -12,7 +12,15 @@ const REPLIES: &[u8] = b"I83R\x00\x01\x00\x00\x00\x01\x00\x06F01000";
 
 const NONE: &[u8] = b"I83R\x00\x01\x00\x00\x00\x00";
 
-const FILES: &[(&str, &[u8])] = &[("batch", BATCH), ("replies", REPLIES), ("none", NONE)];
+// Replies to two bodies, of which the second is cut off.
+const CUT: &[u8] = b"I83R\x00\x01\x00\x00\x00\x02\x00\x06F01000\x00\x06F01";
+
+const FILES: &[(&str, &[u8])] = &[
+    ("batch", BATCH),
+    ("replies", REPLIES),
+    ("none", NONE),
+    ("cut", CUT),
+];
 
 // Commands: the names of their files, the status, what stands on standard output, and on standard error.
 const COMMANDS: &[(&str, &str, u8, &str, &str)] = &[
@@ -24,10 +32,41 @@ const COMMANDS: &[(&str, &str, u8, &str, &str)] = &[
         "",
         "replies 0\nnone: it has 0 replies, and the batch another number of bodies\n",
     ),
-    ("absent", "replies", 1, "", "file 1\n"),
-    ("batch", "absent", 1, "", "file 1\n"),
-    ("replies", "replies", 1, "", "batch 1\n"),
-    ("batch", "batch", 1, "", "batch 1\n"),
+    (
+        "absent",
+        "replies",
+        1,
+        "",
+        "file 1\nabsent: no such file or directory\n",
+    ),
+    (
+        "batch",
+        "a\nb",
+        1,
+        "",
+        "file 1\na\\x0ab: no such file or directory\n",
+    ),
+    (
+        "replies",
+        "replies",
+        1,
+        "",
+        "batch 1\nreplies: it begins with I83R, the letters of replies of a batch, where I83B is to be\n",
+    ),
+    (
+        "batch",
+        "batch",
+        1,
+        "",
+        "batch 1\nbatch: it begins with I83B, the letters of a batch, where I83R is to be\n",
+    ),
+    (
+        "batch",
+        "cut",
+        1,
+        "",
+        "batch 5\ncut: body 1 at byte 18: the file ends within it, 1 of 2 bodies are whole\n",
+    ),
 ];
 
 // What the command comes to: its status, and what it said.
