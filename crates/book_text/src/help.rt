@@ -8,8 +8,11 @@ const TRIES: u32 = 1000;
 
 /// Work that several threads do ahead of one that needs it.
 pub trait Help: Send + Sync {
+    ghost use Rattle.std.specs.Thread.{IsSync};
+
     /// Does pieces of work, one after another, until there are no more, or no more are needed.
-    fn help<R: Threads + Wait + Sync>(&self, rt: &R);
+    fn help<R: Threads + Wait + Sync>(&self, rt: &R)
+        requires { IsSync R.row };
 
     /// Says that no more is needed, so that helpers end.
     fn close(&self);
