@@ -108,6 +108,11 @@ fn page_of_files<F: Files>(
     ensures others { (other : List ℕ) → other ≢ page.now → IsAsItWas (F.holds files.old) (F.holds files.new) other }
 {
     check_page(files, batch, replies, page)?;
+    // No other run writes the page until this ends.
+    let _claim = match files.claim(page) {
+        Ok(claim) => claim,
+        Err(fault) => return Err(ReportFault::Job(JobFault::from(fault))),
+    };
     let totals = report_of(alloc, files, batch, replies)?;
     let lines = lines_of(alloc, &totals)?;
     let html = page_of(alloc, &totals)?;
