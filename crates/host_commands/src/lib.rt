@@ -6,7 +6,6 @@ mod again;
 mod ahead;
 mod asked_links;
 mod asking;
-mod before_log;
 mod choices;
 mod help;
 mod laws;
@@ -24,7 +23,6 @@ mod serving;
 mod serving_links;
 mod settings;
 mod settings_words;
-mod telling;
 
 pub use asked_links::AskedLinks;
 pub use asking::{HostAsked, host_asked};

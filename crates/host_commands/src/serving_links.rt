@@ -3,7 +3,6 @@
 ghost use Rattle.std.specs.Prelude.{◌≡◌, ◌≤◌, ℕ, List, All, IfOk, IsFalse, None};
 ghost use Rattle.host_commands.specs.Together.{AreAnswered, OpensOn};
 
-use crate::before_log::check_book;
 use crate::link_names::LinkNames;
 use crate::links_teller::LinksTeller;
 use crate::logs::Logs;
@@ -11,7 +10,6 @@ use crate::opened::Opened;
 use crate::opening::open_host;
 use crate::serve_fault::ServeFault;
 use crate::settings::Settings;
-use crate::telling::tell_of_opening;
 use file_devices::Files;
 use host_links::{LinkSink, LinkSource, Seat, WatchLinks, serve_links as serve_at};
 use host_serving::{HostFault, Teller};
@@ -55,7 +53,7 @@ where
     let opened = match open_on(rt, alloc, files, logs, book, log) {
         Ok(opened) => opened,
         Err(fault) => {
-            tell_of_opening(alloc, files, book, log, &fault, &mut teller.into_writer());
+            teller.fault(fault);
             return 1;
         }
     };
@@ -92,7 +90,6 @@ fn open_on<R: Threads + Wait + Sync, F: Files, L: Logs>(
     ensures { (text bytes : List ℕ) → F.holds files.now book.now text → L.holds logs.now log.now bytes
         → IfOk result (λ opened. OpensOn L.Log.is_known L.Log.synced L.Log.unsynced text bytes opened.host) }
 {
-    check_book(rt, alloc, files, book, log)?;
     let file = logs.open(log)?;
     Ok(open_host(rt, alloc, files, book, file, &Shipped)?)
 }
