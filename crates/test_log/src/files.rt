@@ -1,7 +1,7 @@
 //! Logs in files of the host.
 
-use crate::log_vectors::{BOOK, LOG};
-use crate::log_writing::{begun, bodies_of};
+use crate::vectors::{BOOK, LOG};
+use crate::writing::{begun, bodies_of};
 use log_file::{Begun, HostLog, LogFault, LogInput, LogReader, LogStep, LogWriter, OpenFault};
 use std::alloc::Global;
 use std::fs::File;
