@@ -11,10 +11,10 @@ use Rattle.app_parts_folder.proofs.Fronts.{same_plan}
 use Rattle.app_parts_folder.specs.PlanTexts.{Plan, plan_of, plan_text}
 use Rattle.app_parts_folder.specs.declared.part_digests.PartDigests.{PartDigests}
 use Rattle.app_parts_folder.proofs.NamesApart.{all_of_decided, all_of_folder, put_fault}
-use Rattle.app_parts_folder.specs.Apart.{IsOneFileFault}
+use Rattle.app_parts_folder.specs.Apart.{IsNameFault, IsOneFileFault}
 use Rattle.app_parts_folder.specs.Deciding.{IsDecidedFaultOf, made_texts}
 use Rattle.app_parts_folder.specs.Faults.{HasPlan, IsDecidingFault, IsOfOtherBatch, IsOfOtherBook, IsPartingFault}
-use Rattle.app_parts_folder.specs.Names.{IsOfDecided, IsOfFolder, part_name}
+use Rattle.app_parts_folder.specs.Names.{IsOfDecided, IsOfFolder, IsOverRead, part_name}
 use Rattle.app_parts_folder.specs.Opening.{IsOpenPlan, IsPlanFault, IsPlannedFileFault}
 use Rattle.app_parts_folder.specs.Parting.{Names, Parting, folder_texts}
 use Rattle.app_parts_folder.specs.Planning.{IsBatchFaultOf}
@@ -77,19 +77,25 @@ parted_put_fault known holds failing names p texts why few are h =
 -- ---- deciding
 
 module _ (known : Type 0) (holds : Holding) (failing : Failing) (folder : List ℕ) (number : ℕ) where
-  pub plan_fault : (why : PartsFault) → IsPlanFault holds failing folder why → IsDecidingFault holds failing folder number why
+  pub plan_fault : (why : PartsFault) → IsPlanFault holds failing folder why → IsDecidingFault known holds failing folder number why
   plan_fault (fault.Job why) h = inl h
   plan_fault fault.NoPlan h = h
   plan_fault _ h = absurd h
+
+  pub read_fault : (why : PartsFault) → IsNameFault known (IsOverRead folder number) why → IsDecidingFault known holds failing folder number why
+  read_fault (fault.OneFile first second) h = h
+  read_fault (fault.Job job.OutOfMemory) h = inl tt
+  read_fault (fault.Job _) h = absurd h
+  read_fault _ h = absurd h
 
   -- the plan that was opened is the one that the file holds
   the_plan : (opened : OpenPlan) → IsOpenPlan known holds folder opened → (plan : Plan) → HasPlan holds folder plan → plan_of opened.plan ≡ plan
   the_plan opened is plan has = same_plan (plan_of opened.plan) plan is.is_plan has.0 (is.plan_held.only (plan_text plan) has.1)
 
   pub no_part : (opened : OpenPlan) (why : PartsFault) → IsOpenPlan known holds folder opened → (why ≡ fault.NoPart) × (length opened.plan.digests.items ≤ number)
-      → IsDecidingFault holds failing folder number why
+      → IsDecidingFault known holds failing folder number why
   no_part opened why is h =
-      subst (λ (w : PartsFault). IsDecidingFault holds failing folder number w) (sym h.0)
+      subst (λ (w : PartsFault). IsDecidingFault known holds failing folder number w) (sym h.0)
       (λ plan has. subst (λ (p : Plan). length p.digests ≤ number) (the_plan opened is plan has) h.1)
 
   abbrev some_digests : PartDigests → Option PartDigests → PartDigests
@@ -103,7 +109,7 @@ module _ (known : Type 0) (holds : Holding) (failing : Failing) (folder : List �
       ap (some_digests digests) (sym found ∙ ap (λ (p : Plan). slice_get p.digests number) (the_plan opened is plan has) ∙ at)
 
   pub book_fault : (opened : OpenPlan) (digests : PartDigests) (why : PartsFault) → IsOpenPlan known holds folder opened → slice_get opened.plan.digests.items number ≡ Some digests
-      → IsPlannedFileFault holds failing (part_name folder number Book) digests.book number part.OtherBook why → IsDecidingFault holds failing folder number why
+      → IsPlannedFileFault holds failing (part_name folder number Book) digests.book number part.OtherBook why → IsDecidingFault known holds failing folder number why
   book_fault opened digests (fault.Job job.OutOfMemory) is found (inl h) = inl tt
   book_fault opened digests (fault.Job _) is found (inl h) = absurd h
   book_fault opened digests (fault.Part k part.Unreadable) is found (inl h) = (h.0, (Book, h.1))
@@ -112,10 +118,10 @@ module _ (known : Type 0) (holds : Holding) (failing : Failing) (folder : List �
   book_fault opened digests why is found (inr h) =
       let other : IsOfOtherBook holds folder number =
       λ plan others book has at held e. h.1 book held (e ∙ ap (λ (d : PartDigests). d.book) (sym (the_digests opened digests is found plan others has at))) in
-      subst (λ (w : PartsFault). IsDecidingFault holds failing folder number w) (sym h.0) (refl, other)
+      subst (λ (w : PartsFault). IsDecidingFault known holds failing folder number w) (sym h.0) (refl, other)
 
   pub batch_fault : (opened : OpenPlan) (digests : PartDigests) (why : PartsFault) → IsOpenPlan known holds folder opened → slice_get opened.plan.digests.items number ≡ Some digests
-      → IsPlannedFileFault holds failing (part_name folder number Batch) digests.batch number part.OtherBatch why → IsDecidingFault holds failing folder number why
+      → IsPlannedFileFault holds failing (part_name folder number Batch) digests.batch number part.OtherBatch why → IsDecidingFault known holds failing folder number why
   batch_fault opened digests (fault.Job job.OutOfMemory) is found (inl h) = inl tt
   batch_fault opened digests (fault.Job _) is found (inl h) = absurd h
   batch_fault opened digests (fault.Part k part.Unreadable) is found (inl h) = (h.0, (Batch, h.1))
@@ -124,10 +130,10 @@ module _ (known : Type 0) (holds : Holding) (failing : Failing) (folder : List �
   batch_fault opened digests why is found (inr h) =
       let other : IsOfOtherBatch holds folder number =
       λ plan others batch has at held e. h.1 batch held (e ∙ ap (λ (d : PartDigests). d.batch) (sym (the_digests opened digests is found plan others has at))) in
-      subst (λ (w : PartsFault). IsDecidingFault holds failing folder number w) (sym h.0) (refl, other)
+      subst (λ (w : PartsFault). IsDecidingFault known holds failing folder number w) (sym h.0) (refl, other)
 
   pub bytes_fault : (book batch : List ℕ) (why : JobFault) → IsHeld known holds (part_name folder number Book) book → IsHeld known holds (part_name folder number Batch) batch
-      → IsDecidedFaultOf book batch why → IsDecidingFault holds failing folder number (fault.Job why)
+      → IsDecidedFaultOf book batch why → IsDecidingFault known holds failing folder number (fault.Job why)
   bytes_fault book batch (job.Book why) book_held batch_held h = inr (inl (held_book known holds failing (part_name folder number Book) book why book_held h))
   bytes_fault book batch (job.Batch why) book_held batch_held h =
       inr (inr (inl (held_batch known holds failing (part_name folder number Batch) batch (job.Batch why) batch_held h)))
@@ -135,7 +141,7 @@ module _ (known : Type 0) (holds : Holding) (failing : Failing) (folder : List �
   bytes_fault book batch _ book_held batch_held h = absurd h
 
   pub decided_put_fault : (plan replies new_book : List ℕ) (texts : List Text) (why : JobFault) → texts ≡ made_texts folder number plan replies new_book → IsPutFault failing texts why
-      → IsDecidingFault holds failing folder number (fault.Job why)
+      → IsDecidingFault known holds failing folder number (fault.Job why)
   decided_put_fault plan replies new_book texts why are h =
       let all : AllByRecursion (λ text. IsOfDecided folder number text.name) texts =
       subst (λ (ts : List Text). AllByRecursion (λ text. IsOfDecided folder number text.name) ts) (sym are) (all_of_decided folder number plan replies new_book) in

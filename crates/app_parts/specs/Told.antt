@@ -44,7 +44,7 @@ IsAnswered known old new failing (Part names most) before after status =
     ⊎ IsRefused old new (IsPartingFault known old failing (parting.names_of names)) status
 IsAnswered known old new failing (Decide folder part) before after status =
     ((count : ℕ) × IsPartDecided known old new folder.now part count × IsSaid before after (done_line (codes "decided") count) status)
-    ⊎ IsRefused old new (IsDecidingFault old failing folder.now part) status
+    ⊎ IsRefused old new (IsDecidingFault known old failing folder.now part) status
 IsAnswered known old new failing (Join names) before after status =
     ((count : ℕ) × IsJoined known old new (joining.names_of names) count × (known → ¬ IsOverFolder old (joining.names_of names))
     × IsSaid before after (done_line (codes "joined") count) status)

@@ -1,6 +1,7 @@
 //! What decided parts come to, as their files hold it.
 
 ghost use Rattle.std.specs.Prelude.{◌≡◌, ◌≢◌, ◌⊎◌, ℕ, List, IfErr, IfOk, OnOk, Ok, length};
+ghost use Rattle.std.specs.Thread.{IsSync};
 ghost use Rattle.sha2.specs.Sha256.{sha256};
 ghost use Rattle.book_laws.specs.Reading.{IsAnswer, reading};
 ghost use Rattle.file_laws.specs.Replies.{IsReplyFileOf};
@@ -20,6 +21,7 @@ use file_devices::Files;
 use issuer_rows::{Book, ReplyBody};
 use std::alloc::Global;
 use std::sync::Wait;
+use std::thread;
 use std::thread::Threads;
 
 /// What parts come to, in their order.
@@ -76,12 +78,46 @@ fn open_answer<R: Threads + Wait + Sync, F: Files>(
     let replies = open_part_file(alloc, files, folder, part, PartFile::Replies)?;
     let book = open_part_file(alloc, files, folder, part, PartFile::NewBook)?;
     let decided = open_part_file(alloc, files, folder, part, PartFile::Decided)?;
-    check_decided(alloc, part, plan, &decided, &replies, &book)?;
-    Ok(read_answer(rt, alloc, &replies, &book)?)
+    let (checked, answer) = check_and_read(rt, alloc, part, plan, &decided, &replies, &book);
+    checked?;
+    Ok(answer?)
+}
+
+// Checks that these bytes say that the part is decided under this plan, with these replies and this book, and reads the two meanwhile.
+fn check_and_read<R: Threads + Wait + Sync>(
+    rt: &R,
+    alloc: Global,
+    part: u32,
+    plan: &[u8; 32],
+    bytes: &[u8],
+    replies: &[u8],
+    book: &[u8],
+) -> (Result<(), PartsFault>, Result<PartAnswer, JobFault>)
+    ensures decided { OnOk result.0 (bytes.now ≡ decided_text part plan.now (sha256 replies.now) (sha256 book.now)) }
+    ensures undecided { IfErr result.0 (IsDecidedFault part plan.now bytes.now replies.now book.now) }
+    ensures replies { IfOk result.1 (λ own. IsReplyFileOf replies.now own.replies.items) }
+    ensures book { IfOk result.1 (λ own. IsAnswer (reading book.now) (Ok own.book)) }
+    ensures unread { IfErr result.1 (IsAnswerBytesFault replies.now book.now) }
+{
+    thread::join(
+        rt,
+        || -> Result<(), PartsFault>
+            requires { IsSync R.row }
+            ensures decided { OnOk result (bytes.entry.now ≡ decided_text part plan.entry.now (sha256 replies.entry.now) (sha256 book.entry.now)) }
+            ensures undecided { IfErr result (IsDecidedFault part plan.entry.now bytes.entry.now replies.entry.now book.entry.now) }
+        { check_decided(rt, alloc, part, plan, bytes, replies, book) },
+        || -> Result<PartAnswer, JobFault>
+            requires { IsSync R.row }
+            ensures replies { IfOk result (λ own. IsReplyFileOf replies.entry.now own.replies.items) }
+            ensures book { IfOk result (λ own. IsAnswer (reading book.entry.now) (Ok own.book)) }
+            ensures unread { IfErr result (IsAnswerBytesFault replies.entry.now book.entry.now) }
+        { read_answer(rt, alloc, replies, book) },
+    )
 }
 
 // Checks that these bytes say that the part is decided under this plan, with these replies and this book.
-fn check_decided(
+fn check_decided<R: Threads + Sync>(
+    rt: &R,
     alloc: Global,
     part: u32,
     plan: &[u8; 32],
@@ -95,8 +131,15 @@ fn check_decided(
     if behind_decided_head(alloc, part, plan, bytes)?.is_none() {
         return Err(PartsFault::Part(part, PartFault::OtherPlan));
     }
-    let of_replies = digest_of(replies);
-    let of_book = digest_of(book);
+    let (of_replies, of_book) = thread::join(
+        rt,
+        || -> [u8; 32]
+            ensures { result ≡ sha256 replies.entry.now }
+        { digest_of(replies) },
+        || -> [u8; 32]
+            ensures { result ≡ sha256 book.entry.now }
+        { digest_of(book) },
+    );
     let own = decided_text(alloc, part, plan, &of_replies, &of_book)?;
     if own.as_slice() != bytes {
         return Err(PartsFault::Part(part, PartFault::OtherFiles));

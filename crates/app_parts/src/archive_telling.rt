@@ -9,8 +9,7 @@ use crate::archive_fault::ArchiveFault;
 use crate::archive_help::{ARCHIVE_HELP, USAGE};
 use crate::archive_names::ArchiveNames;
 use crate::archiving::archive_files;
-use crate::line_telling::tell_line;
-use app_reasons::{words_of_book, words_of_written};
+use app_reasons::{FileUse, UsedFile, tell_with, words_of_used};
 use app_words::{put, status_of};
 use file_devices::Files;
 use std::alloc::{AllocError, Global};
@@ -37,8 +36,7 @@ pub fn answer_archive<R: Threads + Wait + Sync, F: Files, O: Write, E: Write>(
             match archive_files(rt, alloc, files, names, date) {
                 Ok(count) => status_of(say(alloc, &count, out), err),
                 Err(fault) => {
-                    let _ = write!(err, "{fault}\n");
-                    tell_line(line_of_fault(alloc, files, names, &fault), err);
+                    tell_with(&fault, line_of_fault(alloc, files, names, &fault), err);
                     fault.status()
                 }
             }
@@ -61,13 +59,12 @@ fn line_of_fault<F: Files>(
     let ArchiveFault::Job(fault) = fault else {
         return None;
     };
-    if let Some(line) = words_of_book(alloc, files, names.book, fault) {
-        return Some(line);
-    }
-    match words_of_written(alloc, files, names.new_book, fault) {
-        Some(line) => Some(line),
-        None => words_of_written(alloc, files, names.old, fault),
-    }
+    let used = [
+        UsedFile::new(names.book, FileUse::Book),
+        UsedFile::new(names.new_book, FileUse::Written),
+        UsedFile::new(names.old, FileUse::Written),
+    ];
+    words_of_used(alloc, files, &used, fault)
 }
 
 // Says how many rows went and how many stayed.

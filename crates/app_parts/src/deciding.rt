@@ -11,8 +11,8 @@ ghost use Rattle.app_parts_folder.specs.declared.parts_fault.PartsFault.TheVaria
 
 use app_jobs::JobFault;
 use app_parts_folder::{
-    NamedText, OpenPlan, PartDigests, PartFault, PartFile, PartsFault, decided_text, digest_of,
-    open_plan, open_planned, part_name, put_texts,
+    NamedText, OpenPlan, PartDigests, PartFault, PartFile, PartsFault, check_written_apart,
+    decided_text, digest_of, open_plan, open_planned, part_name, put_texts,
 };
 use book_json::read_book;
 use book_text::write_book;
@@ -33,13 +33,14 @@ pub fn decide_part<R: Threads + Wait + Sync, F: Files>(
     part: u32,
 ) -> Result<BodyCount, PartsFault>
     ensures decided { IfOk result (λ count. IsPartDecided (F.is_known files.old) (F.holds files.old) (F.holds files.new) folder.now part count.bodies) }
-    ensures fault { IfErr result (IsDecidingFault (F.holds files.old) (F.failing files.old) folder.now part) }
+    ensures fault { IfErr result (IsDecidingFault (F.is_known files.old) (F.holds files.old) (F.failing files.old) folder.now part) }
     ensures kept { OnErr result (AreAsTheyWere (F.holds files.old) (F.holds files.new)) }
     ensures others { (other : List ℕ) → ¬ IsOfDecided folder.now part other → IsAsItWas (F.holds files.old) (F.holds files.new) other }
     ensures known { F.is_known files.old → F.is_known files.new }
 {
     let opened = open_plan(alloc, files, folder)?;
     let digests = digests_of_part(&opened, part)?;
+    check_written_apart(alloc, files, folder, part)?;
     let book = open_planned(
         alloc,
         files,

@@ -5,7 +5,9 @@ use app_parts_folder::{
     JoinNames, MostParts, PartFault, PartFile, PartNames, PartsFault, behind_decided_head,
     digest_of, open_plan, part_name, plan_name, rest_name,
 };
-use app_reasons::{FileKind, line_of_words, words_of_book, words_of_file, words_of_written};
+use app_reasons::{
+    FileKind, FileUse, UsedFile, line_of_words, words_of_book, words_of_file, words_of_used,
+};
 use file_devices::{Files, HostReason, read_again};
 use std::alloc::Global;
 
@@ -23,10 +25,11 @@ pub(crate) fn line_of_part<F: Files>(
     let PartsFault::Job(fault) = fault else {
         return None;
     };
-    if let Some(line) = words_of_book(alloc, files, names.book, fault) {
-        return Some(line);
-    }
-    if let Some(line) = words_of_file(alloc, files, names.batch, FileKind::Batch, fault) {
+    let read = [
+        UsedFile::new(names.book, FileUse::Book),
+        UsedFile::new(names.batch, FileUse::Bodies(FileKind::Batch)),
+    ];
+    if let Some(line) = words_of_used(alloc, files, &read, fault) {
         return Some(line);
     }
     for part in 0..most.count() {
@@ -36,11 +39,12 @@ pub(crate) fn line_of_part<F: Files>(
         }
     }
     let rest = rest_name(alloc, names.folder).ok()?;
-    if let Some(line) = words_of_written(alloc, files, rest.as_str(), fault) {
-        return Some(line);
-    }
     let plan = plan_name(alloc, names.folder).ok()?;
-    words_of_written(alloc, files, plan.as_str(), fault)
+    let written = [
+        UsedFile::new(rest.as_str(), FileUse::Written),
+        UsedFile::new(plan.as_str(), FileUse::Written),
+    ];
+    words_of_used(alloc, files, &written, fault)
 }
 
 /// The line behind a fault of `decide`, where there is one.
@@ -125,10 +129,13 @@ fn line_of_join_job<F: Files>(
             line_of_answer(alloc, files, names.folder, PartFile::NewBook, fault)
         }
         JobFault::Batch(_) => line_of_answer(alloc, files, names.folder, PartFile::Replies, fault),
-        _ => match words_of_written(alloc, files, names.replies, fault) {
-            Some(line) => Some(line),
-            None => words_of_written(alloc, files, names.new_book, fault),
-        },
+        _ => {
+            let written = [
+                UsedFile::new(names.replies, FileUse::Written),
+                UsedFile::new(names.new_book, FileUse::Written),
+            ];
+            words_of_used(alloc, files, &written, fault)
+        }
     }
 }
 
@@ -168,7 +175,8 @@ fn line_of_written<F: Files>(
 ) -> Option<Vec<u8>> {
     for file in written {
         let name = part_name(alloc, folder, part, *file).ok()?;
-        if let Some(line) = words_of_written(alloc, files, name.as_str(), fault) {
+        let file = UsedFile::new(name.as_str(), FileUse::Written);
+        if let Some(line) = words_of_used(alloc, files, &[file], fault) {
             return Some(line);
         }
     }

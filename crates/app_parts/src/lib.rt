@@ -19,7 +19,6 @@ mod fault_lines;
 mod help;
 mod joining;
 mod laws;
-mod line_telling;
 mod parting;
 mod telling;
 

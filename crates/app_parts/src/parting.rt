@@ -43,7 +43,7 @@ pub fn part_files<R: Threads + Wait + Sync, F: Files>(
     let book = open_held(rt, alloc, files, names.book)?;
     let batch = read_text(alloc, files, names.batch)?;
     let planned = plan_batch(alloc, book, &batch, most)?;
-    let (texts, counts) = make_folder(alloc, names.folder, &planned)?;
+    let (texts, counts) = make_folder(rt, alloc, names.folder, &planned)?;
     put_texts(alloc, files, &texts)?;
     Ok(counts)
 }

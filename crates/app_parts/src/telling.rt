@@ -9,9 +9,9 @@ use crate::asking::PartsAsked;
 use crate::deciding::decide_part;
 use crate::fault_lines::{line_of_decide, line_of_join, line_of_part};
 use crate::joining::join_parts;
-use crate::line_telling::tell_line;
 use crate::parting::part_files;
 use app_parts_folder::{JoinNames, MostParts, PartCount, PartNames, PartsFault};
+use app_reasons::tell_with;
 use app_words::{put, status_of};
 use file_devices::Files;
 use std::alloc::{AllocError, Global};
@@ -111,8 +111,7 @@ fn answer_join<R: Threads + Wait + Sync, F: Files, O: Write, E: Write>(
 fn refuse<E: Write>(fault: &PartsFault, line: Option<Vec<u8>>, err: &mut E) -> u8
     ensures { result ≡ status_of fault.now }
 {
-    let _ = write!(err, "{fault}\n");
-    tell_line(line, err);
+    tell_with(fault, line, err);
     fault.status()
 }
 

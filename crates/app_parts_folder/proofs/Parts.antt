@@ -1,12 +1,14 @@
 -- Parts that are made one after another.
-use Rattle.std.proofs.Common.{◌≡◌, ◌⊎◌, inl, inr, ℕ, zero, suc, ◌+◌, ◌<◌, List, [], ◌∷◌, ◌++◌, length, Ok, refl, ap, subst, ◌∙◌, arith}
+use Rattle.std.proofs.Common.{◌≡◌, ◌⊎◌, inl, inr, ℕ, zero, suc, ◌+◌, ◌<◌, List, [], ◌∷◌, ◌++◌, length, slice_index_or, Option, Some, None, IfSome, Ok, refl, ap, subst, ◌∙◌, arith}
 use Rattle.std.proofs.lemmas.List.{append-nil}
 use Rattle.std.proofs.lemmas.List.Concat.{flat_map-append}
 use Rattle.std.specs.List.{flat_map}
 use Rattle.book_laws.specs.Reading.{reading}
 use Rattle.parts_books.specs.PartBooks.{each_from, each_part, part_rows}
 use Rattle.app_parts_folder.specs.Parting.{Parting, book_of_part, part_texts, parted, parts_texts}
+use Rattle.app_parts_folder.specs.Making.{AreMadeFrom, IsMade}
 use Rattle.app_parts_folder.specs.Texts.{Text}
+use Rattle.app_parts_folder.specs.declared.making.OnePart.{OnePart}
 use Rattle.parts_books.proofs.Going.{each_last}
 
 -- one more part
@@ -44,3 +46,15 @@ back_more p count before last part lt =
       | inl h ↦ before part h
       | inr h ↦ subst (λ (k : ℕ). reading (book_of_part p k) ≡ Ok (part_rows p.rows (parted p) k)) h last
     ]
+
+-- of the parts that are made, the next one
+pub first_made : (p : Parting) (first : ℕ) (ones left : List (Option OnePart)) (one : OnePart) → ones ≡ Some one ∷ left → AreMadeFrom p first ones → IsMade p first one
+first_made p first ones left one is made =
+    let same : first + 0 ≡ first = omega arith in
+    subst (λ (part : ℕ). IsMade p part one) same (subst (AreMadeFrom p first) is made 0 None (omega arith))
+
+-- and those behind it
+pub rest_made : (p : Parting) (first : ℕ) (ones left : List (Option OnePart)) (one : OnePart) → ones ≡ Some one ∷ left → AreMadeFrom p first ones → AreMadeFrom p (first + 1) left
+rest_made p first ones left one is made = λ place other within.
+    let same : first + suc place ≡ first + 1 + place = omega arith in
+    subst (λ (part : ℕ). IfSome (slice_index_or left place other) (IsMade p part)) same (subst (AreMadeFrom p first) is made (suc place) other (omega (arith, within)))

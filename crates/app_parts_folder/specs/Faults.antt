@@ -11,7 +11,7 @@ use Rattle.app_parts_folder.specs.PlanTexts.{IsPlan, Plan, decided_head, decided
 use Rattle.app_parts_folder.specs.declared.part_digests.PartDigests.{PartDigests}
 use Rattle.app_parts_folder.specs.Joining as joining
 use Rattle.app_parts_folder.specs.Joining.{Answer, IsFolder}
-use Rattle.app_parts_folder.specs.Names.{IsOfDecided, IsOfFolder, IsOfParts, part_name, plan_name, rest_name}
+use Rattle.app_parts_folder.specs.Names.{IsOfDecided, IsOfFolder, IsOfParts, IsOverRead, part_name, plan_name, rest_name}
 use Rattle.app_parts_folder.specs.Parting as parting
 use Rattle.app_parts_folder.specs.Texts.{IsReadingFault}
 use Rattle.app_parts_folder.specs.declared.part_fault.PartFault.{PartFault}
@@ -70,17 +70,18 @@ IsPlannedFault holds failing folder part OtherBook = IsOfOtherBook holds folder 
 IsPlannedFault holds failing folder part OtherBatch = IsOfOtherBatch holds folder part
 IsPlannedFault holds failing folder part _ = ⊥
 
--- Why a part isn't decided: the plan isn't read, or has no such part; the part's book or batch isn't that of the plan; the first fault of
--- these; or what it comes to isn't written.
-abbrev pub IsDecidingFault : Holding → Failing → List ℕ → ℕ → PartsFault → Type 0
-IsDecidingFault holds failing folder part (fault.Job job) =
+-- Why a part isn't decided: what is written would be over what is read; the plan isn't read, or has no such part; the part's book or batch
+-- isn't that of the plan; the first fault of these; or what it comes to isn't written.
+abbrev pub IsDecidingFault : Type 0 → Holding → Failing → List ℕ → ℕ → PartsFault → Type 0
+IsDecidingFault known holds failing folder part (fault.OneFile first second) = known → IsOverRead folder part
+IsDecidingFault known holds failing folder part (fault.Job job) =
     IsReadingFault holds failing (plan_name folder) job
     ⊎ (IsBookFault holds failing (part_name folder part Book) job
     ⊎ (IsBatchFault holds failing (part_name folder part Batch) job ⊎ IsPutFaultOf failing (IsOfDecided folder part) job))
-IsDecidingFault holds failing folder part fault.NoPlan = HasNoPlan holds folder
-IsDecidingFault holds failing folder part fault.NoPart = (plan : Plan) → HasPlan holds folder plan → length plan.digests ≤ part
-IsDecidingFault holds failing folder part (fault.Part number why) = (number ≡ part) × IsPlannedFault holds failing folder part why
-IsDecidingFault holds failing folder part _ = ⊥
+IsDecidingFault known holds failing folder part fault.NoPlan = HasNoPlan holds folder
+IsDecidingFault known holds failing folder part fault.NoPart = (plan : Plan) → HasPlan holds folder plan → length plan.digests ≤ part
+IsDecidingFault known holds failing folder part (fault.Part number why) = (number ≡ part) × IsPlannedFault holds failing folder part why
+IsDecidingFault known holds failing folder part _ = ⊥
 
 -- the file of the rest isn't that of the plan
 abbrev pub HasOtherRest : Holding → List ℕ → Type 0

@@ -1,5 +1,5 @@
 -- The texts of parts, as far as they are made.
-use Rattle.std.specs.Prelude.{◌≡◌, ◌<◌, ℕ, List, Ok}
+use Rattle.std.specs.Prelude.{◌≡◌, ◌<◌, ℕ, ◌+◌, List, length, slice_index_or, Ok, Option, IfSome}
 use Rattle.book_laws.specs.Reading.{reading}
 use Rattle.parts_books.specs.PartBooks.{each_part, part_rows}
 use Rattle.app_parts_folder.specs.Parting.{Parting, book_of_part, batch_of_part, count_of_part, digests_of_part, parted, parts_texts}
@@ -18,5 +18,10 @@ pub record AreMade (folder : List ℕ) (p : Parting) (count : ℕ) (made : MadeP
 pub record IsMade (p : Parting) (part : ℕ) (one : OnePart) : Type 0 where
   pub book : one.book.items ≡ book_of_part p part
   pub batch : one.batch.items ≡ batch_of_part p part
+  pub digests : one.digests ≡ digests_of_part p part
   pub count : one.count ≡ count_of_part p part
   pub back : reading (book_of_part p part) ≡ Ok (part_rows p.rows (parted p) part)
+
+-- what is told of parts from this one on, as far as each is made
+abbrev pub AreMadeFrom : Parting → ℕ → List (Option OnePart) → Type 0
+AreMadeFrom p first ones = (place : ℕ) (other : Option OnePart) → place < length ones → IfSome (slice_index_or ones place other) (IsMade p (first + place))

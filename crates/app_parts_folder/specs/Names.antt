@@ -32,6 +32,14 @@ abbrev pub IsOfDecided : List ℕ → ℕ → List ℕ → Type 0
 IsOfDecided folder part name =
     (name ≡ part_name folder part Replies) ⊎ ((name ≡ part_name folder part NewBook) ⊎ (name ≡ part_name folder part Decided))
 
+-- it is the name of a file that `decide` reads for this part
+abbrev pub IsOfRead : List ℕ → ℕ → List ℕ → Type 0
+IsOfRead folder part name = (name ≡ plan_name folder) ⊎ ((name ≡ part_name folder part Book) ⊎ (name ≡ part_name folder part Batch))
+
+-- a file that `decide` writes for this part is one that it reads
+abbrev pub IsOverRead : List ℕ → ℕ → Type 0
+IsOverRead folder part = (name : List ℕ) × IsOfDecided folder part name × IsOfRead folder part name
+
 -- it is the name of a file of this part
 abbrev pub IsOfPart : List ℕ → ℕ → List ℕ → Type 0
 IsOfPart folder part name = (file : PartFile) × (name ≡ part_name folder part file)

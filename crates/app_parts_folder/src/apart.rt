@@ -2,7 +2,7 @@ ghost use Rattle.std.specs.Prelude.{◌≡◌, ◌≢◌, ◌⊎◌, IfErr, OnOk
 ghost use Rattle.app_parts_folder.specs.Apart.{IsNameFault, IsOneFileFault, IsOutside, IsOutsidePart, IsPairFault};
 ghost use Rattle.app_parts_folder.specs.Faults.{IsOverParts};
 ghost use Rattle.app_parts_folder.specs.Joining.{names_of};
-ghost use Rattle.app_parts_folder.specs.Names.{IsOfPart, IsOfParts, part_name, plan_name, rest_name};
+ghost use Rattle.app_parts_folder.specs.Names.{IsOfPart, IsOfParts, IsOfRead, IsOverRead, part_name, plan_name, rest_name};
 
 use crate::join_names::JoinNames;
 use crate::names::{part_name, plan_name, rest_name};
@@ -119,6 +119,59 @@ fn check_file<F: Files>(
 {
     let other = part_name(alloc, folder, part, file)?;
     check_pair(files, name, other.as_str(), role, file.role())
+}
+
+/// Checks that what a part comes to isn't put over a file from which it comes. By their names they are two, but one may be a link.
+pub fn check_written_apart<F: Files>(
+    alloc: Global,
+    files: &F,
+    folder: &str,
+    part: u32,
+) -> Result<(), PartsFault>
+    ensures { IfErr result (IsNameFault (F.is_known files.now) (IsOverRead folder.now part)) }
+{
+    check_not_read(alloc, files, folder, part, PartFile::Replies)?;
+    check_not_read(alloc, files, folder, part, PartFile::NewBook)?;
+    check_not_read(alloc, files, folder, part, PartFile::Decided)
+}
+
+// Checks that this file of a part is none that is read to decide it.
+fn check_not_read<F: Files>(
+    alloc: Global,
+    files: &F,
+    folder: &str,
+    part: u32,
+    file: PartFile,
+) -> Result<(), PartsFault>
+    ensures { IfErr result (IsNameFault (F.is_known files.now) (IsOfRead folder.now part (part_name folder.now part file))) }
+{
+    let name = part_name(alloc, folder, part, file)?;
+    let plan = plan_name(alloc, folder)?;
+    check_pair(
+        files,
+        name.as_str(),
+        plan.as_str(),
+        file.role(),
+        "FOLDER/plan",
+    )?;
+    check_file(
+        alloc,
+        files,
+        folder,
+        part,
+        PartFile::Book,
+        name.as_str(),
+        file.role(),
+    )?;
+    check_file(
+        alloc,
+        files,
+        folder,
+        part,
+        PartFile::Batch,
+        name.as_str(),
+        file.role(),
+    )
 }
 
 /// Checks that replies and new book are two files.

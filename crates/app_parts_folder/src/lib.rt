@@ -28,7 +28,7 @@ mod planning;
 mod putting;
 mod reading;
 
-pub use apart::{check_joined, check_outside, check_outside_parts};
+pub use apart::{check_joined, check_outside, check_outside_parts, check_written_apart};
 pub use batch_in_parts::BatchInParts;
 pub use bodies::replies_text;
 pub use decided::{behind_decided_head, decided_text};

@@ -1,14 +1,14 @@
 //! The files of parts, as texts.
 
-ghost use Rattle.std.specs.Prelude.{◌≡◌, ◌+◌, ◌<◌, ◌≤◌, ◌^◌, ◌∷◌, [], ◌++◌, All, IfOk, Ok, OnOk, length, string_bytes};
+ghost use Rattle.std.specs.Prelude.{◌≡◌, ◌+◌, ◌<◌, ◌≤◌, ◌^◌, ◌∷◌, [], ◌++◌, All, IfOk, IfSome, Ok, OnOk, length, string_bytes};
 ghost use Rattle.sha2.specs.Sha256.{sha256};
 ghost use Rattle.book_laws.specs.Reading.{reading};
-ghost use Rattle.book_laws.specs.Text.{book_text};
+ghost use Rattle.std.specs.Thread.{IsSync};
 ghost use Rattle.parts_books.specs.PartBooks.{each_part, rest_rows};
-ghost use Rattle.app_parts_folder.specs.Making.{AreMade, IsMade};
+ghost use Rattle.app_parts_folder.specs.Making.{AreMade, AreMadeFrom, IsMade};
 ghost use Rattle.app_parts_folder.specs.PlanTexts.{plan_text};
 ghost use Rattle.app_parts_folder.specs.Names.{part_name, plan_name, rest_name};
-ghost use Rattle.app_parts_folder.specs.Parting.{AreReadBack, count_of_part, folder_texts};
+ghost use Rattle.app_parts_folder.specs.Parting.{AreReadBack, count_of_part, folder_texts, rest_of};
 ghost use Rattle.app_parts_folder.specs.Texts.{texts_of};
 ghost use Rattle.app_parts_folder.specs.declared.part_file.PartFile.TheVariants as PartFile;
 
@@ -23,9 +23,10 @@ use crate::plan_file::PlanFile;
 use crate::plan_writing::plan_text;
 use crate::reading::digest_of;
 use book_text::write_book;
-use issuer_rows::{Book, Frame};
 use parts_books::{part_book, rest_book};
 use std::alloc::{AllocError, Global};
+use std::thread;
+use std::thread::Threads;
 
 // What is made of some parts.
 #[derive(Drop)]
@@ -40,11 +41,14 @@ struct MadeParts {
 struct OnePart {
     book: Vec<u8>,
     batch: Vec<u8>,
+    digests: PartDigests,
     count: PartCount,
 }
 
-/// All files of the folder of a batch in parts, and how much each part has. It fails only where memory runs out.
-pub fn make_folder(
+/// All files of the folder of a batch in parts, and how much each part has. Each part is made on a thread of its own where one can be
+/// started. It fails only where memory runs out.
+pub fn make_folder<R: Threads + Sync>(
+    rt: &R,
     alloc: Global,
     folder: &str,
     batch: &BatchInParts,
@@ -53,13 +57,12 @@ pub fn make_folder(
     ensures counts { IfOk result (λ made. made.1.items ≡ each_part (count_of_part batch.now) batch.now.count) }
     ensures back { OnOk result (AreReadBack batch.now) }
 {
-    let made = make_parts(alloc, folder, batch)?;
+    let (made, rest) = make_all(rt, alloc, folder, batch)?;
     let MadeParts {
         texts,
         digests,
         counts,
     } = made;
-    let rest = rest_text(alloc, &batch.book, &batch.frames)?;
     let plan = plan_bytes(alloc, &rest, digests, batch.plan.parts())?;
     let texts = with_rest(alloc, folder, texts, rest, plan)?;
     Ok((texts, counts))
@@ -93,12 +96,37 @@ fn with_rest(
     Ok(all)
 }
 
-// The text of the rest's book.
-fn rest_text(alloc: Global, book: &Book, frames: &[Frame]) -> Result<Vec<u8>, AllocError>
-    ensures text { IfOk result (λ text. text.items ≡ book_text (rest_rows book.now frames.now)) }
-    ensures back { OnOk result (reading (book_text (rest_rows book.now frames.now)) ≡ Ok (rest_rows book.now frames.now)) }
+// All parts, and meanwhile the text of the rest's book.
+fn make_all<R: Threads + Sync>(
+    rt: &R,
+    alloc: Global,
+    folder: &str,
+    batch: &BatchInParts,
+) -> Result<(MadeParts, Vec<u8>), AllocError>
+    ensures made { IfOk result (λ all. AreMade folder.now batch.now batch.now.count all.0) }
+    ensures rest { IfOk result (λ all. all.1.items ≡ rest_of batch.now) }
+    ensures back { OnOk result (reading (rest_of batch.now) ≡ Ok (rest_rows batch.now.rows batch.now.frames)) }
 {
-    let rest = rest_book(alloc, book, frames)?;
+    let (made, rest) = thread::join(
+        rt,
+        || -> Result<MadeParts, AllocError>
+            requires { IsSync R.row }
+            ensures { IfOk result (AreMade folder.entry.now batch.entry.now batch.entry.now.count) }
+        { make_parts(rt, alloc, folder, batch) },
+        || -> Result<Vec<u8>, AllocError>
+            ensures text { IfOk result (λ text. text.items ≡ rest_of batch.entry.now) }
+            ensures back { OnOk result (reading (rest_of batch.entry.now) ≡ Ok (rest_rows batch.entry.now.rows batch.entry.now.frames)) }
+        { rest_text(alloc, batch) },
+    );
+    Ok((made?, rest?))
+}
+
+// The text of the rest's book.
+fn rest_text(alloc: Global, batch: &BatchInParts) -> Result<Vec<u8>, AllocError>
+    ensures text { IfOk result (λ text. text.items ≡ rest_of batch.now) }
+    ensures back { OnOk result (reading (rest_of batch.now) ≡ Ok (rest_rows batch.now.rows batch.now.frames)) }
+{
+    let rest = rest_book(alloc, &batch.book, &batch.frames)?;
     write_book(alloc, &rest)
 }
 
@@ -126,7 +154,12 @@ fn plan_bytes(
 }
 
 // The texts of each part's files.
-fn make_parts(alloc: Global, folder: &str, batch: &BatchInParts) -> Result<MadeParts, AllocError>
+fn make_parts<R: Threads + Sync>(
+    rt: &R,
+    alloc: Global,
+    folder: &str,
+    batch: &BatchInParts,
+) -> Result<MadeParts, AllocError>
     ensures { IfOk result (AreMade folder.now batch.now batch.now.count) }
 {
     let mut made = MadeParts {
@@ -134,32 +167,52 @@ fn make_parts(alloc: Global, folder: &str, batch: &BatchInParts) -> Result<MadeP
         digests: Vec::new(alloc),
         counts: Vec::new(alloc),
     };
+    let mut ones = make_each(rt, alloc, batch)?.into_iter();
     for part in 0..batch.plan.count() {
-        made.add(alloc, folder, batch, part)?;
+        let Some(Some(one)) = ones.next() else {
+            return Err(AllocError);
+        };
+        made.add(alloc, folder, batch, part, one)?;
     }
     Ok(made)
 }
 
+// What is made of each part, or `None` of one for which memory ran out.
+fn make_each<R: Threads + Sync>(
+    rt: &R,
+    alloc: Global,
+    batch: &BatchInParts,
+) -> Result<Vec<Option<OnePart>>, AllocError>
+    ensures { IfOk result (λ ones. AreMadeFrom batch.now 0 ones.items) }
+{
+    let count = batch.plan.count() as usize;
+    thread::map_indices(
+        rt,
+        alloc,
+        count,
+        &|part| -> Option<OnePart>
+            requires { part < 2 ^ 32 }
+            ensures { IfSome result (IsMade batch.entry.now part) }
+        { make_part(alloc, batch, part as u32).ok() },
+    )
+}
+
 impl MadeParts {
-    // Adds those of the next part.
+    // Adds the next part.
     fn add(
         &mut self,
         alloc: Global,
         folder: &str,
         batch: &BatchInParts,
         part: u32,
+        one: OnePart,
     ) -> Result<(), AllocError>
         requires made { AreMade folder.now batch.now part self.old }
+        requires next { IsMade batch.now part one }
         ensures { OnOk result (AreMade folder.now batch.now (part + 1) self.new) }
     {
-        let one = make_part(alloc, batch, part)?;
-        let of_book = digest_of(&one.book);
-        let of_batch = digest_of(&one.batch);
-        let digests = PartDigests {
-            book: of_book,
-            batch: of_batch,
-        };
-        self.digests.push(digests)?;
+        let _ = batch;
+        self.digests.push(one.digests)?;
         self.counts.push(one.count)?;
         push_part(alloc, folder, part, one, &mut self.texts)?;
         Ok(())
@@ -196,9 +249,16 @@ fn make_part(alloc: Global, batch: &BatchInParts, part: u32) -> Result<OnePart, 
         messages: bodies.len(),
         rows: own.len(),
     };
+    let book = write_book(alloc, &own)?;
+    let batch = batch_text(alloc, &bodies)?;
+    let digests = PartDigests {
+        book: digest_of(&book),
+        batch: digest_of(&batch),
+    };
     Ok(OnePart {
-        book: write_book(alloc, &own)?,
-        batch: batch_text(alloc, &bodies)?,
+        book,
+        batch,
+        digests,
         count,
     })
 }

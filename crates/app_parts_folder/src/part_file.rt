@@ -29,6 +29,7 @@ impl PartFile {
             PartFile::Decided => ".decided",
         }
     }
+
     // What it is called where names are of one file.
     pub(crate) fn role(&self) -> &'static str {
         match self {

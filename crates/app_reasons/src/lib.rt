@@ -30,7 +30,7 @@ pub use log_words::LogWords;
 pub use of_log::words_of_log;
 pub use one_file::{
     line_of_words, tell_of_any_file, tell_of_book_or_batch, tell_of_file, words_of_book,
-    words_of_file, words_of_written,
+    words_of_file,
 };
 pub use reason::Reason;
 pub use telling::tell_with;

@@ -2,7 +2,7 @@
 
 ghost use Rattle.std.specs.Prelude.{◌≡◌, ◌++◌, IfSome, codes};
 ghost use Rattle.app_reasons.specs.OneLine.{shown};
-ghost use Rattle.app_reasons.specs.Tells.{TellsOfOne, TellsOfOneBook, TellsOfWritten};
+ghost use Rattle.app_reasons.specs.Tells.{TellsOfOne, TellsOfOneBook};
 ghost use Rattle.app_reasons.specs.Words.{told_line};
 ghost use Rattle.app_reasons.specs.declared.reason.Reason.{Reason as Why};
 
@@ -14,7 +14,7 @@ use crate::reason::Reason;
 use crate::telling::tell_with;
 use crate::told::Told;
 use app_jobs::JobFault;
-use file_devices::{ClaimFault, Files};
+use file_devices::Files;
 use std::alloc::Global;
 use std::io::Write;
 
@@ -79,40 +79,6 @@ pub fn words_of_book<F: Files>(
         × (line.items ≡ told_line name.now reason)) }
 {
     match reason_of_book(alloc, files, name, fault) {
-        Some(reason) => line_of(alloc, &Told { name, reason }),
-        None => None,
-    }
-}
-
-// Why a file is not written.
-fn reason_of_written<F: Files>(files: &F, name: &str, fault: &JobFault) -> Option<Reason>
-    ensures { IfSome result (TellsOfWritten (F.failing files.now) fault.now name.now) }
-{
-    match fault {
-        JobFault::Unwritable => match files.why_not_made(name) {
-            Some(reason) => Some(Reason::Host(reason)),
-            None => None,
-        },
-        JobFault::InUse => match files.claim(name) {
-            Err(ClaimFault::InUse) => Some(Reason::InUse),
-            _ => None,
-        },
-        _ => None,
-    }
-}
-
-/// What is told of a file behind a fault of writing it, in one line, where something is: why none can be made in its place, or that another
-/// run has claimed it.
-pub fn words_of_written<F: Files>(
-    alloc: Global,
-    files: &F,
-    name: &str,
-    fault: &JobFault,
-) -> Option<Vec<u8>>
-    ensures { IfSome result (λ line. (reason : Why) × TellsOfWritten (F.failing files.now) fault.now name.now reason
-        × (line.items ≡ told_line name.now reason)) }
-{
-    match reason_of_written(files, name, fault) {
         Some(reason) => line_of(alloc, &Told { name, reason }),
         None => None,
     }

@@ -1,9 +1,10 @@
 //! What is told behind a fault of a command, by what it does with its files.
 
-ghost use Rattle.std.specs.Prelude.{◌≡◌, IfSome};
-ghost use Rattle.app_reasons.specs.Tells.{IsOfHost};
+ghost use Rattle.std.specs.Prelude.{◌≡◌, Err, IfSome};
+ghost use Rattle.app_reasons.specs.Tells.{TellsOfWritten};
 ghost use Rattle.app_reasons.specs.Uses.{TellsOfOneUsed, TellsOfUsed};
 ghost use Rattle.app_reasons.specs.declared.reason.Reason.TheVariants.{InUse};
+ghost use Rattle.file_devices.specs.declared.claim_fault.ClaimFault.TheVariants as claim_fault;
 
 use crate::explaining::line_of;
 use crate::one_file::{reason_of_book, reason_of_file};
@@ -23,7 +24,7 @@ pub fn words_of_used<F: Files>(
     used: &[UsedFile<'_>],
     fault: &JobFault,
 ) -> Option<Vec<u8>>
-    ensures { IfSome result (λ line. TellsOfUsed (F.holds files.now) used.now fault.now line.items) }
+    ensures { IfSome result (λ line. TellsOfUsed (F.holds files.now) (F.failing files.now) used.now fault.now line.items) }
 {
     match used.split_first() {
         None => None,
@@ -47,20 +48,16 @@ fn reason_of_used<F: Files>(
     file: &UsedFile<'_>,
     fault: &JobFault,
 ) -> Option<Reason>
-    ensures { IfSome result (TellsOfOneUsed (F.holds files.now) file.now fault.now) }
+    ensures { IfSome result (TellsOfOneUsed (F.holds files.now) (F.failing files.now) file.now fault.now) }
 {
     match file.used {
         FileUse::Book => reason_of_book(alloc, files, file.name, fault),
         FileUse::Bodies(kind) => reason_of_file(alloc, files, file.name, kind, fault),
         FileUse::Shared => match fault {
-            JobFault::InUse => reason_of_claim(files.claim_to_read(file.name)),
+            JobFault::InUse => reason_of_claim(&files.claim_to_read(file.name)),
             _ => None,
         },
-        FileUse::Written => match fault {
-            JobFault::InUse => reason_of_claim(files.claim(file.name)),
-            JobFault::Unwritable => unwritten_reason(files, file.name),
-            _ => None,
-        },
+        FileUse::Written => reason_of_written(files, file.name, fault),
         FileUse::Log => match fault {
             JobFault::Batch(BatchFault::Blocks) => Some(Reason::TooManyMessages),
             _ => None,
@@ -68,22 +65,26 @@ fn reason_of_used<F: Files>(
     }
 }
 
-// Why a file is not claimed.
-fn reason_of_claim<C: Drop>(claim: Result<C, ClaimFault>) -> Option<Reason>
-    ensures { IfSome result (λ reason. reason ≡ InUse) }
+// Why a file is not written: none can be made in its place, or another run has claimed it.
+fn reason_of_written<F: Files>(files: &F, name: &str, fault: &JobFault) -> Option<Reason>
+    ensures { IfSome result (TellsOfWritten (F.failing files.now) fault.now name.now) }
 {
-    match claim {
-        Err(ClaimFault::InUse) => Some(Reason::InUse),
+    match fault {
+        JobFault::Unwritable => match files.why_not_made(name) {
+            Some(reason) => Some(Reason::Host(reason)),
+            None => None,
+        },
+        JobFault::InUse => reason_of_claim(&files.claim(name)),
         _ => None,
     }
 }
 
-// Why a file is not written.
-fn unwritten_reason<F: Files>(files: &F, name: &str) -> Option<Reason>
-    ensures { IfSome result IsOfHost }
+// Why a file is not claimed.
+fn reason_of_claim<C: Drop>(claim: &Result<C, ClaimFault>) -> Option<Reason>
+    ensures { IfSome result (λ reason. (claim.now ≡ Err claim_fault.InUse) × (reason ≡ InUse)) }
 {
-    match files.why_not_made(name) {
-        Some(reason) => Some(Reason::Host(reason)),
-        None => None,
+    match claim {
+        Err(ClaimFault::InUse) => Some(Reason::InUse),
+        _ => None,
     }
 }

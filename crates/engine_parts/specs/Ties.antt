@@ -1,20 +1,47 @@
 -- Keys that tie messages to one part, under numbers.
-use Rattle.std.specs.Prelude.{◌≡◌, ◌≢◌, ◌⊎◌, ℕ, List, [], ◌∷◌, Option, Some, None, cond, slice_get, slice_index}
+use Rattle.std.specs.Prelude.{◌≡◌, ◌⊎◌, ⊤, ℕ, ◌+◌, ◌*◌, ◌%◌, ◌^◌, List, [], ◌∷◌, Option, Some, None, cond, nat_eq, slice_get, slice_index}
 use Rattle.std.specs.List.{AllByRecursion}
 use Rattle.std.specs.Map.{lookup}
-use Rattle.issuer_words.specs.Words.{Frame, Pan, PanPrefix, RowKey, Rows, key_eq}
+use Rattle.iso8583.specs.Number.{number_of}
+use Rattle.issuer_words.specs.Words.{Frame, Identity, Pan, PanPrefix, RowKey, Rows, key_eq}
 use Rattle.issuer_laws.specs.Parts.{IsIn, funds_at, may_need}
 use Rattle.engine_parts.specs.declared.key_number.KeyNumber.{KeyNumber}
 use Rattle.engine_parts.specs.declared.key_number.KeyNumber.TheVariants.{Known, New}
 use Rattle.engine_parts.specs.declared.link.Link.{Link}
+use Rattle.engine_parts.specs.declared.ties.Ties.{Ties}
 
--- keys that have numbers
-abbrev pub Numbers : Type 0
-Numbers = List (RowKey × ℕ)
+-- The mark of an identity: its time and its trace number as one number, with its acquirer added, which is spread over 64 bits. Identities of
+-- one mark are taken for one.
+abbrev pub mark_of : Identity → ℕ
+mark_of identity =
+    (number_of identity.acquirer.0 * 11400714819323198485 % 2 ^ 64 + (number_of identity.stamp * 1000000 + number_of identity.stan.0)) % 2 ^ 64
 
--- the number of a key, if it has one
+-- keys of cards, accounts and budgets that have numbers
+abbrev pub Keys : Type 0
+Keys = List (RowKey × ℕ)
+
+abbrev pub number_among : Keys → RowKey → Option ℕ
+number_among keys key = lookup (key_eq key) keys
+
+-- marks of identities, each with the number of the card whose message had it first
+abbrev pub Firsts : Type 0
+Firsts = List (ℕ × ℕ)
+
+-- what has a number
+pub record Numbers : Type 0 where
+  pub keys : Keys
+  pub firsts : Firsts
+
+abbrev pub numbers_of : Ties → Numbers
+numbers_of ties = record { keys = ties.keys.entries; firsts = ties.firsts.entries }
+
+-- the number of a key, if it has one; that of an original is its first card's
 abbrev pub number_in : Numbers → RowKey → Option ℕ
-number_in numbers key = lookup (key_eq key) numbers
+number_in numbers (RowKey.Original identity) = lookup (nat_eq (mark_of identity)) numbers.firsts
+number_in numbers (RowKey.Card pan) = number_among numbers.keys (RowKey.Card pan)
+number_in numbers (RowKey.Velocity pan day) = number_among numbers.keys (RowKey.Velocity pan day)
+number_in numbers (RowKey.Budget prefix) = number_among numbers.keys (RowKey.Budget prefix)
+number_in numbers (RowKey.Account id) = number_among numbers.keys (RowKey.Account id)
 
 -- the key that stands for a row: a day goes with its card
 abbrev pub tie_of : RowKey → RowKey
@@ -35,10 +62,15 @@ budget_key None = []
 budget_key (Some prefix) = RowKey.Budget prefix ∷ []
 
 -- a key has this number: it had it, and nothing is changed; or it got it, and the others keep theirs
-abbrev pub HasNumber : Numbers → Numbers → RowKey → KeyNumber → Type 0
-HasNumber old new key (Known number) = (number_in old key ≡ Some number) × (new ≡ old)
+abbrev pub HasNumber : Keys → Keys → RowKey → KeyNumber → Type 0
+HasNumber old new key (Known number) = (number_among old key ≡ Some number) × (new ≡ old)
 HasNumber old new key (New number) =
-    (number_in old key ≡ None) × ((k : RowKey) → number_in new k ≡ cond (key_eq key k) (Some number) (number_in old k))
+    (number_among old key ≡ None) × ((k : RowKey) → number_among new k ≡ cond (key_eq key k) (Some number) (number_among old k))
+
+-- a mark has this first card's number, and those that have one keep theirs
+abbrev pub HasFirst : Firsts → Firsts → ℕ → ℕ → Type 0
+HasFirst old new mark first =
+    (lookup (nat_eq mark) new ≡ Some first) × ((other number : ℕ) → lookup (nat_eq other) old ≡ Some number → lookup (nat_eq other) new ≡ Some number)
 
 -- the links of a head and of another number
 abbrev pub AreLinked : List Link → ℕ → ℕ → Type 0
@@ -56,9 +88,11 @@ abbrev pub HaveFunds : Rows → Numbers → List Link → Type 0
 HaveFunds rows numbers links =
     (pan : Pan) (head : ℕ) → number_in numbers (RowKey.Card pan) ≡ Some head → AreTied numbers links head (funds_at rows pan)
 
--- the key is no card's
-abbrev pub IsNoCard : RowKey → Type 0
-IsNoCard key = (pan : Pan) → key ≢ RowKey.Card pan
+-- the key is of what messages may be paid from
+abbrev pub IsOfFunds : RowKey → Type 0
+IsOfFunds (RowKey.Account id) = ⊤
+IsOfFunds (RowKey.Budget prefix) = ⊤
+IsOfFunds _ = ⊥
 
 -- no card got a number or lost it
 abbrev pub HasSameCards : Numbers → Numbers → Type 0

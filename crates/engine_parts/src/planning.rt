@@ -1,7 +1,7 @@
 ghost use Rattle.std.specs.Prelude.{◌≡◌, ◌<◌, ◌≤◌, [], length, map, zip, IfOk};
 ghost use Rattle.issuer_laws.specs.Parts.{AreApart};
 ghost use Rattle.engine_parts.specs.Plan.{IsNumbered};
-ghost use Rattle.engine_parts.specs.Ties.{HaveHeads, part_at};
+ghost use Rattle.engine_parts.specs.Ties.{HaveHeads, numbers_of, part_at};
 
 use crate::packing::pack;
 use crate::part_table::PartTable;
@@ -26,7 +26,7 @@ pub fn plan_parts(
 {
     let mut ties = Ties::new(alloc, frames.len())?;
     let heads = heads_of(alloc, &mut ties, book, frames)?;
-    let numbers = u32::try_from(ties.numbers.len()).unwrap_or(u32::MAX);
+    let numbers = u32::try_from(ties.keys.len()).unwrap_or(u32::MAX);
     let packed = pack(alloc, numbers, &ties.links, &heads, most)?;
     let table = packed.checked(alloc, &ties.links, most);
     let parts = parts_of(alloc, &table, &heads)?;
@@ -41,9 +41,9 @@ fn heads_of(
     book: &Book,
     frames: &[Frame],
 ) -> Result<Vec<u32>, AllocError>
-    requires { (ties.old.numbers.entries ≡ []) × (ties.old.links.items ≡ []) }
+    requires { (ties.old.keys.entries ≡ []) × (ties.old.links.items ≡ []) }
     ensures each { IfOk result (λ heads. length heads.items ≡ length frames.now) }
-    ensures heads { IfOk result (λ heads. HaveHeads book.now ties.new.numbers.entries ties.new.links.items heads.items frames.now) }
+    ensures heads { IfOk result (λ heads. HaveHeads book.now (numbers_of ties.new) ties.new.links.items heads.items frames.now) }
 {
     let mut heads = Vec::with_capacity(alloc, frames.len())?;
     for frame in frames {

@@ -11,7 +11,7 @@ use Rattle.host_serving.specs.Serving.{AnsweredAfter, Served, Stopped}
 use Rattle.host_serving.specs.declared.host.Host.{Host}
 use Rattle.host_serving.specs.declared.host_fault.HostFault.{HostFault}
 use Rattle.host_serving.specs.declared.host_fault.HostFault.TheVariants.{Link, Log, OutOfMemory}
-use Rattle.host_commands.specs.Opening.{book_digest, HoldsEntries, IsOpened}
+use Rattle.host_commands.specs.Opening.{IsOpened}
 use Rattle.host_commands.specs.Served.{IsAnswered, IsServed}
 use Rattle.host_serving.proofs.Servings.{whole}
 
@@ -28,11 +28,11 @@ begun OutOfMemory before after text is = whole before after text is
 -- over the file of a log
 module _ {G : Type 0} (is_known : G → Type 0) (synced unsynced : G → List ℕ) where
   -- a link was served whole by a host that was opened
-  pub answered_all : (text log : List ℕ) (file : G) (old new : Host G) (reads puts : Type 0) (came before after : List ℕ)
-      → is_known file × (synced file ++ unsynced file ≡ log) → IsOpened is_known synced unsynced text file old
+  pub answered_all : (text log : List ℕ) (old new : Host G) (reads puts : Type 0) (came before after : List ℕ)
+      → IsOpened is_known synced unsynced text log old
       → Served is_known synced unsynced old new reads came [] puts before after → reads → puts → IsAnswered text log came before after ⊤
-  answered_all text log file old new reads puts came before after has opened served read put =
-      let on = opened.again has.0 in
+  answered_all text log old new reads puts came before after opened served read put =
+      let on = opened.again in
       let same : book_of old ≡ rows_after opened.book on.messages = on.stands.book in
       let said : after ≡ before ++ answers_to (rows_after opened.book on.messages) served.incoming served.messages =
       served.answered put ∙ ap (λ (rows : Rows). before ++ answers_to rows served.incoming served.messages) same in
@@ -40,7 +40,7 @@ module _ {G : Type 0} (is_known : G → Type 0) (synced unsynced : G → List �
         opening = opened.book;
         read = opened.read;
         entries = on.entries;
-        held = subst (λ (bytes : List ℕ). HoldsEntries (book_digest opened.book) bytes on.entries) has.1 on.held;
+        held = on.held;
         logged = on.messages;
         spelled = on.stands.read;
         incoming = served.incoming;
@@ -54,16 +54,16 @@ module _ {G : Type 0} (is_known : G → Type 0) (synced unsynced : G → List �
       }
 
   -- one that stopped answered a beginning
-  pub answered_part : (fault : HostFault) (text log : List ℕ) (file : G) (old new : Host G) (reads puts : Type 0) (came before after : List ℕ)
-      → is_known file × (synced file ++ unsynced file ≡ log) → IsOpened is_known synced unsynced text file old
+  pub answered_part : (fault : HostFault) (text log : List ℕ) (old new : Host G) (reads puts : Type 0) (came before after : List ℕ)
+      → IsOpened is_known synced unsynced text log old
       → Stopped is_known synced unsynced fault old new reads came puts before after → reads → puts → IsAnswered text log came before after ⊥
-  answered_part fault text log file old new reads puts came before after has opened stopped read put =
-      let on = opened.again has.0 in
+  answered_part fault text log old new reads puts came before after opened stopped read put =
+      let on = opened.again in
       record {
         opening = opened.book;
         read = opened.read;
         entries = on.entries;
-        held = subst (λ (bytes : List ℕ). HoldsEntries (book_digest opened.book) bytes on.entries) has.1 on.held;
+        held = on.held;
         logged = on.messages;
         spelled = on.stands.read;
         incoming = stopped.incoming;

@@ -13,15 +13,15 @@ HoldsEntries digest bytes entries = ((tail : List ℕ) × IsLogOf digest bytes e
 
 -- over the file of a log
 module _ {G : Type 0} (is_known : G → Type 0) (synced unsynced : G → List ℕ) where
-  -- the file held these entries, for this book, and the host stands behind them
-  pub record GoesOn (book : Rows) (file : G) (host : Host G) : Type 0 where
+  -- the log of this book had these bytes, and the host stands behind the entries that they hold
+  pub record GoesOn (book : Rows) (log : List ℕ) (host : Host G) : Type 0 where
     pub entries : List (List (List ℕ))
     pub messages : List Frame
-    pub held : HoldsEntries (book_digest book) (synced file ++ unsynced file) entries
+    pub held : HoldsEntries (book_digest book) log entries
     pub stands : StandsBehind is_known synced unsynced book (book_digest book) entries messages host
 
-  -- the text is read as a book, and the host goes on where the log in the file ends
-  pub record IsOpened (text : List ℕ) (file : G) (host : Host G) : Type 0 where
+  -- the text is read as a book, and the host goes on where the log ends
+  pub record IsOpened (text log : List ℕ) (host : Host G) : Type 0 where
     pub book : Rows
     pub read : reading text ≡ Ok book
-    pub again : is_known file → GoesOn book file host
+    pub again : GoesOn book log host

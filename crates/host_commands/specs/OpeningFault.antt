@@ -6,6 +6,9 @@ use Rattle.file_devices.specs.declared.read_fault.ReadFault.{ReadFault}
 use Rattle.file_devices.specs.declared.read_fault.ReadFault.TheVariants as read
 use Rattle.file_laws.specs.LogFault.{is_of_bytes}
 use Rattle.file_laws.specs.LogReading.{IsReading}
+use Rattle.file_laws.specs.declared.log_fault.LogFault.TheVariants as log_fault
+use Rattle.log_file.specs.declared.open_fault.OpenFault.{OpenFault}
+use Rattle.log_file.specs.declared.open_fault.OpenFault.TheVariants as open_fault
 use Rattle.host_commands.specs.Opening.{book_digest}
 use Rattle.host_commands.specs.declared.opening_fault.OpeningFault.{OpeningFault}
 use Rattle.host_commands.specs.declared.opening_fault.OpeningFault.TheVariants.{Unreadable, Book, Log, OutOfMemory}
@@ -13,6 +16,11 @@ use Rattle.host_commands.specs.declared.opening_fault.OpeningFault.TheVariants.{
 abbrev pub fault_of_read : ReadFault → OpeningFault
 fault_of_read read.Unreadable = Unreadable
 fault_of_read read.OutOfMemory = OutOfMemory
+
+abbrev pub fault_of_open : OpenFault → OpeningFault
+fault_of_open open_fault.InUse = Log log_fault.InUse
+fault_of_open open_fault.Refused = Log log_fault.Failed
+fault_of_open open_fault.OutOfMemory = Log log_fault.OutOfMemory
 
 -- the fault is that of these bytes as the log of the book that has this digest, where they are known, or that of a call on its file; or out
 -- of memory

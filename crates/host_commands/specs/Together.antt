@@ -4,8 +4,7 @@ use Rattle.std.specs.List.{AllByRecursion}
 use Rattle.issuer_words.specs.Words.{Frame, Rows, rows_after}
 use Rattle.book_laws.specs.Reading.{reading}
 use Rattle.host_serving.specs.Entries.{AreMessagesOf}
-use Rattle.host_serving.specs.declared.host.Host.{Host}
-use Rattle.host_commands.specs.Opening.{book_digest, HoldsEntries, IsOpened}
+use Rattle.host_commands.specs.Opening.{book_digest, HoldsEntries}
 use Rattle.host_links.specs.Merged.{LinkMerged}
 use Rattle.host_links.specs.Turns.{IsTurnOfLink}
 use Rattle.host_links.specs.declared.link_turn.LinkTurn.{LinkTurn}
@@ -25,10 +24,3 @@ pub record AreAnswered {I O : Type 0} (comes : I → Type 0) (remaining : I → 
   pub are : ∥ AllByRecursion IsTurnOfLink turns ∥₁
   pub each : (link : ℕ) (other : Seat I O) → link < length old
       → LinkMerged comes remaining puts written link (rows_after opening logged) turns (slice_index_or old link other) (slice_index_or new link other)
-
--- the host was opened on a file with these bytes
-pub record OpensOn {G : Type 0} (is_known : G → Type 0) (synced unsynced : G → List ℕ) (text log : List ℕ) (host : Host G) : Type 0 where
-  pub file : G
-  pub known : is_known file
-  pub has : synced file ++ unsynced file ≡ log
-  pub opened : IsOpened is_known synced unsynced text file host

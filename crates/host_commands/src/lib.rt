@@ -23,6 +23,7 @@ mod serving;
 mod serving_links;
 mod settings;
 mod settings_words;
+mod telling;
 
 pub use asked_links::AskedLinks;
 pub use asking::{HostAsked, host_asked};

@@ -1,10 +1,11 @@
 ghost use Rattle.std.specs.Prelude.{◌≡◌};
-ghost use Rattle.host_commands.specs.OpeningFault.{fault_of_read};
+ghost use Rattle.host_commands.specs.OpeningFault.{fault_of_open, fault_of_read};
 ghost use Rattle.host_commands.specs.declared.opening_fault.OpeningFault.TheVariants.{Book, Log, OutOfMemory};
 
 use book_laws::JsonFault;
 use file_devices::ReadFault;
 use file_laws::LogFault;
+use log_file::OpenFault;
 use std::alloc::AllocError;
 use std::fmt;
 
@@ -64,5 +65,17 @@ impl From<LogFault> for OpeningFault {
 
     fn from(fault: LogFault) -> OpeningFault {
         OpeningFault::Log(fault)
+    }
+}
+
+impl From<OpenFault> for OpeningFault {
+    ghost from_gives = { λ cause fault. fault ≡ fault_of_open cause };
+
+    fn from(fault: OpenFault) -> OpeningFault {
+        OpeningFault::Log(match fault {
+            OpenFault::InUse => LogFault::InUse,
+            OpenFault::Refused => LogFault::Failed,
+            OpenFault::OutOfMemory => LogFault::OutOfMemory,
+        })
     }
 }

@@ -77,7 +77,8 @@ impl<R: rt::Files<File = File> + Copy> LinkSource for PipeSource<'_, R> {
     }
 }
 
-/// A pipe of the host that is written. To open it waits for somebody who opens it to read. What was written on it is not known.
+/// A pipe of the host that is written. To open it waits for somebody who opens it to read. Into a plain file what is written goes behind what
+/// it has. What was written on it is not known.
 #[derive(Drop)]
 pub struct PipeSink<'a, R> {
     host: R,
@@ -132,7 +133,7 @@ impl<R: rt::Files<File = File> + Copy> Sink for PipeSink<'_, R> {
 
 impl<R: rt::Files<File = File> + Copy> LinkSink for PipeSink<'_, R> {
     fn open(&mut self) -> Result<(), Broken> {
-        match OpenOptions::new().write(true).open(&self.host, self.name) {
+        match OpenOptions::new().append(true).open(&self.host, self.name) {
             Ok(file) => {
                 self.file = Some(file);
                 Ok(())

@@ -2,9 +2,7 @@ ghost use Rattle.std.specs.Prelude.{◌≡◌};
 ghost use Rattle.host_commands.specs.declared.serve_fault.ServeFault.TheVariants.{Opening, Serving};
 
 use crate::opening_fault::OpeningFault;
-use file_laws::LogFault;
 use host_serving::HostFault;
-use log_file::OpenFault;
 use std::fmt;
 
 /// Why a host ends before its link does. Its text is what it is of and its number there, as `log 3`.
@@ -38,16 +36,5 @@ impl From<HostFault> for ServeFault {
 
     fn from(fault: HostFault) -> ServeFault {
         ServeFault::Serving(fault)
-    }
-}
-
-impl From<OpenFault> for ServeFault {
-    fn from(fault: OpenFault) -> ServeFault {
-        let log = match fault {
-            OpenFault::InUse => LogFault::InUse,
-            OpenFault::Refused => LogFault::Failed,
-            OpenFault::OutOfMemory => LogFault::OutOfMemory,
-        };
-        ServeFault::Opening(OpeningFault::Log(log))
     }
 }

@@ -6,6 +6,7 @@ use crate::logs::Logs;
 use crate::opening::open_host;
 use crate::serve_fault::ServeFault;
 use crate::settings::Settings;
+use crate::telling::tell_of_opening;
 use file_devices::{Files, Sink, Source};
 use host_serving::{MaxBatch, Teller};
 use issuer_rules::Shipped;
@@ -15,8 +16,9 @@ use std::sync::Wait;
 use std::thread::Threads;
 
 /// Serves a link, on the book in the first file, with the log in the second, until the link ends or to the first fault. Returns the exit
-/// status: 0 where all that came was answered, else 1, and the fault stands on `err`. So do the size of a torn tail that was cut, the
-/// bodies that are no message, and, where the settings ask it, how it goes. What `err` doesn't take is dropped.
+/// status: 0 where all that came was answered, else 1, and the fault stands on `err`; behind that of an opening what is told of the book or
+/// the log. So do the size of a torn tail that was cut, the bodies that are no message, and, where the settings ask it, how it goes. What
+/// `err` doesn't take is dropped.
 pub fn serve<
     R: Threads + Wait + Copy + Sync,
     F: Files,
@@ -58,8 +60,8 @@ pub fn serve<
         Ok(()) => 0,
         // One of serving was told at once.
         Err(ServeFault::Serving(_)) => 1,
-        Err(fault) => {
-            teller.fault(fault);
+        Err(ServeFault::Opening(fault)) => {
+            tell_of_opening(alloc, files, book, log, &fault, &mut teller.into_writer());
             1
         }
     }
@@ -86,8 +88,7 @@ fn served<R: Threads + Wait + Copy + Sync, F: Files, L: Logs, I: Source + Send, 
         → IfErr result (λ _. (O.written sink.new ≡ O.written sink.old)
         ⊎ IsAnswered text bytes (I.remaining source.old) (O.written sink.old) (O.written sink.new) ⊥) }
 {
-    let file = logs.open(log)?;
-    let mut opened = open_host(rt, alloc, files, book, file, &Shipped)?;
+    let mut opened = open_host(rt, alloc, files, book, logs, log, &Shipped)?;
     teller.opened(opened.entries, opened.torn);
     serve_ahead(rt, alloc, &mut opened.host, source, sink, most, teller)?;
     Ok(())

@@ -1,15 +1,14 @@
 //! Several links at one live host.
 
-ghost use Rattle.std.specs.Prelude.{◌≡◌, ◌≤◌, ℕ, List, All, IfOk, IsFalse, None};
-ghost use Rattle.host_commands.specs.Together.{AreAnswered, OpensOn};
+ghost use Rattle.std.specs.Prelude.{◌≡◌, ◌≤◌, ℕ, List, All, IsFalse, None};
+ghost use Rattle.host_commands.specs.Together.{AreAnswered};
 
 use crate::link_names::LinkNames;
 use crate::links_teller::LinksTeller;
 use crate::logs::Logs;
-use crate::opened::Opened;
 use crate::opening::open_host;
-use crate::serve_fault::ServeFault;
 use crate::settings::Settings;
+use crate::telling::tell_of_opening;
 use file_devices::Files;
 use host_links::{LinkSink, LinkSource, Seat, WatchLinks, serve_links as serve_at};
 use host_serving::{HostFault, Teller};
@@ -50,10 +49,10 @@ where
         → AreAnswered I.is_known I.remaining O.is_known O.written text bytes seats.old seats.new × All (λ seat. seat.fault ≡ None) seats.new }
 {
     let mut teller = Teller::new(alloc, err, settings.stats);
-    let opened = match open_on(rt, alloc, files, logs, book, log) {
+    let opened = match open_host(rt, alloc, files, book, logs, log, &Shipped) {
         Ok(opened) => opened,
         Err(fault) => {
-            teller.fault(fault);
+            tell_of_opening(alloc, files, book, log, &fault, &mut teller.into_writer());
             return 1;
         }
     };
@@ -76,22 +75,6 @@ where
         return 1;
     }
     0
-}
-
-// Opens the host on these files.
-fn open_on<R: Threads + Wait + Sync, F: Files, L: Logs>(
-    rt: &R,
-    alloc: Global,
-    files: &F,
-    logs: &L,
-    book: &str,
-    log: &str,
-) -> Result<Opened<L::Log>, ServeFault>
-    ensures { (text bytes : List ℕ) → F.holds files.now book.now text → L.holds logs.now log.now bytes
-        → IfOk result (λ opened. OpensOn L.Log.is_known L.Log.synced L.Log.unsynced text bytes opened.host) }
-{
-    let file = logs.open(log)?;
-    Ok(open_host(rt, alloc, files, book, file, &Shipped)?)
 }
 
 // Whether a link stopped with a fault.

@@ -1,10 +1,10 @@
 use book_json::write_book;
 use file_devices::{FailingSink, MemoryFiles};
-use host_commands::{Opened, OpeningFault, open_host};
+use host_commands::{Logs, Opened, OpeningFault, open_host};
 use host_serving::{MaxBatch, Unwatched};
 use issuer_rows::Book;
 use issuer_rules::Shipped;
-use log_file::MemoryLog;
+use log_file::{MemoryLog, OpenFault};
 use std::alloc::Global;
 use std::sync::Wait;
 use std::thread::Threads;
@@ -14,6 +14,27 @@ pub(crate) fn copy_of(alloc: Global, bytes: &[u8]) -> Option<Vec<u8>> {
     let mut copy = Vec::new(alloc);
     copy.extend_from_slice(bytes).ok()?;
     Some(copy)
+}
+
+/// Logs that all have these bytes, in files that answer so many calls.
+#[derive(Drop)]
+pub(crate) struct CopiedLogs {
+    pub(crate) alloc: Global,
+    pub(crate) bytes: Vec<u8>,
+    pub(crate) answers: u64,
+}
+
+impl Logs for CopiedLogs {
+    type Log = MemoryLog;
+
+    ghost holds = { λ _ _ _. ⊥ };
+
+    fn open(&self, _name: &str) -> Result<MemoryLog, OpenFault> {
+        match copy_of(self.alloc, &self.bytes) {
+            Some(bytes) => Ok(MemoryLog::new(bytes, 4096, self.answers)),
+            None => Err(OpenFault::OutOfMemory),
+        }
+    }
 }
 
 /// The file `book` with this book.
@@ -33,8 +54,12 @@ pub(crate) fn open<R: Threads + Wait + Sync>(
     let Some(files) = files(alloc, book) else {
         return Err(OpeningFault::OutOfMemory);
     };
-    let log = MemoryLog::new(log, 4096, 1000);
-    open_host(rt, alloc, &files, "book", log, &Shipped)
+    let logs = CopiedLogs {
+        alloc,
+        bytes: log,
+        answers: 1000,
+    };
+    open_host(rt, alloc, &files, "book", &logs, "log", &Shipped)
 }
 
 /// What a crash keeps of the log of a host that goes on with this one and serves a link, and what it wrote.

@@ -1,38 +1,18 @@
 //! Hosts over their files: the words that ask for one, and hosts that are opened again on their log.
 
-use crate::fixtures::{copy_of, files, open, serve_link};
+use crate::fixtures::{CopiedLogs, copy_of, files, open, serve_link};
 use crate::vectors::{FIRST, FIRST_REPLY, LINK, NO_MESSAGE, REPEAT, REPLIES, SECOND, SECOND_REPLY};
-use file_devices::{FailingSink, Source};
-use host_commands::{HostAsked, Logs, OpeningFault, Settings, host_asked, serve};
+use file_devices::{FailingSink, HostFiles, Source};
+use host_commands::{HostAsked, HostLogs, OpeningFault, Settings, host_asked, serve};
 use host_serving::{MaxBatch, StatsInterval};
 use issuer_rows::Book;
-use log_file::{LogFault, MemoryLog, OpenFault};
+use log_file::LogFault;
 use std::alloc::Global;
+use std::fs;
 use std::sync::Wait;
 use std::test::Fail;
 use std::thread::Threads;
 use test_fixtures::{first_book_with, has_row};
-
-// Logs that all have these bytes, in files that answer so many calls.
-#[derive(Drop)]
-pub(crate) struct CopiedLogs {
-    pub(crate) alloc: Global,
-    pub(crate) bytes: Vec<u8>,
-    pub(crate) answers: u64,
-}
-
-impl Logs for CopiedLogs {
-    type Log = MemoryLog;
-
-    ghost holds = { λ _ _ _. ⊥ };
-
-    fn open(&self, _name: &str) -> Result<MemoryLog, OpenFault> {
-        match copy_of(self.alloc, &self.bytes) {
-            Some(bytes) => Ok(MemoryLog::new(bytes, 4096, self.answers)),
-            None => Err(OpenFault::OutOfMemory),
-        }
-    }
-}
 
 // Whether a host serves the first link, and one that is opened on its log answers the second one so.
 fn goes_on<R: Threads + Wait + Sync>(
@@ -191,7 +171,8 @@ fn a_link_is_served_over_files(rt: HostRuntime) -> Result<(), Fail> {
             (0, REPLIES, b"unreadable 1 F01000\n")
         )
     );
-    assert!(rt; is_served(&rt, rt.alloc(), &book, "none", LINK, (1, b"", b"file 1\n")));
+    let absent: &[u8] = b"file 1\nnone: no such file or directory\n";
+    assert!(rt; is_served(&rt, rt.alloc(), &book, "none", LINK, (1, b"", absent)));
     assert!(rt;
         is_served(
             &rt,
@@ -212,6 +193,46 @@ fn a_link_is_served_over_files(rt: HostRuntime) -> Result<(), Fail> {
             (1, b"", b"link 1\n")
         )
     );
+    Ok(())
+}
+
+#[test]
+fn a_fault_of_the_log_is_told_with_its_place(rt: HostRuntime) -> Result<(), Fail> {
+    let book = first_book_with(rt.alloc(), &[])?;
+    let mut log = log_of_three(&rt, rt.alloc(), &book).expect(&rt, "a log");
+    *log.get_mut(41).expect(&rt, "a byte") ^= 1;
+    let mut link = LINK;
+    let plain = Settings::plain();
+    let outcome = served(&rt, rt.alloc(), &book, log, "book", plain, &mut link);
+    let (status, replies, said) = outcome.expect(&rt, "an outcome");
+    assert!(rt; status == 1 && replies.is_empty());
+    let told: &[u8] = b"log 5\nlog: behind 0 whole entries: no entry and no torn tail\n";
+    assert!(rt; said.as_slice() == told);
+    Ok(())
+}
+
+// Over files of the host.
+#[test]
+fn a_host_without_a_book_makes_no_log(rt: HostRuntime) -> Result<(), Fail> {
+    let _ = fs::remove_dir_all(&rt, "no_book");
+    fs::create_dir(&rt, "no_book")?;
+    let mut said = Vec::new(rt.alloc());
+    let status = serve(
+        &rt,
+        rt.alloc(),
+        &HostFiles::new(rt, rt.alloc()),
+        &HostLogs::new(rt),
+        "no_book/book",
+        "no_book/log",
+        Settings::plain(),
+        &mut b"".as_slice(),
+        &mut FailingSink::new(rt.alloc(), 4096, 1000),
+        &mut said,
+    );
+    let absent: &[u8] = b"file 1\nno_book/book: no such file or directory\n";
+    assert!(rt; status == 1 && said.as_slice() == absent);
+    assert!(rt; fs::metadata(&rt, "no_book/log").is_err());
+    fs::remove_dir_all(&rt, "no_book")?;
     Ok(())
 }
 

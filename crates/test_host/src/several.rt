@@ -1,7 +1,7 @@
 //! Several links at one host, over devices in memory. What each gets doesn't depend on the order of their turns, or is told by the log.
 
-use crate::fixtures::{copy_of, files, open, serve_link};
-use crate::hosts::{CopiedLogs, words_of};
+use crate::fixtures::{CopiedLogs, copy_of, files, open, serve_link};
+use crate::hosts::words_of;
 use crate::vectors::{
     ECHO, ECHO_REPLY, FIRST, FIRST_REPLY, LINK, REPEAT, REPLIES, SECOND, SECOND_REPLY,
 };

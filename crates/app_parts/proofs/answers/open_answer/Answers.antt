@@ -9,18 +9,18 @@ returns-in_err-decided-clause-fault g c =
     let p = err_from_is_err_and c.from_residual-in_err-decided.result c.from_residual-in_err-decided.ensures.1 in
     rw (p.1, p.2) (unopened (g.F.Files.holds c.args.files.now) (g.F.Files.failing c.args.files.now) c.args.folder.now c.args.plan.now c.args.part Decided c.in_err-decided.field-0.0 c.in_err-decided.ensures.fault)
 
-pub returns-in_err-read_answer-clause-fault : goal.returns-in_err-read_answer-clause-fault
-returns-in_err-read_answer-clause-fault g c =
-    let p = err_from_is_err_and c.from_residual-in_err-read_answer.result c.from_residual-in_err-read_answer.ensures.1 in
+pub returns-in_err-answer-clause-fault : goal.returns-in_err-answer-clause-fault
+returns-in_err-answer-clause-fault g c =
+    let p = err_from_is_err_and c.from_residual-in_err-answer.result c.from_residual-in_err-answer.ensures.1 in
     rw (p.1, p.2) (inr (unread (g.F.Files.is_known c.args.files.now) (g.F.Files.holds c.args.files.now) (g.F.Files.failing c.args.files.now) c.args.folder.now c.args.part
-    c.in_ok-replies.replies.items c.in_ok-book.book.items c.in_err-read_answer.field-0.0 c.in_ok-replies.ensures.held c.in_ok-book.ensures.held
-    (rw (c.deref-4.ensures.value, c.deref-5.ensures.value) at c.in_err-read_answer.ensures.fault)))
+    c.in_ok-replies.replies.items c.in_ok-book.book.items c.in_err-answer.field-0.0 c.in_ok-replies.ensures.held c.in_ok-book.ensures.held
+    (rw (c.in_err-answer.was, c.deref-2.ensures.value, c.deref-3.ensures.value) at c.check_and_read-answer.ensures.unread)))
 
 pub returns-clause-answer : goal.returns-clause-answer
 returns-clause-answer g c =
     answer_of (g.F.Files.is_known c.args.files.now) (g.F.Files.holds c.args.files.now) c.args.folder.now c.args.plan.now c.args.part
-    c.in_ok-replies.replies.items c.in_ok-book.book.items c.in_ok-decided.decided.items c.in_ok-read_answer.field-0
+    c.in_ok-replies.replies.items c.in_ok-book.book.items c.in_ok-decided.decided.items c.in_ok-answer.field-0
     c.in_ok-replies.ensures.held c.in_ok-book.ensures.held c.in_ok-decided.ensures.held
-    (rw (c.deref.ensures.value, c.deref-2.ensures.value, c.deref-3.ensures.value) at c.in_ok-check_decided.ensures.decided)
-    (rw c.deref-4.ensures.value at c.in_ok-read_answer.ensures.replies)
-    (rw c.deref-5.ensures.value at c.in_ok-read_answer.ensures.book)
+    (rw (c.in_ok-checked.was, c.deref.ensures.value, c.deref-2.ensures.value, c.deref-3.ensures.value) at c.check_and_read-answer.ensures.decided)
+    (rw (c.in_ok-answer.was, c.deref-2.ensures.value) at c.check_and_read-answer.ensures.replies)
+    (rw (c.in_ok-answer.was, c.deref-3.ensures.value) at c.check_and_read-answer.ensures.book)

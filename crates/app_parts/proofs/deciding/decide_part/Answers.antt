@@ -1,10 +1,16 @@
 use Rattle.std.proofs.Common.{ℕ, List, subst}
 use Rattle.std.proofs.lemmas.Result.{err_from_is_err_and}
 use Rattle.app_parts.proofs.DoneParts.{part_decided}
-use Rattle.app_parts.proofs.FaultsOf.{batch_fault, book_fault, bytes_fault, decided_put_fault}
+use Rattle.app_parts.proofs.FaultsOf.{batch_fault, book_fault, bytes_fault, decided_put_fault, read_fault}
 use Rattle.app_parts_folder.specs.Deciding.{IsDecidedFaultOf, IsDecidedText}
 use Rattle.app_parts_folder.specs.Texts.{texts_of}
 use Rattle.app_parts.proofs.deciding.decide_part.Goals as goal
+
+pub returns-in_err-check_written_apart-clause-fault : goal.returns-in_err-check_written_apart-clause-fault
+returns-in_err-check_written_apart-clause-fault g c =
+    let p = err_from_is_err_and c.from_residual-in_err-check_written_apart.result c.from_residual-in_err-check_written_apart.ensures.1 in
+    rw (p.1, p.2) (read_fault (g.F.Files.is_known c.args.files.now) (g.F.Files.holds c.args.files.now) (g.F.Files.failing c.args.files.now) c.args.folder.now c.args.part
+    c.in_err-check_written_apart.field-0.0 c.in_err-check_written_apart.ensures)
 
 pub returns-in_err-book-clause-fault : goal.returns-in_err-book-clause-fault
 returns-in_err-book-clause-fault g c =

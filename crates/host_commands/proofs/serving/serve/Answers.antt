@@ -5,9 +5,9 @@ pub returns-in-Ok-clause-served : goal.returns-in-Ok-clause-served
 returns-in-Ok-clause-served g c text bytes held logged reads puts =
     by_end text bytes _ _ _ (rw c.in-Ok.is at (c.served.ensures.ok text bytes held logged reads puts))
 
-pub returns-clause-served : goal.returns-clause-served
-returns-clause-served g c text bytes held logged reads puts =
-    by_fault text bytes _ _ _ (rw c.in-Err.is at (c.served.ensures.err text bytes held logged reads puts))
+pub returns-in-Err-Opening-clause-served : goal.returns-in-Err-Opening-clause-served
+returns-in-Err-Opening-clause-served g c text bytes held logged reads puts =
+    by_fault text bytes _ _ _ (rw c.in-Err-Opening.is at (c.served.ensures.err text bytes held logged reads puts))
 
 pub returns-in-Err-Serving-clause-served : goal.returns-in-Err-Serving-clause-served
 returns-in-Err-Serving-clause-served g c text bytes held logged reads puts =

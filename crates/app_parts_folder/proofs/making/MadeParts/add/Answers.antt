@@ -1,5 +1,4 @@
-use Rattle.std.proofs.Common.{◌++◌, ◌∷◌, [], ap, sym, ◌∙◌}
-use Rattle.sha2.specs.Sha256.{sha256}
+use Rattle.std.proofs.Common.{◌++◌, ◌∷◌, [], sym, ◌∙◌}
 use Rattle.app_parts_folder.specs.Names.{part_name}
 use Rattle.app_parts_folder.specs.Parting.{count_of_part, digests_of_part}
 use Rattle.app_parts_folder.specs.declared.part_file.PartFile.TheVariants.{Book, Batch}
@@ -12,14 +11,12 @@ returns c =
     let folder = c.args.folder.now in
     let part = c.args.part in
     let made = c.requires.made in
-    let one = c.in_ok-one.ensures in
-    let of_book = c.digest_of-of_book.ensures ∙ ap sha256 (c.deref.ensures.value ∙ one.book) in
-    let of_batch = c.digest_of-of_batch.ensures ∙ ap sha256 (c.deref-2.ensures.value ∙ one.batch) in
+    let one = c.requires.next in
     record {
       texts = c.in_ok-push_part.ensures
           ∙ (λ i. made.texts i ++ record { name = part_name folder part Book; text = one.book i } ∷ record { name = part_name folder part Batch; text = one.batch i } ∷ [])
           ∙ sym (texts_more folder p part);
-      digests = c.in_ok-push.ensures.items ∙ (λ i. made.digests i ++ record { book = of_book i; batch = of_batch i } ∷ []) ∙ sym (each_more (digests_of_part p) part);
+      digests = c.in_ok-push.ensures.items ∙ (λ i. made.digests i ++ one.digests i ∷ []) ∙ sym (each_more (digests_of_part p) part);
       counts = c.in_ok-push-2.ensures.items ∙ (λ i. made.counts i ++ one.count i ∷ []) ∙ sym (each_more (count_of_part p) part);
       back = back_more p part made.back one.back;
     }
