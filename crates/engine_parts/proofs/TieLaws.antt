@@ -141,11 +141,15 @@ numbered_other old new firsts key (Known number) of h pan = ap (λ (keys : Keys)
 numbered_other old new firsts key (New number) of h pan =
     h.1 (RowKey.Card pan) ∙ ap (λ (t : Bool). cond t (Some number) (number_among old (RowKey.Card pan))) (other_than key (RowKey.Card pan) (no_card key pan of))
 
+-- the link of a head and of another number, behind others
+pub linked_last : (links : List Link) (head number : ℕ) → AreLinked (links ++ record { head = head; other = number } ∷ []) head number
+linked_last links head number = inr (in_last (record { head = head; other = number }) links)
+
 -- what has a number that is linked to a head behind its link is tied to it
 pub linked_tied : (numbers : Numbers) (links : List Link) (head number : ℕ) (key : RowKey) → IsOfFunds key → number_in numbers key ≡ Some number
     → IsTied numbers (links ++ record { head = head; other = number } ∷ []) head key
 linked_tied numbers links head number key of has =
-    (number, ap (number_in numbers) (own_tie key of) ∙ has, inr (in_last (record { head = head; other = number }) links))
+    (number, ap (number_in numbers) (own_tie key of) ∙ has, linked_last links head number)
 
 same_pans : (a b : Pan) → RowKey.Card a ≡ RowKey.Card b → a ≡ b
 same_pans a b e = cc
@@ -187,7 +191,3 @@ first_kept keys old new mark first links h = record {
 pub first_tied : (keys : Keys) (old new : Firsts) (links : List Link) (head first : ℕ) (identity : Identity) → HasFirst old new (mark_of identity) first
     → AreLinked links head first → IsTied (record { keys = keys; firsts = new }) links head (RowKey.Original identity)
 first_tied keys old new links head first identity h linked = (first, h.0, linked)
-
--- the link of a head and of another number, behind others
-pub linked_last : (links : List Link) (head number : ℕ) → AreLinked (links ++ record { head = head; other = number } ∷ []) head number
-linked_last links head number = inr (in_last (record { head = head; other = number }) links)

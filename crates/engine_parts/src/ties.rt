@@ -19,6 +19,7 @@ const SPREAD: u64 = 11_400_714_819_323_198_485;
 /// identity first, their heads are linked.
 #[derive(Drop)]
 pub(crate) struct Ties {
+    // The number of each card, account and budget, by its key.
     pub(crate) keys: IndexMap<RowKey, u32>,
     // The head of the first message of each identity, by the identity's mark.
     pub(crate) firsts: IndexMap<u64, u32>,
