@@ -128,7 +128,8 @@ pub fn check_written_apart<F: Files>(
     folder: &str,
     part: u32,
 ) -> Result<(), PartsFault>
-    ensures { IfErr result (IsNameFault (F.is_known files.now) (IsOverRead folder.now part)) }
+    ensures apart { OnOk result (F.is_known files.now → ¬ IsOverRead folder.now part) }
+    ensures fault { IfErr result (IsNameFault (F.is_known files.now) (IsOverRead folder.now part)) }
 {
     check_not_read(alloc, files, folder, part, PartFile::Replies)?;
     check_not_read(alloc, files, folder, part, PartFile::NewBook)?;
@@ -143,7 +144,8 @@ fn check_not_read<F: Files>(
     part: u32,
     file: PartFile,
 ) -> Result<(), PartsFault>
-    ensures { IfErr result (IsNameFault (F.is_known files.now) (IsOfRead folder.now part (part_name folder.now part file))) }
+    ensures apart { OnOk result (F.is_known files.now → ¬ IsOfRead folder.now part (part_name folder.now part file)) }
+    ensures fault { IfErr result (IsNameFault (F.is_known files.now) (IsOfRead folder.now part (part_name folder.now part file))) }
 {
     let name = part_name(alloc, folder, part, file)?;
     let plan = plan_name(alloc, folder)?;

@@ -1,4 +1,4 @@
-//! Tests of files: batches and their replies, blocks, and books as JSON.
+//! Tests of files: batches and their replies, blocks, books as JSON, and logs.
 #![tactic(auto)]
 
 #[cfg(test)]
@@ -7,3 +7,5 @@ mod batches;
 mod blocks;
 #[cfg(test)]
 mod books;
+#[cfg(test)]
+mod logs;

@@ -1,6 +1,6 @@
 //! Faults and torn tails of logs.
 
-use crate::vectors::{BOOK, LOG, NO_BODIES, NO_PAYLOAD};
+use crate::logs::vectors::{BOOK, LOG, NO_BODIES, NO_PAYLOAD};
 use log_file::{LogFault, read_log};
 use std::alloc::{AllocError, Global};
 use std::test::Fail;

@@ -1,7 +1,7 @@
 //! Logs in files of the host.
 
-use crate::vectors::{BOOK, LOG};
-use crate::writing::{begun, bodies_of};
+use crate::logs::vectors::{BOOK, LOG};
+use crate::logs::writing::{begun, bodies_of};
 use log_file::{Begun, HostLog, LogFault, LogInput, LogReader, LogStep, LogWriter, OpenFault};
 use std::alloc::Global;
 use std::fs::File;

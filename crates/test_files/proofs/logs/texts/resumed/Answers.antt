@@ -1,4 +1,4 @@
-use Rattle.test_log.proofs.texts.resumed.Goals as goal
+use Rattle.test_files.proofs.logs.texts.resumed.Goals as goal
 
 pub resume-requires : goal.resume-requires
 resume-requires c = record {

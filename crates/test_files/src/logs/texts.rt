@@ -1,7 +1,7 @@
 //! A log byte for byte.
 
-use crate::vectors::{BOOK, LOG};
-use crate::writing::{begun, bodies_of, file_of};
+use crate::logs::vectors::{BOOK, LOG};
+use crate::logs::writing::{begun, bodies_of, file_of};
 use log_file::{Begun, Bodies, GrowingFile, LogFault, LogInput, LogWriter, MemoryLog, read_log};
 use std::alloc::Global;
 use std::test::Fail;

@@ -1,7 +1,7 @@
 //! A file that fails at each of its calls in turn.
 
-use crate::vectors::{BOOK, LOG};
-use crate::writing::{begun, bodies_of, file_of};
+use crate::logs::vectors::{BOOK, LOG};
+use crate::logs::writing::{begun, bodies_of, file_of};
 use file_devices::FailingSource;
 use log_file::{LogFault, LogWriter, MemoryLog, read_log};
 use std::alloc::Global;
