@@ -10,7 +10,7 @@ pub returns-in_err-check_written_apart-clause-fault : goal.returns-in_err-check_
 returns-in_err-check_written_apart-clause-fault g c =
     let p = err_from_is_err_and c.from_residual-in_err-check_written_apart.result c.from_residual-in_err-check_written_apart.ensures.1 in
     rw (p.1, p.2) (read_fault (g.F.Files.is_known c.args.files.now) (g.F.Files.holds c.args.files.now) (g.F.Files.failing c.args.files.now) c.args.folder.now c.args.part
-    c.in_err-check_written_apart.field-0.0 c.in_err-check_written_apart.ensures)
+    c.in_err-check_written_apart.field-0.0 c.in_err-check_written_apart.ensures.fault)
 
 pub returns-in_err-book-clause-fault : goal.returns-in_err-book-clause-fault
 returns-in_err-book-clause-fault g c =
