@@ -26,8 +26,7 @@ use Rattle.app_commands.specs.Printed.{Prints, PrintsLine, behind, decided, deci
 use Rattle.app_commands.specs.declared.fault.Fault.{Fault}
 use Rattle.app_commands.specs.declared.fault.Fault.TheVariants.{Usage, OutOfMemory, Job, Halted}
 use Rattle.app_reasons.specs.Tells.{Tells}
-use Rattle.app_reasons.specs.Words.{told_line}
-use Rattle.app_reasons.specs.declared.reason.Reason.{Reason}
+use Rattle.app_reasons.specs.Words.{IsLineOf}
 use Rattle.app_commands.specs.declared.refusal.Refusal.{Refusal}
 use Rattle.app_commands.specs.declared.report.Report.{Report}
 use Rattle.app_commands.specs.declared.report.Report.TheVariants as report
@@ -162,7 +161,7 @@ IsFaultIn known old new devices what (Halted fault kept) = IsHaltedAs known old 
 
 -- the line is what a person is told of the fault of a job: the name of one of the files, and the reason
 abbrev pub IsToldOfJob : Holding → Asked → JobFault → List ℕ → Type 0
-IsToldOfJob holds what fault line = (name : List ℕ) × (reason : Reason) × Tells holds what fault name reason × (line ≡ told_line name reason)
+IsToldOfJob holds what fault line = (name : List ℕ) × IsLineOf name (Tells holds what fault) line
 
 -- only of faults of jobs something is told
 abbrev pub IsTold : Holding → Asked → Fault → List ℕ → Type 0

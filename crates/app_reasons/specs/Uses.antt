@@ -8,7 +8,7 @@ use Rattle.file_laws.specs.declared.log_fault.LogFault.TheVariants as log
 use Rattle.app_jobs.specs.declared.job_fault.JobFault.{JobFault}
 use Rattle.app_jobs.specs.declared.job_fault.JobFault.TheVariants as job
 use Rattle.app_reasons.specs.Tells.{TellsOfOne, TellsOfOneBook, TellsOfWritten, TellsUnread}
-use Rattle.app_reasons.specs.Words.{told_line}
+use Rattle.app_reasons.specs.Words.{IsLineOf}
 use Rattle.app_reasons.specs.declared.reason.Reason.{Reason}
 use Rattle.app_reasons.specs.declared.reason.Reason.TheVariants.{InUse, Log, TooManyMessages}
 use Rattle.app_reasons.specs.declared.used_file.FileUse.{FileUse}
@@ -33,8 +33,7 @@ TellsOfOneUsed holds failing file fault reason = TellsOfUse holds failing file.u
 abbrev pub TellsOfUsed : Holding → Failing → List UsedFile → JobFault → List ℕ → Type 0
 TellsOfUsed holds failing [] fault line = ⊥
 TellsOfUsed holds failing (file ∷ files) fault line =
-    ((reason : Reason) × TellsOfOneUsed holds failing file fault reason × (line ≡ told_line file.name.now reason))
-    ⊎ TellsOfUsed holds failing files fault line
+    IsLineOf file.name.now (TellsOfUse holds failing file.used fault) line ⊎ TellsOfUsed holds failing files fault line
 
 -- why a log is not read: where a call on it failed, the host says it; else it is this fault
 abbrev pub TellsOfLog : Holding → LogFault → List ℕ → Reason → Type 0

@@ -1,5 +1,5 @@
 -- What a person is told of a fault.
-use Rattle.std.specs.Prelude.{ℕ, List, [], ◌++◌, Option, Some, None, codes, decimal}
+use Rattle.std.specs.Prelude.{◌≡◌, ℕ, List, [], ◌++◌, Option, Some, None, codes, decimal}
 use Rattle.issuer_words.specs.Words.{element_of_fault, fixed_digits, number_of_fault}
 use Rattle.iso_shown.specs.declared.opening.Opening.{Opening}
 use Rattle.iso_shown.specs.declared.opening.Opening.TheVariants.{Mti, LengthHeader, Tpdu, Ebcdic, Bcd}
@@ -132,3 +132,7 @@ told_words name reason = name ++ codes ": " ++ reason_words reason
 -- the same in one line
 abbrev pub told_line : List ℕ → Reason → List ℕ
 told_line name reason = shown (told_words name reason)
+
+-- the line tells of the file of this name a reason that is one of it
+abbrev pub IsLineOf : List ℕ → (List ℕ → Reason → Type 0) → List ℕ → Type 0
+IsLineOf name is_of line = (reason : Reason) × is_of name reason × (line ≡ told_line name reason)

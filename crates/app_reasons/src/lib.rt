@@ -37,4 +37,4 @@ pub use telling::tell_with;
 pub use told::Told;
 pub use unread_words::UnreadWords;
 pub use used_file::{FileUse, UsedFile};
-pub use used_files::words_of_used;
+pub use used_files::{words_of_used, words_of_written};

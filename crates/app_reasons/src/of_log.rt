@@ -1,9 +1,8 @@
 //! What is told of a log behind a fault of it.
 
-ghost use Rattle.std.specs.Prelude.{◌≡◌, IfSome};
+ghost use Rattle.std.specs.Prelude.{IfSome};
 ghost use Rattle.app_reasons.specs.Uses.{TellsOfLog};
-ghost use Rattle.app_reasons.specs.Words.{told_line};
-ghost use Rattle.app_reasons.specs.declared.reason.Reason.{Reason as Why};
+ghost use Rattle.app_reasons.specs.Words.{IsLineOf};
 
 use crate::explaining::line_of;
 use crate::log_words::LogWords;
@@ -21,8 +20,7 @@ pub fn words_of_log<F: Files>(
     name: &str,
     fault: &LogFault,
 ) -> Option<Vec<u8>>
-    ensures { IfSome result (λ line. (reason : Why) × TellsOfLog (F.holds files.now) fault.now name.now reason
-        × (line.items ≡ told_line name.now reason)) }
+    ensures { IfSome result (λ line. IsLineOf name.now (TellsOfLog (F.holds files.now) fault.now) line.items) }
 {
     match reason_of_log(files, name, fault) {
         Some(reason) => line_of(alloc, &Told { name, reason }),

@@ -3,8 +3,7 @@
 ghost use Rattle.std.specs.Prelude.{◌≡◌, ◌++◌, IfSome, codes};
 ghost use Rattle.app_reasons.specs.OneLine.{shown};
 ghost use Rattle.app_reasons.specs.Tells.{TellsOfOne, TellsOfOneBook};
-ghost use Rattle.app_reasons.specs.Words.{told_line};
-ghost use Rattle.app_reasons.specs.declared.reason.Reason.{Reason as Why};
+ghost use Rattle.app_reasons.specs.Words.{IsLineOf};
 
 use crate::explaining::line_of;
 use crate::file_kind::FileKind;
@@ -43,8 +42,7 @@ pub fn words_of_file<F: Files>(
     kind: FileKind,
     fault: &JobFault,
 ) -> Option<Vec<u8>>
-    ensures { IfSome result (λ line. (reason : Why) × TellsOfOne (F.holds files.now) kind fault.now name.now reason
-        × (line.items ≡ told_line name.now reason)) }
+    ensures { IfSome result (λ line. IsLineOf name.now (TellsOfOne (F.holds files.now) kind fault.now) line.items) }
 {
     match reason_of_file(alloc, files, name, kind, fault) {
         Some(reason) => line_of(alloc, &Told { name, reason }),
@@ -75,8 +73,7 @@ pub fn words_of_book<F: Files>(
     name: &str,
     fault: &JobFault,
 ) -> Option<Vec<u8>>
-    ensures { IfSome result (λ line. (reason : Why) × TellsOfOneBook (F.holds files.now) fault.now name.now reason
-        × (line.items ≡ told_line name.now reason)) }
+    ensures { IfSome result (λ line. IsLineOf name.now (TellsOfOneBook (F.holds files.now) fault.now) line.items) }
 {
     match reason_of_book(alloc, files, name, fault) {
         Some(reason) => line_of(alloc, &Told { name, reason }),

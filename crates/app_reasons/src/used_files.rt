@@ -3,6 +3,7 @@
 ghost use Rattle.std.specs.Prelude.{◌≡◌, Err, IfSome};
 ghost use Rattle.app_reasons.specs.Tells.{TellsOfWritten};
 ghost use Rattle.app_reasons.specs.Uses.{TellsOfOneUsed, TellsOfUsed};
+ghost use Rattle.app_reasons.specs.Words.{IsLineOf};
 ghost use Rattle.app_reasons.specs.declared.reason.Reason.TheVariants.{InUse};
 ghost use Rattle.file_devices.specs.declared.claim_fault.ClaimFault.TheVariants as claim_fault;
 
@@ -62,6 +63,21 @@ fn reason_of_used<F: Files>(
             JobFault::Batch(BatchFault::Blocks) => Some(Reason::TooManyMessages),
             _ => None,
         },
+    }
+}
+
+/// What is told of a file behind a fault of claiming or writing it, in one line, where something is.
+pub fn words_of_written<F: Files>(
+    alloc: Global,
+    files: &F,
+    name: &str,
+    fault: &JobFault,
+) -> Option<Vec<u8>>
+    ensures { IfSome result (λ line. IsLineOf name.now (TellsOfWritten (F.failing files.now) fault.now) line.items) }
+{
+    match reason_of_written(files, name, fault) {
+        Some(reason) => line_of(alloc, &Told { name, reason }),
+        None => None,
     }
 }
 

@@ -8,3 +8,4 @@ pub mod Opening
 pub mod OpeningFault
 pub mod Standing
 pub mod GivenAgain
+pub mod Told

@@ -43,3 +43,4 @@ pub use serve_fault::ServeFault;
 pub use serving::serve;
 pub use serving_links::serve_links;
 pub use settings::Settings;
+pub use telling::words_of_opening;
