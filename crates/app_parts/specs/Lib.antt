@@ -5,3 +5,4 @@ pub mod Run
 pub mod ArchiveAsked
 pub mod Archived
 pub mod Faults
+pub mod Tells

@@ -1,18 +1,28 @@
 //! What is told behind a fault of `part`, `decide` and `join`: a line on the file that has it.
 
+ghost use Rattle.std.specs.Prelude.{ℕ, IfSome};
+ghost use Rattle.app_parts.specs.Tells.{TellsOfDeciding, TellsOfDecidingJob, TellsOfFolderWritten, TellsOfJoined, TellsOfJoining, TellsOfJoiningJob, TellsOfMissing, TellsOfParting, TellsOfRestOrNewBook, TellsOfUndecided, TellsUnread};
+ghost use Rattle.app_parts_folder.specs.Joining as joining;
+ghost use Rattle.app_parts_folder.specs.Names.{part_name, plan_name};
+ghost use Rattle.app_parts_folder.specs.Parting as parting;
+ghost use Rattle.app_parts_folder.specs.declared.part_file.PartFile.{PartFile as File};
+ghost use Rattle.app_parts_folder.specs.declared.part_file.PartFile.TheVariants as part_file;
+ghost use Rattle.app_reasons.specs.Tells.{TellsOfOne, TellsOfOneBook, TellsOfWritten};
+ghost use Rattle.app_reasons.specs.Words.{IsLineOf};
+ghost use Rattle.app_reasons.specs.declared.file_kind.FileKind.TheVariants as kind;
+
+use crate::folder_lines::line_of_folder;
 use app_jobs::JobFault;
 use app_parts_folder::{
-    JoinNames, MostParts, PartFault, PartFile, PartNames, PartsFault, behind_decided_head,
-    digest_of, open_plan, part_name, plan_name, rest_name,
+    JoinNames, MostParts, PartFault, PartFile, PartNames, PartsFault, open_plan, part_name,
+    plan_name, rest_name,
 };
-use app_reasons::{
-    FileKind, FileUse, UsedFile, line_of_words, words_of_book, words_of_file, words_of_used,
-};
+use app_reasons::{FileKind, line_of_words, words_of_book, words_of_file, words_of_written};
 use file_devices::{Files, HostReason, read_again};
 use std::alloc::Global;
 
-// Said of a file that another one names by its digest.
-const OTHER_DIGEST: &str = "its digest isn't that of the plan";
+// Said of a file of what a part comes to that isn't there.
+const NOT_DECIDED: &str = "no such file or directory: the part isn't decided yet";
 
 /// The line behind a fault of `part`, where there is one.
 pub(crate) fn line_of_part<F: Files>(
@@ -21,30 +31,43 @@ pub(crate) fn line_of_part<F: Files>(
     names: &PartNames<'_>,
     most: MostParts,
     fault: &PartsFault,
-) -> Option<Vec<u8>> {
+) -> Option<Vec<u8>>
+    ensures { IfSome result (λ line. TellsOfParting (F.holds files.now) (F.failing files.now) (parting.names_of names.now) fault.now line.items) }
+{
     let PartsFault::Job(fault) = fault else {
         return None;
     };
-    let read = [
-        UsedFile::new(names.book, FileUse::Book),
-        UsedFile::new(names.batch, FileUse::Bodies(FileKind::Batch)),
-    ];
-    if let Some(line) = words_of_used(alloc, files, &read, fault) {
+    if let Some(line) = words_of_book(alloc, files, names.book, fault) {
         return Some(line);
     }
+    if let Some(line) = words_of_file(alloc, files, names.batch, FileKind::Batch, fault) {
+        return Some(line);
+    }
+    line_of_folder_written(alloc, files, names.folder, most, fault)
+}
+
+// Of the first file of a folder of at most so many parts that can't be written.
+fn line_of_folder_written<F: Files>(
+    alloc: Global,
+    files: &F,
+    folder: &str,
+    most: MostParts,
+    fault: &JobFault,
+) -> Option<Vec<u8>>
+    ensures { IfSome result (λ line. TellsOfFolderWritten (F.failing files.now) folder.now fault.now line.items) }
+{
     for part in 0..most.count() {
         let written = [PartFile::Book, PartFile::Batch];
-        if let Some(line) = line_of_written(alloc, files, names.folder, part, &written, fault) {
+        if let Some(line) = line_of_written(alloc, files, folder, part, &written, fault) {
             return Some(line);
         }
     }
-    let rest = rest_name(alloc, names.folder).ok()?;
-    let plan = plan_name(alloc, names.folder).ok()?;
-    let written = [
-        UsedFile::new(rest.as_str(), FileUse::Written),
-        UsedFile::new(plan.as_str(), FileUse::Written),
-    ];
-    words_of_used(alloc, files, &written, fault)
+    let rest = rest_name(alloc, folder).ok()?;
+    if let Some(line) = words_of_written(alloc, files, rest.as_str(), fault) {
+        return Some(line);
+    }
+    let plan = plan_name(alloc, folder).ok()?;
+    words_of_written(alloc, files, plan.as_str(), fault)
 }
 
 /// The line behind a fault of `decide`, where there is one.
@@ -54,7 +77,9 @@ pub(crate) fn line_of_decide<F: Files>(
     folder: &str,
     part: u32,
     fault: &PartsFault,
-) -> Option<Vec<u8>> {
+) -> Option<Vec<u8>>
+    ensures { IfSome result (λ line. TellsOfDeciding (F.holds files.now) (F.failing files.now) folder.now part fault.now line.items) }
+{
     match fault {
         PartsFault::Job(fault) => line_of_decide_job(alloc, files, folder, part, fault),
         PartsFault::Part(part, PartFault::Unreadable) => {
@@ -72,7 +97,9 @@ fn line_of_decide_job<F: Files>(
     folder: &str,
     part: u32,
     fault: &JobFault,
-) -> Option<Vec<u8>> {
+) -> Option<Vec<u8>>
+    ensures { IfSome result (λ line. TellsOfDecidingJob (F.holds files.now) (F.failing files.now) folder.now part fault.now line.items) }
+{
     match fault {
         JobFault::Unreadable => line_of_unread_plan(alloc, files, folder),
         JobFault::Book(_) => {
@@ -96,7 +123,9 @@ pub(crate) fn line_of_join<F: Files>(
     files: &F,
     names: &JoinNames<'_>,
     fault: &PartsFault,
-) -> Option<Vec<u8>> {
+) -> Option<Vec<u8>>
+    ensures { IfSome result (λ line. TellsOfJoining (F.holds files.now) (F.failing files.now) (joining.names_of names.now) fault.now line.items) }
+{
     match fault {
         PartsFault::Job(fault) => line_of_join_job(alloc, files, names, fault),
         PartsFault::Part(part, PartFault::Unreadable) => {
@@ -112,7 +141,9 @@ fn line_of_join_job<F: Files>(
     files: &F,
     names: &JoinNames<'_>,
     fault: &JobFault,
-) -> Option<Vec<u8>> {
+) -> Option<Vec<u8>>
+    ensures { IfSome result (λ line. TellsOfJoiningJob (F.holds files.now) (F.failing files.now) (joining.names_of names.now) fault.now line.items) }
+{
     match fault {
         JobFault::Unreadable => {
             if let Some(line) = line_of_unread_plan(alloc, files, names.folder) {
@@ -121,42 +152,80 @@ fn line_of_join_job<F: Files>(
             let rest = rest_name(alloc, names.folder).ok()?;
             words_of_book(alloc, files, rest.as_str(), fault)
         }
-        JobFault::Book(_) => {
-            let rest = rest_name(alloc, names.folder).ok()?;
-            if let Some(line) = words_of_book(alloc, files, rest.as_str(), fault) {
-                return Some(line);
-            }
-            line_of_answer(alloc, files, names.folder, PartFile::NewBook, fault)
-        }
-        JobFault::Batch(_) => line_of_answer(alloc, files, names.folder, PartFile::Replies, fault),
-        _ => {
-            let written = [
-                UsedFile::new(names.replies, FileUse::Written),
-                UsedFile::new(names.new_book, FileUse::Written),
-            ];
-            words_of_used(alloc, files, &written, fault)
-        }
+        JobFault::Book(_) => line_of_rest_or_new_book(alloc, files, names.folder, fault),
+        JobFault::Batch(_) => line_of_replies(alloc, files, names.folder, fault),
+        _ => line_of_joined(alloc, files, names, fault),
     }
 }
 
-// Of the first part whose new book, or whose replies, have the fault.
-fn line_of_answer<F: Files>(
+// Of the rest, or else of the first part whose new book has the fault.
+fn line_of_rest_or_new_book<F: Files>(
     alloc: Global,
     files: &F,
     folder: &str,
-    file: PartFile,
     fault: &JobFault,
-) -> Option<Vec<u8>> {
+) -> Option<Vec<u8>>
+    ensures { IfSome result (λ line. TellsOfRestOrNewBook (F.holds files.now) folder.now fault.now line.items) }
+{
+    let rest = rest_name(alloc, folder).ok()?;
+    if let Some(line) = words_of_book(alloc, files, rest.as_str(), fault) {
+        return Some(line);
+    }
+    line_of_new_book(alloc, files, folder, fault)
+}
+
+// Of the replies or the new book that can't be written.
+fn line_of_joined<F: Files>(
+    alloc: Global,
+    files: &F,
+    names: &JoinNames<'_>,
+    fault: &JobFault,
+) -> Option<Vec<u8>>
+    ensures { IfSome result (λ line. TellsOfJoined (F.failing files.now) (joining.names_of names.now) fault.now line.items) }
+{
+    if let Some(line) = words_of_written(alloc, files, names.replies, fault) {
+        return Some(line);
+    }
+    words_of_written(alloc, files, names.new_book, fault)
+}
+
+// How many parts the plan of a folder has.
+fn count_of<F: Files>(alloc: Global, files: &F, folder: &str) -> Option<u32> {
     let open = open_plan(alloc, files, folder).ok()?;
-    let count = u32::try_from(open.plan.digests.len()).ok()?;
-    for part in 0..count {
-        let name = part_name(alloc, folder, part, file).ok()?;
-        let line = match file {
-            PartFile::Replies => {
-                words_of_file(alloc, files, name.as_str(), FileKind::Replies, fault)
-            }
-            _ => words_of_book(alloc, files, name.as_str(), fault),
-        };
+    u32::try_from(open.plan.digests.len()).ok()
+}
+
+// Of the first part whose new book has the fault.
+fn line_of_new_book<F: Files>(
+    alloc: Global,
+    files: &F,
+    folder: &str,
+    fault: &JobFault,
+) -> Option<Vec<u8>>
+    ensures { IfSome result (λ line. (part : ℕ) × IsLineOf (part_name folder.now part part_file.NewBook) (TellsOfOneBook (F.holds files.now) fault.now) line.items) }
+{
+    for part in 0..count_of(alloc, files, folder)? {
+        let name = part_name(alloc, folder, part, PartFile::NewBook).ok()?;
+        let line = words_of_book(alloc, files, name.as_str(), fault);
+        if line.is_some() {
+            return line;
+        }
+    }
+    None
+}
+
+// Of the first part whose replies have the fault.
+fn line_of_replies<F: Files>(
+    alloc: Global,
+    files: &F,
+    folder: &str,
+    fault: &JobFault,
+) -> Option<Vec<u8>>
+    ensures { IfSome result (λ line. (part : ℕ) × IsLineOf (part_name folder.now part part_file.Replies) (TellsOfOne (F.holds files.now) kind.Replies fault.now) line.items) }
+{
+    for part in 0..count_of(alloc, files, folder)? {
+        let name = part_name(alloc, folder, part, PartFile::Replies).ok()?;
+        let line = words_of_file(alloc, files, name.as_str(), FileKind::Replies, fault);
         if line.is_some() {
             return line;
         }
@@ -172,19 +241,23 @@ fn line_of_written<F: Files>(
     part: u32,
     written: &[PartFile],
     fault: &JobFault,
-) -> Option<Vec<u8>> {
+) -> Option<Vec<u8>>
+    ensures { IfSome result (λ line. (file : File) × IsLineOf (part_name folder.now part file) (TellsOfWritten (F.failing files.now) fault.now) line.items) }
+{
     for file in written {
         let name = part_name(alloc, folder, part, *file).ok()?;
-        let file = UsedFile::new(name.as_str(), FileUse::Written);
-        if let Some(line) = words_of_used(alloc, files, &[file], fault) {
-            return Some(line);
+        let line = words_of_written(alloc, files, name.as_str(), fault);
+        if line.is_some() {
+            return line;
         }
     }
     None
 }
 
 // Of the plan that can't be read.
-fn line_of_unread_plan<F: Files>(alloc: Global, files: &F, folder: &str) -> Option<Vec<u8>> {
+fn line_of_unread_plan<F: Files>(alloc: Global, files: &F, folder: &str) -> Option<Vec<u8>>
+    ensures { IfSome result (λ line. TellsUnread (F.holds files.now) (plan_name folder.now) line.items) }
+{
     let plan = plan_name(alloc, folder).ok()?;
     words_of_book(alloc, files, plan.as_str(), &JobFault::Unreadable)
 }
@@ -196,7 +269,9 @@ fn line_of_unread<F: Files>(
     folder: &str,
     part: u32,
     read: &[PartFile],
-) -> Option<Vec<u8>> {
+) -> Option<Vec<u8>>
+    ensures { IfSome result (λ line. (file : File) × TellsUnread (F.holds files.now) (part_name folder.now part file) line.items) }
+{
     for file in read {
         let name = part_name(alloc, folder, part, *file).ok()?;
         let line = words_of_book(alloc, files, name.as_str(), &JobFault::Unreadable);
@@ -207,99 +282,33 @@ fn line_of_unread<F: Files>(
     None
 }
 
-// Of the first file of what a part comes to that can't be read. Where it isn't there, the part isn't decided yet.
-fn line_of_undecided<F: Files>(
-    alloc: Global,
-    files: &F,
-    folder: &str,
-    part: u32,
-) -> Option<Vec<u8>> {
+// Of the first file of what a part comes to that can't be read.
+fn line_of_undecided<F: Files>(alloc: Global, files: &F, folder: &str, part: u32) -> Option<Vec<u8>>
+    ensures { IfSome result (λ line. TellsOfUndecided (F.holds files.now) folder.now part line.items) }
+{
     for file in [PartFile::Replies, PartFile::NewBook, PartFile::Decided] {
-        let name = part_name(alloc, folder, part, file).ok()?;
-        if let Err(HostReason::NotFound) = read_again(alloc, files, name.as_str()) {
-            return line_of_words(
-                alloc,
-                name.as_str(),
-                "no such file or directory: the part isn't decided yet",
-            );
-        }
-        if let Some(line) = words_of_book(alloc, files, name.as_str(), &JobFault::Unreadable) {
-            return Some(line);
+        let line = line_of_missing(alloc, files, folder, part, file);
+        if line.is_some() {
+            return line;
         }
     }
     None
 }
 
-// Of a folder whose plan is none, or whose files aren't those of the plan.
-fn line_of_folder<F: Files>(
-    alloc: Global,
-    files: &F,
-    folder: &str,
-    fault: &PartsFault,
-) -> Option<Vec<u8>> {
-    match fault {
-        PartsFault::NoPlan => line_of_plan(alloc, folder, "it is no plan of parts"),
-        PartsFault::NoPart => {
-            let count = open_plan(alloc, files, folder).ok()?.plan.digests.len();
-            let words = format!(in alloc; "it has {count} parts, numbered from 0").ok()?;
-            line_of_plan(alloc, folder, words.as_str())
-        }
-        PartsFault::OtherRest => {
-            let rest = rest_name(alloc, folder).ok()?;
-            line_of_words(alloc, rest.as_str(), OTHER_DIGEST)
-        }
-        PartsFault::Replies => line_of_plan(
-            alloc,
-            folder,
-            "its parts haven't as many replies as it has messages",
-        ),
-        PartsFault::Part(part, fault) => line_of_other(alloc, files, folder, *part, *fault),
-        PartsFault::OneFile(_, _) | PartsFault::Job(_) => None,
-    }
-}
-
-// Of the plan.
-fn line_of_plan(alloc: Global, folder: &str, words: &str) -> Option<Vec<u8>> {
-    let plan = plan_name(alloc, folder).ok()?;
-    line_of_words(alloc, plan.as_str(), words)
-}
-
-// Of a part's file that isn't the one that is to be there.
-fn line_of_other<F: Files>(
+// Of a file of what a part comes to, where it can't be read. Where it isn't there, the part isn't decided yet.
+#[tactic(auto, using(std::proofs::lemmas::Option::IfSome_then))]
+fn line_of_missing<F: Files>(
     alloc: Global,
     files: &F,
     folder: &str,
     part: u32,
-    fault: PartFault,
-) -> Option<Vec<u8>> {
-    let (file, words) = match fault {
-        PartFault::Unreadable => return None,
-        PartFault::OtherBook => (PartFile::Book, OTHER_DIGEST),
-        PartFault::OtherBatch => (PartFile::Batch, OTHER_DIGEST),
-        PartFault::OtherPlan => (
-            PartFile::Decided,
-            "it is of another plan, or of another part",
-        ),
-        PartFault::OtherFiles => (
-            other_file(alloc, files, folder, part)?,
-            "it isn't what was written when the part was decided",
-        ),
-    };
+    file: PartFile,
+) -> Option<Vec<u8>>
+    ensures { IfSome result (λ line. TellsOfMissing (F.holds files.now) (part_name folder.now part file) line.items) }
+{
     let name = part_name(alloc, folder, part, file).ok()?;
-    line_of_words(alloc, name.as_str(), words)
-}
-
-// Which of a part's replies and new book isn't the one whose digest stands in what says that the part is decided.
-fn other_file<F: Files>(alloc: Global, files: &F, folder: &str, part: u32) -> Option<PartFile> {
-    let plan = open_plan(alloc, files, folder).ok()?;
-    let name = part_name(alloc, folder, part, PartFile::Decided).ok()?;
-    let decided = read_again(alloc, files, name.as_str()).ok()??;
-    let digests = behind_decided_head(alloc, part, &plan.digest, &decided).ok()??;
-    let name = part_name(alloc, folder, part, PartFile::Replies).ok()?;
-    let replies = read_again(alloc, files, name.as_str()).ok()??;
-    if digests.starts_with(&digest_of(&replies)) {
-        Some(PartFile::NewBook)
-    } else {
-        Some(PartFile::Replies)
+    if let Err(HostReason::NotFound) = read_again(alloc, files, name.as_str()) {
+        return line_of_words(alloc, name.as_str(), NOT_DECIDED);
     }
+    words_of_book(alloc, files, name.as_str(), &JobFault::Unreadable)
 }

@@ -16,6 +16,7 @@ mod asking;
 mod claiming;
 mod deciding;
 mod fault_lines;
+mod folder_lines;
 mod help;
 mod joining;
 mod laws;
